@@ -1,6 +1,6 @@
 //! A tariff, and what it counts.
 
-ghost use Rattle.std.specs.Prelude.{◌≤◌, ◌^◌};
+use std::marker::Model;
 
 /// What the units of a rating group count (RFC 8506, sections 8.17 to 8.26).
 #[derive(Clone, Copy, Debug, PartialEq, Eq)]
@@ -20,7 +20,16 @@ pub struct Tariff {
     pub price: u32,
     /// In units, 1 to 10^12.
     pub block: u64,
-    pub ghost price_in_range: { price ≤ 1_000_000 },
-    pub ghost block_not_empty: { 1 ≤ block },
-    pub ghost block_in_range: { block ≤ 10 ^ 12 },
+}
+
+impl Model for Tariff {
+    ghost use Rattle.dcc_tariff.specs.Terms.{Rate, IsRate};
+
+    ghost Value = { Rate };
+
+    ghost view = { λ t. record { price = t.price; block = t.block } };
+
+    ghost invariant = { λ t. IsRate (record { price = t.price; block = t.block }) };
+
+    ghost inverse = { λ v. record { price = v.price; block = v.block } };
 }

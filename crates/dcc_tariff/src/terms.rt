@@ -1,6 +1,6 @@
 //! The terms by which accounts are judged and answers are written.
 
-ghost use Rattle.std.specs.Prelude.{◌≤◌, pos, negsuc, ◌≤ℤ◌};
+use std::marker::Model;
 
 /// The terms of a plan.
 #[derive(Clone, Copy, Debug, PartialEq, Eq)]
@@ -13,11 +13,16 @@ pub struct Terms {
     pub currency: u32,
     /// The power of ten that a minor unit is of the currency, -9 to 9 (Exponent, RFC 8506, section 8.9).
     pub exponent: i32,
-    pub ghost validity_not_none: { 1 ≤ validity },
-    pub ghost validity_in_range: { validity ≤ 1_000_000 },
-    pub ghost hold_not_none: { 1 ≤ hold },
-    pub ghost hold_in_range: { hold ≤ 1_000_000 },
-    pub ghost currency_in_range: { currency ≤ 999 },
-    pub ghost exponent_not_below: { negsuc 8 ≤ℤ exponent },
-    pub ghost exponent_not_above: { exponent ≤ℤ pos 9 },
+}
+
+impl Model for Terms {
+    ghost use Rattle.dcc_tariff.specs.Terms.{Conditions, AreConditions};
+
+    ghost Value = { Conditions };
+
+    ghost view = { λ t. record { validity = t.validity; hold = t.hold; currency = t.currency; exponent = t.exponent } };
+
+    ghost invariant = { λ t. AreConditions (record { validity = t.validity; hold = t.hold; currency = t.currency; exponent = t.exponent }) };
+
+    ghost inverse = { λ v. record { validity = v.validity; hold = v.hold; currency = v.currency; exponent = v.exponent } };
 }
