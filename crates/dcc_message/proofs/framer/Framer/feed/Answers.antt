@@ -1,0 +1,16 @@
+use Rattle.std.proofs.Common.{◌≡◌, ◌++◌, ◌∷◌, [], sym, ap, subst, ◌∙◌, arith, List, ℕ, take}
+use Rattle.std.proofs.lemmas.Grind.{common_steps}
+use Rattle.dcc_message.specs.Frames.{IsMessage, Completes}
+use Rattle.dcc_message.proofs.Held.{completed, held_more}
+use Rattle.dcc_message.proofs.framer.Framer.feed.Goals as goal
+
+pub invariant_of-self-2 : goal.invariant_of-self-2
+invariant_of-self-2 c =
+    let message : c.replace.result.items ≡ c.self.inside.begun.items ++ c.split_at.result.0.now = grind (arith, common_steps) in
+    let ready : c.append.new.self.items ≡ (c.self.inside.ready.items ++ c.replace.result ∷ []) ++ c.in_ok-later.later.ready.items = grind (arith, common_steps) in
+    let begun : c.replace.new.dest.items ≡ c.in_ok-later.later.begun.items = grind (arith, common_steps) in
+    let whole : IsMessage (c.self.inside.begun.items ++ take c.in-Some.count c.args.piece.now) =
+    (let P : List ℕ → Type 0 = λ b. Completes b c.args.piece.now c.in-Some.count in
+    completed _ _ _ (subst P c.deref.ensures.value c.in-Some.ensures.some)) in
+    let is : c.self.inside.begun.items ++ take c.in-Some.count c.args.piece.now ≡ c.replace.result.items = cc (c.split_at.ensures.front, message) in
+    rw (ready, begun) (held_more _ _ c.replace.result _ c.self.invariant.messages (subst IsMessage is whole) c.in_ok-later.ensures.held)

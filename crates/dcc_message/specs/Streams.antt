@@ -1,0 +1,59 @@
+-- How a stream of bytes falls into messages: the length of each stands in its second to fourth bytes (RFC 6733, section 3).
+use Rattle.std.specs.Prelude.{ℕ, zero, suc, ◌+◌, ◌*◌, ◌%◌, Bool, not, ◌&&◌, ◌||◌, ◌==◌, nat_lt, nat_le, if◌then◌else◌, List, [], ◌∷◌, ◌++◌, length, take, drop, slice_index, Option, Some, None, is_none}
+use Rattle.std.specs.Int.{w32, from_be_bytes}
+use Rattle.dcc_message.specs.declared.length.FrameFault.{FrameFault}
+use Rattle.dcc_message.specs.declared.length.FrameFault.TheVariants.{BadLength, TooLong}
+use Rattle.dcc_message.specs.declared.length.TheConstants.{MAX_LENGTH, HEADER_LENGTH}
+
+-- the length that a message's header states
+abbrev pub length_field : List ℕ → ℕ
+length_field bytes = from_be_bytes w32 (0 ∷ slice_index bytes 1 ∷ slice_index bytes 2 ∷ slice_index bytes 3 ∷ [])
+
+-- what is wrong with a stated length: it is too great, or that of no message
+abbrev pub length_fault : ℕ → Option FrameFault
+length_fault stated =
+    if nat_lt MAX_LENGTH stated then Some TooLong
+    else if nat_lt stated HEADER_LENGTH || not (stated % 4 == 0) then Some BadLength
+    else None
+
+-- what is wrong with the length at the front of a stream, once its bytes are there
+abbrev pub fault_at : List ℕ → Option FrameFault
+fault_at stream = if nat_lt (length stream) 4 then None else length_fault (length_field stream)
+
+-- a whole message stands at the front of a stream
+abbrev pub begins_whole : List ℕ → Bool
+begins_whole stream = nat_le 4 (length stream) && is_none (fault_at stream) && nat_le (length_field stream) (length stream)
+
+-- the whole message at the front, and what stands after it
+abbrev pub first_message : List ℕ → Option (List ℕ)
+first_message stream = if begins_whole stream then Some (take (length_field stream) stream) else None
+
+abbrev pub after_first : List ℕ → List ℕ
+after_first stream = if begins_whole stream then drop (length_field stream) stream else stream
+
+-- the whole messages at the front of a stream, up to so many
+abbrev pub messages_up_to : ℕ → List ℕ → List (List ℕ)
+messages_up_to zero stream = []
+messages_up_to (suc more) stream =
+    if begins_whole stream then take (length_field stream) stream ∷ messages_up_to more (drop (length_field stream) stream) else []
+
+-- the whole messages at the front of a stream: up to its end, a rest that is less than its length says, or a bad length
+unfoldable pub messages : List ℕ → List (List ℕ)
+messages stream = messages_up_to (length stream) stream
+
+-- and what is left after so many of them
+abbrev pub rest_up_to : ℕ → List ℕ → List ℕ
+rest_up_to zero stream = stream
+rest_up_to (suc more) stream = if begins_whole stream then rest_up_to more (drop (length_field stream) stream) else stream
+
+unfoldable pub rest : List ℕ → List ℕ
+rest stream = rest_up_to (length stream) stream
+
+-- the messages that come out where all that are whole are taken after each piece
+abbrev pub messages_by_pieces : List ℕ → List (List ℕ) → List (List ℕ)
+messages_by_pieces held [] = []
+messages_by_pieces held (piece ∷ pieces) = messages (held ++ piece) ++ messages_by_pieces (rest (held ++ piece)) pieces
+
+abbrev pub rest_by_pieces : List ℕ → List (List ℕ) → List ℕ
+rest_by_pieces held [] = held
+rest_by_pieces held (piece ∷ pieces) = rest_by_pieces (rest (held ++ piece)) pieces

@@ -1,0 +1,13 @@
+//! Diameter messages: the header, messages in a stream of bytes, and who answers them.
+//!
+//! Stands on `dcc_avp`. The contract that it gives: a header is read exactly where the bytes spell it, and a stream
+//! of bytes gives its messages, the same ones however it was cut into pieces (RFC 6733, section 3).
+#![tactic(auto)]
+
+mod framer;
+mod length;
+mod pieces;
+
+pub use framer::Framer;
+pub use length::{FrameFault, MAX_LENGTH};
+pub use pieces::any_pieces;
