@@ -1,3 +1,4 @@
 pub mod Cutting
 pub mod Held
 pub mod AnyCut
+pub mod Fields

@@ -1,2 +1,4 @@
 pub mod Streams
 pub mod Frames
+pub mod HeaderView
+pub mod Headers

@@ -5,9 +5,11 @@
 #![tactic(auto)]
 
 mod framer;
+mod header;
 mod length;
 mod pieces;
 
 pub use framer::Framer;
+pub use header::{Header, HeaderFault, read_header, write_message};
 pub use length::{FrameFault, MAX_LENGTH};
 pub use pieces::any_pieces;

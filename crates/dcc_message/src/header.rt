@@ -1,0 +1,169 @@
+//! The header of a message (RFC 6733, section 3).
+
+ghost use Rattle.std.specs.Prelude.{◌≡◌, ◌+◌, ◌*◌, ◌%◌, ◌<◌, ◌≤◌, ◌^◌, ◌++◌, Ok, List, ℕ, length, drop, IfOk, OnOk, OnErr};
+ghost use Rattle.dcc_message.specs.HeaderView.{HeaderView};
+ghost use Rattle.dcc_message.specs.Headers.{header as spelled, header_of, header_at, three_at, four_at, message, IsHeader};
+
+use crate::length::{FrameFault, HEADER_LENGTH, fault_of_length, length_of};
+use std::alloc::AllocError;
+use std::marker::Model;
+
+/// A message's header. Its version is 1.
+#[derive(Clone, Copy, Debug, PartialEq, Eq)]
+pub struct Header {
+    /// The octets of the message with its header, as read. A message that is written has its own length.
+    pub length: u32,
+    /// R 0x80, P 0x40, E 0x20, T 0x10; the other bits are reserved, and are kept as read.
+    pub flags: u8,
+    /// The Command Code, below 2^24.
+    pub code: u32,
+    /// The Application-Id.
+    pub app: u32,
+    /// The Hop-by-Hop Identifier.
+    pub hop: u32,
+    /// The End-to-End Identifier.
+    pub end_to_end: u32,
+}
+
+impl Model for Header {
+    ghost use Rattle.std.specs.Prelude.{◌<◌, ◌^◌};
+    ghost use Rattle.dcc_message.specs.HeaderView.{HeaderView};
+
+    ghost Value = { HeaderView };
+
+    ghost view = { λ h. record { length = h.length; flags = h.flags; code = h.code; app = h.app; hop = h.hop; end_to_end = h.end_to_end } };
+
+    ghost invariant = { λ h. h.code < 2 ^ 24 };
+
+    ghost inverse = { λ v. record { length = v.length; flags = v.flags; code = v.code; app = v.app; hop = v.hop; end_to_end = v.end_to_end } };
+}
+
+/// Why bytes are no message, in the order in which it is looked for.
+#[derive(Clone, Copy, Debug, PartialEq, Eq)]
+pub enum HeaderFault {
+    /// The version isn't 1: fault 10.
+    Version,
+    /// The length field is above 65,532: fault 12.
+    TooLong,
+    /// The length field is below 20, no multiple of 4 or not the number of bytes, or fewer than 4 bytes are there: fault 11.
+    BadLength,
+}
+
+/// Reads the header of a message from all bytes of the message. It takes no memory.
+pub fn read_header(bytes: &[u8]) -> Result<Header, HeaderFault>
+    ensures exact { result ≡ header_of bytes.now }
+
+    // What is read stands at the front, and states the length of the bytes.
+    ensures found { IfOk result (λ h. IsHeader h × (bytes.now ≡ spelled h ++ drop 20 bytes.now) × (h.length ≡ length bytes.now)) }
+
+    // A header that states the length of the bytes is read.
+    ensures only { (h : HeaderView) (rest : List ℕ) →
+        IsHeader h → bytes.now ≡ spelled h ++ rest → h.length ≡ length bytes.now → result ≡ Ok h }
+{
+    judged(bytes)
+}
+
+/// The header, or the first fault.
+#[tactic(auto, unfolding(crate::specs::Headers::header_of))]
+fn judged(bytes: &[u8]) -> Result<Header, HeaderFault>
+    ensures { result ≡ header_of bytes.now }
+{
+    if bytes.len() < 4 {
+        return Err(HeaderFault::BadLength);
+    }
+    if bytes[0] != 1 {
+        return Err(HeaderFault::Version);
+    }
+    let stated = length_of(bytes);
+    match fault_of_length(stated) {
+        Some(FrameFault::TooLong) => return Err(HeaderFault::TooLong),
+        Some(FrameFault::BadLength) => return Err(HeaderFault::BadLength),
+        None => {}
+    }
+    if stated != bytes.len() {
+        return Err(HeaderFault::BadLength);
+    }
+    Ok(header_in(bytes))
+}
+
+/// The fields where they stand.
+fn header_in(bytes: &[u8]) -> Header
+    requires { 20 ≤ length bytes.now }
+    ensures { result ≡ header_at bytes.now }
+{
+    Header {
+        length: three_of(bytes, 1),
+        flags: bytes[4],
+        code: three_of(bytes, 5),
+        app: four_of(bytes, 8),
+        hop: four_of(bytes, 12),
+        end_to_end: four_of(bytes, 16),
+    }
+}
+
+fn three_of(bytes: &[u8], at: usize) -> u32
+    requires { at + 3 ≤ length bytes.now }
+    ensures value { result ≡ three_at bytes.now at }
+    ensures below { result < 2 ^ 24 }
+{
+    u32::from_be_bytes([0, bytes[at], bytes[at + 1], bytes[at + 2]])
+}
+
+fn four_of(bytes: &[u8], at: usize) -> u32
+    requires { at + 4 ≤ length bytes.now }
+    ensures { result ≡ four_at bytes.now at }
+{
+    u32::from_be_bytes([bytes[at], bytes[at + 1], bytes[at + 2], bytes[at + 3]])
+}
+
+/// Writes a message at the end of `out`: the header, with the length of both, and the AVPs, which are spelled already.
+/// Where memory is refused, nothing is written.
+#[tactic(auto, unfolding(crate::specs::Headers::message))]
+pub fn write_message(out: &mut Vec<u8>, header: &Header, avps: &[u8]) -> Result<(), AllocError>
+    requires whole { (HEADER_LENGTH + length avps.now) % 4 ≡ 0 }
+    requires fits { HEADER_LENGTH + length avps.now < 2 ^ 24 }
+    ensures ok { OnOk result (out.new.items ≡ out.old.items ++ message header.now avps.now) }
+    ensures err { OnErr result (out.new.items ≡ out.old.items) }
+{
+    let length = HEADER_LENGTH + avps.len();
+    out.reserve(length)?;
+    out.extend_from_slice(&header_bytes(header, length as u32))
+        .unwrap();
+    out.extend_from_slice(avps).unwrap();
+    Ok(())
+}
+
+/// The bytes of a header that states this length.
+#[tactic(auto, unfolding(crate::specs::Headers::header))]
+fn header_bytes(header: &Header, length: u32) -> [u8; 20]
+    requires { length < 2 ^ 24 }
+    ensures { result ≡ spelled (record header.now { length = length }) }
+{
+    let l = length.to_be_bytes();
+    let c = header.code.to_be_bytes();
+    let a = header.app.to_be_bytes();
+    let h = header.hop.to_be_bytes();
+    let e = header.end_to_end.to_be_bytes();
+    [
+        1,
+        l[1],
+        l[2],
+        l[3],
+        header.flags,
+        c[1],
+        c[2],
+        c[3],
+        a[0],
+        a[1],
+        a[2],
+        a[3],
+        h[0],
+        h[1],
+        h[2],
+        h[3],
+        e[0],
+        e[1],
+        e[2],
+        e[3],
+    ]
+}
