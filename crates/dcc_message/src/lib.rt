@@ -6,10 +6,12 @@
 
 mod framer;
 mod header;
+mod identity;
 mod length;
 mod pieces;
 
 pub use framer::Framer;
 pub use header::{Header, HeaderFault, read_header, write_message};
+pub use identity::{DiameterIdentity, Identity};
 pub use length::{FrameFault, MAX_LENGTH};
 pub use pieces::any_pieces;
