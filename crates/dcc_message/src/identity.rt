@@ -47,7 +47,8 @@ impl DiameterIdentity {
         ensures value { result.items ≡ self }
         ensures limits { IsName self }
     {
-        self.bytes
+        let DiameterIdentity { bytes } = self;
+        bytes
     }
 }
 

@@ -9,6 +9,8 @@ mod header;
 mod identity;
 mod length;
 mod pieces;
+#[cfg(test)]
+mod tests;
 
 pub use framer::Framer;
 pub use header::{Header, HeaderFault, read_header, write_message};
