@@ -1,0 +1,10 @@
+//! AVPs.
+#![tactic(auto)]
+
+mod avp;
+mod fault;
+mod reading;
+
+pub use avp::{Avp, flags};
+pub use fault::AvpFault;
+
