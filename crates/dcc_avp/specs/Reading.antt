@@ -27,10 +27,10 @@ Tells (faults.LengthPastEnd code flags) P = P (LengthPastEnd code flags)
 Tells faults.WrongSize P = ⊥
 Tells faults.Memory P = Unit {0}
 
--- what a call answers is what reading gives, unless memory ran out
-abbrev pub Gives : {X : Type 0} → Result X AvpFault → Result X FaultView → Type 0
-Gives (Ok x) read = read ≡ Ok x
-Gives (Err fault) read = Tells fault (λ seen. read ≡ Err seen)
+-- what a call answers, seen by view, is what reading gives, unless memory ran out
+abbrev pub Gives : {X Y : Type 0} → (X → Y) → Result X AvpFault → Result Y FaultView → Type 0
+Gives view (Ok x) read = read ≡ Ok (view x)
+Gives view (Err fault) read = Tells fault (λ seen. read ≡ Err seen)
 
 -- The code that stands for octets too few for a header: what the first four spell, 0 where there are fewer.
 abbrev pub short_code : List ℕ → ℕ
@@ -61,14 +61,18 @@ avp_at (a ∷ b ∷ c ∷ d ∷ flags ∷ x ∷ y ∷ z ∷ body) =
     avp_within (from_be_bytes w32 (a ∷ b ∷ c ∷ d ∷ [])) flags (from_be_bytes w32 (0 ∷ x ∷ y ∷ z ∷ [])) body
 avp_at fewer = Err (Short (short_code fewer) short_flags)
 
+-- what is read behind an AVP, with that AVP in front
+abbrev pub in_front : AvpView → Result (List AvpView) FaultView → Result (List AvpView) FaultView
+in_front avp (Ok others) = Ok (avp ∷ others)
+in_front avp (Err fault) = Err fault
+
 -- the AVPs behind some octets that are passed over, since they belong to the AVP before; the end may come among these
 unfoldable pub avps_behind : List ℕ → ℕ → Result (List AvpView) FaultView
 avps_behind [] passed = Ok []
 avps_behind (octet ∷ octets) (suc passed) = avps_behind octets passed
 avps_behind (octet ∷ octets) zero = do
   first ← avp_at (octet ∷ octets)
-  others ← avps_behind octets (padded_len first - 1)
-  Ok (first ∷ others)
+  in_front first (avps_behind octets (padded_len first - 1))
 
 -- the AVPs that the octets spell, or the first fault
 unfoldable pub avps_of : List ℕ → Result (List AvpView) FaultView

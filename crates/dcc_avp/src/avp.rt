@@ -1,8 +1,8 @@
 //! One AVP, lent from the octets that it stands in.
 
-ghost use Rattle.std.specs.Prelude.{◌≡◌, ◌+◌, ◌≤◌, length, Some, None, bit_and, bit_or};
+ghost use Rattle.std.specs.Prelude.{◌≡◌, ◌+◌, ◌^◌, ◌<◌, ◌≤◌, length, Some, None, bit_and, bit_or};
 ghost use Rattle.std.specs.Int.{w32, w64};
-ghost use Rattle.dcc_avp.specs.Spelling.{AvpView, header_len, avp_len};
+ghost use Rattle.dcc_avp.specs.Spelling.{AvpView, header_len, avp_len, padded_len};
 ghost use Rattle.dcc_avp.specs.Reading.{avp_of};
 ghost use Rattle.dcc_avp.specs.Numbers.{unsigned_of, signed_of};
 
@@ -90,6 +90,21 @@ impl<'a> Avp<'a> {
             vendor: Some(u32::from_be_bytes([vendor[0], vendor[1], vendor[2], vendor[3]])),
             value,
         }
+    }
+
+    /// The octets of header and data, which AVP Length counts.
+    pub(crate) fn len(&self) -> usize
+        ensures counted { result ≡ avp_len self.now }
+        ensures bound { result < 2 ^ 63 + 12 }
+    {
+        header_len(self.flags) + self.value.len()
+    }
+
+    /// The octets of header, data and padding.
+    pub(crate) fn padded_len(&self) -> usize
+        ensures { result ≡ padded_len self.now }
+    {
+        self.len().next_multiple_of(4)
     }
 
     /// The AVP Code.

@@ -7,4 +7,4 @@ mod reading;
 
 pub use avp::{Avp, flags};
 pub use fault::AvpFault;
-
+pub use reading::{group, read_list};
