@@ -2,7 +2,7 @@
 
 ghost use Rattle.std.specs.Prelude.{◌≡◌, ◌+◌, ◌^◌, ◌<◌, ◌≤◌, length, Some, None, bit_and, bit_or};
 ghost use Rattle.std.specs.Int.{w32, w64};
-ghost use Rattle.dcc_avp.specs.Spelling.{AvpView, header_len, avp_len, padded_len};
+ghost use Rattle.dcc_avp.specs.Spelling.{AvpView, header_len, avp_len, padded_len, vendor_octets};
 ghost use Rattle.dcc_avp.specs.Reading.{avp_of};
 ghost use Rattle.dcc_avp.specs.Numbers.{unsigned_of, signed_of};
 
@@ -95,6 +95,7 @@ impl<'a> Avp<'a> {
     /// The octets of header and data, which AVP Length counts.
     pub(crate) fn len(&self) -> usize
         ensures counted { result ≡ avp_len self.now }
+        ensures header { result ≡ 8 + length (vendor_octets self.now.vendor) + length self.now.value }
         ensures bound { result < 2 ^ 63 + 12 }
     {
         header_len(self.flags) + self.value.len()

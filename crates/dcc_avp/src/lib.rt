@@ -9,7 +9,7 @@ mod reading;
 mod writing;
 
 pub use avp::{Avp, flags};
-pub use dictionary::{DICTIONARY, Definition, Kind, each_code_once, known, least_len};
+pub use dictionary::{DICTIONARY, Kind, each_code_once, known, least_len};
 pub use fault::AvpFault;
 pub use reading::{group, read_list};
 pub use writing::write_avp;

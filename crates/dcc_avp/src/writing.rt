@@ -22,6 +22,7 @@ pub fn write_avp(out: &mut Vec<u8>, avp: &Avp<'_>) -> Result<(), AllocError>
     requires { avp_len avp.now < 2 ^ 24 }
     ensures ok { OnOk result (out.new.items ≡ out.old.items ++ padded avp.now) }
     ensures err { OnErr result (out.new.items ≡ out.old.items) }
+    ensures has_spelling { HasSpelling avp.now }
 {
     let len = avp.len();
     let padding = avp.padded_len() - len;
