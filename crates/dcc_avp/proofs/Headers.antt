@@ -162,10 +162,12 @@ made_taken a b c d flags x y z body avp fits long short m =
     let eight_more : avp_len avp ≡ suc (suc (suc (suc (suc (suc (suc (suc (len - 8)))))))) = omega arith in
     record {
       has_spelling = record {
-        code = rw m.same_code (four_below (a ∷ b ∷ c ∷ d ∷ []) four);
-        flags = rw m.same_flags (fits 4);
-        vendor = m.vendor;
-        flagged = m.flagged ∙ ap (λ (f : ℕ). has_vendor f) (sym m.same_flags);
+        is_avp = record {
+          code = rw m.same_code (four_below (a ∷ b ∷ c ∷ d ∷ []) four);
+          flags = rw m.same_flags (fits 4);
+          vendor = m.vendor;
+          flagged = m.flagged ∙ ap (λ (f : ℕ). has_vendor f) (sym m.same_flags);
+        };
         length = omega (arith, len_is, three_below x y z (fits 5) (fits 6) (fits 7));
       };
       within = omega (arith, len_is);
@@ -216,13 +218,13 @@ pub at_again : (avp : AvpView) (after : List ℕ) → HasSpelling avp → avp_at
 unfolding avp_at
 at_again avp after h =
     let body = vendor_octets avp.vendor ++ avp.value in
-    let counted : avp_len avp ≡ 8 + length body = body_len avp.flags avp.vendor avp.value h.flagged in
-    let code_is : from_be_bytes w32 (to_be_bytes w32 avp.code) ≡ avp.code = from_be_bytes-to_be_bytes_4 avp.code h.code in
+    let counted : avp_len avp ≡ 8 + length body = body_len avp.flags avp.vendor avp.value h.is_avp.flagged in
+    let code_is : from_be_bytes w32 (to_be_bytes w32 avp.code) ≡ avp.code = from_be_bytes-to_be_bytes_4 avp.code h.is_avp.code in
     let len_is : from_be_bytes w32 (0 ∷ bytes_high_first 3 (avp_len avp)) ≡ avp_len avp = three_again (avp_len avp) h.length in
     ap (λ (n : ℕ). avp_within n avp.flags (from_be_bytes w32 (0 ∷ bytes_high_first 3 (avp_len avp))) (body ++ after)) code_is
     ∙ ap (λ (n : ℕ). avp_within avp.code avp.flags n (body ++ after)) len_is
     ∙ within_again avp.code avp.flags (avp_len avp) body after (omega arith) counted
-    ∙ ap ok (avp_again avp.code avp.flags avp.vendor avp.value h.flagged h.vendor)
+    ∙ ap ok (avp_again avp.code avp.flags avp.vendor avp.value h.is_avp.flagged h.is_avp.vendor)
 
 -- ---- what is no AVP
 

@@ -100,7 +100,7 @@ spelled_so (avp ∷ others) octets fits e =
         parted octets avp t, spelled_so others (drop (padded_len avp) octets) (IsBytes-drop (padded_len avp) octets fits) f.behind)
 
 length_spelling : (avp : AvpView) → HasSpelling avp → length (spelling avp) ≡ avp_len avp
-length_spelling avp h = omega (arith, body_len avp.flags avp.vendor avp.value h.flagged)
+length_spelling avp h = omega (arith, body_len avp.flags avp.vendor avp.value h.is_avp.flagged)
 
 -- nothing is left past the end
 drop_past : (n : ℕ) (octets : List ℕ) → length octets ≤ n → drop n octets ≡ []

@@ -41,12 +41,16 @@ spelling avp =
 abbrev pub padded : AvpView → List ℕ
 padded avp = spelling avp ++ replicate (padding_len avp) 0
 
--- an AVP that a spelling can tell: its numbers fit their octets, and its flags say whether it has a vendor
-pub record HasSpelling (avp : AvpView) : Type 0 where
+-- what holds of every AVP: its numbers fit their octets, and its flags say whether it has a vendor
+pub record IsAvp (avp : AvpView) : Type 0 where
   pub code : avp.code < 2 ^ 32
   pub flags : avp.flags < 2 ^ 8
   pub vendor : IfSome avp.vendor (λ vendor. vendor < 2 ^ 32)
   pub flagged : is_some avp.vendor ≡ has_vendor avp.flags
+
+-- an AVP that can be spelled: its length fits three octets
+pub record HasSpelling (avp : AvpView) : Type 0 where
+  pub is_avp : IsAvp avp
   pub length : avp_len avp < 2 ^ 24
 
 -- Padding is of any octets. In front of another AVP it is whole; at the end of a list some of it, or all, may be cut.

@@ -2,7 +2,7 @@
 
 ghost use Rattle.std.specs.Prelude.{◌≡◌, ◌+◌, ◌^◌, ◌<◌, ◌≤◌, length, Some, None, bit_and, bit_or};
 ghost use Rattle.std.specs.Int.{w32, w64};
-ghost use Rattle.dcc_avp.specs.Spelling.{AvpView, header_len, avp_len, padded_len, vendor_octets};
+ghost use Rattle.dcc_avp.specs.Spelling.{AvpView, IsAvp, header_len, avp_len, padded_len, vendor_octets};
 ghost use Rattle.dcc_avp.specs.Reading.{avp_of};
 ghost use Rattle.dcc_avp.specs.Numbers.{unsigned_of, signed_of};
 
@@ -35,14 +35,13 @@ pub struct Avp<'a> {
 }
 
 impl<'a> Model for Avp<'a> {
-    ghost use Rattle.std.specs.Prelude.{◌≡◌, is_some};
-    ghost use Rattle.dcc_avp.specs.Spelling.{AvpView, has_vendor};
+    ghost use Rattle.dcc_avp.specs.Spelling.{AvpView, IsAvp};
 
     ghost Value = { AvpView };
 
     ghost view = { λ a. record { code = a.code; flags = a.flags; vendor = a.vendor; value = a.value.now } };
 
-    ghost invariant = { λ a. is_some a.vendor ≡ has_vendor a.flags };
+    ghost invariant = { λ a. IsAvp (record { code = a.code; flags = a.flags; vendor = a.vendor; value = a.value.now }) };
 }
 
 impl<'a> Avp<'a> {
@@ -92,20 +91,21 @@ impl<'a> Avp<'a> {
         }
     }
 
-    /// The octets of header and data, which AVP Length counts.
-    pub(crate) fn len(&self) -> usize
+    /// The octets of header and data, without padding: what AVP Length counts.
+    pub fn length(&self) -> usize
         ensures counted { result ≡ avp_len self.now }
         ensures header { result ≡ 8 + length (vendor_octets self.now.vendor) + length self.now.value }
         ensures bound { result < 2 ^ 63 + 12 }
+        ensures is_avp { IsAvp self.now }
     {
         header_len(self.flags) + self.value.len()
     }
 
     /// The octets of header, data and padding.
-    pub(crate) fn padded_len(&self) -> usize
+    pub fn padded_length(&self) -> usize
         ensures { result ≡ padded_len self.now }
     {
-        self.len().next_multiple_of(4)
+        self.length().next_multiple_of(4)
     }
 
     /// The AVP Code.

@@ -45,7 +45,7 @@ fn first_avp(octets: &[u8]) -> Result<Avp<'_>, AvpFault>
 fn behind<'a>(avp: &Avp<'_>, octets: &'a [u8]) -> &'a [u8]
     ensures { result.now ≡ drop (padded_len avp.now) octets.now }
 {
-    octets.get(avp.padded_len()..).unwrap_or_default()
+    octets.get(avp.padded_length()..).unwrap_or_default()
 }
 
 /// The AVPs of a list, in one pass over its octets.

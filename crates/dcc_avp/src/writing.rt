@@ -24,8 +24,8 @@ pub fn write_avp(out: &mut Vec<u8>, avp: &Avp<'_>) -> Result<(), AllocError>
     ensures err { OnErr result (out.new.items ≡ out.old.items) }
     ensures has_spelling { HasSpelling avp.now }
 {
-    let len = avp.len();
-    let padding = avp.padded_len() - len;
+    let len = avp.length();
+    let padding = avp.padded_length() - len;
     out.reserve(len + padding)?;
     put(out, &avp.code().to_be_bytes());
     let [_, high, middle, low] = (len as u32).to_be_bytes();
