@@ -1,6 +1,6 @@
 -- One AVP: what reading takes from the front of octets is its spelling, and its spelling is read again.
 use Rattle.std.proofs.Common.{◌≡◌, ℕ, zero, suc, ◌+◌, ◌-◌, ◌^◌, ◌<◌, ◌≤◌, Bool, true, false, cond, ltb, List, [], ◌∷◌, ◌++◌, length, get_or, take, drop, Option, Some, None, Result, Ok, Err, refl, sym, ap, subst, ◌∙◌, append_assoc, arith, inl, inr, ◌⊎◌}
-use Rattle.std.specs.Prelude.{IfSome, is_some}
+use Rattle.std.specs.Prelude.{IfSome, is_some, All}
 use Rattle.std.specs.Int.{w32, from_be_bytes, to_be_bytes, bytes_high_first, byte_at}
 use Rattle.std.proofs.lemmas.Bool.{cases_lt, ltb-false, ltb-true, le-ltb, lt-ltb}
 use Rattle.std.proofs.lemmas.List.{take_at, drop_at, take-append-drop, length-append, length-take, length-drop, get_or-drop, get_or-take, get_or_past}
@@ -20,6 +20,13 @@ IsBytes-take n octets fits i =
     elim (cases_lt i n) [
       | inl lt ↦ rw (get_or-take n octets i 0 lt) (fits i)
       | inr le ↦ rw (get_or_past (take n octets) i 0 (omega (arith, length-take n octets))) (omega arith)
+    ]
+
+pub IsBytes-from_All : (octets : List ℕ) → All (λ octet. octet < 2 ^ 8) octets → IsBytes octets
+IsBytes-from_All octets each i =
+    elim (cases_lt i (length octets)) [
+      | inl lt ↦ each i 0 lt
+      | inr le ↦ rw (get_or_past octets i 0 le) (omega arith)
     ]
 
 IsBytes-cons : (b : ℕ) (octets : List ℕ) → b < 256 → IsBytes octets → IsBytes (b ∷ octets)

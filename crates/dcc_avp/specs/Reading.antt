@@ -19,6 +19,14 @@ abbrev pub ◌>>=◌ : {A B : Type 0} → Result A FaultView → (A → Result B
 (Ok x) >>= f = f x
 (Err fault) >>= f = Err fault
 
+-- the number of a fault; want of memory has none
+abbrev pub fault_number : AvpFault → Option ℕ
+fault_number (faults.Short code flags) = Some 1
+fault_number (faults.LengthBelowHeader code flags) = Some 2
+fault_number (faults.LengthPastEnd code flags) = Some 3
+fault_number faults.WrongSize = Some 4
+fault_number faults.Memory = None
+
 -- A fault that a call answers is one of the octets, of which the fact holds, or memory ran out. A number's size is no matter of reading.
 abbrev pub Tells : AvpFault → (FaultView → Type 0) → Type 0
 Tells (faults.Short code flags) P = P (Short code flags)

@@ -1,7 +1,7 @@
 //! Why octets are no list of AVPs, or data no number.
 
 ghost use Rattle.std.specs.Prelude.{◌≡◌};
-ghost use Rattle.dcc_avp.specs.Numbers.{fault_number};
+ghost use Rattle.dcc_avp.specs.Reading.{fault_number};
 ghost use Rattle.dcc_avp.specs.declared.fault.AvpFault.TheVariants.{Memory};
 
 use std::alloc::{AllocError, AllocFailed};
