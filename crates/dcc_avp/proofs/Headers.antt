@@ -1,11 +1,11 @@
 -- One AVP: what reading takes from the front of octets is its spelling, and its spelling is read again.
 use Rattle.std.proofs.Common.{◌≡◌, ℕ, zero, suc, ◌+◌, ◌-◌, ◌^◌, ◌<◌, ◌≤◌, Bool, true, false, cond, ltb, List, [], ◌∷◌, ◌++◌, length, get_or, take, drop, Option, Some, None, Result, Ok, Err, refl, sym, ap, subst, ◌∙◌, append_assoc, arith, inl, inr, ◌⊎◌}
-use Rattle.std.specs.Prelude.{IfSome, is_some, All}
+use Rattle.std.specs.Prelude.{IfSome, is_some}
 use Rattle.std.specs.Int.{w32, from_be_bytes, to_be_bytes, bytes_high_first, byte_at}
 use Rattle.std.proofs.lemmas.Bool.{cases_lt, ltb-false, ltb-true, le-ltb, lt-ltb}
 use Rattle.std.proofs.lemmas.List.{take_at, drop_at, take-append-drop, length-append, length-take, length-drop, get_or-drop, get_or-take, get_or_past}
 use Rattle.std.proofs.lemmas.Nat.{be_bytes_4, from_be_bytes-to_be_bytes_4}
-use Rattle.dcc_avp.specs.Spelling.{AvpView, has_vendor, header_len, avp_len, vendor_octets, spelling, HasSpelling}
+use Rattle.dcc_avp.specs.Spelling.{AvpView, AreOctets, has_vendor, header_len, avp_len, vendor_octets, spelling, HasSpelling}
 use Rattle.dcc_avp.specs.Reading.{FaultView, Short, LengthBelowHeader, LengthPastEnd, short_code, short_flags, avp_of, avp_within, avp_at, Heads, IsBroken}
 use Rattle.dcc_avp.proofs.Lengths.{header_least}
 
@@ -22,8 +22,8 @@ IsBytes-take n octets fits i =
       | inr le ↦ rw (get_or_past (take n octets) i 0 (omega (arith, length-take n octets))) (omega arith)
     ]
 
-pub IsBytes-from_All : (octets : List ℕ) → All (λ octet. octet < 2 ^ 8) octets → IsBytes octets
-IsBytes-from_All octets each i =
+pub IsBytes-from_AreOctets : (octets : List ℕ) → AreOctets octets → IsBytes octets
+IsBytes-from_AreOctets octets each i =
     elim (cases_lt i (length octets)) [
       | inl lt ↦ each i 0 lt
       | inr le ↦ rw (get_or_past octets i 0 le) (omega arith)
@@ -93,10 +93,10 @@ made_without code flags body flagged = record { same_code = refl; same_flags = r
 made : (code flags : ℕ) (body : List ℕ) → IsBytes body → header_len flags ≤ 8 + length body → IsMade code flags body (avp_of code flags body)
 made code flags body fits long =
     let step : (b : Bool) → has_vendor flags ≡ b → cond b 12 8 ≤ 8 + length body
-            → IsMade code flags body (cond b (record { code = code; flags = flags; vendor = Some (from_be_bytes w32 (take 4 body)); value = drop 4 body }) (record { code = code; flags = flags; vendor = None; value = body }))
-        = λ b. elim b as (λ b. has_vendor flags ≡ b → cond b 12 8 ≤ 8 + length body
-            → IsMade code flags body (cond b (record { code = code; flags = flags; vendor = Some (from_be_bytes w32 (take 4 body)); value = drop 4 body }) (record { code = code; flags = flags; vendor = None; value = body })))
-        [ true ↦ λ flagged long. made_with code flags body fits long flagged | false ↦ λ flagged long. made_without code flags body flagged ]
+    → IsMade code flags body (cond b (record { code = code; flags = flags; vendor = Some (from_be_bytes w32 (take 4 body)); value = drop 4 body }) (record { code = code; flags = flags; vendor = None; value = body }))
+    = λ b. elim b as (λ b. has_vendor flags ≡ b → cond b 12 8 ≤ 8 + length body
+    → IsMade code flags body (cond b (record { code = code; flags = flags; vendor = Some (from_be_bytes w32 (take 4 body)); value = drop 4 body }) (record { code = code; flags = flags; vendor = None; value = body })))
+    [ true ↦ λ flagged long. made_with code flags body fits long flagged | false ↦ λ flagged long. made_without code flags body flagged ]
     in step (has_vendor flags) refl long
 
 -- the vendor's octets complete the header
@@ -161,11 +161,11 @@ made_taken a b c d flags x y z body avp fits long short m =
     let len_is : avp_len avp ≡ len = ap (λ (f : ℕ). header_len f + length avp.value) m.same_flags ∙ counted ∙ omega arith in
     let code_octets : to_be_bytes w32 avp.code ≡ a ∷ b ∷ c ∷ d ∷ [] = ap (λ (n : ℕ). to_be_bytes w32 n) m.same_code ∙ four_back (a ∷ b ∷ c ∷ d ∷ []) refl four in
     let len_octets : avp.flags ∷ bytes_high_first 3 (avp_len avp) ≡ flags ∷ x ∷ y ∷ z ∷ [] =
-        ap (λ (f : ℕ). f ∷ bytes_high_first 3 (avp_len avp)) m.same_flags ∙ ap (λ (n : ℕ). flags ∷ bytes_high_first 3 n) len_is ∙ ap (λ (t : List ℕ). flags ∷ t) (three_back x y z (fits 5) (fits 6) (fits 7)) in
+    ap (λ (f : ℕ). f ∷ bytes_high_first 3 (avp_len avp)) m.same_flags ∙ ap (λ (n : ℕ). flags ∷ bytes_high_first 3 n) len_is ∙ ap (λ (t : List ℕ). flags ∷ t) (three_back x y z (fits 5) (fits 6) (fits 7)) in
     let spelled : spelling avp ≡ headed a b c d flags x y z part =
-        ap (λ (t : List ℕ). (t ++ (avp.flags ∷ bytes_high_first 3 (avp_len avp))) ++ (vendor_octets avp.vendor ++ avp.value)) code_octets
-        ∙ ap (λ (t : List ℕ). ((a ∷ b ∷ c ∷ d ∷ []) ++ t) ++ (vendor_octets avp.vendor ++ avp.value)) len_octets
-        ∙ ap (λ (t : List ℕ). headed a b c d flags x y z t) m.text in
+    ap (λ (t : List ℕ). (t ++ (avp.flags ∷ bytes_high_first 3 (avp_len avp))) ++ (vendor_octets avp.vendor ++ avp.value)) code_octets
+    ∙ ap (λ (t : List ℕ). ((a ∷ b ∷ c ∷ d ∷ []) ++ t) ++ (vendor_octets avp.vendor ++ avp.value)) len_octets
+    ∙ ap (λ (t : List ℕ). headed a b c d flags x y z t) m.text in
     let eight_more : avp_len avp ≡ suc (suc (suc (suc (suc (suc (suc (suc (len - 8)))))))) = omega arith in
     record {
       has_spelling = record {
@@ -218,7 +218,7 @@ within_again : (code flags len : ℕ) (body after : List ℕ) → header_len fla
 within_again code flags len body after long counted =
     let rest : length body ≡ len - 8 = omega arith in
     passes (ltb len (header_len flags)) (ltb (8 + length (body ++ after)) len) (LengthBelowHeader code flags) (LengthPastEnd code flags)
-        (avp_of code flags (take (len - 8) (body ++ after))) (le-ltb _ _ long) (le-ltb _ _ (omega (arith, length-append body after)))
+    (avp_of code flags (take (len - 8) (body ++ after))) (le-ltb _ _ long) (le-ltb _ _ (omega (arith, length-append body after)))
     ∙ ap (λ (t : List ℕ). ok (avp_of code flags t)) (take_at body after (len - 8) rest)
 
 pub at_again : (avp : AvpView) (after : List ℕ) → HasSpelling avp → avp_at (spelling avp ++ after) ≡ Ok avp

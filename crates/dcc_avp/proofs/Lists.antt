@@ -28,8 +28,8 @@ data Steps (octets : List ℕ) : Type 0 where
 steps : (octets : List ℕ) → 0 < length octets → Steps octets
 steps octets some =
     let by : (read : Result AvpView FaultView) → avp_at octets ≡ read → Steps octets = λ read.
-        elim read as (λ r. avp_at octets ≡ r → Steps octets)
-        [ Ok avp ↦ λ at. onward avp at (at_ok octets avp some at) | Err fault ↦ λ at. stopped fault at (at_err octets fault some at) ]
+    elim read as (λ r. avp_at octets ≡ r → Steps octets)
+    [ Ok avp ↦ λ at. onward avp at (at_ok octets avp some at) | Err fault ↦ λ at. stopped fault at (at_err octets fault some at) ]
     in by (avp_at octets) refl
 
 in_front_ok : (avp : AvpView) (read : Result (List AvpView) FaultView) (first : AvpView) (others : List AvpView) → in_front avp read ≡ done (first ∷ others) → (avp ≡ first) × (read ≡ Ok others)
@@ -48,9 +48,9 @@ in_front_err avp (Err seen) fault e = cc
 none_read : (octets : List ℕ) → avps_of octets ≡ done [] → octets ≡ []
 none_read [] e = refl
 none_read (octet ∷ octets) e = elim (steps (octet ∷ octets) (omega arith)) [
-    | onward avp at is ↦ absurd (in_front_not_nil avp (avps_of (drop (padded_len avp) (octet ∷ octets))) (sym is ∙ e))
-    | stopped fault at is ↦ absurd cc
-  ]
+  | onward avp at is ↦ absurd (in_front_not_nil avp (avps_of (drop (padded_len avp) (octet ∷ octets))) (sym is ∙ e))
+  | stopped fault at is ↦ absurd cc
+]
 
 -- the AVP in front of octets that give one, and what those behind it give
 record IsFirst (octets : List ℕ) (avp : AvpView) (others : List AvpView) : Type 0 where
@@ -60,11 +60,11 @@ record IsFirst (octets : List ℕ) (avp : AvpView) (others : List AvpView) : Typ
 first_read : (octets : List ℕ) (avp : AvpView) (others : List AvpView) → avps_of octets ≡ done (avp ∷ others) → IsFirst octets avp others
 first_read [] avp others e = absurd (let c : done [] ≡ done (avp ∷ others) = sym avps_of-nil ∙ e in cc)
 first_read (octet ∷ octets) avp others e = elim (steps (octet ∷ octets) (omega arith)) [
-    | onward seen at is ↦
-        let p = in_front_ok seen (avps_of (drop (padded_len seen) (octet ∷ octets))) avp others (sym is ∙ e) in
-        subst (λ (v : AvpView). IsFirst (octet ∷ octets) v others) p.0 (record { at = at; behind = p.1 })
-    | stopped fault at is ↦ absurd cc
-  ]
+  | onward seen at is ↦
+      let p = in_front_ok seen (avps_of (drop (padded_len seen) (octet ∷ octets))) avp others (sym is ∙ e) in
+      subst (λ (v : AvpView). IsFirst (octet ∷ octets) v others) p.0 (record { at = at; behind = p.1 })
+  | stopped fault at is ↦ absurd cc
+]
 
 -- an AVP and the octets behind it are all of them
 parted : (octets : List ℕ) (avp : AvpView) → IsTaken octets avp
@@ -73,7 +73,7 @@ parted octets avp t =
     let n = avp_len avp in
     let behind : drop (padding_len avp) (drop n octets) ≡ drop (padded_len avp) octets = drop-drop (padding_len avp) n octets ∙ ap (λ (k : ℕ). drop k octets) (length_padding avp) in
     let rest : take (padding_len avp) (drop n octets) ++ drop (padded_len avp) octets ≡ drop n octets =
-        ap (λ (r : List ℕ). take (padding_len avp) (drop n octets) ++ r) (sym behind) ∙ take-append-drop (padding_len avp) (drop n octets) in
+    ap (λ (r : List ℕ). take (padding_len avp) (drop n octets) ++ r) (sym behind) ∙ take-append-drop (padding_len avp) (drop n octets) in
     sym (ap (λ (r : List ℕ). spelling avp ++ r) rest ∙ ap (λ (f : List ℕ). f ++ drop n octets) (sym t.front) ∙ take-append-drop n octets)
 
 -- the padding is whole where octets follow it
@@ -86,8 +86,8 @@ padding_is : (octets : List ℕ) (avp : AvpView) (others : List AvpView) → avp
 padding_is octets avp [] e = omega (arith, length-take (padding_len avp) (drop (avp_len avp) octets))
 padding_is octets avp (next ∷ others) e =
     let some : (rest : List ℕ) → avps_of rest ≡ done (next ∷ others) → 0 < length rest = λ rest.
-        elim rest as (λ r. avps_of r ≡ done (next ∷ others) → 0 < length r)
-        [ [] ↦ λ e. absurd (let c : done [] ≡ done (next ∷ others) = sym avps_of-nil ∙ e in cc) | octet ∷ octets ↦ λ e. omega arith ]
+    elim rest as (λ r. avps_of r ≡ done (next ∷ others) → 0 < length r)
+    [ [] ↦ λ e. absurd (let c : done [] ≡ done (next ∷ others) = sym avps_of-nil ∙ e in cc) | octet ∷ octets ↦ λ e. omega arith ]
     in whole_padding octets avp (some (drop (padded_len avp) octets) e)
 
 -- what is read is spelled so
@@ -95,9 +95,14 @@ pub spelled_so : (avps : List AvpView) (octets : List ℕ) → IsBytes octets �
 spelled_so [] octets fits e = none_read octets e
 spelled_so (avp ∷ others) octets fits e =
     let f = first_read octets avp others e in
-    let t = at_taken octets avp fits f.at in
-    (t.has_spelling, take (padding_len avp) (drop (avp_len avp) octets), drop (padded_len avp) octets, padding_is octets avp others f.behind,
-        parted octets avp t, spelled_so others (drop (padded_len avp) octets) (IsBytes-drop (padded_len avp) octets fits) f.behind)
+    let t = at_taken octets avp fits f.at in (
+      t.has_spelling,
+      take (padding_len avp) (drop (avp_len avp) octets),
+      drop (padded_len avp) octets,
+      padding_is octets avp others f.behind,
+      parted octets avp t,
+      spelled_so others (drop (padded_len avp) octets) (IsBytes-drop (padded_len avp) octets fits) f.behind,
+    )
 
 length_spelling : (avp : AvpView) → HasSpelling avp → length (spelling avp) ≡ avp_len avp
 length_spelling avp h = omega (arith, body_len avp.flags avp.vendor avp.value h.is_avp.flagged)
@@ -198,6 +203,11 @@ padding_whole avp (next ∷ others) octets len = len
 pub padded_spells : (avps : List AvpView) → AllByRecursion HasSpelling avps → Spells (flat_map padded avps) avps
 padded_spells [] h = refl
 padded_spells (avp ∷ others) h =
-    let zeros = replicate (padding_len avp) 0 in
-    (h.0, zeros, flat_map padded others, padding_whole avp others zeros (length-replicate {A = ℕ} (padding_len avp) 0),
-        flat_map-cons padded avp others ∙ append_assoc (spelling avp) zeros (flat_map padded others), padded_spells others h.1)
+    let zeros = replicate (padding_len avp) 0 in (
+      h.0,
+      zeros,
+      flat_map padded others,
+      padding_whole avp others zeros (length-replicate {A = ℕ} (padding_len avp) 0),
+      flat_map-cons padded avp others ∙ append_assoc (spelling avp) zeros (flat_map padded others),
+      padded_spells others h.1,
+    )

@@ -25,11 +25,12 @@ pub avps_of-cons : (octet : ℕ) (octets : List ℕ) → avps_of (octet ∷ octe
 unfolding avps_of avps_behind
 avps_of-cons octet octets =
     let one : (read : Result AvpView FaultView) → (read >>= λ first. in_front first (avps_behind octets (padded_len first - 1)))
-            ≡ (read >>= λ first. in_front first (avps_of (drop (padded_len first) (octet ∷ octets)))) = λ read.
-        elim read as (λ r. (r >>= λ first. in_front first (avps_behind octets (padded_len first - 1)))
-            ≡ (r >>= λ first. in_front first (avps_of (drop (padded_len first) (octet ∷ octets)))))
-        [ Ok first ↦ ap (in_front first) (passed-behind octet octets (padded_len first) (padded_len first - 1) (padded_not_none first))
-        | Err fault ↦ refl ]
+    ≡ (read >>= λ first. in_front first (avps_of (drop (padded_len first) (octet ∷ octets)))) = λ read.
+    elim read as (λ r. (r >>= λ first. in_front first (avps_behind octets (padded_len first - 1)))
+    ≡ (r >>= λ first. in_front first (avps_of (drop (padded_len first) (octet ∷ octets))))) [
+      | Ok first ↦ ap (in_front first) (passed-behind octet octets (padded_len first) (padded_len first - 1) (padded_not_none first))
+      | Err fault ↦ refl
+    ]
     in one (avp_at (octet ∷ octets))
 
 pub avps_of-nil : avps_of [] ≡ Ok []

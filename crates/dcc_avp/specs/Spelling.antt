@@ -1,5 +1,5 @@
 -- What an AVP is, and the octets that spell it and a list of them (RFC 6733, sections 4 and 4.1).
-use Rattle.std.specs.Prelude.{◌≡◌, ℕ, ◌+◌, ◌-◌, ◌<◌, ◌≤◌, ◌^◌, Bool, not, ◌==◌, if◌then◌else◌, List, [], ◌∷◌, ◌++◌, length, replicate, Option, Some, None, IfSome, is_some, bit_and}
+use Rattle.std.specs.Prelude.{◌≡◌, ℕ, ◌+◌, ◌-◌, ◌<◌, ◌≤◌, ◌^◌, Bool, not, ◌==◌, if◌then◌else◌, List, [], ◌∷◌, ◌++◌, length, replicate, Option, Some, None, IfSome, is_some, bit_and, All}
 use Rattle.std.specs.Int.{w32, to_be_bytes, bytes_high_first, next_multiple_of}
 
 -- an AVP without where its data lies in memory
@@ -53,6 +53,9 @@ pub record HasSpelling (avp : AvpView) : Type 0 where
   pub is_avp : IsAvp avp
   pub length : avp_len avp < 2 ^ 24
 
+abbrev pub AreOctets : List ℕ → Type 0
+AreOctets octets = All (λ octet. octet < 2 ^ 8) octets
+
 -- Padding is of any octets. In front of another AVP it is whole; at the end of a list some of it, or all, may be cut.
 abbrev pub IsPadding : AvpView → List AvpView → List ℕ → Type 0
 IsPadding avp [] octets = length octets ≤ padding_len avp
@@ -62,10 +65,12 @@ IsPadding avp (next ∷ others) octets = length octets ≡ padding_len avp
 abbrev pub Spells : List ℕ → List AvpView → Type 0
 Spells octets [] = octets ≡ []
 Spells octets (avp ∷ others) =
-    HasSpelling avp × (padding : List ℕ) × (rest : List ℕ) × IsPadding avp others padding × (octets ≡ spelling avp ++ (padding ++ rest)) × Spells rest others
+    HasSpelling avp × (padding : List ℕ) × (rest : List ℕ) × IsPadding avp others padding
+    × (octets ≡ spelling avp ++ (padding ++ rest)) × Spells rest others
 
 -- the octets begin with the AVPs, each with its whole padding, and this rest follows
 abbrev pub Begins : List ℕ → List AvpView → List ℕ → Type 0
 Begins octets [] rest = octets ≡ rest
 Begins octets (avp ∷ others) rest =
-    HasSpelling avp × (padding : List ℕ) × (after : List ℕ) × (length padding ≡ padding_len avp) × (octets ≡ spelling avp ++ (padding ++ after)) × Begins after others rest
+    HasSpelling avp × (padding : List ℕ) × (after : List ℕ) × (length padding ≡ padding_len avp)
+    × (octets ≡ spelling avp ++ (padding ++ after)) × Begins after others rest

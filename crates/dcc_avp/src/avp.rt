@@ -151,9 +151,7 @@ impl<'a> Avp<'a> {
         ensures { result ≡ unsigned_of w64 self.now.value }
     {
         match self.value {
-            [a, b, c, d, e, f, g, h] => {
-                Ok(u64::from_be_bytes([*a, *b, *c, *d, *e, *f, *g, *h]))
-            }
+            [a, b, c, d, e, f, g, h] => { Ok(u64::from_be_bytes([*a, *b, *c, *d, *e, *f, *g, *h])) }
             _ => Err(AvpFault::WrongSize),
         }
     }
@@ -173,9 +171,7 @@ impl<'a> Avp<'a> {
         ensures { result ≡ signed_of w64 self.now.value }
     {
         match self.value {
-            [a, b, c, d, e, f, g, h] => {
-                Ok(i64::from_be_bytes([*a, *b, *c, *d, *e, *f, *g, *h]))
-            }
+            [a, b, c, d, e, f, g, h] => { Ok(i64::from_be_bytes([*a, *b, *c, *d, *e, *f, *g, *h])) }
             _ => Err(AvpFault::WrongSize),
         }
     }

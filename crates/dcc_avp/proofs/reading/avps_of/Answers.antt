@@ -14,7 +14,7 @@ pub loop-rest-preserved : goal.loop-rest-preserved
 loop-rest-preserved c =
     let some : 0 < length c.loop-rest.rest.now = search rules in
     rw (c.in_ok-push.ensures.items, c.behind-rest.ensures)
-        (goes_on c.loop-rest.avps.items c.loop-rest.rest.now c.in_ok-avp.avp (avps_of c.args.octets.now) some c.in_ok-avp.ensures c.loop-rest.invariant)
+    (goes_on c.loop-rest.avps.items c.loop-rest.rest.now c.in_ok-avp.avp (avps_of c.args.octets.now) some c.in_ok-avp.ensures c.loop-rest.invariant)
 
 pub returns : goal.returns
 returns c =
