@@ -1,0 +1,4 @@
+pub mod Lengths
+pub mod Headers
+pub mod Loop
+pub mod Lists
