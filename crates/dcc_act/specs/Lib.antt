@@ -1,0 +1,4 @@
+pub mod Answers
+pub mod Limits
+pub mod Numbers
+pub mod Subs
