@@ -1,11 +1,12 @@
 //! Acts.
 
-ghost use Rattle.std.specs.Prelude.{◌≡◌, ◌≤◌, ◌^◌, true, is_some, IfOk};
+ghost use Rattle.std.specs.Prelude.{◌≡◌, IfOk};
 
 use crate::moment::Moment;
 use crate::request_key::RequestKey;
 use crate::service::Service;
 use std::alloc::AllocError;
+use std::marker::Model;
 
 /// Money that is put into an account.
 #[derive(Clone, Copy, Debug, PartialEq, Eq)]
@@ -14,8 +15,18 @@ pub struct TopUp {
     pub ticket: u64,
     /// In minor units, 1 to 10^18.
     pub amount: u64,
-    pub ghost amount_not_none: { 1 ≤ amount },
-    pub ghost amount_in_range: { amount ≤ 10 ^ 18 },
+}
+
+impl Model for TopUp {
+    ghost use Rattle.dcc_act.specs.Services.{TopUpView, IsTopUp};
+
+    ghost Value = { TopUpView };
+
+    ghost view = { λ t. record { ticket = t.ticket; amount = t.amount } };
+
+    ghost invariant = { λ t. IsTopUp t.amount };
+
+    ghost inverse = { λ v. record { ticket = v.ticket; amount = v.amount } };
 }
 
 /// What a one-time event asks for (Requested-Action, RFC 8506, section 8.41).
@@ -31,7 +42,18 @@ pub struct Event {
     pub key: RequestKey,
     pub action: Action,
     pub service: Service,
-    pub ghost asks: { is_some service.asked ≡ true },
+}
+
+impl Model for Event {
+    ghost use Rattle.dcc_act.specs.Services.{EventView, Asks};
+
+    ghost Value = { EventView };
+
+    ghost view = { λ e. record { key = e.key; action = e.action; service = e.service } };
+
+    ghost invariant = { λ e. Asks e.service };
+
+    ghost inverse = { λ v. record { key = v.key; action = v.action; service = v.service } };
 }
 
 impl Event {

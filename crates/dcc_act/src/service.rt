@@ -1,12 +1,11 @@
 //! Services of a request.
 
-ghost use Rattle.std.specs.Prelude.{◌≡◌, ◌≤◌, ◌<◌, ◌^◌, Some, None, true, is_some, is_none, IfOk};
-ghost use Rattle.std.specs.Option.{ForSome};
-ghost use Rattle.dcc_tariff.specs.declared.tariff.UnitKind.TheVariants.{Time};
+ghost use Rattle.std.specs.Prelude.{◌≡◌, IfOk};
 
 use crate::service_ids::ServiceIds;
 use dcc_tariff::{Tariff, UnitKind};
 use std::alloc::AllocError;
+use std::marker::Model;
 
 /// Where a service stands in its request.
 #[derive(Clone, Copy, Debug, PartialEq, Eq)]
@@ -33,13 +32,18 @@ pub struct Service {
     pub unit: Option<UnitKind>,
     /// What the units cost at the act's moment.
     pub tariff: Option<Tariff>,
-    pub ghost asked_in_range: { ForSome asked (λ units. units ≤ 10 ^ 12) },
-    pub ghost asked_not_none: { is_some unit ≡ true → ForSome asked (λ units. 1 ≤ units) },
-    pub ghost asked_time: { unit ≡ Some Time → ForSome asked (λ units. units < 2 ^ 32) },
-    pub ghost used_in_range: { ForSome used (λ units. units ≤ 10 ^ 12) },
-    pub ghost unrated_asks_nothing: { is_none unit ≡ true → ForSome asked (λ units. units ≡ 0) },
-    pub ghost unrated_uses_nothing: { is_none unit ≡ true → ForSome used (λ units. units ≡ 0) },
-    pub ghost unrated_costs_nothing: { is_none unit ≡ true → is_none tariff ≡ true },
+}
+
+impl Model for Service {
+    ghost use Rattle.dcc_act.specs.Services.{ServiceView, IsService};
+
+    ghost Value = { ServiceView };
+
+    ghost view = { λ s. record { group = s.group; ids = s.ids; form = s.form; asked = s.asked; used = s.used; unit = s.unit; tariff = s.tariff } };
+
+    ghost invariant = { λ s. IsService s.asked s.used s.unit s.tariff };
+
+    ghost inverse = { λ v. record { group = v.group; ids = v.ids; form = v.form; asked = v.asked; used = v.used; unit = v.unit; tariff = v.tariff } };
 }
 
 impl Service {
