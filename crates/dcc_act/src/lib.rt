@@ -15,6 +15,7 @@ mod service_answers;
 mod service_ids;
 mod session_id;
 mod sub;
+mod sub_order;
 
 pub use act::{Act, Action, Event, Kind, TopUp};
 pub use entry::{Entry, EntryKind, EntryName};

@@ -51,7 +51,7 @@ impl ServiceAnswers {
         ensures value { result.now ≡ self.now }
         ensures limits { AreAnswers self.now }
     {
-        self.items.as_slice()
+        &self.items
     }
 
     /// Equal answers, where memory suffices.

@@ -57,7 +57,7 @@ impl ServiceIds {
         ensures value { result.now ≡ self.now }
         ensures limit { length self.now ≤ 5460 }
     {
-        self.items.as_slice()
+        &self.items
     }
 
     /// Equal identifiers, where memory suffices.

@@ -50,7 +50,7 @@ impl SessionId {
         ensures value { result.now ≡ self.now }
         ensures limit { IsSessionId self.now }
     {
-        self.bytes.as_slice()
+        &self.bytes
     }
 
     /// An equal name, where memory suffices.
