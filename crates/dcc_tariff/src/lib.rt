@@ -5,8 +5,12 @@
 #![tactic(auto)]
 
 mod fault;
+mod keys;
+mod moment;
 mod plan;
 mod prices;
+mod reading;
+mod tables;
 mod tariff;
 mod terms;
 mod version;
