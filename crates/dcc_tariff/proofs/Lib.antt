@@ -3,3 +3,4 @@ pub mod VersionLemmas
 pub mod PlanLemmas
 pub mod AddressLemmas
 pub mod TableLemmas
+pub mod ReadingLemmas

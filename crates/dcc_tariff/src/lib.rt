@@ -10,6 +10,7 @@ mod moment;
 mod plan;
 mod prices;
 mod reading;
+mod rows;
 mod tables;
 mod tariff;
 mod terms;
