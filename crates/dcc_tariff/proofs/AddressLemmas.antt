@@ -54,10 +54,10 @@ same_bytes text = (bytes_eq-Decides text text).1 refl
 if_spelled-dotted : (a b c d : ℕ) → a < 256 → b < 256 → c < 256 → d < 256 → if_spelled (dotted_text a b c d) (a ∷ b ∷ c ∷ d ∷ []) ≡ Some (a ∷ b ∷ c ∷ d ∷ [])
 if_spelled-dotted a b c d ha hb hc hd =
     let low : list_all (λ n. nat_lt n 256) (a ∷ b ∷ c ∷ d ∷ []) ≡ true =
-        and_from (nat_lt a 256) _ (lt-ltb a 256 ha) (and_from (nat_lt b 256) _ (lt-ltb b 256 hb)
-        (and_from (nat_lt c 256) _ (lt-ltb c 256 hc) (and_from (nat_lt d 256) true (lt-ltb d 256 hd) refl))) in
+    and_from (nat_lt a 256) _ (lt-ltb a 256 ha) (and_from (nat_lt b 256) _ (lt-ltb b 256 hb)
+    (and_from (nat_lt c 256) _ (lt-ltb c 256 hc) (and_from (nat_lt d 256) true (lt-ltb d 256 hd) refl))) in
     cond-true _ (Some (a ∷ b ∷ c ∷ d ∷ [])) None
-        (and_from (list_all (λ n. nat_lt n 256) (a ∷ b ∷ c ∷ d ∷ [])) _ low (same_bytes (dotted_text a b c d)))
+    (and_from (list_all (λ n. nat_lt n 256) (a ∷ b ∷ c ∷ d ∷ [])) _ low (same_bytes (dotted_text a b c d)))
 
 pub address_of-dotted : (text octets : List ℕ) → IsDotted text octets → address_of text ≡ Some octets
 unfolding address_of
@@ -89,9 +89,9 @@ address_of-none text h =
     let numbers = numbers_after 0 text in
     let test = (length numbers == 4 && list_all (λ n. nat_lt n 256) numbers) && bytes_eq text (ipv4_text numbers) in
     elim (cases_Bool test) [
-      inl spelled ↦
-        let (four_low, same) = and_parts (length numbers == 4 && list_all (λ n. nat_lt n 256) numbers) (bytes_eq text (ipv4_text numbers)) spelled in
-        let (four, low) = and_parts (length numbers == 4) (list_all (λ n. nat_lt n 256) numbers) four_low in
-        absurd (h numbers (dotted_from text numbers (eqb-true (length numbers) 4 four) low ((bytes_eq-Decides text (ipv4_text numbers)).0 same)))
+      | inl spelled ↦
+          let (four_low, same) = and_parts (length numbers == 4 && list_all (λ n. nat_lt n 256) numbers) (bytes_eq text (ipv4_text numbers)) spelled in
+          let (four, low) = and_parts (length numbers == 4) (list_all (λ n. nat_lt n 256) numbers) four_low in
+          absurd (h numbers (dotted_from text numbers (eqb-true (length numbers) 4 four) low ((bytes_eq-Decides text (ipv4_text numbers)).0 same)))
       | inr not_spelled ↦ cond-false test (Some numbers) None not_spelled
     ]

@@ -25,7 +25,7 @@ count-view (v ∷ values) = ap suc (count-view values)
 
 pub tables_at-found : (key : List ℕ) (table : Members) (values : List Value) → value_at as_array key table ≡ Ok (items_view values)
     → tables_at key table ≡ cond (list_all (λ value. is_some (as_table (view value))) values)
-        (in_range (nat_le 1 (length values) && nat_le (length values) 1000) (items_view values)) (Err MissingKey)
+    (in_range (nat_le 1 (length values) && nat_le (length values) 1000) (items_view values)) (Err MissingKey)
 unfolding tables_at
 tables_at-found key table values found =
     ap (λ read. read >>= λ tables. cond (are_tables tables) (in_range (nat_le 1 (count tables) && nat_le (count tables) 1000) tables) (Err MissingKey)) found
@@ -40,7 +40,7 @@ place-is version (x ∷ xs) zero within point =
     sym (cond-false (precedes x version) (x ∷ place version xs) (version ∷ x ∷ xs) (point.1 0 x (omega arith) (omega arith)))
 place-is version (x ∷ xs) (suc n) within point =
     ap (λ ys. x ∷ ys) (place-is version xs n (omega arith)
-        (λ k d from to. point.0 (suc k) d (omega arith) (omega arith), λ k d from to. point.1 (suc k) d (omega arith) (omega arith)))
+    (λ k d from to. point.0 (suc k) d (omega arith) (omega arith), λ k d from to. point.1 (suc k) d (omega arith) (omega arith)))
     ∙ sym (cond-true (precedes x version) (x ∷ place version xs) (version ∷ x ∷ xs) (point.0 0 x (omega arith) (omega arith)))
 
 pub precedes_steady : (version x y : Version) → precedes y x ≡ false → precedes y version ≡ true → precedes x version ≡ true
@@ -52,10 +52,10 @@ list_all-place p version [] here all = and_from (p version) true here refl
 list_all-place p version (x ∷ xs) here all =
     let (first, more) = and_parts (p x) (list_all p xs) all in
     elim (cases_Bool (precedes x version)) [
-      inl before ↦ ap (list_all p) (cond-true (precedes x version) (x ∷ place version xs) (version ∷ x ∷ xs) before)
-        ∙ and_from (p x) (list_all p (place version xs)) first (list_all-place p version xs here more)
+      | inl before ↦ ap (list_all p) (cond-true (precedes x version) (x ∷ place version xs) (version ∷ x ∷ xs) before)
+          ∙ and_from (p x) (list_all p (place version xs)) first (list_all-place p version xs here more)
       | inr after ↦ ap (list_all p) (cond-false (precedes x version) (x ∷ place version xs) (version ∷ x ∷ xs) after)
-        ∙ and_from (p version) (list_all p (x ∷ xs)) here all
+          ∙ and_from (p version) (list_all p (x ∷ xs)) here all
     ]
 
 not_both : (x y : Version) → precedes x y ≡ true → not (precedes y x) ≡ true
@@ -77,12 +77,12 @@ place_ordered version [] ordered = refl
 place_ordered version (x ∷ xs) ordered =
     let (first, others) = and_parts (list_all (λ y. not (precedes y x)) xs) (are_ordered xs) ordered in
     elim (cases_Bool (precedes x version)) [
-      inl before ↦ ap are_ordered (cond-true (precedes x version) (x ∷ place version xs) (version ∷ x ∷ xs) before)
-        ∙ and_from (list_all (λ y. not (precedes y x)) (place version xs)) (are_ordered (place version xs))
-            (list_all-place (λ y. not (precedes y x)) version xs (not_both x version before) first) (place_ordered version xs others)
+      | inl before ↦ ap are_ordered (cond-true (precedes x version) (x ∷ place version xs) (version ∷ x ∷ xs) before)
+          ∙ and_from (list_all (λ y. not (precedes y x)) (place version xs)) (are_ordered (place version xs))
+          (list_all-place (λ y. not (precedes y x)) version xs (not_both x version before) first) (place_ordered version xs others)
       | inr after ↦ ap are_ordered (cond-false (precedes x version) (x ∷ place version xs) (version ∷ x ∷ xs) after)
-        ∙ and_from (list_all (λ y. not (precedes y version)) (x ∷ xs)) (are_ordered (x ∷ xs))
-            (and_from (not (precedes x version)) (list_all (λ y. not (precedes y version)) xs) (rw after) (all_after version x xs after first)) ordered
+          ∙ and_from (list_all (λ y. not (precedes y version)) (x ∷ xs)) (are_ordered (x ∷ xs))
+          (and_from (not (precedes x version)) (list_all (λ y. not (precedes y version)) xs) (rw after) (all_after version x xs after first)) ordered
     ]
 
 pub not_few : (n : ℕ) → (n ≡ 0) ⊎ (1000 < n) → (nat_le 1 n && nat_le n 1000) ≡ false

@@ -17,8 +17,8 @@ rows_plan = record {
   quantum = 100_000;
   terms = record { validity = 600; hold = 1200; currency = 978; exponent = negsuc 1 };
   versions =
-    record { group = 10; unit = Octets; from = since_2020; tariff = record { price = 5; block = 1000 } }
-    ∷ record { group = 20; unit = Time; from = since_2020; tariff = record { price = 2; block = 60 } }
-    ∷ record { group = 30; unit = Units; from = since_2020; tariff = record { price = 0; block = 1 } }
-    ∷ [];
+      record { group = 10; unit = Octets; from = since_2020; tariff = record { price = 5; block = 1000 } }
+      ∷ record { group = 20; unit = Time; from = since_2020; tariff = record { price = 2; block = 60 } }
+      ∷ record { group = 30; unit = Units; from = since_2020; tariff = record { price = 0; block = 1 } }
+      ∷ [];
 }

@@ -7,13 +7,12 @@ ghost use Rattle.toml.specs.View.{view, table_view};
 ghost use Rattle.dcc_tariff.specs.Plans.{is_identity};
 ghost use Rattle.dcc_tariff.specs.PlanTexts.{found_at, value_at, seen_by, integer_at, number_at, identity_at, address_at, address_of, unit_at, unit_named, moment_at, GivesBy};
 
-use std::alloc::Global;
-use std::net::Ipv4Addr;
-use toml::{Table, Value};
-
 use crate::fault::PlanFault;
 use crate::moment::moment_of;
 use crate::tariff::UnitKind;
+use std::alloc::Global;
+use std::net::Ipv4Addr;
+use toml::{Table, Value};
 
 /// The value of a key.
 pub(crate) fn found_at<'a>(table: &'a Table, key: &str) -> Result<&'a Value, PlanFault>

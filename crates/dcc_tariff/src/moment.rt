@@ -48,5 +48,9 @@ fn fits(form: &[u8], text: &[u8]) -> bool
 fn fits_at(form: u8, c: u8) -> bool
     ensures { result ≡ fits_at form c }
 {
-    if form == b'0' { c.is_ascii_digit() } else { c == form }
+    if form == b'0' {
+        c.is_ascii_digit()
+    } else {
+        c == form
+    }
 }

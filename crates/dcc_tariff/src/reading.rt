@@ -6,15 +6,14 @@ ghost use Rattle.toml.specs.View.{table_view};
 ghost use Rattle.dcc_tariff.specs.Plans.{is_of};
 ghost use Rattle.dcc_tariff.specs.PlanTexts.{plan_of_text, plan_of, terms_of, Gives};
 
-use std::alloc::Global;
-use toml::Table;
-
 use crate::fault::PlanFault;
 use crate::keys::{address_at, identity_at, integer_at, number_at};
 use crate::plan::Plan;
 use crate::tables::{tables_at, versions_of};
 use crate::terms::Terms;
 use crate::version::{Version, agree};
+use std::alloc::Global;
+use toml::Table;
 
 impl Plan {
     /// The plan that a TOML document says: exactly its keys' values, or the first fault in the order of the keys.

@@ -3,12 +3,11 @@
 ghost use Rattle.std.specs.Prelude.{◌≡◌, IfOk};
 ghost use Rattle.dcc_tariff.specs.Rows.{rows_plan};
 
-use std::alloc::{AllocError, Global};
-
 use crate::plan::Plan;
 use crate::tariff::{Tariff, UnitKind};
 use crate::terms::Terms;
 use crate::version::Version;
+use std::alloc::{AllocError, Global};
 
 /// The beginning of 2020.
 const SINCE_2020: u64 = 1_577_836_800;
@@ -37,13 +36,19 @@ impl Plan {
                     group: 10,
                     unit: UnitKind::Octets,
                     from: SINCE_2020,
-                    tariff: Tariff { price: 5, block: 1000 },
+                    tariff: Tariff {
+                        price: 5,
+                        block: 1000
+                    },
                 },
                 Version {
                     group: 20,
                     unit: UnitKind::Time,
                     from: SINCE_2020,
-                    tariff: Tariff { price: 2, block: 60 },
+                    tariff: Tariff {
+                        price: 2,
+                        block: 60
+                    },
                 },
                 Version {
                     group: 30,

@@ -7,14 +7,13 @@ ghost use Rattle.toml.specs.View.{view, items_view, array_view, table_view};
 ghost use Rattle.dcc_tariff.specs.Plans.{are_ordered};
 ghost use Rattle.dcc_tariff.specs.PlanTexts.{value_at, seen_by, tables_at, version_of, version_of_value, versions_onto, place, Gives, GivesBy};
 
-use std::alloc::{AllocError, Global};
-use toml::value::Array;
-use toml::{Table, Value};
-
 use crate::fault::PlanFault;
 use crate::keys::{found_at, moment_at, number_at, unit_at};
 use crate::tariff::Tariff;
 use crate::version::Version;
+use std::alloc::{AllocError, Global};
+use toml::value::Array;
+use toml::{Table, Value};
 
 /// The most tables that a plan may have.
 const MAX_TABLES: usize = 1000;
@@ -71,7 +70,9 @@ fn put(versions: &mut Vec<Version>, version: Version) -> Result<(), AllocError>
     ensures ordered { OnOk result (are_ordered versions.new.items ≡ true) }
     ensures len { OnOk result (vec_len versions.new ≡ vec_len versions.old + 1) }
 {
-    let at = versions.as_slice().partition_point(|other| other.precedes(&version));
+    let at = versions
+        .as_slice()
+        .partition_point(|other| other.precedes(&version));
     versions.insert(at, version)?;
     Ok(())
 }
