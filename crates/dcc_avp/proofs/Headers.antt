@@ -53,7 +53,8 @@ tail octets = drop 1 octets
 
 three_back : (x y z : ℕ) → x < 256 → y < 256 → z < 256 → bytes_high_first 3 (from_be_bytes w32 (0 ∷ x ∷ y ∷ z ∷ [])) ≡ x ∷ y ∷ z ∷ []
 unfolding tail
-three_back x y z fx fy fz = ap tail (four_back (0 ∷ x ∷ y ∷ z ∷ []) refl (IsBytes-cons 0 (x ∷ y ∷ z ∷ []) (omega arith) (IsBytes-three x y z fx fy fz)))
+three_back x y z fx fy fz =
+    ap tail (four_back (0 ∷ x ∷ y ∷ z ∷ []) refl (IsBytes-cons 0 (x ∷ y ∷ z ∷ []) (omega arith) (IsBytes-three x y z fx fy fz)))
 
 three_below : (x y z : ℕ) → x < 256 → y < 256 → z < 256 → from_be_bytes w32 (0 ∷ x ∷ y ∷ z ∷ []) < 2 ^ 24
 three_below x y z fx fy fz = omega arith
@@ -62,7 +63,8 @@ no_fourth : (n : ℕ) → n < 2 ^ 24 → byte_at 3 n ≡ 0
 no_fourth n lt = omega arith
 
 three_again : (n : ℕ) → n < 2 ^ 24 → from_be_bytes w32 (0 ∷ bytes_high_first 3 n) ≡ n
-three_again n lt = ap (λ (b : ℕ). from_be_bytes w32 (b ∷ bytes_high_first 3 n)) (sym (no_fourth n lt)) ∙ from_be_bytes-to_be_bytes_4 n (omega arith)
+three_again n lt = ap (λ (b : ℕ). from_be_bytes w32 (b ∷ bytes_high_first 3 n)) (sym (no_fourth n lt))
+    ∙ from_be_bytes-to_be_bytes_4 n (omega arith)
 
 -- ---- the octets behind the first eight
 
@@ -74,51 +76,63 @@ record IsMade (code flags : ℕ) (body : List ℕ) (avp : AvpView) : Type 0 wher
   flagged : is_some avp.vendor ≡ has_vendor flags
   text : vendor_octets avp.vendor ++ avp.value ≡ body
 
-made_with : (code flags : ℕ) (body : List ℕ) → IsBytes body → 12 ≤ 8 + length body → has_vendor flags ≡ true
-    → IsMade code flags body (record { code = code; flags = flags; vendor = Some (from_be_bytes w32 (take 4 body)); value = drop 4 body })
-made_with code flags body fits long flagged =
+abbrev vendored : (code flags : ℕ) → List ℕ → AvpView
+vendored code flags body =
+    record { code = code; flags = flags; vendor = Some (from_be_bytes w32 (take 4 body)); value = drop 4 body }
+
+abbrev plain : (code flags : ℕ) → List ℕ → AvpView
+plain code flags body = record { code = code; flags = flags; vendor = None; value = body }
+
+made_vendored : (code flags : ℕ) (body : List ℕ) → IsBytes body → 12 ≤ 8 + length body → has_vendor flags ≡ true
+    → IsMade code flags body (vendored code flags body)
+made_vendored code flags body fits long flagged =
     let four : length (take 4 body) ≡ 4 = omega (arith, length-take 4 body) in
+    let octets : to_be_bytes w32 (from_be_bytes w32 (take 4 body)) ≡ take 4 body = four_back (take 4 body) four (IsBytes-take 4 body fits) in
     record {
       same_code = refl;
       same_flags = refl;
       vendor = four_below (take 4 body) (IsBytes-take 4 body fits);
       flagged = sym flagged;
-      text = ap (λ (front : List ℕ). front ++ drop 4 body) (four_back (take 4 body) four (IsBytes-take 4 body fits)) ∙ take-append-drop 4 body;
+      text = ap (λ (front : List ℕ). front ++ drop 4 body) octets ∙ take-append-drop 4 body;
     }
 
-made_without : (code flags : ℕ) (body : List ℕ) → has_vendor flags ≡ false
-    → IsMade code flags body (record { code = code; flags = flags; vendor = None; value = body })
-made_without code flags body flagged = record { same_code = refl; same_flags = refl; vendor = tt; flagged = sym flagged; text = refl }
+made_plain : (code flags : ℕ) (body : List ℕ) → has_vendor flags ≡ false → IsMade code flags body (plain code flags body)
+made_plain code flags body flagged = record { same_code = refl; same_flags = refl; vendor = tt; flagged = sym flagged; text = refl }
 
-made : (code flags : ℕ) (body : List ℕ) → IsBytes body → header_len flags ≤ 8 + length body → IsMade code flags body (avp_of code flags body)
-made code flags body fits long =
-    let step : (b : Bool) → has_vendor flags ≡ b → cond b 12 8 ≤ 8 + length body
-    → IsMade code flags body (cond b (record { code = code; flags = flags; vendor = Some (from_be_bytes w32 (take 4 body)); value = drop 4 body }) (record { code = code; flags = flags; vendor = None; value = body }))
-    = λ b. elim b as (λ b. has_vendor flags ≡ b → cond b 12 8 ≤ 8 + length body
-    → IsMade code flags body (cond b (record { code = code; flags = flags; vendor = Some (from_be_bytes w32 (take 4 body)); value = drop 4 body }) (record { code = code; flags = flags; vendor = None; value = body })))
-    [ true ↦ λ flagged long. made_with code flags body fits long flagged | false ↦ λ flagged long. made_without code flags body flagged ]
-    in step (has_vendor flags) refl long
+made_by : (b : Bool) (code flags : ℕ) (body : List ℕ) → IsBytes body → has_vendor flags ≡ b → cond b 12 8 ≤ 8 + length body
+    → IsMade code flags body (cond b (vendored code flags body) (plain code flags body))
+made_by true code flags body fits flagged long = made_vendored code flags body fits long flagged
+made_by false code flags body fits flagged long = made_plain code flags body flagged
+
+made : (code flags : ℕ) (body : List ℕ) → IsBytes body → header_len flags ≤ 8 + length body
+    → IsMade code flags body (avp_of code flags body)
+made code flags body fits long = made_by (has_vendor flags) code flags body fits refl long
 
 -- the vendor's octets complete the header
-pub body_len : (flags : ℕ) (vendor : Option ℕ) (value : List ℕ) → is_some vendor ≡ has_vendor flags → header_len flags + length value ≡ 8 + length (vendor_octets vendor ++ value)
+pub body_len : (flags : ℕ) (vendor : Option ℕ) (value : List ℕ) → is_some vendor ≡ has_vendor flags
+    → header_len flags + length value ≡ 8 + length (vendor_octets vendor ++ value)
 body_len flags None value flagged = rw (← flagged) refl
 body_len flags (Some vendor) value flagged = rw (← flagged) (omega arith)
 
-avp_again : (code flags : ℕ) (vendor : Option ℕ) (value : List ℕ) → is_some vendor ≡ has_vendor flags → IfSome vendor (λ vendor. vendor < 2 ^ 32)
+avp_again : (code flags : ℕ) (vendor : Option ℕ) (value : List ℕ) → is_some vendor ≡ has_vendor flags
+    → IfSome vendor (λ vendor. vendor < 2 ^ 32)
     → avp_of code flags (vendor_octets vendor ++ value) ≡ record { code = code; flags = flags; vendor = vendor; value = value }
 avp_again code flags None value flagged lt = rw (← flagged) refl
 avp_again code flags (Some vendor) value flagged lt =
-    rw (← flagged) (ap (λ (v : ℕ). record { code = code; flags = flags; vendor = Some v; value = value }) (from_be_bytes-to_be_bytes_4 vendor lt))
+    let with : ℕ → AvpView = λ v. record { code = code; flags = flags; vendor = Some v; value = value } in
+    rw (← flagged) (ap with (from_be_bytes-to_be_bytes_4 vendor lt))
 
 -- ---- what is taken from the front
 
 -- a test that did not fail
-guard_ok : (b : Bool) (fault : FaultView) (read : Result AvpView FaultView) (avp : AvpView) → cond b (Err fault) read ≡ Ok avp → (b ≡ false) × (read ≡ Ok avp)
+guard_ok : (b : Bool) (fault : FaultView) (read : Result AvpView FaultView) (avp : AvpView) → cond b (Err fault) read ≡ Ok avp
+    → (b ≡ false) × (read ≡ Ok avp)
 guard_ok true fault read avp e = absurd cc
 guard_ok false fault read avp e = (refl, e)
 
 -- or one that did
-guard_err : (b : Bool) (fault seen : FaultView) (read : Result AvpView FaultView) → cond b (Err fault) read ≡ Err seen → ((b ≡ true) × (fault ≡ seen)) ⊎ ((b ≡ false) × (read ≡ Err seen))
+guard_err : (b : Bool) (fault seen : FaultView) (read : Result AvpView FaultView) → cond b (Err fault) read ≡ Err seen
+    → ((b ≡ true) × (fault ≡ seen)) ⊎ ((b ≡ false) × (read ≡ Err seen))
 guard_err true fault seen read e = inl (refl, cc)
 guard_err false fault seen read e = inr (refl, e)
 
@@ -150,6 +164,7 @@ IsBytes-four a b c d fa fb fc fd = IsBytes-cons a (b ∷ c ∷ d ∷ []) fa (IsB
 made_taken : (a b c d flags x y z : ℕ) (body : List ℕ) (avp : AvpView) → IsBytes (headed a b c d flags x y z body)
     → header_len flags ≤ len_in x y z → len_in x y z ≤ 8 + length body → IsMade (code_in a b c d) flags (take (len_in x y z - 8) body) avp
     → IsTaken (headed a b c d flags x y z body) avp
+unfolding spelling
 made_taken a b c d flags x y z body avp fits long short m =
     let code = code_in a b c d in
     let len = len_in x y z in
@@ -157,11 +172,14 @@ made_taken a b c d flags x y z body avp fits long short m =
     let eight : 8 ≤ len = omega (arith, header_least flags) in
     let part_len : length part ≡ len - 8 = omega (arith, length-take (len - 8) body) in
     let four : IsBytes (a ∷ b ∷ c ∷ d ∷ []) = IsBytes-four a b c d (fits 0) (fits 1) (fits 2) (fits 3) in
-    let counted : header_len flags + length avp.value ≡ 8 + length part = body_len flags avp.vendor avp.value m.flagged ∙ ap (λ (t : List ℕ). 8 + length t) m.text in
+    let counted : header_len flags + length avp.value ≡ 8 + length part = body_len flags avp.vendor avp.value m.flagged
+    ∙ ap (λ (t : List ℕ). 8 + length t) m.text in
     let len_is : avp_len avp ≡ len = ap (λ (f : ℕ). header_len f + length avp.value) m.same_flags ∙ counted ∙ omega arith in
-    let code_octets : to_be_bytes w32 avp.code ≡ a ∷ b ∷ c ∷ d ∷ [] = ap (λ (n : ℕ). to_be_bytes w32 n) m.same_code ∙ four_back (a ∷ b ∷ c ∷ d ∷ []) refl four in
+    let code_octets : to_be_bytes w32 avp.code ≡ a ∷ b ∷ c ∷ d ∷ [] = ap (λ (n : ℕ). to_be_bytes w32 n) m.same_code
+    ∙ four_back (a ∷ b ∷ c ∷ d ∷ []) refl four in
     let len_octets : avp.flags ∷ bytes_high_first 3 (avp_len avp) ≡ flags ∷ x ∷ y ∷ z ∷ [] =
-    ap (λ (f : ℕ). f ∷ bytes_high_first 3 (avp_len avp)) m.same_flags ∙ ap (λ (n : ℕ). flags ∷ bytes_high_first 3 n) len_is ∙ ap (λ (t : List ℕ). flags ∷ t) (three_back x y z (fits 5) (fits 6) (fits 7)) in
+    ap (λ (f : ℕ). f ∷ bytes_high_first 3 (avp_len avp)) m.same_flags ∙ ap (λ (n : ℕ). flags ∷ bytes_high_first 3 n) len_is
+    ∙ ap (λ (t : List ℕ). flags ∷ t) (three_back x y z (fits 5) (fits 6) (fits 7)) in
     let spelled : spelling avp ≡ headed a b c d flags x y z part =
     ap (λ (t : List ℕ). (t ++ (avp.flags ∷ bytes_high_first 3 (avp_len avp))) ++ (vendor_octets avp.vendor ++ avp.value)) code_octets
     ∙ ap (λ (t : List ℕ). ((a ∷ b ∷ c ∷ d ∷ []) ++ t) ++ (vendor_octets avp.vendor ++ avp.value)) len_octets
@@ -186,13 +204,16 @@ within_taken : (a b c d flags x y z : ℕ) (body : List ℕ) (avp : AvpView) →
 within_taken a b c d flags x y z body avp fits e =
     let code = code_in a b c d in
     let len = len_in x y z in
-    let g = guard_ok (ltb len (header_len flags)) (LengthBelowHeader code flags) (cond (ltb (8 + length body) len) (Err (LengthPastEnd code flags)) (Ok (avp_of code flags (take (len - 8) body)))) avp e in
-    let h = guard_ok (ltb (8 + length body) len) (LengthPastEnd code flags) (Ok (avp_of code flags (take (len - 8) body))) avp g.1 in
+    let part = take (len - 8) body in
+    let inner : Result AvpView FaultView = cond (ltb (8 + length body) len) (Err (LengthPastEnd code flags)) (Ok (avp_of code flags part)) in
+    let g = guard_ok (ltb len (header_len flags)) (LengthBelowHeader code flags) inner avp e in
+    let h = guard_ok (ltb (8 + length body) len) (LengthPastEnd code flags) (Ok (avp_of code flags part)) avp g.1 in
     let long : header_len flags ≤ len = ltb-false _ _ g.0 in
     let short : len ≤ 8 + length body = ltb-false _ _ h.0 in
-    let fits_part : IsBytes (take (len - 8) body) = IsBytes-take (len - 8) body (IsBytes-drop 8 (headed a b c d flags x y z body) fits) in
-    let m = made code flags (take (len - 8) body) fits_part (omega (arith, length-take (len - 8) body)) in
-    subst (λ (v : AvpView). IsTaken (headed a b c d flags x y z body) v) (ok_is _ _ h.1) (made_taken a b c d flags x y z body (avp_of code flags (take (len - 8) body)) fits long short m)
+    let fits_part : IsBytes part = IsBytes-take (len - 8) body (IsBytes-drop 8 (headed a b c d flags x y z body) fits) in
+    let m = made code flags part fits_part (omega (arith, length-take (len - 8) body)) in
+    let t = made_taken a b c d flags x y z body (avp_of code flags part) fits long short m in
+    subst (λ (v : AvpView). IsTaken (headed a b c d flags x y z body) v) (ok_is _ _ h.1) t
 
 pub at_taken : (octets : List ℕ) (avp : AvpView) → IsBytes octets → avp_at octets ≡ Ok avp → IsTaken octets avp
 unfolding avp_at
@@ -222,7 +243,7 @@ within_again code flags len body after long counted =
     ∙ ap (λ (t : List ℕ). ok (avp_of code flags t)) (take_at body after (len - 8) rest)
 
 pub at_again : (avp : AvpView) (after : List ℕ) → HasSpelling avp → avp_at (spelling avp ++ after) ≡ Ok avp
-unfolding avp_at
+unfolding avp_at spelling
 at_again avp after h =
     let body = vendor_octets avp.vendor ++ avp.value in
     let counted : avp_len avp ≡ 8 + length body = body_len avp.flags avp.vendor avp.value h.is_avp.flagged in
@@ -252,7 +273,8 @@ heads a b c d flags x y z body fits =
       code_fits = four_below (a ∷ b ∷ c ∷ d ∷ []) four;
       flags_fit = fits 4;
       len_fits = three_below x y z (fits 5) (fits 6) (fits 7);
-      spelled = sym (ap (λ (t : List ℕ). t ++ (flags ∷ bytes_high_first 3 (len_in x y z))) code_octets ∙ ap (λ (t : List ℕ). (a ∷ b ∷ c ∷ d ∷ []) ++ (flags ∷ t)) len_octets);
+      spelled = sym (ap (λ (t : List ℕ). t ++ (flags ∷ bytes_high_first 3 (len_in x y z))) code_octets
+          ∙ ap (λ (t : List ℕ). (a ∷ b ∷ c ∷ d ∷ []) ++ (flags ∷ t)) len_octets);
     }
 
 within_broken : (a b c d flags x y z : ℕ) (body : List ℕ) (fault : FaultView) → IsBytes (headed a b c d flags x y z body)
@@ -261,14 +283,21 @@ within_broken a b c d flags x y z body fault fits e =
     let code = code_in a b c d in
     let len = len_in x y z in
     let octets = headed a b c d flags x y z body in
-    let inner : Result AvpView FaultView = cond (ltb (8 + length body) len) (Err (LengthPastEnd code flags)) (Ok (avp_of code flags (take (len - 8) body))) in
+    let inner : Result AvpView FaultView =
+    cond (ltb (8 + length body) len) (Err (LengthPastEnd code flags)) (Ok (avp_of code flags (take (len - 8) body))) in
     let h = heads a b c d flags x y z body fits in
     elim (guard_err (ltb len (header_len flags)) (LengthBelowHeader code flags) fault inner e) [
       | inl below ↦ subst (λ (f : FaultView). IsBroken octets f) below.1 (len, h, ltb-true _ _ below.0)
-      | inr long ↦ elim (guard_err (ltb (8 + length body) len) (LengthPastEnd code flags) fault (Ok (avp_of code flags (take (len - 8) body))) long.1) [
-        | inl past ↦ subst (λ (f : FaultView). IsBroken octets f) past.1 (len, h, ltb-false _ _ long.0, (let more : 8 + length body < len = ltb-true _ _ past.0 in omega arith))
-        | inr taken ↦ absurd cc
-      ]
+      | inr long ↦ elim (guard_err (ltb (8 + length body) len) (LengthPastEnd code flags) fault (Ok (avp_of code flags (take
+          (len - 8) body))) long.1) [
+            | inl past ↦ subst (λ (f : FaultView). IsBroken octets f) past.1 (
+              len,
+              h,
+              ltb-false _ _ long.0,
+              (let more : 8 + length body < len = ltb-true _ _ past.0 in omega arith),
+            )
+            | inr taken ↦ absurd cc
+          ]
     ]
 
 short_broken : (octets : List ℕ) (fault : FaultView) → 0 < length octets → length octets < 8
@@ -276,7 +305,8 @@ short_broken : (octets : List ℕ) (fault : FaultView) → 0 < length octets →
 short_broken octets fault some few e =
     subst (λ (f : FaultView). IsBroken octets f) (fault_is (Short (short_code octets) short_flags) fault e) (some, few, refl, refl)
 
-pub at_broken : (octets : List ℕ) (fault : FaultView) → IsBytes octets → 0 < length octets → avp_at octets ≡ Err fault → IsBroken octets fault
+pub at_broken : (octets : List ℕ) (fault : FaultView) → IsBytes octets → 0 < length octets → avp_at octets ≡ Err fault
+    → IsBroken octets fault
 unfolding avp_at err
 at_broken [] fault fits some e = absurd (omega arith)
 at_broken (a ∷ []) fault fits some e = short_broken (a ∷ []) fault some (omega arith) e
@@ -285,5 +315,6 @@ at_broken (a ∷ b ∷ c ∷ []) fault fits some e = short_broken (a ∷ b ∷ c
 at_broken (a ∷ b ∷ c ∷ d ∷ []) fault fits some e = short_broken (a ∷ b ∷ c ∷ d ∷ []) fault some (omega arith) e
 at_broken (a ∷ b ∷ c ∷ d ∷ flags ∷ []) fault fits some e = short_broken (a ∷ b ∷ c ∷ d ∷ flags ∷ []) fault some (omega arith) e
 at_broken (a ∷ b ∷ c ∷ d ∷ flags ∷ x ∷ []) fault fits some e = short_broken (a ∷ b ∷ c ∷ d ∷ flags ∷ x ∷ []) fault some (omega arith) e
-at_broken (a ∷ b ∷ c ∷ d ∷ flags ∷ x ∷ y ∷ []) fault fits some e = short_broken (a ∷ b ∷ c ∷ d ∷ flags ∷ x ∷ y ∷ []) fault some (omega arith) e
+at_broken (a ∷ b ∷ c ∷ d ∷ flags ∷ x ∷ y ∷ []) fault fits some e =
+    short_broken (a ∷ b ∷ c ∷ d ∷ flags ∷ x ∷ y ∷ []) fault some (omega arith) e
 at_broken (a ∷ b ∷ c ∷ d ∷ flags ∷ x ∷ y ∷ z ∷ body) fault fits some e = within_broken a b c d flags x y z body fault fits e

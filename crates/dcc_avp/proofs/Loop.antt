@@ -38,7 +38,8 @@ unfolding avps_of avps_behind
 avps_of-nil = refl
 
 -- the AVPs of octets with an AVP in front
-pub at_ok : (octets : List ℕ) (avp : AvpView) → 0 < length octets → avp_at octets ≡ Ok avp → avps_of octets ≡ in_front avp (avps_of (drop (padded_len avp) octets))
+pub at_ok : (octets : List ℕ) (avp : AvpView) → 0 < length octets → avp_at octets ≡ Ok avp
+    → avps_of octets ≡ in_front avp (avps_of (drop (padded_len avp) octets))
 at_ok [] avp some at = absurd (omega arith)
 at_ok (octet ∷ octets) avp some at = avps_of-cons octet octets ∙ rw at refl
 
@@ -51,27 +52,35 @@ at_err (octet ∷ octets) fault some at = avps_of-cons octet octets ∙ rw at re
 abbrev pub with_front : List AvpView → Result (List AvpView) FaultView → Result (List AvpView) FaultView
 with_front front read = read >>= λ others. Ok (front ++ others)
 
-regroup : (front : List AvpView) (avp : AvpView) (read : Result (List AvpView) FaultView) → with_front front (in_front avp read) ≡ with_front (front ++ avp ∷ []) read
+regroup : (front : List AvpView) (avp : AvpView) (read : Result (List AvpView) FaultView)
+    → with_front front (in_front avp read) ≡ with_front (front ++ avp ∷ []) read
 regroup front avp (Ok others) = ap (λ (avps : List AvpView). Ok avps) (simp append_assoc)
 regroup front avp (Err fault) = refl
 
-pub goes_on : (front : List AvpView) (rest : List ℕ) (avp : AvpView) (total : Result (List AvpView) FaultView) → 0 < length rest → avp_at rest ≡ Ok avp
+pub goes_on : (front : List AvpView) (rest : List ℕ) (avp : AvpView) (total : Result (List AvpView) FaultView) → 0 < length rest
+    → avp_at rest ≡ Ok avp
     → with_front front (avps_of rest) ≡ total → with_front (front ++ avp ∷ []) (avps_of (drop (padded_len avp) rest)) ≡ total
 goes_on front rest avp total some at so_far =
     sym (regroup front avp (avps_of (drop (padded_len avp) rest))) ∙ ap (with_front front) (sym (at_ok rest avp some at)) ∙ so_far
 
-err_goes_on : (front : List AvpView) (rest : List ℕ) (fault : FaultView) (total : Result (List AvpView) FaultView) → 0 < length rest → avp_at rest ≡ Err fault
+err_goes_on : (front : List AvpView) (rest : List ℕ) (fault : FaultView) (total : Result (List AvpView) FaultView) → 0 < length rest
+    → avp_at rest ≡ Err fault
     → with_front front (avps_of rest) ≡ total → total ≡ Err fault
 err_goes_on front rest fault total some at so_far = sym so_far ∙ ap (with_front front) (at_err rest fault some at)
 
-pub ends : (fault : AvpFault) (front : List AvpView) (rest : List ℕ) (total : Result (List AvpView) FaultView) → 0 < length rest → Tells fault (λ seen. avp_at rest ≡ Err seen)
+pub ends : (fault : AvpFault) (front : List AvpView) (rest : List ℕ) (total : Result (List AvpView) FaultView) → 0 < length rest
+    → Tells fault (λ seen. avp_at rest ≡ Err seen)
     → with_front front (avps_of rest) ≡ total → Tells fault (λ seen. total ≡ Err seen)
 ends (faults.Short code flags) front rest total some at so_far = err_goes_on front rest (Short code flags) total some at so_far
-ends (faults.LengthBelowHeader code flags) front rest total some at so_far = err_goes_on front rest (LengthBelowHeader code flags) total some at so_far
-ends (faults.LengthPastEnd code flags) front rest total some at so_far = err_goes_on front rest (LengthPastEnd code flags) total some at so_far
+ends (faults.LengthBelowHeader code flags) front rest total some at so_far =
+    err_goes_on front rest (LengthBelowHeader code flags) total some at so_far
+ends (faults.LengthPastEnd code flags) front rest total some at so_far =
+    err_goes_on front rest (LengthPastEnd code flags) total some at so_far
 ends faults.WrongSize front rest total some at so_far = at
 ends faults.Memory front rest total some at so_far = tt
 
-pub is_done : (front : List AvpView) (rest : List ℕ) (total : Result (List AvpView) FaultView) → length rest ≡ 0 → with_front front (avps_of rest) ≡ total → total ≡ Ok front
-is_done front [] total none so_far = sym so_far ∙ ap (with_front front) avps_of-nil ∙ ap (λ (avps : List AvpView). Ok avps) (append-nil front)
+pub is_done : (front : List AvpView) (rest : List ℕ) (total : Result (List AvpView) FaultView) → length rest ≡ 0
+    → with_front front (avps_of rest) ≡ total → total ≡ Ok front
+is_done front [] total none so_far = sym so_far ∙ ap (with_front front) avps_of-nil
+    ∙ ap (λ (avps : List AvpView). Ok avps) (append-nil front)
 is_done front (octet ∷ octets) total none so_far = absurd (omega arith)
