@@ -18,7 +18,8 @@ unit_of-found plan versions group read same found =
     option_map-copied (λ (v : Version). v.unit) read
     ∙ ap (option_map (λ (v : Version). v.unit)) (found ∙ ap (find (is_of group)) same)
 
-pub tariff_at-found : (plan : PlanView) (versions : List Version) (group moment : ℕ) (read : Option (Bor Version)) → versions ≡ plan.versions
+pub tariff_at-found : (plan : PlanView) (versions : List Version) (group moment : ℕ) (read : Option (Bor Version))
+    → versions ≡ plan.versions
     → option_copied read ≡ latest (filter (has_begun group moment) versions)
     → option_map {U = UnitKind × Rate} (λ (v : Bor Version). (v.now.unit, v.now.tariff)) read ≡ tariff_at plan group moment
 unfolding tariff_at
