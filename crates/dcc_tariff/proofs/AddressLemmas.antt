@@ -94,7 +94,8 @@ address_of-none text h =
     let test = (length numbers == 4 && list_all (λ n. nat_lt n 256) numbers) && bytes_eq text (ipv4_text numbers) in
     elim (cases_Bool test) [
       | inl spelled ↦
-          let (four_low, same) = and_parts (length numbers == 4 && list_all (λ n. nat_lt n 256) numbers) (bytes_eq text (ipv4_text numbers)) spelled in
+          let (four_low, same) =
+          and_parts (length numbers == 4 && list_all (λ n. nat_lt n 256) numbers) (bytes_eq text (ipv4_text numbers)) spelled in
           let (four, low) = and_parts (length numbers == 4) (list_all (λ n. nat_lt n 256) numbers) four_low in
           absurd (h numbers (dotted_from text numbers (eqb-true (length numbers) 4 four) low ((bytes_eq-Decides text (ipv4_text numbers)).0 same)))
       | inr not_spelled ↦ cond-false test (Some numbers) None not_spelled

@@ -25,9 +25,11 @@ pub tariff_at-found : (plan : PlanView) (versions : List Version) (group moment 
 unfolding tariff_at
 tariff_at-found plan versions group moment read same found =
     option_map-copied {Y = UnitKind × Rate} (λ (v : Version). (v.unit, v.tariff)) read
-    ∙ ap (option_map {U = UnitKind × Rate} (λ (v : Version). (v.unit, v.tariff))) (found ∙ ap (λ vs. latest (filter (has_begun group moment) vs)) same)
+    ∙ ap (option_map {U = UnitKind × Rate} (λ (v : Version). (v.unit, v.tariff)))
+    (found ∙ ap (λ vs. latest (filter (has_begun group moment) vs)) same)
 
-pub unit_of-latest : (plan : PlanView) (versions : List Version) (group moment : ℕ) (read : Option (Bor Version)) (version : Bor Version) → versions ≡ plan.versions
+pub unit_of-latest : (plan : PlanView) (versions : List Version) (group moment : ℕ) (read : Option (Bor Version))
+    (version : Bor Version) → versions ≡ plan.versions
     → all_agree plan.versions ≡ true → option_copied read ≡ latest (filter (has_begun group moment) versions) → read ≡ Some version
     → unit_of plan group ≡ Some version.now.unit
 unfolding unit_of

@@ -73,7 +73,8 @@ all_after : (version x : Version) (ys : List Version) → precedes x version ≡
 all_after version x [] h all = refl
 all_after version x (y ∷ ys) h all =
     let (first, more) = and_parts (not (precedes y x)) (list_all (λ z. not (precedes z x)) ys) all in
-    and_from (not (precedes y version)) (list_all (λ z. not (precedes z version)) ys) (still_after version x y h first) (all_after version x ys h more)
+    and_from (not (precedes y version)) (list_all (λ z. not (precedes z version)) ys) (still_after version x y h first)
+    (all_after version x ys h more)
 
 -- a list stays in order
 pub place_ordered : (version : Version) (xs : List Version) → are_ordered xs ≡ true → are_ordered (place version xs) ≡ true
@@ -104,7 +105,8 @@ pub versions_onto-step : (placed : List Version) (values : List Value) (i : ℕ)
 unfolding versions_onto
 versions_onto-step placed values i value within at_value =
     ap (versions_onto placed) (items_view-drop values i value within)
-    ∙ ap (λ v. version_of_value (view v) >>= λ version. versions_onto (place version placed) (items_view (drop (i + 1) values))) (sym at_value)
+    ∙ ap (λ v. version_of_value (view v) >>= λ version. versions_onto (place version placed) (items_view (drop (i + 1) values)))
+    (sym at_value)
 
 pub versions_onto-end : (placed : List Version) (values : List Value) (i : ℕ) → length values ≤ i
     → versions_onto placed (items_view (drop i values)) ≡ Ok placed

@@ -131,7 +131,8 @@ find-at group (x ∷ xs) zero ordered point =
       | inl here ↦ cond-true (is_of group x) (Some x) (find (is_of group) xs) here ∙ sym (cond-true (is_of group x) (Some x) None here)
       | inr not_here ↦
           let high : is_below group x ≡ false = point.1 0 x (omega arith) (omega arith) in
-          let none = list_all-weaker (λ y. not (precedes y x)) (λ y. not (is_of group y)) (λ y. above_group group x y high not_here) xs first in
+          let none =
+          list_all-weaker (λ y. not (precedes y x)) (λ y. not (is_of group y)) (λ y. above_group group x y high not_here) xs first in
           cond-false (is_of group x) (Some x) (find (is_of group) xs) not_here ∙ find-none (is_of group) xs none
           ∙ sym (cond-false (is_of group x) (Some x) None not_here)
     ]
@@ -234,11 +235,13 @@ latest-front group moment (x ∷ y ∷ ys) back passed after ordered =
           let (up_to, after_x) = and_parts (is_up_to group moment last) (not (precedes last x)) passes in
           let (of_group, no_later) = later_of_group group moment x last up_to after_x same in
           let rest' : latest (filter (has_begun group moment) ((y ∷ ys) ++ back)) ≡ Some last = rest ∙ rw (is_last, of_group) in
-          ap latest (cond-true (has_begun group moment x) (x ∷ filter (has_begun group moment) ((y ∷ ys) ++ back)) (filter (has_begun group moment) ((y ∷ ys) ++ back)) begun)
+          ap latest (cond-true (has_begun group moment x) (x ∷ filter (has_begun group moment) ((y ∷ ys) ++ back))
+          (filter (has_begun group moment) ((y ∷ ys) ++ back)) begun)
           ∙ ap (later x) rest' ∙ rw (is_last, of_group, no_later)
       | inr other ↦
           let begun = up_to_has_begun group moment x here ∙ other in
-          ap latest (cond-false (has_begun group moment x) (x ∷ filter (has_begun group moment) ((y ∷ ys) ++ back)) (filter (has_begun group moment) ((y ∷ ys) ++ back)) begun)
+          ap latest (cond-false (has_begun group moment x) (x ∷ filter (has_begun group moment) ((y ∷ ys) ++ back))
+          (filter (has_begun group moment) ((y ∷ ys) ++ back)) begun)
           ∙ rest
     ]
 
@@ -246,7 +249,8 @@ ordered_left : (xs ys : List Version) → are_ordered (xs ++ ys) ≡ true → ar
 ordered_left [] ys h = refl
 ordered_left (x ∷ xs) ys h =
     let (first, others) = and_parts (list_all (λ z. not (precedes z x)) (xs ++ ys)) (are_ordered (xs ++ ys)) h in
-    and_from (list_all (λ z. not (precedes z x)) xs) (are_ordered xs) (list_all-left (λ z. not (precedes z x)) xs ys first) (ordered_left xs ys others)
+    and_from (list_all (λ z. not (precedes z x)) xs) (are_ordered xs) (list_all-left (λ z. not (precedes z x)) xs ys first)
+    (ordered_left xs ys others)
 
 pub latest-is : (group moment : ℕ) (xs : List Version) (n : ℕ) → are_ordered xs ≡ true → n ≤ length xs
     → IsPartitionPoint (λ x. is_up_to group moment x ≡ true) (λ x. is_up_to group moment x ≡ false) xs n
@@ -346,7 +350,8 @@ later_passes : (q : Version → Bool) (x : Version) (rest : Option Version) (v :
 later_passes q x None v here more found = let same = same_Some x v found in rw (← same) here
 later_passes q x (Some w) v here more found =
     elim (cases_Bool (nat_le x.from w.from)) [
-      | inl after ↦ let same = same_Some w v (sym (cond-true (nat_le x.from w.from) (Some w) (Some x) after) ∙ found) in rw (← same) (more w refl)
+      | inl after ↦
+          let same = same_Some w v (sym (cond-true (nat_le x.from w.from) (Some w) (Some x) after) ∙ found) in rw (← same) (more w refl)
       | inr before ↦ let same = same_Some x v (sym (cond-false (nat_le x.from w.from) (Some w) (Some x) before) ∙ found) in rw (← same) here
     ]
 
@@ -362,7 +367,8 @@ list_all-filter q p (x ∷ xs) all =
     let (here, more) = and_parts (q x) (list_all q xs) all in
     elim (cases_Bool (p x)) [
       | inl passes ↦ ap (list_all (λ y. q y && p y)) (cond-true (p x) (x ∷ filter p xs) (filter p xs) passes)
-          ∙ and_from (q x && p x) (list_all (λ y. q y && p y) (filter p xs)) (and_from (q x) (p x) here passes) (list_all-filter q p xs more)
+          ∙ and_from (q x && p x) (list_all (λ y. q y && p y) (filter p xs)) (and_from (q x) (p x) here passes)
+          (list_all-filter q p xs more)
       | inr fails ↦ ap (list_all (λ y. q y && p y)) (cond-false (p x) (x ∷ filter p xs) (filter p xs) fails) ∙ list_all-filter q p xs more
     ]
 
@@ -380,12 +386,15 @@ unit-latest group moment (x ∷ xs) v agree found =
     let (of_group, from_before) = and_parts (is_of group w) (nat_le w.from moment) begun in
     agreed_kind group x w here of_group agree' in
     let skips = λ (fails : has_begun group moment x ≡ false).
-    sym (ap latest (cond-false (has_begun group moment x) (x ∷ filter (has_begun group moment) xs) (filter (has_begun group moment) xs) fails)) ∙ found in
+    sym (ap latest (cond-false (has_begun group moment x) (x ∷ filter (has_begun group moment) xs)
+    (filter (has_begun group moment) xs) fails)) ∙ found in
     elim (cases_Bool (is_of group x)) [
       | inl here ↦
           let equal : kind_number x.unit ≡ kind_number v.unit = elim (cases_Bool (has_begun group moment x)) [
             | inl begun ↦
-                let taken = sym (ap latest (cond-true (has_begun group moment x) (x ∷ filter (has_begun group moment) xs) (filter (has_begun group moment) xs) begun)) ∙ found in
+                let taken =
+                sym (ap latest (cond-true (has_begun group moment x) (x ∷ filter (has_begun group moment) xs)
+                (filter (has_begun group moment) xs) begun)) ∙ found in
                 eqb-true _ _ (later_passes (λ w. kind_number x.unit == kind_number w.unit) x (latest (filter (has_begun group moment) xs)) v
                 (eq-eqb (kind_number x.unit) (kind_number x.unit) refl)
                 (λ w rest. eq-eqb (kind_number x.unit) (kind_number w.unit) (same_unit w rest here)) taken)
