@@ -1,5 +1,7 @@
 -- The texts of IPv4 addresses, beside the numbers that they have between their dots.
-use Rattle.std.proofs.Common.{◌≡◌, ℕ, zero, suc, ◌+◌, ◌-◌, ◌*◌, ◌^◌, ◌<◌, Bool, true, false, ◌&&◌, ◌==◌, nat_lt, cond, List, [], ◌∷◌, ◌++◌, length, codes, Option, Some, None, refl, sym, ap, ◌∙◌, rules, arith, append_assoc, append-nil, inl, inr}
+use Rattle.std.proofs.Common.{◌≡◌, ℕ, zero, suc, ◌+◌, ◌-◌, ◌*◌, ◌^◌, ◌<◌, Bool, true, false, ◌&&◌, ◌==◌, nat_lt, cond, List, [], ◌∷◌}
+use Rattle.std.proofs.Common.{◌++◌, length, codes, Option, Some, None, refl, sym, ap, ◌∙◌, rules, arith, append_assoc, append-nil, inl}
+use Rattle.std.proofs.Common.{inr}
 use Rattle.std.specs.Fmt.{decimal}
 use Rattle.std.specs.List.{list_all}
 use Rattle.std.specs.Str.{all_ascii_digits, bytes_eq}
@@ -51,7 +53,8 @@ numbers-dotted a b c d ha hb hc hd =
 same_bytes : (text : List ℕ) → bytes_eq text text ≡ true
 same_bytes text = (bytes_eq-Decides text text).1 refl
 
-if_spelled-dotted : (a b c d : ℕ) → a < 256 → b < 256 → c < 256 → d < 256 → if_spelled (dotted_text a b c d) (a ∷ b ∷ c ∷ d ∷ []) ≡ Some (a ∷ b ∷ c ∷ d ∷ [])
+if_spelled-dotted : (a b c d : ℕ) → a < 256 → b < 256 → c < 256 → d < 256
+    → if_spelled (dotted_text a b c d) (a ∷ b ∷ c ∷ d ∷ []) ≡ Some (a ∷ b ∷ c ∷ d ∷ [])
 if_spelled-dotted a b c d ha hb hc hd =
     let low : list_all (λ n. nat_lt n 256) (a ∷ b ∷ c ∷ d ∷ []) ≡ true =
     and_from (nat_lt a 256) _ (lt-ltb a 256 ha) (and_from (nat_lt b 256) _ (lt-ltb b 256 hb)
@@ -70,7 +73,8 @@ address_of-dotted text octets h =
 below : (n : ℕ) (ns : List ℕ) → list_all (λ m. nat_lt m 256) (n ∷ ns) ≡ true → (n < 256) × (list_all (λ m. nat_lt m 256) ns ≡ true)
 below n ns h = let (here, more) = and_parts (nat_lt n 256) (list_all (λ m. nat_lt m 256) ns) h in (ltb-true n 256 here, more)
 
-dotted_from : (text numbers : List ℕ) → length numbers ≡ 4 → list_all (λ n. nat_lt n 256) numbers ≡ true → text ≡ ipv4_text numbers → IsDotted text numbers
+dotted_from : (text numbers : List ℕ) → length numbers ≡ 4 → list_all (λ n. nat_lt n 256) numbers ≡ true → text ≡ ipv4_text numbers
+    → IsDotted text numbers
 dotted_from text [] four low same = absurd (omega arith)
 dotted_from text (a ∷ []) four low same = absurd (omega arith)
 dotted_from text (a ∷ b ∷ []) four low same = absurd (omega arith)
@@ -90,7 +94,8 @@ address_of-none text h =
     let test = (length numbers == 4 && list_all (λ n. nat_lt n 256) numbers) && bytes_eq text (ipv4_text numbers) in
     elim (cases_Bool test) [
       | inl spelled ↦
-          let (four_low, same) = and_parts (length numbers == 4 && list_all (λ n. nat_lt n 256) numbers) (bytes_eq text (ipv4_text numbers)) spelled in
+          let (four_low, same) =
+          and_parts (length numbers == 4 && list_all (λ n. nat_lt n 256) numbers) (bytes_eq text (ipv4_text numbers)) spelled in
           let (four, low) = and_parts (length numbers == 4) (list_all (λ n. nat_lt n 256) numbers) four_low in
           absurd (h numbers (dotted_from text numbers (eqb-true (length numbers) 4 four) low ((bytes_eq-Decides text (ipv4_text numbers)).0 same)))
       | inr not_spelled ↦ cond-false test (Some numbers) None not_spelled

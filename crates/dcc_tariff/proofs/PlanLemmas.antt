@@ -18,15 +18,18 @@ unit_of-found plan versions group read same found =
     option_map-copied (λ (v : Version). v.unit) read
     ∙ ap (option_map (λ (v : Version). v.unit)) (found ∙ ap (find (is_of group)) same)
 
-pub tariff_at-found : (plan : PlanView) (versions : List Version) (group moment : ℕ) (read : Option (Bor Version)) → versions ≡ plan.versions
+pub tariff_at-found : (plan : PlanView) (versions : List Version) (group moment : ℕ) (read : Option (Bor Version))
+    → versions ≡ plan.versions
     → option_copied read ≡ latest (filter (has_begun group moment) versions)
     → option_map {U = UnitKind × Rate} (λ (v : Bor Version). (v.now.unit, v.now.tariff)) read ≡ tariff_at plan group moment
 unfolding tariff_at
 tariff_at-found plan versions group moment read same found =
     option_map-copied {Y = UnitKind × Rate} (λ (v : Version). (v.unit, v.tariff)) read
-    ∙ ap (option_map {U = UnitKind × Rate} (λ (v : Version). (v.unit, v.tariff))) (found ∙ ap (λ vs. latest (filter (has_begun group moment) vs)) same)
+    ∙ ap (option_map {U = UnitKind × Rate} (λ (v : Version). (v.unit, v.tariff)))
+    (found ∙ ap (λ vs. latest (filter (has_begun group moment) vs)) same)
 
-pub unit_of-latest : (plan : PlanView) (versions : List Version) (group moment : ℕ) (read : Option (Bor Version)) (version : Bor Version) → versions ≡ plan.versions
+pub unit_of-latest : (plan : PlanView) (versions : List Version) (group moment : ℕ) (read : Option (Bor Version))
+    (version : Bor Version) → versions ≡ plan.versions
     → all_agree plan.versions ≡ true → option_copied read ≡ latest (filter (has_begun group moment) versions) → read ≡ Some version
     → unit_of plan group ≡ Some version.now.unit
 unfolding unit_of

@@ -1,10 +1,12 @@
 -- The least number of blocks is a quotient rounded up, and the greatest amount that is covered is a number of whole blocks.
-use Rattle.std.proofs.Common.{◌≡◌, ℕ, zero, suc, ◌+◌, ◌*◌, ◌/◌, ◌%◌, ◌^◌, ◌<◌, ◌≤◌, min, Bool, true, false, nat_le, ℤ, refl, sym, ap, ◌∙◌, arith, inl, inr, le-leb}
+use Rattle.std.proofs.Common.{◌≡◌, ℕ, zero, suc, ◌+◌, ◌*◌, ◌/◌, ◌%◌, ◌^◌, ◌<◌, ◌≤◌, min, Bool, true, false, nat_le, ℤ, refl, sym, ap}
+use Rattle.std.proofs.Common.{◌∙◌, arith, inl, inr, le-leb}
 use Rattle.std.proofs.lemmas.Grind.{div_ceil_times}
 use Rattle.std.proofs.lemmas.Bool.{cases_lt, cases_Bool, cond_both, cond-true, cond-false}
 use Rattle.std.proofs.lemmas.Bool.Decides.{nat_tests}
 use Rattle.std.proofs.lemmas.Nat.{mul-le}
-use Rattle.std.proofs.Math.Nat.{lt_of_mul-lt-mul_right, div-mul-le_self, lt-div-mul-add, mul-le-mul_right, le-mul_of_pos_right, mul-le-mul_left}
+use Rattle.std.proofs.Math.Nat.{lt_of_mul-lt-mul_right, div-mul-le_self, lt-div-mul-add, mul-le-mul_right, le-mul_of_pos_right}
+use Rattle.std.proofs.Math.Nat.{mul-le-mul_left}
 use Rattle.dcc_tariff.specs.Terms.{Rate, IsRate}
 use Rattle.dcc_tariff.specs.Prices.{least, greatest, blocks, price, covers, best}
 
@@ -28,7 +30,8 @@ least-is passes (suc n) c up here below =
     ]
 
 -- the number that passes, where none above it up to n does
-pub greatest-is : (passes : ℕ → Bool) (n g : ℕ) → g ≤ n → passes g ≡ true → ((k : ℕ) → g < k → k ≤ n → passes k ≡ false) → greatest passes n ≡ g
+pub greatest-is : (passes : ℕ → Bool) (n g : ℕ) → g ≤ n → passes g ≡ true → ((k : ℕ) → g < k → k ≤ n → passes k ≡ false)
+    → greatest passes n ≡ g
 unfolding greatest
 greatest-is passes zero g up here above = omega arith
 greatest-is passes (suc n) g up here above =
@@ -153,7 +156,8 @@ pub best_affordable : (rate : Rate) (asked : ℕ) (free : ℤ) → covers free (
 unfolding best
 best_affordable rate asked free = greatest_passes (λ units. covers free (price rate units)) asked (rw (price-nothing rate))
 
-pub best_greatest : (rate : Rate) (asked : ℕ) (free : ℤ) (more : ℕ) → best rate asked free < more → more ≤ asked → covers free (price rate more) ≡ false
+pub best_greatest : (rate : Rate) (asked : ℕ) (free : ℤ) (more : ℕ) → best rate asked free < more → more ≤ asked
+    → covers free (price rate more) ≡ false
 unfolding best
 best_greatest rate asked free more over within = greatest_last (λ units. covers free (price rate units)) asked more over within
 

@@ -1,5 +1,7 @@
 -- The tables of a plan, from the values that the code goes over.
-use Rattle.std.proofs.Common.{◌≡◌, ℕ, zero, suc, ◌+◌, ◌<◌, ◌≤◌, Bool, true, false, not, ◌&&◌, nat_le, cond, List, [], ◌∷◌, ◌++◌, length, take, drop, get_or, ◌⊎◌, Option, Some, None, is_some, Result, Ok, Err, refl, sym, ap, ◌∙◌, arith, inl, inr}
+use Rattle.std.proofs.Common.{◌≡◌, ℕ, zero, suc, ◌+◌, ◌<◌, ◌≤◌, Bool, true, false, not, ◌&&◌, nat_le, cond, List, [], ◌∷◌, ◌++◌, length}
+use Rattle.std.proofs.Common.{take, drop, get_or, ◌⊎◌, Option, Some, None, is_some, Result, Ok, Err, refl, sym, ap, ◌∙◌, arith, inl}
+use Rattle.std.proofs.Common.{inr}
 use Rattle.std.specs.List.{list_all, insert, AllWithin}
 use Rattle.std.specs.List.Sorted.{IsPartitionPoint}
 use Rattle.std.proofs.lemmas.Bool.{and_parts, and_from, cases_Bool, cond-true, cond-false}
@@ -10,7 +12,8 @@ use Rattle.toml.specs.Data.{Data, Members, Items, as_table, as_array}
 use Rattle.toml.specs.View.{view, items_view}
 use Rattle.toml.specs.declared.value.Value.{Value}
 use Rattle.dcc_tariff.specs.Plans.{precedes, are_ordered}
-use Rattle.dcc_tariff.specs.PlanTexts.{value_at, are_tables, count, in_range, tables_at, place, versions_onto, version_of_value, GivesBy, ◌>>=◌}
+use Rattle.dcc_tariff.specs.PlanTexts.{value_at, are_tables, count, in_range, tables_at, place, versions_onto, version_of_value}
+use Rattle.dcc_tariff.specs.PlanTexts.{GivesBy, ◌>>=◌}
 use Rattle.dcc_tariff.specs.declared.fault.PlanFault.{PlanFault}
 use Rattle.dcc_tariff.specs.declared.fault.PlanFault.TheVariants.{NotToml, MissingKey, Range, BadMoment, Memory}
 use Rattle.dcc_tariff.specs.declared.version.Version.{Version}
@@ -47,7 +50,8 @@ pub precedes_steady : (version x y : Version) → precedes y x ≡ false → pre
 precedes_steady version x y order h = grind (arith, nat_tests)
 
 -- a test that all pass with the version in its place
-list_all-place : (p : Version → Bool) (version : Version) (xs : List Version) → p version ≡ true → list_all p xs ≡ true → list_all p (place version xs) ≡ true
+list_all-place : (p : Version → Bool) (version : Version) (xs : List Version) → p version ≡ true → list_all p xs ≡ true
+    → list_all p (place version xs) ≡ true
 list_all-place p version [] here all = and_from (p version) true here refl
 list_all-place p version (x ∷ xs) here all =
     let (first, more) = and_parts (p x) (list_all p xs) all in
@@ -69,7 +73,8 @@ all_after : (version x : Version) (ys : List Version) → precedes x version ≡
 all_after version x [] h all = refl
 all_after version x (y ∷ ys) h all =
     let (first, more) = and_parts (not (precedes y x)) (list_all (λ z. not (precedes z x)) ys) all in
-    and_from (not (precedes y version)) (list_all (λ z. not (precedes z version)) ys) (still_after version x y h first) (all_after version x ys h more)
+    and_from (not (precedes y version)) (list_all (λ z. not (precedes z version)) ys) (still_after version x y h first)
+    (all_after version x ys h more)
 
 -- a list stays in order
 pub place_ordered : (version : Version) (xs : List Version) → are_ordered xs ≡ true → are_ordered (place version xs) ≡ true
@@ -93,20 +98,24 @@ pub few : (n : ℕ) → (n ≡ 0 → ⊥) → n ≤ 1000 → (nat_le 1 n && nat_
 few n some h = grind (arith, nat_tests)
 
 -- the next table, and no more tables
-pub versions_onto-step : (placed : List Version) (values : List Value) (i : ℕ) (value : Value) → i < length values → value ≡ get_or values i value
+pub versions_onto-step : (placed : List Version) (values : List Value) (i : ℕ) (value : Value) → i < length values
+    → value ≡ get_or values i value
     → versions_onto placed (items_view (drop i values))
     ≡ (version_of_value (view value) >>= λ version. versions_onto (place version placed) (items_view (drop (i + 1) values)))
 unfolding versions_onto
 versions_onto-step placed values i value within at_value =
     ap (versions_onto placed) (items_view-drop values i value within)
-    ∙ ap (λ v. version_of_value (view v) >>= λ version. versions_onto (place version placed) (items_view (drop (i + 1) values))) (sym at_value)
+    ∙ ap (λ v. version_of_value (view v) >>= λ version. versions_onto (place version placed) (items_view (drop (i + 1) values)))
+    (sym at_value)
 
-pub versions_onto-end : (placed : List Version) (values : List Value) (i : ℕ) → length values ≤ i → versions_onto placed (items_view (drop i values)) ≡ Ok placed
+pub versions_onto-end : (placed : List Version) (values : List Value) (i : ℕ) → length values ≤ i
+    → versions_onto placed (items_view (drop i values)) ≡ Ok placed
 unfolding versions_onto
 versions_onto-end placed values i over = ap (λ vs. versions_onto placed (items_view vs)) (drop_of_length-le values over)
 
 -- a fault that is meant is given
-pub gives_fault : {X Y : Type 0} (seen : X → Y) (fault : PlanFault) (meant : Result Y PlanFault) → meant ≡ Err fault → GivesBy seen (Err fault) meant
+pub gives_fault : {X Y : Type 0} (seen : X → Y) (fault : PlanFault) (meant : Result Y PlanFault) → meant ≡ Err fault
+    → GivesBy seen (Err fault) meant
 gives_fault seen NotToml meant h = h
 gives_fault seen MissingKey meant h = h
 gives_fault seen Range meant h = h

@@ -1,6 +1,9 @@
 -- What halving finds in an ordered list of versions.
-use Rattle.std.proofs.Common.{◌≡◌, ℕ, zero, suc, ◌-◌, ◌<◌, ◌≤◌, Bool, true, false, not, ◌&&◌, ◌||◌, ◌==◌, nat_lt, nat_le, cond, List, [], ◌∷◌, ◌++◌, length, take, drop, get_or, slice_get, filter, Option, Some, None, IsSome, option_map, option_copied, Bor, refl, sym, ap, ◌∙◌, arith, inl, inr}
-use Rattle.std.proofs.lemmas.Bool.{and_parts, and_from, cases_Bool, and_left, and_right, eq-eqb, eqb-true, ne_eqb, not-true, cond-true, cond-false, false≢true}
+use Rattle.std.proofs.Common.{◌≡◌, ℕ, zero, suc, ◌-◌, ◌<◌, ◌≤◌, Bool, true, false, not, ◌&&◌, ◌||◌, ◌==◌, nat_lt, nat_le, cond, List}
+use Rattle.std.proofs.Common.{[], ◌∷◌, ◌++◌, length, take, drop, get_or, slice_get, filter, Option, Some, None, IsSome, option_map}
+use Rattle.std.proofs.Common.{option_copied, Bor, refl, sym, ap, ◌∙◌, arith, inl, inr}
+use Rattle.std.proofs.lemmas.Bool.{and_parts, and_from, cases_Bool, and_left, and_right, eq-eqb, eqb-true, ne_eqb, not-true, cond-true}
+use Rattle.std.proofs.lemmas.Bool.{cond-false, false≢true}
 use Rattle.std.proofs.lemmas.Bool.Decides.{nat_tests}
 use Rattle.std.proofs.lemmas.List.{take-append-drop}
 use Rattle.std.proofs.lemmas.Option.{same_Some}
@@ -13,13 +16,15 @@ use Rattle.dcc_tariff.specs.declared.version.Version.{Version}
 
 -- ---- tests of all elements
 
-list_all-weaker : {X : Type 0} (p q : X → Bool) → ((x : X) → p x ≡ true → q x ≡ true) → (xs : List X) → list_all p xs ≡ true → list_all q xs ≡ true
+list_all-weaker : {X : Type 0} (p q : X → Bool) → ((x : X) → p x ≡ true → q x ≡ true) → (xs : List X) → list_all p xs ≡ true
+    → list_all q xs ≡ true
 list_all-weaker p q weaker [] h = refl
 list_all-weaker p q weaker (x ∷ xs) h =
     let (here, more) = and_parts (p x) (list_all p xs) h in
     and_from (q x) (list_all q xs) (weaker x here) (list_all-weaker p q weaker xs more)
 
-list_all-both : {X : Type 0} (p q : X → Bool) (xs : List X) → list_all p xs ≡ true → list_all q xs ≡ true → list_all (λ x. p x && q x) xs ≡ true
+list_all-both : {X : Type 0} (p q : X → Bool) (xs : List X) → list_all p xs ≡ true → list_all q xs ≡ true
+    → list_all (λ x. p x && q x) xs ≡ true
 list_all-both p q [] h g = refl
 list_all-both p q (x ∷ xs) h g =
     let (here, more) = and_parts (p x) (list_all p xs) h in
@@ -32,13 +37,15 @@ list_all-left p (x ∷ xs) ys h =
     let (here, more) = and_parts (p x) (list_all p (xs ++ ys)) h in
     and_from (p x) (list_all p xs) here (list_all-left p xs ys more)
 
-list_all-get_or : {X : Type 0} (p : X → Bool) (xs : List X) (i : ℕ) (d : X) → i < length xs → list_all p xs ≡ true → p (get_or xs i d) ≡ true
+list_all-get_or : {X : Type 0} (p : X → Bool) (xs : List X) (i : ℕ) (d : X) → i < length xs → list_all p xs ≡ true
+    → p (get_or xs i d) ≡ true
 list_all-get_or p [] i d h all = absurd (omega arith)
 list_all-get_or p (x ∷ xs) zero d h all = (and_parts (p x) (list_all p xs) all).0
 list_all-get_or p (x ∷ xs) (suc i) d h all = list_all-get_or p xs i d (omega arith) (and_parts (p x) (list_all p xs) all).1
 
 -- what holds below a place holds of the front, and what holds from it on of the back
-front_passes : {X : Type 0} (p : X → Bool) (xs : List X) (n : ℕ) → AllWithin (λ x. p x ≡ true) xs 0 n → n ≤ length xs → list_all p (take n xs) ≡ true
+front_passes : {X : Type 0} (p : X → Bool) (xs : List X) (n : ℕ) → AllWithin (λ x. p x ≡ true) xs 0 n → n ≤ length xs
+    → list_all p (take n xs) ≡ true
 front_passes p [] zero all h = refl
 front_passes p [] (suc n) all h = absurd (omega arith)
 front_passes p (x ∷ xs) zero all h = refl
@@ -46,7 +53,8 @@ front_passes p (x ∷ xs) (suc n) all h =
     and_from (p x) (list_all p (take n xs)) (all 0 x (omega arith) (omega arith))
     (front_passes p xs n (λ k d low high. all (suc k) d (omega arith) (omega arith)) (omega arith))
 
-back_fails : {X : Type 0} (p : X → Bool) (xs : List X) (n : ℕ) → AllWithin (λ x. p x ≡ false) xs n (length xs) → list_all (λ x. not (p x)) (drop n xs) ≡ true
+back_fails : {X : Type 0} (p : X → Bool) (xs : List X) (n : ℕ) → AllWithin (λ x. p x ≡ false) xs n (length xs)
+    → list_all (λ x. not (p x)) (drop n xs) ≡ true
 back_fails p [] zero all = refl
 back_fails p [] (suc n) all = refl
 back_fails p (x ∷ xs) zero all =
@@ -82,7 +90,8 @@ is_up_to group moment version = nat_lt version.group group || (version.group == 
 pub is_below_steady : (group : ℕ) (x y : Version) → precedes y x ≡ false → is_below group y ≡ true → is_below group x ≡ true
 is_below_steady group x y order h = grind (arith, nat_tests)
 
-pub is_up_to_steady : (group moment : ℕ) (x y : Version) → precedes y x ≡ false → is_up_to group moment y ≡ true → is_up_to group moment x ≡ true
+pub is_up_to_steady : (group moment : ℕ) (x y : Version) → precedes y x ≡ false → is_up_to group moment y ≡ true
+    → is_up_to group moment x ≡ true
 is_up_to_steady group moment x y order h = grind (arith, nat_tests)
 
 -- ---- the version that is found
@@ -104,7 +113,8 @@ filter-none p (x ∷ xs) h =
     let (here, more) = and_parts (not (p x)) (list_all (λ y. not (p y)) xs) h in
     cond-false (p x) (x ∷ filter p xs) (filter p xs) (not-true (p x) here) ∙ filter-none p xs more
 
-above_group : (group : ℕ) (x y : Version) → is_below group x ≡ false → is_of group x ≡ false → not (precedes y x) ≡ true → not (is_of group y) ≡ true
+above_group : (group : ℕ) (x y : Version) → is_below group x ≡ false → is_of group x ≡ false → not (precedes y x) ≡ true
+    → not (is_of group y) ≡ true
 above_group group x y low other order = grind (arith, nat_tests)
 
 below_group : (group : ℕ) (x : Version) → is_below group x ≡ true → is_of group x ≡ false
@@ -112,7 +122,8 @@ below_group group x h = grind (arith, nat_tests)
 
 -- the first version that is not below the group is the group's first, if it is one of the group
 find-at : (group : ℕ) (xs : List Version) (n : ℕ) → are_ordered xs ≡ true
-    → IsPartitionPoint (λ x. is_below group x ≡ true) (λ x. is_below group x ≡ false) xs n → find (is_of group) xs ≡ if_of group (slice_get xs n)
+    → IsPartitionPoint (λ x. is_below group x ≡ true) (λ x. is_below group x ≡ false) xs n
+    → find (is_of group) xs ≡ if_of group (slice_get xs n)
 find-at group [] n ordered point = refl
 find-at group (x ∷ xs) zero ordered point =
     let (first, others) = and_parts (list_all (λ y. not (precedes y x)) xs) (are_ordered xs) ordered in
@@ -120,7 +131,8 @@ find-at group (x ∷ xs) zero ordered point =
       | inl here ↦ cond-true (is_of group x) (Some x) (find (is_of group) xs) here ∙ sym (cond-true (is_of group x) (Some x) None here)
       | inr not_here ↦
           let high : is_below group x ≡ false = point.1 0 x (omega arith) (omega arith) in
-          let none = list_all-weaker (λ y. not (precedes y x)) (λ y. not (is_of group y)) (λ y. above_group group x y high not_here) xs first in
+          let none =
+          list_all-weaker (λ y. not (precedes y x)) (λ y. not (is_of group y)) (λ y. above_group group x y high not_here) xs first in
           cond-false (is_of group x) (Some x) (find (is_of group) xs) not_here ∙ find-none (is_of group) xs none
           ∙ sym (cond-false (is_of group x) (Some x) None not_here)
     ]
@@ -139,20 +151,24 @@ slice_get-drop (x ∷ xs) (suc n) h =
     let shorter : suc (length xs) - suc n ≡ length xs - n = omega arith in rw shorter (slice_get-drop xs n (omega arith))
 
 pub find-is : (group : ℕ) (xs : List Version) (n : ℕ) → are_ordered xs ≡ true → n ≤ length xs
-    → IsPartitionPoint (λ x. is_below group x ≡ true) (λ x. is_below group x ≡ false) xs n → find (is_of group) xs ≡ if_of group (slice_get (take (length xs - n) (drop n xs)) 0)
+    → IsPartitionPoint (λ x. is_below group x ≡ true) (λ x. is_below group x ≡ false) xs n
+    → find (is_of group) xs ≡ if_of group (slice_get (take (length xs - n) (drop n xs)) 0)
 find-is group xs n ordered within point = find-at group xs n ordered point ∙ ap (if_of group) (sym (slice_get-drop xs n within))
 
 -- what an `Option` that was read says of the version that was found
-pub found_none : (group : ℕ) (read : Option (Bor Version)) (found : Option Version) → option_copied read ≡ found → read ≡ None → None ≡ if_of group found
+pub found_none : (group : ℕ) (read : Option (Bor Version)) (found : Option Version) → option_copied read ≡ found → read ≡ None
+    → None ≡ if_of group found
 found_none group read found value none = ap (if_of group) (ap option_copied (sym none) ∙ value)
 
-pub found_of : (group : ℕ) (read : Option (Bor Version)) (found : Option Version) (version : Bor Version) → option_copied read ≡ found → read ≡ Some version
+pub found_of : (group : ℕ) (read : Option (Bor Version)) (found : Option Version) (version : Bor Version)
+    → option_copied read ≡ found → read ≡ Some version
     → version.now.group ≡ group → Some version.now ≡ if_of group found
 found_of group read found version value some same =
     let is : Some version.now ≡ found = ap option_copied (sym some) ∙ value in
     sym (cond-true (is_of group version.now) (Some version.now) None (eq-eqb _ _ same)) ∙ ap (if_of group) is
 
-pub found_other : (group : ℕ) (read : Option (Bor Version)) (found : Option Version) (version : Bor Version) → option_copied read ≡ found → read ≡ Some version
+pub found_other : (group : ℕ) (read : Option (Bor Version)) (found : Option Version) (version : Bor Version)
+    → option_copied read ≡ found → read ≡ Some version
     → (version.now.group ≡ group → ⊥) → None ≡ if_of group found
 found_other group read found version value some other =
     let is : Some version.now ≡ found = ap option_copied (sym some) ∙ value in
@@ -173,7 +189,8 @@ slice_get-last (x ∷ y ∷ ys) =
     rw two (rw one at (slice_get-last (y ∷ ys)))
 
 -- the last of a list passes what all pass
-last_passes : {X : Type 0} (p : X → Bool) (x : X) (xs : List X) → list_all p (x ∷ xs) ≡ true → (last : X) × (last_of (x ∷ xs) ≡ Some last) × (p last ≡ true)
+last_passes : {X : Type 0} (p : X → Bool) (x : X) (xs : List X) → list_all p (x ∷ xs) ≡ true
+    → (last : X) × (last_of (x ∷ xs) ≡ Some last) × (p last ≡ true)
 last_passes p x [] h = (x, refl, (and_parts (p x) true h).0)
 last_passes p x (y ∷ ys) h = last_passes p y ys (and_parts (p x) (list_all p (y ∷ ys)) h).1
 
@@ -183,7 +200,8 @@ begun_is_up_to group moment x h = grind (arith, nat_tests)
 up_to_has_begun : (group moment : ℕ) (x : Version) → is_up_to group moment x ≡ true → has_begun group moment x ≡ is_of group x
 up_to_has_begun group moment x h = grind (arith, nat_tests)
 
-later_of_group : (group moment : ℕ) (x last : Version) → is_up_to group moment last ≡ true → not (precedes last x) ≡ true → is_of group x ≡ true
+later_of_group : (group moment : ℕ) (x last : Version) → is_up_to group moment last ≡ true → not (precedes last x) ≡ true
+    → is_of group x ≡ true
     → (is_of group last ≡ true) × (nat_le x.from last.from ≡ true)
 later_of_group group moment x last h order here = (grind (arith, nat_tests), grind (arith, nat_tests))
 
@@ -217,11 +235,13 @@ latest-front group moment (x ∷ y ∷ ys) back passed after ordered =
           let (up_to, after_x) = and_parts (is_up_to group moment last) (not (precedes last x)) passes in
           let (of_group, no_later) = later_of_group group moment x last up_to after_x same in
           let rest' : latest (filter (has_begun group moment) ((y ∷ ys) ++ back)) ≡ Some last = rest ∙ rw (is_last, of_group) in
-          ap latest (cond-true (has_begun group moment x) (x ∷ filter (has_begun group moment) ((y ∷ ys) ++ back)) (filter (has_begun group moment) ((y ∷ ys) ++ back)) begun)
+          ap latest (cond-true (has_begun group moment x) (x ∷ filter (has_begun group moment) ((y ∷ ys) ++ back))
+          (filter (has_begun group moment) ((y ∷ ys) ++ back)) begun)
           ∙ ap (later x) rest' ∙ rw (is_last, of_group, no_later)
       | inr other ↦
           let begun = up_to_has_begun group moment x here ∙ other in
-          ap latest (cond-false (has_begun group moment x) (x ∷ filter (has_begun group moment) ((y ∷ ys) ++ back)) (filter (has_begun group moment) ((y ∷ ys) ++ back)) begun)
+          ap latest (cond-false (has_begun group moment x) (x ∷ filter (has_begun group moment) ((y ∷ ys) ++ back))
+          (filter (has_begun group moment) ((y ∷ ys) ++ back)) begun)
           ∙ rest
     ]
 
@@ -229,7 +249,8 @@ ordered_left : (xs ys : List Version) → are_ordered (xs ++ ys) ≡ true → ar
 ordered_left [] ys h = refl
 ordered_left (x ∷ xs) ys h =
     let (first, others) = and_parts (list_all (λ z. not (precedes z x)) (xs ++ ys)) (are_ordered (xs ++ ys)) h in
-    and_from (list_all (λ z. not (precedes z x)) xs) (are_ordered xs) (list_all-left (λ z. not (precedes z x)) xs ys first) (ordered_left xs ys others)
+    and_from (list_all (λ z. not (precedes z x)) xs) (are_ordered xs) (list_all-left (λ z. not (precedes z x)) xs ys first)
+    (ordered_left xs ys others)
 
 pub latest-is : (group moment : ℕ) (xs : List Version) (n : ℕ) → are_ordered xs ≡ true → n ≤ length xs
     → IsPartitionPoint (λ x. is_up_to group moment x ≡ true) (λ x. is_up_to group moment x ≡ false) xs n
@@ -250,10 +271,12 @@ neighbours_agree [] = true
 neighbours_agree (x ∷ []) = true
 neighbours_agree (x ∷ y ∷ ys) = agrees x y && neighbours_agree (y ∷ ys)
 
-agrees_on : (x y z : Version) → not (precedes y x) ≡ true → not (precedes z y) ≡ true → agrees x y ≡ true → agrees y z ≡ true → agrees x z ≡ true
+agrees_on : (x y z : Version) → not (precedes y x) ≡ true → not (precedes z y) ≡ true → agrees x y ≡ true → agrees y z ≡ true
+    → agrees x z ≡ true
 agrees_on x y z xy yz first second = grind (arith, nat_tests)
 
-agrees_with_all : (x y : Version) (zs : List Version) → not (precedes y x) ≡ true → agrees x y ≡ true → list_all (λ z. not (precedes z y)) zs ≡ true
+agrees_with_all : (x y : Version) (zs : List Version) → not (precedes y x) ≡ true → agrees x y ≡ true
+    → list_all (λ z. not (precedes z y)) zs ≡ true
     → list_all (agrees y) zs ≡ true → list_all (agrees x) zs ≡ true
 agrees_with_all x y zs xy first yz second =
     list_all-weaker (λ z. not (precedes z y) && agrees y z) (agrees x)
@@ -294,7 +317,8 @@ neighbours_agree-last (x ∷ []) zero h = refl
 neighbours_agree-last (x ∷ y ∷ ys) zero h = absurd (omega arith)
 neighbours_agree-last (x ∷ xs) (suc i) h = neighbours_agree-last xs i (omega arith)
 
-pub neighbours_agree-step : (xs : List Version) (i : ℕ) (a b : Version) → 1 ≤ i → i < length xs → a ≡ get_or xs (i - 1) a → b ≡ get_or xs i b
+pub neighbours_agree-step : (xs : List Version) (i : ℕ) (a b : Version) → 1 ≤ i → i < length xs → a ≡ get_or xs (i - 1) a
+    → b ≡ get_or xs i b
     → neighbours_agree (drop (i - 1) xs) ≡ (agrees a b && neighbours_agree (drop i xs))
 neighbours_agree-step xs i a b some within at_a at_b =
     let next : suc (i - 1) ≡ i = omega arith in
@@ -315,16 +339,19 @@ same_kind Units Octets h = absurd (omega arith)
 same_kind Units Time h = absurd (omega arith)
 same_kind Units Units h = refl
 
-agreed_kind : (group : ℕ) (x y : Version) → is_of group x ≡ true → is_of group y ≡ true → agrees x y ≡ true → kind_number x.unit ≡ kind_number y.unit
+agreed_kind : (group : ℕ) (x y : Version) → is_of group x ≡ true → is_of group y ≡ true → agrees x y ≡ true
+    → kind_number x.unit ≡ kind_number y.unit
 agreed_kind group x y first second agree = grind (arith, nat_tests)
 
 -- the later of two is one of them
-later_passes : (q : Version → Bool) (x : Version) (rest : Option Version) (v : Version) → q x ≡ true → ((w : Version) → rest ≡ Some w → q w ≡ true)
+later_passes : (q : Version → Bool) (x : Version) (rest : Option Version) (v : Version) → q x ≡ true
+    → ((w : Version) → rest ≡ Some w → q w ≡ true)
     → later x rest ≡ Some v → q v ≡ true
 later_passes q x None v here more found = let same = same_Some x v found in rw (← same) here
 later_passes q x (Some w) v here more found =
     elim (cases_Bool (nat_le x.from w.from)) [
-      | inl after ↦ let same = same_Some w v (sym (cond-true (nat_le x.from w.from) (Some w) (Some x) after) ∙ found) in rw (← same) (more w refl)
+      | inl after ↦
+          let same = same_Some w v (sym (cond-true (nat_le x.from w.from) (Some w) (Some x) after) ∙ found) in rw (← same) (more w refl)
       | inr before ↦ let same = same_Some x v (sym (cond-false (nat_le x.from w.from) (Some w) (Some x) before) ∙ found) in rw (← same) here
     ]
 
@@ -340,12 +367,14 @@ list_all-filter q p (x ∷ xs) all =
     let (here, more) = and_parts (q x) (list_all q xs) all in
     elim (cases_Bool (p x)) [
       | inl passes ↦ ap (list_all (λ y. q y && p y)) (cond-true (p x) (x ∷ filter p xs) (filter p xs) passes)
-          ∙ and_from (q x && p x) (list_all (λ y. q y && p y) (filter p xs)) (and_from (q x) (p x) here passes) (list_all-filter q p xs more)
+          ∙ and_from (q x && p x) (list_all (λ y. q y && p y) (filter p xs)) (and_from (q x) (p x) here passes)
+          (list_all-filter q p xs more)
       | inr fails ↦ ap (list_all (λ y. q y && p y)) (cond-false (p x) (x ∷ filter p xs) (filter p xs) fails) ∙ list_all-filter q p xs more
     ]
 
 -- the version that holds at a moment has the unit of its group
-pub unit-latest : (group moment : ℕ) (xs : List Version) (v : Version) → all_agree xs ≡ true → latest (filter (has_begun group moment) xs) ≡ Some v
+pub unit-latest : (group moment : ℕ) (xs : List Version) (v : Version) → all_agree xs ≡ true
+    → latest (filter (has_begun group moment) xs) ≡ Some v
     → option_map (λ (x : Version). x.unit) (find (is_of group) xs) ≡ Some v.unit
 unit-latest group moment [] v agree found = cc
 unit-latest group moment (x ∷ xs) v agree found =
@@ -357,12 +386,15 @@ unit-latest group moment (x ∷ xs) v agree found =
     let (of_group, from_before) = and_parts (is_of group w) (nat_le w.from moment) begun in
     agreed_kind group x w here of_group agree' in
     let skips = λ (fails : has_begun group moment x ≡ false).
-    sym (ap latest (cond-false (has_begun group moment x) (x ∷ filter (has_begun group moment) xs) (filter (has_begun group moment) xs) fails)) ∙ found in
+    sym (ap latest (cond-false (has_begun group moment x) (x ∷ filter (has_begun group moment) xs)
+    (filter (has_begun group moment) xs) fails)) ∙ found in
     elim (cases_Bool (is_of group x)) [
       | inl here ↦
           let equal : kind_number x.unit ≡ kind_number v.unit = elim (cases_Bool (has_begun group moment x)) [
             | inl begun ↦
-                let taken = sym (ap latest (cond-true (has_begun group moment x) (x ∷ filter (has_begun group moment) xs) (filter (has_begun group moment) xs) begun)) ∙ found in
+                let taken =
+                sym (ap latest (cond-true (has_begun group moment x) (x ∷ filter (has_begun group moment) xs)
+                (filter (has_begun group moment) xs) begun)) ∙ found in
                 eqb-true _ _ (later_passes (λ w. kind_number x.unit == kind_number w.unit) x (latest (filter (has_begun group moment) xs)) v
                 (eq-eqb (kind_number x.unit) (kind_number x.unit) refl)
                 (λ w rest. eq-eqb (kind_number x.unit) (kind_number w.unit) (same_unit w rest here)) taken)
@@ -376,7 +408,8 @@ unit-latest group moment (x ∷ xs) v agree found =
     ]
 
 -- a group that some version is of has a unit
-pub unit-some : (group : ℕ) (xs : List Version) → list_any (is_of group) xs ≡ true → IsSome (option_map (λ (x : Version). x.unit) (find (is_of group) xs))
+pub unit-some : (group : ℕ) (xs : List Version) → list_any (is_of group) xs ≡ true
+    → IsSome (option_map (λ (x : Version). x.unit) (find (is_of group) xs))
 unit-some group [] some = absurd (false≢true some)
 unit-some group (x ∷ xs) some =
     elim (cases_Bool (is_of group x)) [

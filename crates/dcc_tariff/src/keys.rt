@@ -5,7 +5,8 @@ ghost use Rattle.std.specs.List.{list_all};
 ghost use Rattle.toml.specs.Data.{as_str};
 ghost use Rattle.toml.specs.View.{view, table_view};
 ghost use Rattle.dcc_tariff.specs.Plans.{is_identity};
-ghost use Rattle.dcc_tariff.specs.PlanTexts.{found_at, value_at, seen_by, integer_at, number_at, identity_at, address_at, address_of, unit_at, unit_named, moment_at, GivesBy};
+ghost use Rattle.dcc_tariff.specs.PlanTexts.{found_at, value_at, seen_by, integer_at, number_at, identity_at, address_at, address_of};
+ghost use Rattle.dcc_tariff.specs.PlanTexts.{unit_at, unit_named, moment_at, GivesBy};
 
 use crate::fault::PlanFault;
 use crate::moment::moment_of;

@@ -1,7 +1,15 @@
 //! What units cost, and what a plan file says.
 //!
-//! Stands on nothing of this repository. The contract that it gives: the price of an amount of units, the greatest
-//! amount that an amount of money affords, and the value of a plan's text or the first fault in it.
+//! Its one job: the operator's plan, read whole or refused with the first thing that is wrong in it, and the prices that
+//! rest on it. It stands on nothing of this repository; TOML is read by `toml`, and moments by `jiff`.
+//!
+//! The contract that it gives:
+//! - [`price_of`] is the price of the blocks that some units begin, and [`most_units`] the greatest amount up to the one
+//!   asked whose price is nothing or within the money. Neither takes memory.
+//! - [`Plan::read`] gives the plan that a text means, or its first fault in the order of the keys, or says that memory
+//!   ran out.
+//! - [`Plan::at`] is the version of a group's tariff with the greatest `from` at or before a moment. The versions are kept
+//!   in order and found by halving, without memory.
 #![tactic(auto)]
 
 mod fault;

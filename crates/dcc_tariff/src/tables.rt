@@ -5,7 +5,8 @@ ghost use Rattle.std.specs.List.{list_all};
 ghost use Rattle.toml.specs.Data.{as_array, as_table};
 ghost use Rattle.toml.specs.View.{view, items_view, array_view, table_view};
 ghost use Rattle.dcc_tariff.specs.Plans.{are_ordered};
-ghost use Rattle.dcc_tariff.specs.PlanTexts.{value_at, seen_by, tables_at, version_of, version_of_value, versions_onto, place, Gives, GivesBy};
+ghost use Rattle.dcc_tariff.specs.PlanTexts.{value_at, seen_by, tables_at, version_of, version_of_value, versions_onto, place, Gives};
+ghost use Rattle.dcc_tariff.specs.PlanTexts.{GivesBy};
 
 use crate::fault::PlanFault;
 use crate::keys::{found_at, moment_at, number_at, unit_at};

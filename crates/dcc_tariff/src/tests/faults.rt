@@ -74,10 +74,11 @@ fn values_of_another_type(rt: HostRuntime) -> Result<(), Fail> {
 
 #[test]
 fn limits_of_names(rt: HostRuntime) -> Result<(), Fail> {
-    let longest =
-        "aaaaaaaaaaaaaaaaaaaaaaaaaaaaaaaaaaaaaaaaaaaaaaaaaaaaaaaaaaaaaaaaaaaaaaaaaaaaaaaaaaaaaaaaaaaaaaaaaaaaaaaaaaaaaaaaaaaaaaaaaaaaaaaaaaaaaaaaaaaaaaaaaaaaaaaaaaaaaaaaaaaaaaaaaaaaaaaaaaaaaaaaaaaaaaaaaaaaaaaaaaaaaaaaaaaaaaaaaaaaaaaaaaaaaaaaaaaaaaaaaaaaaaaaaaaaaaa";
-    let longer =
-        "aaaaaaaaaaaaaaaaaaaaaaaaaaaaaaaaaaaaaaaaaaaaaaaaaaaaaaaaaaaaaaaaaaaaaaaaaaaaaaaaaaaaaaaaaaaaaaaaaaaaaaaaaaaaaaaaaaaaaaaaaaaaaaaaaaaaaaaaaaaaaaaaaaaaaaaaaaaaaaaaaaaaaaaaaaaaaaaaaaaaaaaaaaaaaaaaaaaaaaaaaaaaaaaaaaaaaaaaaaaaaaaaaaaaaaaaaaaaaaaaaaaaaaaaaaaaaaaa";
+    let mut longest = String::new(rt.alloc());
+    for _ in 0..255 {
+        longest.push('a')?;
+    }
+    let longer = format!(in rt.alloc(); "{longest}a")?;
     assert_eq!(rt; longest.len(), 255);
     check_edits(
         &rt,
@@ -86,8 +87,8 @@ fn limits_of_names(rt: HostRuntime) -> Result<(), Fail> {
             ("ocs.example", "", 22),
             ("ocs.example", "!", 0),
             ("ocs.example", "~", 0),
-            ("ocs.example", longest, 0),
-            ("ocs.example", longer, 22),
+            ("ocs.example", longest.as_str(), 0),
+            ("ocs.example", longer.as_str(), 22),
             ("ocs.example", "ocs example", 22),
             ("ocs.example", "\\u007F", 22),
             ("ocs.example", "h\u{f4}te", 22),

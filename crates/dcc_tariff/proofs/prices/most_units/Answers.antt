@@ -9,7 +9,8 @@ whole : (c : goal.Then-price_of-money) → IsMost c.args.tariff c.args.asked c.a
 whole c =
     let fits = c.ranges.free in
     let bound : price c.args.tariff c.args.asked ≤ 10 ^ 18 = rw (← c.price_of.ensures.value) c.price_of.ensures.bound in
-    let enough : price c.args.tariff c.args.asked ≤ c.money_for_prices-money.result = rw (← c.price_of.ensures.value) c.if-price_of-money.true in
+    let enough : price c.args.tariff c.args.asked ≤ c.money_for_prices-money.result =
+    rw (← c.price_of.ensures.value) c.if-price_of-money.true in
     let purse = simp to_z-of_z at c.money_for_prices-money.ensures in
     all_of_it c.args.tariff c.args.asked c.args.free (purse (price c.args.tariff c.args.asked) bound ∙ le-leb _ _ enough)
 
@@ -24,13 +25,15 @@ nonzero_div-result c =
     let positive = price_some c.args.tariff c.args.asked (rw (← block_is) c.tariff.invariant.block_begun) some in
     omega (arith, c.from.ensures)
 
-most : (c : goal.After-struct_known-1) → IsMost c.args.tariff c.args.asked c.args.free (c.money_for_prices-money.result / c.from.result * c.tariff.inside.block)
+most : (c : goal.After-struct_known-1)
+    → IsMost c.args.tariff c.args.asked c.args.free (c.money_for_prices-money.result / c.from.result * c.tariff.inside.block)
 most c =
     let fits = c.ranges.free in
     let price_is : c.tariff.inside.price ≡ c.args.tariff.price = ap (λ (r : Rate). r.price) c.tariff.view_is in
     let block_is : c.tariff.inside.block ≡ c.args.tariff.block = ap (λ (r : Rate). r.block) c.tariff.view_is in
     let bound : price c.args.tariff c.args.asked ≤ 10 ^ 18 = rw (← c.price_of.ensures.value) c.price_of.ensures.bound in
-    let short : c.money_for_prices-money.result < price c.args.tariff c.args.asked = rw (← c.price_of.ensures.value) c.if-price_of-money.false in
+    let short : c.money_for_prices-money.result < price c.args.tariff c.args.asked =
+    rw (← c.price_of.ensures.value) c.if-price_of-money.false in
     let purse = simp to_z-of_z at c.money_for_prices-money.ensures in
     rw (c.from.ensures, price_is, block_is)
     (whole_blocks c.args.tariff c.args.asked c.money_for_prices-money.result c.args.free (rw (← block_is) c.tariff.invariant.block_begun) bound short purse)

@@ -22,5 +22,6 @@ returns c =
       versions = ap (λ vs. versions_onto [] (items_view vs)) (sym c.as_slice.ensures.value) ∙ c.in_ok-versions.ensures.value;
       agree = and_from (all_agree versions) (list_any (is_of c.in_ok-default_group.field-0) versions)
           (ap all_agree (sym c.as_slice-2.ensures.value) ∙ sym c.agree.ensures ∙ c.if-not-agree.false)
-          (ap (list_any (is_of c.in_ok-default_group.field-0)) (sym c.as_slice-else-not-agree.ensures.value) ∙ sym c.has_group.ensures ∙ c.if-not-has_group.false);
+          (ap (list_any (is_of c.in_ok-default_group.field-0)) (sym c.as_slice-else-not-agree.ensures.value)
+          ∙ sym c.has_group.ensures ∙ c.if-not-has_group.false);
     })

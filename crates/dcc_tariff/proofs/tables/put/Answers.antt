@@ -10,7 +10,9 @@ use Rattle.dcc_tariff.proofs.tables.put.Goals as goal
 placed : (c : goal.In_ok-insert) → c.insert.new.self.items ≡ place c.args.version c.args.versions.now.items
 placed c =
     let ordered : are_ordered c.as_slice.result.now ≡ true = rw c.as_slice.ensures.value c.requires in
-    let point = c.partition_point-at.ensures.partitioned (λ other. precedes other c.args.version) (always_returns_same _ _ _ (λ a r f k. search (rules, of_calls)))
+    let point =
+    c.partition_point-at.ensures.partitioned (λ other. precedes other c.args.version)
+    (always_returns_same _ _ _ (λ a r f k. search (rules, of_calls)))
     (partitioned (λ other. precedes other c.args.version) (precedes_steady c.args.version) c.as_slice.result.now ordered) in
     c.in_ok-insert.ensures.items
     ∙ sym (ap (λ xs. insert xs c.partition_point-at.result c.args.version) c.as_slice.ensures.value)
