@@ -4,6 +4,7 @@ use crate::{
     DiameterIdentity, FrameFault, Framer, Header, HeaderFault, Identity, any_pieces, read_header,
     write_message,
 };
+use dcc_avp::{read_list, write_avp};
 use std::alloc::Global;
 use std::test::Fail;
 
@@ -17,6 +18,46 @@ const DEBIT: &str = "010000e4c00001100000000400000011000000210000010740000017\
 0000011b4000000f6578616d706c6500000001024000000c00000004000001cd4000001464617461406578616d706c65\
 000001a04000000c000000040000019f4000000c00000000000001b44000000c00000000000001bb40000028\
 000001c24000000c00000000000001bc40000014343931373030303030303031000001b540000018000001a54000001000000000000003e9";
+
+/// The answer to a watchdog request.
+const WATCHDOG_ANSWER: &str =
+    "01000044000001180000000000000001000000020000010c4000000c000007d100000108400000136f63732e6578616d706c\
+6500000001284000000f6578616d706c6500";
+
+/// The answer to the direct debit.
+const DEBIT_ANSWER: &str =
+    "010000984000011000000004000000110000002100000107400000176777312e6578616d706c653b313b31000000010c4000\
+000c000007d100000108400000136f63732e6578616d706c6500000001284000000f6578616d706c6500000001024000000c\
+00000004000001a04000000c000000040000019f4000000c00000000000001af40000018000001a540000010000000000000\
+03e9";
+
+/// The busy answer to it.
+const BUSY_ANSWER: &str =
+    "0100005c6000011000000004000000110000002100000107400000176777312e6578616d706c653b313b31000000010c4000\
+000c00000bbc00000108400000136f63732e6578616d706c6500000001284000000f6578616d706c6500";
+
+/// The answer to it without its Service-Context-Id.
+const MISSING_ANSWER: &str =
+    "010000904000011000000004000000110000002100000107400000176777312e6578616d706c653b313b31000000010c4000\
+000c0000138d00000108400000136f63732e6578616d706c6500000001284000000f6578616d706c6500000001024000000c\
+00000004000001a04000000c000000040000019f4000000c000000000000011740000010000001cd40000008";
+
+/// The answer to it with a short AVP.
+const SHORT_ANSWER: &str =
+    "01000064400001100000000400000011000000210000010c4000000c0000139600000108400000136f63732e6578616d706c\
+6500000001284000000f6578616d706c6500000001024000000c0000000400000117400000140000019f4000000c00000000";
+
+/// A capabilities exchange request.
+const CAPABILITIES: &str =
+    "0100006c8000010100000000000000030000000400000108400000136777312e6578616d706c6500000001284000000f6578\
+616d706c6500000001014000000e00017f00000100000000010a4000000c000000000000010d0000000a6777000000000102\
+4000000c00000004";
+
+/// The answer to it.
+const CAPABILITIES_ANSWER: &str =
+    "01000078000001010000000000000003000000040000010c4000000c000007d100000108400000136f63732e6578616d706c\
+6500000001284000000f6578616d706c6500000001014000000e00017f00000100000000010a4000000c000000000000010d\
+0000000b64636300000001024000000c00000004";
 
 fn octets(alloc: Global, text: &str) -> Result<Vec<u8>, Fail> {
     Ok(hex::decode(alloc, text)?)
@@ -39,6 +80,43 @@ fn header_of_a_request(rt: HostRuntime) -> Result<(), Fail> {
     let mut out = Vec::new(rt.alloc());
     write_message(&mut out, &header, &message[20..228])?;
     assert!(rt; out == message);
+    Ok(())
+}
+
+/// The message written anew from its header and its AVPs.
+fn written_anew(alloc: Global, message: &[u8]) -> Result<Vec<u8>, Fail> {
+    let header = read_header(message).ok().ok_or("a header")?;
+    let list = message.get(20..).ok_or("a list")?;
+    let mut avps = Vec::new(alloc);
+    for avp in &read_list(alloc, list)? {
+        if avp.length() < 65_536 {
+            write_avp(&mut avps, avp)?;
+        }
+    }
+    let mut out = Vec::new(alloc);
+    if avps.len() == list.len() && avps.len() < 65_536 && avps.len() % 4 == 0 {
+        write_message(&mut out, &header, &avps)?;
+    }
+    Ok(out)
+}
+
+#[test]
+fn messages_read_and_written_back(rt: HostRuntime) -> Result<(), Fail> {
+    let texts = [
+        WATCHDOG,
+        WATCHDOG_ANSWER,
+        DEBIT,
+        DEBIT_ANSWER,
+        BUSY_ANSWER,
+        MISSING_ANSWER,
+        SHORT_ANSWER,
+        CAPABILITIES,
+        CAPABILITIES_ANSWER,
+    ];
+    for text in texts {
+        let message = octets(rt.alloc(), text)?;
+        assert!(rt; written_anew(rt.alloc(), &message)? == message, "{text}");
+    }
     Ok(())
 }
 
