@@ -29,7 +29,9 @@ Fits count more room larger = MatchOption larger (more ≤ room) (λ capacity. c
 pub record IsPrepared (account : AccountView) (step : StepView) : Type 0 where
   pub outcome_is : step.outcome ≡ after account.terms account.acts step.act
   pub new_is : step.is_new ≡ is_made account.terms (history account.terms (reverse account.acts)) step.act
-  pub entries_are : step.entries ≡ (if step.is_new then entries_by (length account.acts + 1) (record { act = step.act; outcome = step.outcome }) else [])
+  pub entries_are : step.entries ≡
+      (if step.is_new then entries_by (length account.acts + 1) (record { act = step.act; outcome = step.outcome }) else [])
   pub acts_fit : step.is_new ≡ true → Fits (length account.acts) 1 account.room.acts step.space.acts
   pub outcomes_fit : step.is_new ≡ true → Fits (length account.acts) 1 account.room.outcomes step.space.outcomes
-  pub entries_fit : step.is_new ≡ true → Fits (length (entries account.terms account.acts)) (length step.entries) account.room.entries step.space.entries
+  pub entries_fit : step.is_new ≡ true
+      → Fits (length (entries account.terms account.acts)) (length step.entries) account.room.entries step.space.entries

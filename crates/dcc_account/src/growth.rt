@@ -13,7 +13,8 @@ pub(crate) fn larger<T: Drop>(
 ) -> Result<Option<Vec<T>>, AllocError>
     requires { vec_len items.now + vec_len items.now + more < 2 ^ 64 }
     ensures empty { IfOk result (λ larger. ForSome larger (λ larger. larger.items ≡ [])) }
-    ensures room { IfOk result (λ larger. MatchOption larger (vec_len items.now + more ≤ vec_capacity items.now) (λ larger. vec_len items.now + more ≤ vec_capacity larger)) }
+    ensures room { IfOk result (λ larger. MatchOption larger (vec_len items.now + more ≤ vec_capacity items.now)
+        (λ larger. vec_len items.now + more ≤ vec_capacity larger)) }
 {
     let count = items.len();
     if count + more <= items.capacity() {

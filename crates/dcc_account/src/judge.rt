@@ -21,7 +21,8 @@ pub(crate) fn judge(
     act: &Act,
 ) -> Result<Outcome, AllocError>
     requires { length outcomes.now ≡ length acts.now }
-    ensures { IfOk result (λ outcome. (terms : Terms) → sum_of entries.now ≡ funds_of terms (past_of acts.now outcomes.now) → outcome ≡ judged terms (past_of acts.now outcomes.now) act.now) }
+    ensures { IfOk result (λ outcome. (terms : Terms) → sum_of entries.now ≡ funds_of terms (past_of acts.now outcomes.now)
+        → outcome ≡ judged terms (past_of acts.now outcomes.now) act.now) }
 {
     if has_top_up(acts) {
         return settle(alloc, acts, outcomes, entries, &act.kind);
@@ -44,7 +45,8 @@ fn settle(
     kind: &Kind,
 ) -> Result<Outcome, AllocError>
     requires { length outcomes.now ≡ length acts.now }
-    ensures { IfOk result (λ outcome. (terms : Terms) → sum_of entries.now ≡ funds_of terms (past_of acts.now outcomes.now) → outcome ≡ settled terms (past_of acts.now outcomes.now) kind.now) }
+    ensures { IfOk result (λ outcome. (terms : Terms) → sum_of entries.now ≡ funds_of terms (past_of acts.now outcomes.now)
+        → outcome ≡ settled terms (past_of acts.now outcomes.now) kind.now) }
 {
     match outcome_of(acts, outcomes, kind) {
         Some(outcome) => outcome.copy(),
@@ -76,7 +78,8 @@ fn decide(
     entries: &[Entry],
     kind: &Kind,
 ) -> Result<Outcome, AllocError>
-    ensures { IfOk result (λ outcome. (terms : Terms) → sum_of entries.now ≡ funds_of terms (past_of acts.now outcomes.now) → outcome ≡ decided terms (past_of acts.now outcomes.now) kind.now) }
+    ensures { IfOk result (λ outcome. (terms : Terms) → sum_of entries.now ≡ funds_of terms (past_of acts.now outcomes.now)
+        → outcome ≡ decided terms (past_of acts.now outcomes.now) kind.now) }
 {
     match kind {
         Kind::TopUp(top_up) => Ok(decide_top_up(sum(entries), top_up)),
@@ -93,7 +96,8 @@ pub(crate) fn post(
     outcome: &Outcome,
 ) -> Result<Vec<Entry>, AllocError>
     requires { count + 1 < 2 ^ 64 }
-    ensures { IfOk result (λ entries. entries.items ≡ (if is_new then entries_of_kind (count + 1) act.now.moment act.now.kind outcome.now else [])) }
+    ensures { IfOk result (λ entries. entries.items
+        ≡ (if is_new then entries_of_kind (count + 1) act.now.moment act.now.kind outcome.now else [])) }
 {
     if is_new {
         entries_by(alloc, count as u64 + 1, act, outcome)

@@ -37,7 +37,9 @@ impl Model for Step {
       };
     } };
 
-    ghost invariant = { λ s. ForSome s.larger_acts (λ v. v.items ≡ []) × ForSome s.larger_outcomes (λ v. v.items ≡ []) × ForSome s.larger_entries (λ v. v.items ≡ []) };
+    ghost invariant = { λ s. ForSome s.larger_acts (λ v. v.items ≡ [])
+        × ForSome s.larger_outcomes (λ v. v.items ≡ [])
+        × ForSome s.larger_entries (λ v. v.items ≡ []) };
 }
 
 impl Step {

@@ -1,5 +1,7 @@
 //! Accounts beside the plain program.
 
+ghost use Rattle.std.specs.Prelude.{◌<◌};
+
 use crate::Account;
 use dcc_act::{
     Act, Action, Event, Form, Kind, Moment, Outcome, RequestKey, Service, ServiceIds, SessionId,
@@ -11,6 +13,9 @@ use std::alloc::Global;
 use std::process::Abort;
 use std::test::Fail;
 
+/// The greatest top-up, in minor units.
+const MOST: u64 = 1_000_000_000_000_000_000;
+
 const TERMS: Terms = Terms {
     validity: 600,
     hold: 1200,
@@ -19,7 +24,7 @@ const TERMS: Terms = Terms {
 };
 
 fn top_up(seconds: u64, ticket: u64, amount: u64) -> Result<Act, Fail> {
-    if amount == 0 || amount > 1_000_000_000_000_000_000 {
+    if amount == 0 || amount > MOST {
         return Err("an amount past its limits".into());
     }
     Ok(Act {
@@ -64,6 +69,16 @@ fn debit(
     })
 }
 
+const TARIFF: Tariff = Tariff {
+    price: 5,
+    block: 1000,
+};
+
+/// A debit of 1,001 octets, which cost 10.
+fn octets(alloc: Global, number: u32) -> Result<Act, Fail> {
+    debit(alloc, 8, key(alloc, b'x', number)?, 1001, Some(TARIFF))
+}
+
 /// Prepares and installs the act.
 fn make(account: &mut Account, act: Act) -> Result<(), Fail> {
     let step = account.prepare(act)?;
@@ -71,53 +86,70 @@ fn make(account: &mut Account, act: Act) -> Result<(), Fail> {
     Ok(())
 }
 
-#[test]
-fn steps(rt: HostRuntime) -> Result<(), Fail> {
-    let alloc = rt.alloc();
+/// An account with funds of 1,000.
+fn opened(alloc: Global) -> Result<Account, Fail> {
     let mut account = Account::new(alloc, &TERMS);
-    let tariff = Tariff {
-        price: 5,
-        block: 1000,
-    };
-    make(
-        &mut account,
-        debit(alloc, 9, key(alloc, b'x', 0)?, 1001, Some(tariff))?,
-    )?;
-    assert_eq!(rt; account.acts().len(), 0);
     make(&mut account, top_up(9, 1, 1000)?)?;
-    let step = account.prepare(debit(alloc, 8, key(alloc, b'x', 0)?, 1001, Some(tariff))?)?;
-    assert!(rt;
-        step.is_new() && *step.act() == debit(alloc, 8, key(alloc, b'x', 0)?, 1001, Some(tariff))?
-    );
-    assert!(rt; matches!(step.outcome(), Outcome::Answered(_)));
-    assert_eq!(rt; step.entries().len(), 1);
-    Account::discard(step);
-    assert_eq!(rt; account.funds(), 1000);
-    make(
-        &mut account,
-        debit(alloc, 8, key(alloc, b'x', 0)?, 1001, Some(tariff))?,
-    )?;
-    assert_eq!(rt;
-        (account.funds(), account.free(), account.overrun()),
-        (990, 990, 0)
-    );
-    assert_eq!(rt; (account.acts().len(), account.entries().len()), (2, 2));
-    assert!(rt; account.kept(&key(alloc, b'x', 0)?).is_some());
-    assert!(rt; account.kept(&key(alloc, b'x', 1)?).is_none());
+    Ok(account)
+}
+
+#[test]
+fn unknown_account(rt: HostRuntime) -> Result<(), Fail> {
+    let mut account = Account::new(rt.alloc(), &TERMS);
+    make(&mut account, octets(rt.alloc(), 0)?)?;
+    assert_eq!(rt; (account.acts().len(), account.funds()), (0, 0));
     assert!(rt; *account.terms() == TERMS);
     Ok(())
 }
 
 #[test]
-fn rows(rt: HostRuntime) -> Result<(), Fail> {
-    let alloc = rt.alloc();
-    let most = 1_000_000_000_000_000_000;
-    let mut beside = Beside::new(alloc);
-    beside.make(&rt, alloc, top_up(9, 1, most)?)?;
-    beside.make(&rt, alloc, top_up(9, 2, 1)?)?;
-    beside.make(&rt, alloc, top_up(9, 2, 1)?)?;
-    beside.make(&rt, alloc, top_up(9, 1, most)?)?;
-    assert_eq!(rt; beside.account.funds(), 1_000_000_000_000_000_000);
+fn discarded_step(rt: HostRuntime) -> Result<(), Fail> {
+    let account = opened(rt.alloc())?;
+    let act = octets(rt.alloc(), 0)?;
+    let step = account.prepare(act.copy()?)?;
+    assert!(rt; step.is_new() && *step.act() == act);
+    assert!(rt; matches!(step.outcome(), Outcome::Answered(_)));
+    assert_eq!(rt; step.entries().len(), 1);
+    Account::discard(step);
+    assert_eq!(rt; account.funds(), 1000);
+    Ok(())
+}
+
+#[test]
+fn installed_step(rt: HostRuntime) -> Result<(), Fail> {
+    let mut account = opened(rt.alloc())?;
+    make(&mut account, octets(rt.alloc(), 0)?)?;
+    assert_eq!(rt;
+        (account.funds(), account.free(), account.overrun()),
+        (990, 990, 0)
+    );
+    assert_eq!(rt; (account.acts().len(), account.entries().len()), (2, 2));
+    assert!(rt; account.kept(&key(rt.alloc(), b'x', 0)?).is_some());
+    assert!(rt; account.kept(&key(rt.alloc(), b'x', 1)?).is_none());
+    Ok(())
+}
+
+#[test]
+fn ceiling_and_ticket_again(rt: HostRuntime) -> Result<(), Fail> {
+    let mut beside = Beside::new(rt.alloc());
+    for (ticket, amount) in [(1, MOST), (2, 1), (2, 1), (1, MOST)] {
+        beside.make(&rt, rt.alloc(), top_up(9, ticket, amount)?)?;
+    }
+    assert_eq!(rt;
+        (beside.account.funds(), beside.account.acts().len()),
+        (1_000_000_000_000_000_000, 2)
+    );
+    Ok(())
+}
+
+#[test]
+fn unknown_account_and_then_a_repeat(rt: HostRuntime) -> Result<(), Fail> {
+    let mut beside = Beside::new(rt.alloc());
+    beside.make(&rt, rt.alloc(), octets(rt.alloc(), 0)?)?;
+    beside.make(&rt, rt.alloc(), top_up(9, 1, 1000)?)?;
+    beside.make(&rt, rt.alloc(), octets(rt.alloc(), 0)?)?;
+    beside.make(&rt, rt.alloc(), octets(rt.alloc(), 0)?)?;
+    assert_eq!(rt; beside.account.funds(), 990);
     Ok(())
 }
 
@@ -171,23 +203,33 @@ fn any_act(alloc: Global, dice: &mut Dice, free: i128) -> Result<Act, Fail> {
     let seconds = dice.roll(1000);
     let number = dice.roll(40) as u32;
     if dice.roll(4) == 0 {
-        let amounts = [1, 7, 1000, 1_000_000_000_000_000_000];
-        return top_up(seconds, u64::from(number), amounts[dice.roll(4) as usize]);
+        return top_up(seconds, u64::from(number), any_amount(dice));
     }
-    let session = b'x' + dice.roll(2) as u8;
-    let tariffs = [
-        None,
-        Some(Tariff { price: 0, block: 1 }),
-        Some(Tariff { price: 1, block: 1 }),
-    ];
-    let units = u64::try_from(free).unwrap_or(0).min(999_999_999_999) + dice.roll(2);
-    debit(
-        alloc,
-        seconds,
-        key(alloc, session, number)?,
-        units.max(1),
-        tariffs[dice.roll(3) as usize],
-    )
+    let key = key(alloc, b'x' + dice.roll(2) as u8, number)?;
+    debit(alloc, seconds, key, any_units(dice, free), any_tariff(dice))
+}
+
+fn any_amount(dice: &mut Dice) -> u64 {
+    match dice.roll(4) {
+        0 => MOST,
+        1 => 1000,
+        2 => 7,
+        _ => 1,
+    }
+}
+
+/// As many units as are free, or one more.
+fn any_units(dice: &mut Dice, free: i128) -> u64 {
+    let units = u64::try_from(free).unwrap_or(0).min(999_999_999_999);
+    (units + dice.roll(2)).max(1)
+}
+
+fn any_tariff(dice: &mut Dice) -> Option<Tariff> {
+    match dice.roll(4) {
+        0 => None,
+        1 => Some(Tariff { price: 0, block: 1 }),
+        _ => Some(Tariff { price: 1, block: 1 }),
+    }
 }
 
 #[test]

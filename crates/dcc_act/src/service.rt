@@ -39,11 +39,27 @@ impl Model for Service {
 
     ghost Value = { ServiceView };
 
-    ghost view = { λ s. record { group = s.group; ids = s.ids; form = s.form; asked = s.asked; used = s.used; unit = s.unit; tariff = s.tariff } };
+    ghost view = { λ s. record {
+      group = s.group;
+      ids = s.ids;
+      form = s.form;
+      asked = s.asked;
+      used = s.used;
+      unit = s.unit;
+      tariff = s.tariff;
+    } };
 
     ghost invariant = { λ s. IsService s.asked s.used s.unit s.tariff };
 
-    ghost inverse = { λ v. record { group = v.group; ids = v.ids; form = v.form; asked = v.asked; used = v.used; unit = v.unit; tariff = v.tariff } };
+    ghost inverse = { λ v. record {
+      group = v.group;
+      ids = v.ids;
+      form = v.form;
+      asked = v.asked;
+      used = v.used;
+      unit = v.unit;
+      tariff = v.tariff;
+    } };
 }
 
 impl Service {

@@ -21,11 +21,16 @@ impl Model for Sub {
 
     ghost view = { λ s. record { kind = s.kind; name = take s.len s.bytes } };
 
-    ghost invariant = { λ s. IsSub s.kind (take s.len s.bytes) × (s.len ≤ 64) × (length s.bytes ≡ 64) × (s.bytes ≡ padded (take s.len s.bytes)) };
+    ghost invariant = { λ s. IsSub s.kind (take s.len s.bytes)
+        × (s.len ≤ 64) × (length s.bytes ≡ 64) × (s.bytes ≡ padded (take s.len s.bytes)) };
 
     ghost inverse = { λ v. record { kind = v.kind; len = length v.name; bytes = padded v.name } };
 
-    ghost inverse_ok = { λ s h i. record { kind = s.kind; len = length_kept s.len s.bytes h.1 h.2 i; bytes = unpadded s.len s.bytes h.3 i } };
+    ghost inverse_ok = { λ s h i. record {
+      kind = s.kind;
+      len = length_kept s.len s.bytes h.1 h.2 i;
+      bytes = unpadded s.len s.bytes h.3 i;
+    } };
 }
 
 impl Sub {

@@ -19,7 +19,15 @@ use Rattle.dcc_model.specs.Outcomes.{history}
 -- a top-up's entry, which charges no units
 abbrev pub top_up_entry : ℕ → ℕ → TopUp → Entry
 top_up_entry place moment top_up =
-    record { place = place; moment = moment; kind = entry.TopUp; group = None; units = 0; amount = pos top_up.amount; name = Ticket top_up.ticket }
+    record {
+      place = place;
+      moment = moment;
+      kind = entry.TopUp;
+      group = None;
+      units = 0;
+      amount = pos top_up.amount;
+      name = Ticket top_up.ticket;
+    }
 
 -- a direct debit's entry, also where it cost nothing
 abbrev pub debit_entry : ℕ → ℕ → Event → Grant → Entry

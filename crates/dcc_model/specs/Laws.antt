@@ -11,11 +11,13 @@ use Rattle.dcc_model.specs.Entries.{entries, sum_of}
 
 -- what comes later changes no outcome
 abbrev pub LaterChangesNothing : Type 0
-LaterChangesNothing = (terms : Terms) (xs ys : List Act) (place : ℕ) → 1 ≤ place → place ≤ length xs → outcome terms (xs ++ ys) place ≡ outcome terms xs place
+LaterChangesNothing = (terms : Terms) (xs ys : List Act) (place : ℕ) → 1 ≤ place → place ≤ length xs
+    → outcome terms (xs ++ ys) place ≡ outcome terms xs place
 
 -- leaving out what isn't made changes no outcome of what comes later
 abbrev pub OutcomesStay : Type 0
-OutcomesStay = (terms : Terms) (xs ys : List Act) (k : ℕ) → 1 ≤ k → outcome terms (acts terms xs ++ ys) (length (acts terms xs) + k) ≡ outcome terms (xs ++ ys) (length xs + k)
+OutcomesStay = (terms : Terms) (xs ys : List Act) (k : ℕ) → 1 ≤ k
+    → outcome terms (acts terms xs ++ ys) (length (acts terms xs) + k) ≡ outcome terms (xs ++ ys) (length xs + k)
 
 -- nor which acts are made
 abbrev pub ActsStay : Type 0
@@ -33,20 +35,25 @@ KeptStay = (terms : Terms) (xs : List Act) (key : RequestKey) → kept terms (ac
 
 -- nor the funds, what is overrun, what is free and the entries
 abbrev pub AccountStays : Type 0
-AccountStays = (terms : Terms) (xs : List Act) → (funds terms (acts terms xs) ≡ funds terms xs) × (overrun terms (acts terms xs) ≡ overrun terms xs) × (free terms (acts terms xs) ≡ free terms xs) × (entries terms (acts terms xs) ≡ entries terms xs)
+AccountStays = (terms : Terms) (xs : List Act)
+    → (funds terms (acts terms xs) ≡ funds terms xs) × (overrun terms (acts terms xs) ≡ overrun terms xs)
+    × (free terms (acts terms xs) ≡ free terms xs) × (entries terms (acts terms xs) ≡ entries terms xs)
 
 -- without a top-up before, a request is of an unknown user, under its own type and key, and isn't made
 abbrev pub UnknownBefore : Type 0
-UnknownBefore = (terms : Terms) (xs : List Act) (act : Act) (unknown : Outcome) → has_top_up xs ≡ false → unknown_of act.kind ≡ Some unknown
+UnknownBefore = (terms : Terms) (xs : List Act) (act : Act) (unknown : Outcome) → has_top_up xs ≡ false
+    → unknown_of act.kind ≡ Some unknown
     → (outcome terms (xs ++ act ∷ []) (length xs + 1) ≡ unknown) × (acts terms (xs ++ act ∷ []) ≡ acts terms xs)
 
 -- a request comes to what a request may come to
 abbrev pub RequestsAreAnswered : Type 0
-RequestsAreAnswered = (terms : Terms) (xs : List Act) (act : Act) → is_some (request_key act.kind) ≡ true → IsOfRequest (outcome terms (xs ++ act ∷ []) (length xs + 1))
+RequestsAreAnswered = (terms : Terms) (xs : List Act) (act : Act) → is_some (request_key act.kind) ≡ true
+    → IsOfRequest (outcome terms (xs ++ act ∷ []) (length xs + 1))
 
 -- a top-up is added, or passes the ceiling
 abbrev pub TopUpsAreAdded : Type 0
-TopUpsAreAdded = (terms : Terms) (xs : List Act) (act : Act) → is_some (ticket act.kind) ≡ true → IsOfTopUp (outcome terms (xs ++ act ∷ []) (length xs + 1))
+TopUpsAreAdded = (terms : Terms) (xs : List Act) (act : Act) → is_some (ticket act.kind) ≡ true
+    → IsOfTopUp (outcome terms (xs ++ act ∷ []) (length xs + 1))
 
 -- funds stay within 10^18 on either side
 abbrev pub FundsAreLimited : Type 0
