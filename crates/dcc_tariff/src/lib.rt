@@ -4,8 +4,13 @@
 //! amount that an amount of money affords, and the value of a plan's text or the first fault in it.
 #![tactic(auto)]
 
+mod prices;
 mod tariff;
 mod terms;
 
+pub use prices::{MAX_PRICE, best_grant_is_the_greatest_covered, most_units, price_of, prices_never_fall};
 pub use tariff::{Tariff, UnitKind};
 pub use terms::Terms;
+
+#[cfg(test)]
+mod tests;

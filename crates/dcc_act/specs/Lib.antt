@@ -1,0 +1,5 @@
+pub mod Answers
+pub mod Limits
+pub mod Numbers
+pub mod Subs
+pub mod Services

@@ -1,0 +1,16 @@
+-- The numbers that stand in messages.
+use Rattle.std.specs.Prelude.{ℕ}
+use Rattle.dcc_act.specs.declared.outcome.RequestType.{RequestType}
+use Rattle.dcc_act.specs.declared.outcome.RequestType.TheVariants as request
+use Rattle.dcc_act.specs.declared.outcome.ResultCode.{ResultCode}
+use Rattle.dcc_act.specs.declared.outcome.ResultCode.TheVariants.{Success, CreditLimitReached, RatingFailed}
+
+-- CC-Request-Type (RFC 8506, section 8.3)
+abbrev pub request_type_number : RequestType → ℕ
+request_type_number request.Event = 4
+
+-- Result-Code (RFC 6733, section 7.1, and RFC 8506, section 9)
+abbrev pub result_number : ResultCode → ℕ
+result_number Success = 2001
+result_number CreditLimitReached = 4012
+result_number RatingFailed = 5031

@@ -1,0 +1,44 @@
+//! Moments.
+
+ghost use Rattle.std.specs.Prelude.{◌≡◌, ◌≤◌, ◌↔◌, IsSome, IfSome};
+
+use std::marker::Model;
+
+/// When something happens: whole seconds since 1970-01-01T00:00:00Z, at most 4,102,444,799.
+#[derive(Clone, Copy, Debug, PartialEq, Eq, PartialOrd, Ord, Hash)]
+pub struct Moment {
+    seconds: u64,
+}
+
+impl Model for Moment {
+    ghost use Rattle.std.specs.Prelude.{ℕ, ◌≤◌};
+
+    ghost Value = { ℕ };
+
+    ghost view = { λ m. m.seconds };
+
+    ghost invariant = { λ m. m.seconds ≤ 4_102_444_799 };
+
+    ghost inverse = { λ n. record { seconds = n } };
+}
+
+impl Moment {
+    /// The moment of these seconds, or none past 2099-12-31T23:59:59Z.
+    pub fn new(seconds: u64) -> Option<Moment>
+        ensures limit { IsSome result ↔ (seconds ≤ 4_102_444_799) }
+        ensures value { IfSome result (λ moment. moment ≡ seconds) }
+    {
+        if seconds > 4_102_444_799 {
+            return None;
+        }
+        Some(Moment { seconds })
+    }
+
+    /// Seconds since 1970-01-01T00:00:00Z.
+    pub fn seconds(&self) -> u64
+        ensures value { result ≡ self.now }
+        ensures limit { result ≤ 4_102_444_799 }
+    {
+        self.seconds
+    }
+}

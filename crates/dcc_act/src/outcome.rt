@@ -1,0 +1,145 @@
+//! Outcomes: all that an answer says beside identifiers and proxies.
+
+ghost use Rattle.std.specs.Prelude.{◌≡◌, IfOk};
+
+use crate::request_key::RequestKey;
+use crate::service::Form;
+use crate::service_answers::ServiceAnswers;
+use crate::service_ids::ServiceIds;
+use dcc_tariff::{Tariff, UnitKind};
+use std::alloc::AllocError;
+
+/// Which request is answered (CC-Request-Type, RFC 8506, section 8.3).
+#[derive(Clone, Copy, Debug, PartialEq, Eq)]
+pub enum RequestType {
+    /// A one-time event.
+    Event,
+}
+
+impl RequestType {
+    ghost use Rattle.dcc_act.specs.Numbers.{request_type_number};
+
+    /// The number of the type.
+    pub fn number(self) -> u32
+        ensures { result ≡ request_type_number self }
+    {
+        match self {
+            RequestType::Event => 4,
+        }
+    }
+}
+
+/// The result of a command, or of one service in it.
+#[derive(Clone, Copy, Debug, PartialEq, Eq)]
+pub enum ResultCode {
+    /// DIAMETER_SUCCESS (RFC 6733, section 7.1.2).
+    Success,
+    /// DIAMETER_CREDIT_LIMIT_REACHED (RFC 8506, section 9.1): the free funds don't reach.
+    CreditLimitReached,
+    /// DIAMETER_RATING_FAILED (RFC 8506, section 9.2): there is no tariff.
+    RatingFailed,
+}
+
+impl ResultCode {
+    ghost use Rattle.dcc_act.specs.Numbers.{result_number};
+
+    /// The number of the result, as in a Result-Code.
+    pub fn number(self) -> u32
+        ensures { result ≡ result_number self }
+    {
+        match self {
+            ResultCode::Success => 2001,
+            ResultCode::CreditLimitReached => 4012,
+            ResultCode::RatingFailed => 5031,
+        }
+    }
+}
+
+/// Units that were granted, and at what tariff (Granted-Service-Unit, RFC 8506, section 8.17).
+#[derive(Clone, Copy, Debug, PartialEq, Eq)]
+pub struct Grant {
+    pub unit: UnitKind,
+    /// How many; in an answer's services at most 10^12.
+    pub units: u64,
+    pub tariff: Tariff,
+}
+
+/// What one service of a request comes to.
+#[derive(Debug, PartialEq, Eq, Drop)]
+pub struct ServiceAnswer {
+    /// The Rating-Group, as sent.
+    pub group: Option<u32>,
+    /// The Service-Identifiers, as sent.
+    pub ids: ServiceIds,
+    pub form: Form,
+    pub result: ResultCode,
+    pub grant: Option<Grant>,
+}
+
+impl ServiceAnswer {
+    /// An equal answer, where memory suffices.
+    pub fn copy(&self) -> Result<ServiceAnswer, AllocError>
+        ensures { IfOk result (λ copy. copy ≡ self.now) }
+    {
+        Ok(ServiceAnswer {
+            group: self.group,
+            ids: self.ids.copy()?,
+            form: self.form,
+            result: self.result,
+            grant: self.grant,
+        })
+    }
+}
+
+/// What a request comes to.
+#[derive(Debug, Drop)]
+pub struct Answer {
+    pub request: RequestType,
+    /// The session and the number of the request that came first with this key.
+    pub key: RequestKey,
+    /// The result of the command.
+    pub result: ResultCode,
+    /// The services, in the order of the request.
+    pub services: ServiceAnswers,
+}
+
+impl Answer {
+    /// An equal answer, where memory suffices.
+    pub fn copy(&self) -> Result<Answer, AllocError>
+        ensures { IfOk result (λ copy. copy ≡ self.now) }
+    {
+        Ok(Answer {
+            request: self.request,
+            key: self.key.copy()?,
+            result: self.result,
+            services: self.services.copy()?,
+        })
+    }
+}
+
+/// What an act comes to.
+#[derive(Debug, Drop)]
+pub enum Outcome {
+    /// A request of a subscriber who has no account: DIAMETER_USER_UNKNOWN, 5030 (RFC 8506, section 9.2).
+    Unknown,
+    /// A request is answered.
+    Answered(Answer),
+    /// A top-up is added to the funds.
+    Added,
+    /// A top-up would lift the funds above 10^18 minor units, and isn't added.
+    Ceiling,
+}
+
+impl Outcome {
+    /// An equal outcome, where memory suffices.
+    pub fn copy(&self) -> Result<Outcome, AllocError>
+        ensures { IfOk result (λ copy. copy ≡ self.now) }
+    {
+        match self {
+            Outcome::Unknown => Ok(Outcome::Unknown),
+            Outcome::Answered(answer) => Ok(Outcome::Answered(answer.copy()?)),
+            Outcome::Added => Ok(Outcome::Added),
+            Outcome::Ceiling => Ok(Outcome::Ceiling),
+        }
+    }
+}

@@ -1,0 +1,64 @@
+//! Services of a request.
+
+ghost use Rattle.std.specs.Prelude.{◌≡◌, IfOk};
+
+use crate::service_ids::ServiceIds;
+use dcc_tariff::{Tariff, UnitKind};
+use std::alloc::AllocError;
+use std::marker::Model;
+
+/// Where a service stands in its request.
+#[derive(Clone, Copy, Debug, PartialEq, Eq)]
+pub enum Form {
+    /// At the level of the message.
+    Single,
+    /// In a Multiple-Services-Credit-Control of its own (RFC 8506, section 8.16).
+    Multi,
+}
+
+/// One service of a request. Without a unit its amounts are 0 and stand for nothing, and it has no tariff.
+#[derive(Debug, PartialEq, Eq, Drop)]
+pub struct Service {
+    /// The Rating-Group, as sent.
+    pub group: Option<u32>,
+    /// The Service-Identifiers, as sent.
+    pub ids: ServiceIds,
+    pub form: Form,
+    /// The units that are asked for: at most 10^12; with a unit at least 1, and in time at most 2^32 - 1.
+    pub asked: Option<u64>,
+    /// The units that are reported as used: at most 10^12.
+    pub used: Option<u64>,
+    /// What the plan counts for the group, or none where it doesn't have it.
+    pub unit: Option<UnitKind>,
+    /// What the units cost at the act's moment.
+    pub tariff: Option<Tariff>,
+}
+
+impl Model for Service {
+    ghost use Rattle.dcc_act.specs.Services.{ServiceView, IsService};
+
+    ghost Value = { ServiceView };
+
+    ghost view = { λ s. record { group = s.group; ids = s.ids; form = s.form; asked = s.asked; used = s.used; unit = s.unit; tariff = s.tariff } };
+
+    ghost invariant = { λ s. IsService s.asked s.used s.unit s.tariff };
+
+    ghost inverse = { λ v. record { group = v.group; ids = v.ids; form = v.form; asked = v.asked; used = v.used; unit = v.unit; tariff = v.tariff } };
+}
+
+impl Service {
+    /// An equal service, where memory suffices.
+    pub fn copy(&self) -> Result<Service, AllocError>
+        ensures { IfOk result (λ copy. copy ≡ self.now) }
+    {
+        Ok(Service {
+            group: self.group,
+            ids: self.ids.copy()?,
+            form: self.form,
+            asked: self.asked,
+            used: self.used,
+            unit: self.unit,
+            tariff: self.tariff,
+        })
+    }
+}

@@ -1,0 +1,97 @@
+//! What the services of a request come to.
+
+ghost use Rattle.std.specs.Prelude.{◌≡◌, ◌≤◌, ◌↔◌, ◌*◌, List, length, sum_by, All, IsTrue, IsSome, IfSome, IfOk};
+ghost use Rattle.dcc_act.specs.Answers.{AreAnswers, IsInRange};
+
+use crate::outcome::ServiceAnswer;
+use std::alloc::{AllocError, Global};
+use std::marker::Model;
+
+/// What the services of a request come to, in the order of the request: at most 16, with grants of at most 10^12
+/// units and at most 5,460 identifiers together.
+#[derive(Debug, Drop)]
+pub struct ServiceAnswers {
+    items: Vec<ServiceAnswer>,
+}
+
+impl Model for ServiceAnswers {
+    ghost use Rattle.std.specs.Prelude.{List};
+    ghost use Rattle.dcc_act.specs.declared.outcome.ServiceAnswer.{ServiceAnswer};
+    ghost use Rattle.dcc_act.specs.Answers.{AreAnswers};
+
+    ghost Value = { List ServiceAnswer };
+
+    ghost view = { λ s. s.items.items };
+
+    ghost invariant = { λ s. AreAnswers s.items.items };
+}
+
+impl ServiceAnswers {
+    /// These answers, or none where they are past a limit.
+    pub fn from_vec(items: Vec<ServiceAnswer>) -> Option<ServiceAnswers>
+        ensures limits { IsSome result ↔ AreAnswers items.items }
+        ensures value { IfSome result (λ answers. answers ≡ items.items) }
+    {
+        if items.len() > 16 || !are_in_range(&items) || count_ids(&items) > 5460 {
+            return None;
+        }
+        Some(ServiceAnswers { items })
+    }
+
+    /// The answers, moved out.
+    pub fn into_vec(self) -> Vec<ServiceAnswer>
+        ensures value { result.items ≡ self }
+        ensures limits { AreAnswers self }
+    {
+        self.items
+    }
+
+    /// The answers.
+    pub fn as_slice(&self) -> &[ServiceAnswer]
+        ensures value { result.now ≡ self.now }
+        ensures limits { AreAnswers self.now }
+    {
+        &self.items
+    }
+
+    /// Equal answers, where memory suffices.
+    pub fn copy(&self) -> Result<ServiceAnswers, AllocError>
+        ensures { IfOk result (λ copy. copy ≡ self.now) }
+    {
+        Ok(ServiceAnswers {
+            items: copied(*self.items.allocator(), &self.items)?,
+        })
+    }
+}
+
+/// Whether each grant is within its limit.
+fn are_in_range(items: &[ServiceAnswer]) -> bool
+    ensures { IsTrue result ↔ All IsInRange items.now }
+{
+    items.iter().all(|answer| answer
+        .grant
+        .is_none_or(|grant| grant.units <= 1_000_000_000_000))
+}
+
+/// How many identifiers the answers have together.
+fn count_ids(items: &[ServiceAnswer]) -> usize
+    requires { length items.now ≤ 16 }
+    ensures { result ≡ sum_by (λ answer. length answer.ids) items.now }
+{
+    let mut count = 0;
+    for answer in items {
+        count += answer.ids.as_slice().len();
+    }
+    count
+}
+
+/// A copy of each answer.
+fn copied(alloc: Global, items: &[ServiceAnswer]) -> Result<Vec<ServiceAnswer>, AllocError>
+    ensures { IfOk result (λ copies. copies.items ≡ items.now) }
+{
+    let mut copies = Vec::with_capacity(alloc, items.len())?;
+    for answer in items {
+        copies.push(answer.copy()?)?;
+    }
+    Ok(copies)
+}

@@ -1,0 +1,78 @@
+//! Names of sessions.
+
+ghost use Rattle.std.specs.Prelude.{◌≡◌, ◌≤◌, ◌↔◌, length, IsSome, IfSome, IfOk, nat_eq};
+ghost use Rattle.std.specs.Cmp.{on_equiv, on_per, partial_equiv_from_equiv};
+ghost use Rattle.std.specs.Cmp.Lexicographic.{pointwise, nat_list_eq_equiv};
+ghost use Rattle.dcc_act.specs.Limits.{IsSessionId};
+
+use std::alloc::AllocError;
+use std::marker::Model;
+
+/// The name of a session: 1 to 255 bytes of any value (Session-Id, RFC 6733, section 8.8).
+#[derive(Debug, Drop)]
+pub struct SessionId {
+    bytes: Vec<u8>,
+}
+
+impl Model for SessionId {
+    ghost use Rattle.std.specs.Prelude.{List, ℕ};
+    ghost use Rattle.dcc_act.specs.Limits.{IsSessionId};
+
+    ghost Value = { List ℕ };
+
+    ghost view = { λ s. s.bytes.items };
+
+    ghost invariant = { λ s. IsSessionId s.bytes.items };
+}
+
+impl SessionId {
+    /// The name of these bytes, or none where they aren't 1 to 255.
+    pub fn from_vec(bytes: Vec<u8>) -> Option<SessionId>
+        ensures limit { IsSome result ↔ IsSessionId bytes.items }
+        ensures value { IfSome result (λ sid. sid ≡ bytes.items) }
+    {
+        if bytes.is_empty() || bytes.len() > 255 {
+            return None;
+        }
+        Some(SessionId { bytes })
+    }
+
+    /// The bytes, moved out.
+    pub fn into_vec(self) -> Vec<u8>
+        ensures value { result.items ≡ self }
+        ensures limit { IsSessionId self }
+    {
+        self.bytes
+    }
+
+    /// The bytes.
+    pub fn as_slice(&self) -> &[u8]
+        ensures value { result.now ≡ self.now }
+        ensures limit { IsSessionId self.now }
+    {
+        &self.bytes
+    }
+
+    /// An equal name, where memory suffices.
+    pub fn copy(&self) -> Result<SessionId, AllocError>
+        ensures { IfOk result (λ copy. copy ≡ self.now) }
+    {
+        Ok(SessionId {
+            bytes: self.bytes.clone()?,
+        })
+    }
+}
+
+impl PartialEq for SessionId {
+    ghost eq = { λ s t. pointwise nat_eq s t };
+
+    ghost laws = { on_per (λ s. s) (partial_equiv_from_equiv nat_list_eq_equiv) };
+
+    fn eq(&self, other: &SessionId) -> bool {
+        self.as_slice() == other.as_slice()
+    }
+}
+
+impl Eq for SessionId {
+    ghost laws = { on_equiv (λ s. s) nat_list_eq_equiv };
+}

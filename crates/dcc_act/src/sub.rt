@@ -1,0 +1,74 @@
+//! Subscribers.
+
+ghost use Rattle.std.specs.Prelude.{◌≡◌, ◌↔◌, ◌≤◌, length, IsSome, IfSome};
+ghost use Rattle.dcc_act.specs.Subs.{IsSub, padded};
+
+use std::marker::Model;
+
+/// Who an account is for: the type and the data of a Subscription-Id (RFC 8506, section 8.46).
+#[derive(Clone, Copy, Debug)]
+pub struct Sub {
+    kind: u8,
+    len: u8,
+    bytes: [u8; 64],
+}
+
+impl Model for Sub {
+    ghost use Rattle.std.specs.Prelude.{◌≡◌, ◌≤◌, length, take};
+    ghost use Rattle.dcc_act.specs.Subs.{SubView, IsSub, padded, unpadded, length_kept};
+
+    ghost Value = { SubView };
+
+    ghost view = { λ s. record { kind = s.kind; name = take s.len s.bytes } };
+
+    ghost invariant = { λ s. IsSub s.kind (take s.len s.bytes) × (s.len ≤ 64) × (length s.bytes ≡ 64) × (s.bytes ≡ padded (take s.len s.bytes)) };
+
+    ghost inverse = { λ v. record { kind = v.kind; len = length v.name; bytes = padded v.name } };
+
+    ghost inverse_ok = { λ s h i. record { kind = s.kind; len = length_kept s.len s.bytes h.1 h.2 i; bytes = unpadded s.len s.bytes h.3 i } };
+}
+
+impl Sub {
+    /// The subscriber of this type (0 to 4, RFC 8506, section 8.47) and these data, or none where the type is another or
+    /// the data aren't 1 to 64 bytes of visible ASCII (0x21 to 0x7E).
+    pub fn new(kind: u8, name: &[u8]) -> Option<Sub>
+        ensures limits { IsSome result ↔ IsSub kind name.now }
+        ensures value { IfSome result (λ sub. sub ≡ record { kind = kind; name = name.now }) }
+    {
+        let visible = name.iter().all(|byte| *byte >= 0x21 && *byte <= 0x7e);
+        if kind > 4 || name.is_empty() || name.len() > 64 || !visible {
+            return None;
+        }
+        Some(Sub {
+            kind,
+            len: name.len() as u8,
+            bytes: with_zeros(name),
+        })
+    }
+
+    /// The type: 0 a telephone number (E.164), 1 an IMSI, 2 a SIP URI, 3 an NAI, 4 private (RFC 8506, section 8.47).
+    pub fn kind(&self) -> u8
+        ensures value { result ≡ self.now.kind }
+        ensures limits { IsSub self.now.kind self.now.name }
+    {
+        self.kind
+    }
+
+    /// The data, 1 to 64 bytes of visible ASCII.
+    pub fn name(&self) -> &[u8]
+        ensures value { result.now ≡ self.now.name }
+        ensures limits { IsSub self.now.kind self.now.name }
+    {
+        &self.bytes[..self.len as usize]
+    }
+}
+
+/// The bytes, and zeros behind.
+fn with_zeros(name: &[u8]) -> [u8; 64]
+    requires { length name.now ≤ 64 }
+    ensures { result ≡ padded name.now }
+{
+    let mut bytes = [0; 64];
+    bytes[..name.len()].copy_from_slice(name);
+    bytes
+}

@@ -1,0 +1,64 @@
+//! How subscribers compare: by type, and then by the data, byte by byte.
+
+ghost use Rattle.std.specs.Prelude.{◌==◌, ◌++◌};
+ghost use Rattle.std.proofs.Common.{rules};
+ghost use Rattle.std.specs.Cmp.{partial_order_from_own_ties};
+ghost use Rattle.std.specs.Cmp.Rules.{comparing, hashing};
+ghost use Rattle.std.specs.Cmp.Lexicographic.{pointwise, slice_cmp};
+ghost use Rattle.std.specs.Ordering.{nat_cmp, on, eq_of_both, then_cmp, as_partial_cmp};
+ghost use Rattle.std.specs.Hash as fed;
+
+use crate::sub::Sub;
+use std::cmp::Ordering;
+use std::hash::{Hash, Hasher};
+
+impl PartialEq for Sub {
+    ghost eq = { eq_of_both (on (λ s. s.kind) ◌==◌) (on (λ s. s.name) (pointwise ◌==◌)) };
+
+    ghost laws = { Prim.search (comparing, rules) };
+
+    fn eq(&self, other: &Sub) -> bool {
+        self.kind() == other.kind() && self.name() == other.name()
+    }
+}
+
+impl Eq for Sub {
+    ghost laws = { Prim.search (comparing, rules) };
+}
+
+impl Ord for Sub {
+    ghost cmp = { then_cmp (on (λ s. s.kind) nat_cmp) (on (λ s. s.name) (slice_cmp nat_cmp)) };
+
+    ghost total = { Prim.search (comparing, rules) };
+
+    ghost matches_partial_cmp = { Prim.search (comparing, rules) };
+
+    ghost matches_eq = { Prim.search (comparing, rules) };
+
+    fn cmp(&self, other: &Sub) -> Ordering {
+        self.kind()
+            .cmp(&other.kind())
+            .then(self.name().cmp(other.name()))
+    }
+}
+
+impl PartialOrd for Sub {
+    ghost partial_cmp = { as_partial_cmp (then_cmp (on (λ s. s.kind) nat_cmp) (on (λ s. s.name) (slice_cmp nat_cmp))) };
+
+    ghost laws = { partial_order_from_own_ties (Prim.search (comparing, rules)) (Prim.search (comparing, rules)) };
+
+    fn partial_cmp(&self, other: &Sub) -> Option<Ordering> {
+        Some(self.cmp(other))
+    }
+}
+
+impl Hash for Sub {
+    ghost hash_input = { λ s. fed.u8 s.kind ++ fed.slice fed.u8 s.name };
+
+    ghost respects_eq = { Prim.search (hashing, rules) };
+
+    fn hash<H: Hasher>(&self, state: &mut H) {
+        self.kind().hash(state);
+        self.name().hash(state);
+    }
+}

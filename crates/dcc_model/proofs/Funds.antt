@@ -1,0 +1,144 @@
+-- Funds stay within their limits, what is free and overrun is never below nothing, and the entries add up to the funds.
+use Rattle.std.proofs.Common.{◌≡◌, ℕ, ◌+◌, ℤ, pos, ◌+ℤ◌, ◌-ℤ◌, ◌≤ℤ◌, true, ◌==◌, cond, List, [], ◌∷◌, ◌++◌, length, reverse, refl, arith, inl, inr, ◌⊎◌, Option, Some, None}
+use Rattle.std.specs.Prelude.{int_le, int_lt}
+use Rattle.std.specs.Option.{option_map_or}
+use Rattle.std.proofs.lemmas.Bool.{cases_Bool}
+use Rattle.std.proofs.lemmas.Bool.Decides.{nat_tests}
+use Rattle.std.proofs.lemmas.Int.{ints}
+use Rattle.dcc_tariff.specs.Prices.{covers}
+use Rattle.dcc_tariff.specs.declared.terms.Terms.{Terms}
+use Rattle.dcc_act.specs.declared.act.Act.{Act}
+use Rattle.dcc_act.specs.declared.act.Action.{Action}
+use Rattle.dcc_act.specs.declared.act.Action.TheVariants.{DirectDebiting}
+use Rattle.dcc_act.specs.declared.act.Event.{Event}
+use Rattle.dcc_act.specs.declared.act.Kind.{Kind}
+use Rattle.dcc_act.specs.declared.act.Kind.TheVariants as kind
+use Rattle.dcc_act.specs.declared.act.TopUp.{TopUp}
+use Rattle.dcc_act.specs.declared.entry.Entry.{Entry}
+use Rattle.dcc_act.specs.declared.outcome.Grant.{Grant}
+use Rattle.dcc_act.specs.declared.outcome.Outcome.{Outcome}
+use Rattle.dcc_model.specs.declared.done.Done.{Done}
+use Rattle.dcc_model.specs.declared.decide.TheConstants.{CEILING}
+use Rattle.dcc_model.specs.Money.{is_added, succeeded, asked_units, charged_by, charged, grant_price, credit, debit, funds_of, reserved_by, reserved_of, free_of}
+use Rattle.dcc_model.specs.Outcomes.{is_made, top_up_outcome, debit_outcome, action_outcome, decided, history, funds, overrun, free}
+use Rattle.dcc_model.specs.Entries.{debit_entry, entries_of_kind, entries_by, entries_of, entries, sum_of}
+use Rattle.dcc_model.proofs.Histories.{judged_new}
+
+reserves_none : (k : Kind) (outcome : Outcome) → reserved_by k outcome ≡ 0
+reserves_none (kind.TopUp top_up) outcome = refl
+reserves_none (kind.Event event) outcome = refl
+
+-- neither a top-up nor an event reserves
+pub reserved_none : (terms : Terms) (past : List Done) → reserved_of terms past ≡ 0
+reserved_none terms [] = refl
+reserved_none terms (done ∷ past) =
+    let before = reserved_none terms past in
+    let here = reserves_none done.act.kind done.outcome in
+    omega arith
+
+pub free_is_funds : (terms : Terms) (past : List Done) → free_of terms past ≡ funds_of terms past
+free_is_funds terms past = let none = reserved_none terms past in omega (arith, ints)
+
+covers_parts : (money : ℤ) (cost : ℕ) → covers money cost ≡ true → (cost ≡ 0) ⊎ (pos cost ≤ℤ money)
+covers_parts money cost h =
+    elim (cases_Bool (cost == 0)) [
+      | inl t ↦ inl (grind (arith, nat_tests))
+      | inr f ↦ let le : int_le (pos cost) money ≡ true = rw f at h in inr (grind (arith, ints))
+    ]
+
+-- funds between nothing and the ceiling
+pub record AreFunds (funds : ℤ) : Type 0 where
+  pub not_owed : pos 0 ≤ℤ funds
+  pub not_over : funds ≤ℤ CEILING
+
+topped_up : (funds : ℤ) (top_up : TopUp) → AreFunds funds → AreFunds ((funds +ℤ pos (cond (is_added (top_up_outcome funds top_up)) top_up.amount 0)) -ℤ pos 0)
+topped_up funds top_up are =
+    let low = are.not_owed in
+    let high = are.not_over in
+    elim (cases_Bool (int_lt CEILING (funds +ℤ pos top_up.amount))) [
+      | inl t ↦ rw t (record { not_owed = omega (arith, ints); not_over = omega (arith, ints) })
+      | inr f ↦ rw f (record { not_owed = omega (arith, ints); not_over = grind (arith, ints) })
+    ]
+
+paid : (funds : ℤ) (cost : ℕ) → AreFunds funds → covers funds cost ≡ true → AreFunds ((funds +ℤ pos 0) -ℤ pos cost)
+paid funds cost are covered =
+    let low = are.not_owed in
+    let high = are.not_over in
+    elim (covers_parts funds cost covered) [
+      | inl none ↦ record { not_owed = omega (arith, ints); not_over = omega (arith, ints) }
+      | inr le ↦ record { not_owed = omega (arith, ints); not_over = omega (arith, ints) }
+    ]
+
+unpaid : (funds : ℤ) → AreFunds funds → AreFunds ((funds +ℤ pos 0) -ℤ pos 0)
+unpaid funds are = let low = are.not_owed in let high = are.not_over in record { not_owed = omega (arith, ints); not_over = omega (arith, ints) }
+
+debited : (funds : ℤ) (event : Event) (grant : Option Grant) → AreFunds funds
+    → AreFunds ((funds +ℤ pos 0) -ℤ pos (option_map_or grant_price (cond (succeeded (debit_outcome funds event grant)) grant None) 0))
+debited funds event None are = unpaid funds are
+debited funds event (Some grant) are =
+    elim (cases_Bool (covers funds (grant_price grant))) [
+      | inl t ↦ rw t (paid funds (grant_price grant) are t)
+      | inr f ↦ rw f (unpaid funds are)
+    ]
+
+acted : (funds : ℤ) (event : Event) (action : Action) → AreFunds funds
+    → AreFunds ((funds +ℤ pos 0) -ℤ pos (option_map_or grant_price (cond (succeeded (action_outcome funds event action)) (charged_by action event.service) None) 0))
+acted funds event DirectDebiting are = debited funds event (asked_units event.service) are
+
+decided_funds : (terms : Terms) (past : List Done) (k : Kind) → AreFunds (funds_of terms past)
+    → AreFunds ((funds_of terms past +ℤ pos (credit k (decided terms past k))) -ℤ pos (debit k (decided terms past k)))
+decided_funds terms past (kind.TopUp top_up) are = topped_up (funds_of terms past) top_up are
+decided_funds terms past (kind.Event event) are = rw (free_is_funds terms past) (acted (funds_of terms past) event event.action are)
+
+history_funds : (terms : Terms) (all : List Act) → AreFunds (funds_of terms (history terms all))
+history_funds terms [] = record { not_owed = omega (arith, ints); not_over = omega (arith, ints) }
+history_funds terms (act ∷ earlier) =
+    let past = history terms earlier in
+    let before = history_funds terms earlier in
+    elim (cases_Bool (is_made terms past act)) [
+      | inl t ↦ rw (t, judged_new terms past act t) (decided_funds terms past act.kind before)
+      | inr f ↦ rw f before
+    ]
+
+pub funds_are : (terms : Terms) (all : List Act) → AreFunds (funds terms all)
+unfolding funds
+funds_are terms all = history_funds terms (reverse all)
+
+pub free_and_overrun : (terms : Terms) (all : List Act) → pos 0 ≤ℤ (free terms all +ℤ pos (overrun terms all))
+unfolding free overrun
+free_and_overrun terms all =
+    let past = history terms (reverse all) in
+    let are = (history_funds terms (reverse all)).not_owed in
+    let same = free_is_funds terms past in
+    omega (arith, ints)
+
+sum_of-append : (xs ys : List Entry) → sum_of (xs ++ ys) ≡ sum_of xs +ℤ sum_of ys
+sum_of-append [] ys = omega (arith, ints)
+sum_of-append (x ∷ xs) ys = let rest = sum_of-append xs ys in omega (arith, ints)
+
+sum_of_option : (place moment : ℕ) (event : Event) (grant : Option Grant)
+    → sum_of (option_map_or (λ grant. debit_entry place moment event grant ∷ []) grant []) ≡ pos 0 -ℤ pos (option_map_or grant_price grant 0)
+sum_of_option place moment event None = omega (arith, ints)
+sum_of_option place moment event (Some grant) = omega (arith, ints)
+
+sum_of_kind : (place moment : ℕ) (k : Kind) (outcome : Outcome) → sum_of (entries_of_kind place moment k outcome) ≡ pos (credit k outcome) -ℤ pos (debit k outcome)
+sum_of_kind place moment (kind.TopUp top_up) outcome =
+    elim (cases_Bool (is_added outcome)) [
+      | inl t ↦ rw t (omega (arith, ints))
+      | inr f ↦ rw f (omega (arith, ints))
+    ]
+sum_of_kind place moment (kind.Event event) outcome =
+    let same = sum_of_option place moment event (charged (kind.Event event) outcome) in
+    omega (arith, ints)
+
+pub sum_of_entries : (terms : Terms) (past : List Done) → sum_of (entries_of past) ≡ funds_of terms past
+sum_of_entries terms [] = refl
+sum_of_entries terms (done ∷ past) =
+    let before = sum_of_entries terms past in
+    let here = sum_of_kind (length past + 1) done.act.moment done.act.kind done.outcome in
+    let both = sum_of-append (entries_of past) (entries_by (length past + 1) done) in
+    omega (arith, ints)
+
+pub entries_add_up : (terms : Terms) (all : List Act) → sum_of (entries terms all) ≡ funds terms all
+unfolding entries funds
+entries_add_up terms all = sum_of_entries terms (history terms (reverse all))

@@ -1,0 +1,74 @@
+-- Leaving out what was not made changes nothing.
+use Rattle.std.proofs.Common.{◌≡◌, ℕ, zero, suc, ◌+◌, ◌-◌, ◌≤◌, ◌<◌, true, List, [], ◌∷◌, ◌++◌, length, map, reverse, take, refl, sym, ap, ◌∙◌, arith, inl, inr, Option, Some, None, is_none, slice_get, append-nil}
+use Rattle.std.specs.Option.{option_map_or}
+use Rattle.std.proofs.lemmas.Bool.{cases_Bool, and_parts}
+use Rattle.std.proofs.lemmas.List.{reverse-append, reverse-reverse, take-append-le}
+use Rattle.std.proofs.Math.Seq.{take-append-add}
+use Rattle.dcc_tariff.specs.declared.terms.Terms.{Terms}
+use Rattle.dcc_act.specs.declared.act.Act.{Act}
+use Rattle.dcc_act.specs.declared.outcome.Outcome.{Outcome}
+use Rattle.dcc_act.specs.declared.outcome.Outcome.TheVariants.{Unknown}
+use Rattle.dcc_model.specs.declared.done.Done.{Done}
+use Rattle.dcc_model.specs.Outcomes.{counts, first_of, is_made, decided, judged, history, act_of, after, outcome, acts}
+
+from_none : (first : Option Done) (rest : Outcome) → is_none first ≡ true → option_map_or (λ (done : Done). done.outcome) first rest ≡ rest
+from_none None rest h = refl
+from_none (Some done) rest h = absurd cc
+
+-- what is made comes to what its kind decides
+pub judged_new : (terms : Terms) (past : List Done) (act : Act) → is_made terms past act ≡ true → judged terms past act ≡ decided terms past act.kind
+judged_new terms past act new =
+    let parts = and_parts (counts past act.kind) (is_none (first_of past act.kind)) new in
+    rw parts.0 (from_none (first_of past act.kind) (decided terms past act.kind) parts.1)
+
+pub history_of_made : (terms : Terms) (all : List Act) → history terms (map act_of (history terms all)) ≡ history terms all
+history_of_made terms [] = refl
+history_of_made terms (act ∷ all) =
+    elim (cases_Bool (is_made terms (history terms all) act)) [
+      | inl t ↦ rw (t, history_of_made terms all, t) refl
+      | inr f ↦ rw f (history_of_made terms all)
+    ]
+
+-- whatever comes later
+pub history_after : (terms : Terms) (later all : List Act) → history terms (later ++ map act_of (history terms all)) ≡ history terms (later ++ all)
+history_after terms [] all = history_of_made terms all
+history_after terms (act ∷ later) all = rw (history_after terms later all) refl
+
+-- the history of the acts of a list, and of more behind, is that of the list
+pub history-acts : (terms : Terms) (all more : List Act) → history terms (reverse (acts terms all ++ more)) ≡ history terms (reverse (all ++ more))
+unfolding acts
+history-acts terms all more =
+    let made = map act_of (history terms (reverse all)) in
+    let turned : reverse (reverse made ++ more) ≡ reverse more ++ made = reverse-append (reverse made) more ∙ ap (λ (zs : List Act). reverse more ++ zs) (reverse-reverse made) in
+    ap (history terms) turned ∙ history_after terms (reverse more) (reverse all) ∙ ap (history terms) (sym (reverse-append all more))
+
+pub acts_by_history : (terms : Terms) (xs ys : List Act) → history terms (reverse xs) ≡ history terms (reverse ys) → acts terms xs ≡ acts terms ys
+unfolding acts
+acts_by_history terms xs ys same = ap (λ (past : List Done). reverse (map act_of past)) same
+
+slice_get-behind : (xs ys : List Act) (k : ℕ) → slice_get (xs ++ ys) (length xs + k) ≡ slice_get ys k
+slice_get-behind [] ys k = ap (slice_get ys) (omega arith)
+slice_get-behind (x ∷ xs) ys k =
+    let next : suc (length xs) + k ≡ suc (length xs + k) = omega arith in
+    ap (slice_get (x ∷ (xs ++ ys))) next ∙ slice_get-behind xs ys k
+
+slice_get-before : (xs ys : List Act) (k : ℕ) → k < length xs → slice_get (xs ++ ys) k ≡ slice_get xs k
+slice_get-before [] ys k h = absurd (omega arith)
+slice_get-before (x ∷ xs) ys zero h = refl
+slice_get-before (x ∷ xs) ys (suc k) h = slice_get-before xs ys k (omega arith)
+
+-- what stands at a place behind a list comes to what it comes to after the list and what is between
+pub outcome_behind : (terms : Terms) (xs ys : List Act) (k : ℕ) → 1 ≤ k → outcome terms (xs ++ ys) (length xs + k) ≡ option_map_or (after terms (xs ++ take (k - 1) ys)) (slice_get ys (k - 1)) Unknown
+unfolding outcome
+outcome_behind terms xs ys k one =
+    let place : length xs + k - 1 ≡ length xs + (k - 1) = omega arith in
+    rw (place, take-append-add xs ys (k - 1), slice_get-behind xs ys (k - 1)) refl
+
+pub outcome_last : (terms : Terms) (xs : List Act) (act : Act) → outcome terms (xs ++ act ∷ []) (length xs + 1) ≡ after terms xs act
+outcome_last terms xs act = outcome_behind terms xs (act ∷ []) 1 (omega arith) ∙ ap (λ (zs : List Act). after terms zs act) (append-nil xs)
+
+pub outcome_before : (terms : Terms) (xs ys : List Act) (place : ℕ) → 1 ≤ place → place ≤ length xs → outcome terms (xs ++ ys) place ≡ outcome terms xs place
+unfolding outcome
+outcome_before terms xs ys place one within =
+    let le : place - 1 ≤ length xs = omega arith in
+    rw (take-append-le (place - 1) xs ys le, slice_get-before xs ys (place - 1) (omega arith)) refl

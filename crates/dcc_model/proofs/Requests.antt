@@ -1,0 +1,115 @@
+-- Requests have the outcomes of requests, and top-ups those of top-ups; without a top-up no request acts.
+use Rattle.std.proofs.Common.{◌≡◌, ℤ, pos, ◌+ℤ◌, Bool, true, false, ◌||◌, List, [], ◌∷◌, ◌++◌, reverse, refl, ap, ◌∙◌, inl, inr, Option, Some, None, is_none, is_some}
+use Rattle.std.specs.Prelude.{int_lt}
+use Rattle.std.specs.Option.{option_map_or}
+use Rattle.std.proofs.lemmas.Bool.{cases_Bool, cond_both, or_parts, or_from}
+use Rattle.std.proofs.lemmas.List.{reverse-append}
+use Rattle.std.proofs.lemmas.List.Folds.{list_any-append}
+use Rattle.dcc_tariff.specs.declared.terms.Terms.{Terms}
+use Rattle.dcc_act.specs.declared.act.Act.{Act}
+use Rattle.dcc_act.specs.declared.act.Action.{Action}
+use Rattle.dcc_act.specs.declared.act.Action.TheVariants.{DirectDebiting}
+use Rattle.dcc_act.specs.declared.act.Event.{Event}
+use Rattle.dcc_act.specs.declared.act.Kind.{Kind}
+use Rattle.dcc_act.specs.declared.act.Kind.TheVariants as kind
+use Rattle.dcc_act.specs.declared.act.TopUp.{TopUp}
+use Rattle.dcc_act.specs.declared.outcome.Outcome.{Outcome}
+use Rattle.dcc_act.specs.declared.outcome.Outcome.TheVariants.{Unknown, Added, Ceiling}
+use Rattle.dcc_act.specs.declared.request_key.RequestKey.{RequestKey}
+use Rattle.dcc_model.specs.declared.done.Done.{Done}
+use Rattle.dcc_model.specs.declared.decide.TheConstants.{CEILING}
+use Rattle.dcc_model.specs.Keys.{request_key, same_key}
+use Rattle.dcc_model.specs.Money.{funds_of, free_of}
+use Rattle.dcc_model.specs.Outcomes.{is_top_up, has_account, has_top_up, counts, first_of, is_made, action_outcome, top_up_outcome, decided, judged, history, after, IsOfRequest, IsOfTopUp}
+
+abbrev pub IsOf : Kind → Outcome → Type 0
+IsOf (kind.TopUp top_up) outcome = IsOfTopUp outcome
+IsOf (kind.Event event) outcome = IsOfRequest outcome
+
+action_of_request : (free : ℤ) (event : Event) (action : Action) → IsOfRequest (action_outcome free event action)
+action_of_request free event DirectDebiting = tt
+
+top_up_of_top_up : (funds : ℤ) (top_up : TopUp) → IsOfTopUp (top_up_outcome funds top_up)
+top_up_of_top_up funds top_up = cond_both (int_lt CEILING (funds +ℤ pos top_up.amount)) Ceiling Added IsOfTopUp (λ _. tt) (λ _. tt)
+
+decided_is_of : (terms : Terms) (past : List Done) (k : Kind) → IsOf k (decided terms past k)
+decided_is_of terms past (kind.TopUp top_up) = top_up_of_top_up (funds_of terms past) top_up
+decided_is_of terms past (kind.Event event) = action_of_request (free_of terms past) event event.action
+
+-- one key, one kind
+same_kind : (a b : Kind) (outcome : Outcome) → same_key a b ≡ true → IsOf b outcome → IsOf a outcome
+same_kind (kind.TopUp a) (kind.TopUp b) outcome same is = is
+same_kind (kind.TopUp a) (kind.Event b) outcome same is = absurd cc
+same_kind (kind.Event a) (kind.TopUp b) outcome same is = absurd cc
+same_kind (kind.Event a) (kind.Event b) outcome same is = is
+
+AllOf : List Done → Type 0
+AllOf [] = Unit {0}
+AllOf (done ∷ past) = IsOf done.act.kind done.outcome × AllOf past
+
+first_is_of : (past : List Done) (k : Kind) (rest : Outcome) → AllOf past → IsOf k rest → IsOf k (option_map_or (λ (done : Done). done.outcome) (first_of past k) rest)
+unfolding AllOf
+first_is_of [] k rest all is = is
+first_is_of (done ∷ past) k rest all is =
+    elim (cases_Bool (same_key k done.act.kind)) [
+      | inl t ↦ rw t (same_kind k done.act.kind done.outcome t all.0)
+      | inr f ↦ rw f (first_is_of past k rest all.1 is)
+    ]
+
+unknown_request : (past : List Done) (k : Kind) → counts past k ≡ false → IsOf k Unknown
+unknown_request past (kind.TopUp top_up) h = let no = (or_parts (has_account past) true h).1 in absurd cc
+unknown_request past (kind.Event event) h = tt
+
+judged_is_of : (terms : Terms) (past : List Done) (act : Act) → AllOf past → IsOf act.kind (judged terms past act)
+judged_is_of terms past act all =
+    elim (cases_Bool (counts past act.kind)) [
+      | inl t ↦ rw t (first_is_of past act.kind (decided terms past act.kind) all (decided_is_of terms past act.kind))
+      | inr f ↦ rw f (unknown_request past act.kind f)
+    ]
+
+history_all_of : (terms : Terms) (all : List Act) → AllOf (history terms all)
+unfolding AllOf
+history_all_of terms [] = tt
+history_all_of terms (act ∷ earlier) =
+    let before = history_all_of terms earlier in
+    elim (cases_Bool (is_made terms (history terms earlier) act)) [
+      | inl t ↦ rw t (judged_is_of terms (history terms earlier) act before, before)
+      | inr f ↦ rw f before
+    ]
+
+pub after_is_of : (terms : Terms) (xs : List Act) (act : Act) → IsOf act.kind (after terms xs act)
+after_is_of terms xs act = judged_is_of terms (history terms (reverse xs)) act (history_all_of terms (reverse xs))
+
+-- an account is there from the first top-up of the list
+no_account : (terms : Terms) (all : List Act) → has_top_up all ≡ false → has_account (history terms all) ≡ false
+no_account terms [] h = refl
+no_account terms (act ∷ earlier) h =
+    let parts = or_parts (is_top_up act.kind) (has_top_up earlier) h in
+    let before = no_account terms earlier parts.1 in
+    elim (cases_Bool (is_made terms (history terms earlier) act)) [
+      | inl t ↦ rw (t, parts.0) before
+      | inr f ↦ rw f before
+    ]
+
+has_top_up-reverse : (all : List Act) → has_top_up all ≡ false → has_top_up (reverse all) ≡ false
+has_top_up-reverse [] h = refl
+has_top_up-reverse (act ∷ all) h =
+    let parts = or_parts (is_top_up act.kind) (has_top_up all) h in
+    let turned : reverse (act ∷ all) ≡ reverse all ++ act ∷ [] = reverse-append (act ∷ []) all in
+    let test : Act → Bool = λ act. is_top_up act.kind in
+    ap has_top_up turned ∙ list_any-append test (reverse all) (act ∷ []) ∙ or_from (has_top_up (reverse all)) (is_top_up act.kind || false) (has_top_up-reverse all parts.1) (or_from (is_top_up act.kind) false parts.0 refl)
+
+not_none : (key : Option RequestKey) → is_some key ≡ true → is_none key ≡ false
+not_none None h = absurd cc
+not_none (Some key) h = refl
+
+uncounted : (terms : Terms) (xs : List Act) (act : Act) → has_top_up xs ≡ false → is_some (request_key act.kind) ≡ true → counts (history terms (reverse xs)) act.kind ≡ false
+uncounted terms xs act none request =
+    or_from (has_account (history terms (reverse xs))) (is_none (request_key act.kind)) (no_account terms (reverse xs) (has_top_up-reverse xs none)) (not_none (request_key act.kind) request)
+
+-- without a top-up before, a request is of an unknown user, and doesn't act
+pub after_no_top_up : (terms : Terms) (xs : List Act) (act : Act) → has_top_up xs ≡ false → is_some (request_key act.kind) ≡ true → after terms xs act ≡ Unknown
+after_no_top_up terms xs act none request = let no = uncounted terms xs act none request in rw no refl
+
+pub history_no_top_up : (terms : Terms) (xs : List Act) (act : Act) → has_top_up xs ≡ false → is_some (request_key act.kind) ≡ true → history terms (act ∷ reverse xs) ≡ history terms (reverse xs)
+history_no_top_up terms xs act none request = let no = uncounted terms xs act none request in rw no refl

@@ -1,0 +1,58 @@
+-- The entries that the acts of one subscriber leave in the books.
+use Rattle.std.specs.Prelude.{ℕ, ◌+◌, ℤ, pos, neg_ℤ, ◌+ℤ◌, if◌then◌else◌, List, [], ◌∷◌, ◌++◌, length, reverse, None}
+use Rattle.std.specs.Option.{option_map_or}
+use Rattle.dcc_tariff.specs.declared.terms.Terms.{Terms}
+use Rattle.dcc_act.specs.declared.act.Act.{Act}
+use Rattle.dcc_act.specs.declared.act.Event.{Event}
+use Rattle.dcc_act.specs.declared.act.Kind.{Kind}
+use Rattle.dcc_act.specs.declared.act.Kind.TheVariants as kind
+use Rattle.dcc_act.specs.declared.act.TopUp.{TopUp}
+use Rattle.dcc_act.specs.declared.entry.Entry.{Entry}
+use Rattle.dcc_act.specs.declared.entry.EntryKind.TheVariants as entry
+use Rattle.dcc_act.specs.declared.entry.EntryName.TheVariants.{Ticket, Session}
+use Rattle.dcc_act.specs.declared.outcome.Grant.{Grant}
+use Rattle.dcc_act.specs.declared.outcome.Outcome.{Outcome}
+use Rattle.dcc_model.specs.declared.done.Done.{Done}
+use Rattle.dcc_model.specs.Money.{is_added, charged, grant_price}
+use Rattle.dcc_model.specs.Outcomes.{history}
+
+-- a top-up's entry, which charges no units
+abbrev pub top_up_entry : ℕ → ℕ → TopUp → Entry
+top_up_entry place moment top_up =
+    record { place = place; moment = moment; kind = entry.TopUp; group = None; units = 0; amount = pos top_up.amount; name = Ticket top_up.ticket }
+
+-- a direct debit's entry, also where it cost nothing
+abbrev pub debit_entry : ℕ → ℕ → Event → Grant → Entry
+debit_entry place moment event grant =
+    record {
+      place = place;
+      moment = moment;
+      kind = entry.Debit;
+      group = event.service.group;
+      units = grant.units;
+      amount = neg_ℤ (pos (grant_price grant));
+      name = Session event.key.sid;
+    }
+
+-- the entries of the act at this place
+abbrev pub entries_of_kind : ℕ → ℕ → Kind → Outcome → List Entry
+entries_of_kind place moment (kind.TopUp top_up) outcome = if is_added outcome then top_up_entry place moment top_up ∷ [] else []
+entries_of_kind place moment (kind.Event event) outcome =
+    option_map_or (λ grant. debit_entry place moment event grant ∷ []) (charged (kind.Event event) outcome) []
+
+abbrev pub entries_by : ℕ → Done → List Entry
+entries_by place done = entries_of_kind place done.act.moment done.act.kind done.outcome
+
+-- the entries of all acts, in their order; places count from 1
+abbrev pub entries_of : List Done → List Entry
+entries_of [] = []
+entries_of (done ∷ past) = entries_of past ++ entries_by (length past + 1) done
+
+-- the entries of a list of acts in order
+unfoldable pub entries : Terms → List Act → List Entry
+entries terms all = entries_of (history terms (reverse all))
+
+-- what the entries add up to
+abbrev pub sum_of : List Entry → ℤ
+sum_of [] = pos 0
+sum_of (first ∷ rest) = first.amount +ℤ sum_of rest

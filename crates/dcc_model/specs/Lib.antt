@@ -1,0 +1,5 @@
+pub mod Keys
+pub mod Money
+pub mod Outcomes
+pub mod Entries
+pub mod Laws

@@ -1,0 +1,152 @@
+-- What each act of one subscriber's list comes to. `past` is the acts that were made, the latest first.
+use Rattle.std.specs.Prelude.{ℕ, ◌-◌, ⊤, ℤ, pos, ◌+ℤ◌, int_lt, Bool, true, false, not, ◌&&◌, ◌||◌, if◌then◌else◌, List, [], ◌∷◌, map, reverse, take, Option, Some, None, is_none, option_map, find, slice_get}
+use Rattle.std.specs.List.{list_any}
+use Rattle.std.specs.Option.{option_map_or}
+use Rattle.dcc_tariff.specs.Prices.{covers}
+use Rattle.dcc_tariff.specs.declared.terms.Terms.{Terms}
+use Rattle.dcc_act.specs.declared.act.Act.{Act}
+use Rattle.dcc_act.specs.declared.act.Action.{Action}
+use Rattle.dcc_act.specs.declared.act.Action.TheVariants.{DirectDebiting}
+use Rattle.dcc_act.specs.declared.act.Event.{Event}
+use Rattle.dcc_act.specs.declared.act.Kind.{Kind}
+use Rattle.dcc_act.specs.declared.act.Kind.TheVariants as kind
+use Rattle.dcc_act.specs.declared.act.TopUp.{TopUp}
+use Rattle.dcc_act.specs.declared.outcome.Grant.{Grant}
+use Rattle.dcc_act.specs.declared.outcome.Outcome.{Outcome}
+use Rattle.dcc_act.specs.declared.outcome.Outcome.TheVariants.{Unknown, Answered, Added, Ceiling}
+use Rattle.dcc_act.specs.declared.outcome.RequestType.TheVariants as request
+use Rattle.dcc_act.specs.declared.outcome.ResultCode.{ResultCode}
+use Rattle.dcc_act.specs.declared.outcome.ResultCode.TheVariants.{Success, CreditLimitReached, RatingFailed}
+use Rattle.dcc_act.specs.declared.outcome.ServiceAnswer.{ServiceAnswer}
+use Rattle.dcc_act.specs.declared.request_key.RequestKey.{RequestKey}
+use Rattle.dcc_act.specs.declared.service.Service.{Service}
+use Rattle.dcc_model.specs.declared.done.Done.{Done}
+use Rattle.dcc_model.specs.declared.decide.TheConstants.{CEILING}
+use Rattle.dcc_model.specs.Keys.{request_key, same_key, same_request}
+use Rattle.dcc_model.specs.Money.{asked_units, grant_price, funds_of, overrun_of, free_of}
+
+abbrev pub is_top_up : Kind → Bool
+is_top_up (kind.TopUp top_up) = true
+is_top_up (kind.Event event) = false
+
+-- an account exists from its first top-up
+abbrev pub has_account : List Done → Bool
+has_account past = list_any (λ done. is_top_up done.act.kind) past
+
+abbrev pub has_top_up : List Act → Bool
+has_top_up all = list_any (λ act. is_top_up act.kind) all
+
+-- a request counts once there is an account, a top-up always
+abbrev pub counts : List Done → Kind → Bool
+counts past kind = has_account past || is_none (request_key kind)
+
+-- the act of this key that was made
+abbrev pub first_of : List Done → Kind → Option Done
+first_of past kind = find (λ done. same_key kind done.act.kind) past
+
+-- what a service says of itself in its answer
+abbrev pub answer_with : Service → ResultCode → Option Grant → ServiceAnswer
+answer_with service code grant = record { group = service.group; ids = service.ids; form = service.form; result = code; grant = grant }
+
+-- an event's answer has one service, whose result is the command's
+abbrev pub event_answer : Event → ResultCode → Option Grant → Outcome
+event_answer event code grant =
+    Answered (record { request = request.Event; key = event.key; result = code; services = answer_with event.service code grant ∷ [] })
+
+-- a direct debit is made where its price is nothing or within what is free (RFC 8506, section 6.3); without a tariff
+-- there is no price
+abbrev pub debit_result : ℤ → Option Grant → ResultCode
+debit_result free None = RatingFailed
+debit_result free (Some grant) = if covers free (grant_price grant) then Success else CreditLimitReached
+
+-- one that is made grants what it asks
+abbrev pub granted : ResultCode → Option Grant → Option Grant
+granted Success asked = asked
+granted _ asked = None
+
+abbrev pub debit_outcome : ℤ → Event → Option Grant → Outcome
+debit_outcome free event asked = event_answer event (debit_result free asked) (granted (debit_result free asked) asked)
+
+abbrev pub action_outcome : ℤ → Event → Action → Outcome
+action_outcome free event DirectDebiting = debit_outcome free event (asked_units event.service)
+
+abbrev pub event_outcome : ℤ → Event → Outcome
+event_outcome free event = action_outcome free event event.action
+
+-- a top-up is added unless it would lift the funds above the ceiling
+abbrev pub top_up_outcome : ℤ → TopUp → Outcome
+top_up_outcome funds top_up = if int_lt CEILING (funds +ℤ pos top_up.amount) then Ceiling else Added
+
+-- what an act comes to that is made
+abbrev pub decided : Terms → List Done → Kind → Outcome
+decided terms past (kind.TopUp top_up) = top_up_outcome (funds_of terms past) top_up
+decided terms past (kind.Event event) = event_outcome (free_of terms past) event
+
+-- without an account a request is of an unknown user; a repeat comes to what the first came to
+abbrev pub judged : Terms → List Done → Act → Outcome
+judged terms past act =
+    if not (counts past act.kind) then Unknown
+    else option_map_or (λ (done : Done). done.outcome) (first_of past act.kind) (decided terms past act.kind)
+
+abbrev pub is_new : List Done → Kind → Bool
+is_new past kind = counts past kind && is_none (first_of past kind)
+
+-- what is made is each act that counts and whose key is new
+abbrev pub is_made : Terms → List Done → Act → Bool
+is_made terms past act = is_new past act.kind
+
+-- the acts that were made, each with what it came to, the latest first; so is the list that it looks at
+abbrev pub history : Terms → List Act → List Done
+history terms [] = []
+history terms (act ∷ earlier) =
+    let past = history terms earlier in
+    if is_made terms past act then record { act = act; outcome = judged terms past act } ∷ past else past
+
+abbrev pub act_of : Done → Act
+act_of done = done.act
+
+abbrev pub outcome_of : Done → Outcome
+outcome_of done = done.outcome
+
+-- the outcome of the request of this key that was made
+abbrev pub kept_of : List Done → RequestKey → Option Outcome
+kept_of past key = option_map outcome_of (find (λ done. same_request (Some key) (request_key done.act.kind)) past)
+
+-- what an act comes to after a list of acts in order
+abbrev pub after : Terms → List Act → Act → Outcome
+after terms before act = judged terms (history terms (reverse before)) act
+
+-- the outcome of the act at a place of a list, counted from 1: what it comes to after those before
+unfoldable pub outcome : Terms → List Act → ℕ → Outcome
+outcome terms all place = option_map_or (after terms (take (place - 1) all)) (slice_get all (place - 1)) Unknown
+
+-- the acts of a list, in order
+unfoldable pub acts : Terms → List Act → List Act
+acts terms all = reverse (map act_of (history terms (reverse all)))
+
+-- the account after the whole list
+unfoldable pub funds : Terms → List Act → ℤ
+funds terms all = funds_of terms (history terms (reverse all))
+
+unfoldable pub overrun : Terms → List Act → ℕ
+overrun terms all = overrun_of terms (history terms (reverse all))
+
+unfoldable pub free : Terms → List Act → ℤ
+free terms all = free_of terms (history terms (reverse all))
+
+unfoldable pub kept : Terms → List Act → RequestKey → Option Outcome
+kept terms all key = kept_of (history terms (reverse all)) key
+
+-- the outcomes that a request may have
+abbrev pub IsOfRequest : Outcome → Type 0
+IsOfRequest Unknown = ⊤
+IsOfRequest (Answered answer) = ⊤
+IsOfRequest Added = ⊥
+IsOfRequest Ceiling = ⊥
+
+-- the outcomes that a top-up may have
+abbrev pub IsOfTopUp : Outcome → Type 0
+IsOfTopUp Unknown = ⊥
+IsOfTopUp (Answered answer) = ⊥
+IsOfTopUp Added = ⊤
+IsOfTopUp Ceiling = ⊤

@@ -1,0 +1,142 @@
+//! The plain program: the definitions, step by step.
+
+ghost use Rattle.std.specs.Prelude.{◌≡◌, ◌≤◌, ◌^◌, length, reverse, is_some, IfOk};
+ghost use Rattle.std.specs.Option.{option_copied};
+ghost use Rattle.dcc_tariff.specs.declared.terms.Terms.{Terms};
+ghost use Rattle.dcc_model.specs.Money.{funds_of, free_of, credit, debit};
+ghost use Rattle.dcc_model.specs.Outcomes.{has_account, counts, first_of, decided, judged, is_new, history, outcome};
+
+use crate::decide::{decide_event, decide_top_up, price};
+use crate::done::Done;
+use crate::keys::{is_same_key, is_top_up};
+use crate::posting::charged_units;
+use dcc_act::{Act, Kind, Outcome};
+use dcc_tariff::Terms;
+use std::alloc::{AllocError, Global};
+
+/// What the act at this place of a subscriber's list comes to, counted from 1. It is slow: it goes through all acts
+/// before, and at each through all that were made before.
+pub fn plain_answer(
+    alloc: Global,
+    terms: &Terms,
+    acts: &[Act],
+    place: usize,
+) -> Result<Outcome, AllocError>
+    requires from_one { 1 ≤ place }
+    requires in_list { place ≤ length acts.now }
+    ensures { IfOk result (λ answer. answer ≡ outcome terms.now acts.now place) }
+{
+    let past = made(alloc, &acts[..place - 1])?;
+    judge(alloc, &past, &acts[place - 1])
+}
+
+/// The acts that are made, in order.
+fn made(alloc: Global, acts: &[Act]) -> Result<Vec<Done>, AllocError>
+    ensures { IfOk result (λ made. (terms : Terms) → reverse made.items ≡ history terms (reverse acts.now)) }
+{
+    let mut past = Vec::new(alloc);
+    for act in acts {
+        if is_new(&past, &act.kind) {
+            let outcome = judge(alloc, &past, act)?;
+            let act = act.copy()?;
+            past.push(Done { act, outcome })?;
+        }
+    }
+    Ok(past)
+}
+
+/// What an act comes to after these.
+fn judge(alloc: Global, past: &[Done], act: &Act) -> Result<Outcome, AllocError>
+    ensures { IfOk result (λ outcome. (terms : Terms) → outcome ≡ judged terms (reverse past.now) act.now) }
+{
+    if !is_counted(past, &act.kind) {
+        return Ok(Outcome::Unknown);
+    }
+    match first(past, &act.kind) {
+        Some(done) => done.outcome.copy(),
+        None => decide(alloc, past, &act.kind),
+    }
+}
+
+/// Whether an act is made after these.
+fn is_new(past: &[Done], kind: &Kind) -> bool
+    ensures { result ≡ is_new (reverse past.now) kind.now }
+{
+    is_counted(past, kind) && first(past, kind).is_none()
+}
+
+/// Whether an act counts: a request does once there is an account.
+fn is_counted(past: &[Done], kind: &Kind) -> bool
+    ensures { result ≡ counts (reverse past.now) kind.now }
+{
+    is_top_up(kind) || has_account(past)
+}
+
+/// Whether there is an account.
+fn has_account(past: &[Done]) -> bool
+    ensures { result ≡ has_account (reverse past.now) }
+{
+    past.iter().rev().any(|done| is_top_up(&done.act.kind))
+}
+
+/// The act of this key.
+fn first<'a>(past: &'a [Done], kind: &Kind) -> Option<&'a Done>
+    ensures { option_copied result ≡ first_of (reverse past.now) kind.now }
+{
+    past.iter()
+        .rev()
+        .find(|done| is_same_key(kind, &done.act.kind))
+}
+
+/// What an act comes to that is made.
+fn decide(alloc: Global, past: &[Done], kind: &Kind) -> Result<Outcome, AllocError>
+    ensures { IfOk result (λ outcome. (terms : Terms) → outcome ≡ decided terms (reverse past.now) kind.now) }
+{
+    match kind {
+        Kind::TopUp(top_up) => Ok(decide_top_up(funds(past), top_up)),
+        Kind::Event(event) => decide_event(alloc, free(past), event),
+    }
+}
+
+/// The funds after these acts, in minor units.
+fn funds(past: &[Done]) -> i128
+    ensures { (terms : Terms) → result ≡ funds_of terms (reverse past.now) }
+{
+    let mut funds = 0;
+    for done in past {
+        funds += i128::from(credited(done)) - i128::from(debited(done));
+    }
+    funds
+}
+
+/// What is free of them: today's acts reserve nothing.
+fn free(past: &[Done]) -> i128
+    ensures { (terms : Terms) → result ≡ free_of terms (reverse past.now) }
+{
+    funds(past)
+}
+
+/// What an act added to the funds, in minor units.
+fn credited(done: &Done) -> u64
+    ensures value { result ≡ credit done.now.act.kind done.now.outcome }
+    ensures bound { result ≤ 10 ^ 18 }
+{
+    match (&done.act.kind, &done.outcome) {
+        (Kind::TopUp(top_up), Outcome::Added) => top_up.amount,
+        _ => 0,
+    }
+}
+
+/// What an act took from the funds, in minor units.
+fn debited(done: &Done) -> u64
+    ensures value { result ≡ debit done.now.act.kind done.now.outcome }
+    ensures bound { result ≤ 10 ^ 18 }
+{
+    match &done.act.kind {
+        Kind::TopUp(_) => 0,
+        Kind::Event(event) => match charged_units(event, &done.outcome) {
+            None => 0,
+            Some(grant) => price(&grant),
+        },
+    }
+}

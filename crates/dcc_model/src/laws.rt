@@ -1,0 +1,36 @@
+//! Laws of the definitions: what the layers above need to know of outcomes and acts without a look into them. None of
+//! these functions does anything: each has a law as its contract.
+
+ghost use Rattle.dcc_model.specs.Laws.{LaterChangesNothing, OutcomesStay, ActsStay, ActsAreActs, NoActs, KeptStay, AccountStays, UnknownBefore, RequestsAreAnswered, TopUpsAreAdded, FundsAreLimited, FreeIsCovered, EntriesAddUp};
+
+/// What comes later changes no outcome.
+pub fn later_acts_change_no_outcome()
+    ensures { LaterChangesNothing }
+{}
+
+/// Leaving out what isn't made changes neither the outcomes of what comes later nor which acts are made, and the
+/// account stays as it is.
+pub fn leaving_out_changes_nothing()
+    ensures outcomes { OutcomesStay }
+    ensures acts { ActsStay }
+    ensures whole { ActsAreActs }
+    ensures none { NoActs }
+    ensures kept { KeptStay }
+    ensures account { AccountStays }
+{}
+
+/// A request comes to what a request may come to, and before the first top-up to nothing; a top-up is added, or passes
+/// the ceiling.
+pub fn acts_come_to_their_own()
+    ensures unknown { UnknownBefore }
+    ensures requests { RequestsAreAnswered }
+    ensures top_ups { TopUpsAreAdded }
+{}
+
+/// Funds stay within 10^18 minor units on either side of nothing, only what is overrun takes what is free below
+/// nothing, and the entries add up to the funds.
+pub fn funds_are_accounted_for()
+    ensures limited { FundsAreLimited }
+    ensures covered { FreeIsCovered }
+    ensures entries { EntriesAddUp }
+{}

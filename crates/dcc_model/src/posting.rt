@@ -1,0 +1,91 @@
+//! What an act leaves in the books.
+
+ghost use Rattle.std.specs.Prelude.{◌≡◌, ◌≤◌, ◌^◌, IfOk};
+ghost use Rattle.std.specs.Option.{ForSome};
+ghost use Rattle.dcc_model.specs.Money.{charged, charged_by, succeeded};
+ghost use Rattle.dcc_model.specs.Entries.{top_up_entry, debit_entry, entries_of_kind};
+ghost use Rattle.dcc_act.specs.declared.act.Kind.TheVariants.{Event as event_kind};
+
+use crate::decide::{price, units_asked};
+use dcc_act::{
+    Act, Action, Entry, EntryKind, EntryName, Event, Grant, Kind, Moment, Outcome, ResultCode,
+    TopUp,
+};
+use std::alloc::{AllocError, Global};
+
+/// The entries of an act that came to this outcome at this place among the acts of its subscriber, from 1.
+pub fn entries_by(
+    alloc: Global,
+    place: u64,
+    act: &Act,
+    outcome: &Outcome,
+) -> Result<Vec<Entry>, AllocError>
+    ensures { IfOk result (λ entries. entries.items ≡ entries_of_kind place act.now.moment act.now.kind outcome.now) }
+{
+    match &act.kind {
+        Kind::TopUp(top_up) => {
+            if !matches!(outcome, Outcome::Added) {
+                return Ok(Vec::new(alloc));
+            }
+            Ok(vec![in alloc; credited(place, act.moment, top_up)]?)
+        }
+        Kind::Event(event) => match charged_units(event, outcome) {
+            None => Ok(Vec::new(alloc)),
+            Some(grant) => Ok(vec![in alloc; debited(place, act.moment, event, &grant)?]?),
+        },
+    }
+}
+
+/// A top-up's entry.
+fn credited(place: u64, moment: Moment, top_up: &TopUp) -> Entry
+    ensures { result ≡ top_up_entry place moment top_up.now }
+{
+    Entry {
+        place,
+        moment,
+        kind: EntryKind::TopUp,
+        group: None,
+        units: 0,
+        amount: top_up.amount as i64,
+        name: EntryName::Ticket(top_up.ticket),
+    }
+}
+
+/// A direct debit's entry.
+fn debited(place: u64, moment: Moment, event: &Event, grant: &Grant) -> Result<Entry, AllocError>
+    requires { grant.now.units ≤ 10 ^ 12 }
+    ensures { IfOk result (λ entry. entry ≡ debit_entry place moment event.now grant.now) }
+{
+    Ok(Entry {
+        place,
+        moment,
+        kind: EntryKind::Debit,
+        group: event.service.group,
+        units: grant.units,
+        amount: -(price(grant) as i64),
+        name: EntryName::Session(event.key.sid.copy()?),
+    })
+}
+
+/// What an event charged that came to this outcome.
+pub(crate) fn charged_units(event: &Event, outcome: &Outcome) -> Option<Grant>
+    ensures value { result ≡ charged (event_kind event.now) outcome.now }
+    ensures limit { ForSome result (λ grant. grant.units ≤ 10 ^ 12) }
+{
+    if !has_succeeded(outcome) {
+        return None;
+    }
+    match event.action {
+        Action::DirectDebiting => units_asked(&event.service),
+    }
+}
+
+/// Whether the command was answered with success.
+fn has_succeeded(outcome: &Outcome) -> bool
+    ensures { result ≡ succeeded outcome.now }
+{
+    match outcome {
+        Outcome::Answered(answer) => matches!(answer.result, ResultCode::Success),
+        _ => false,
+    }
+}

@@ -1,0 +1,56 @@
+//! What units cost, and how many of them an amount of money affords.
+
+ghost use Rattle.std.specs.Prelude.{◌≡◌, ℕ, ◌≤◌, ◌<◌, ◌^◌, ℤ, IsTrue, false, nat_le};
+ghost use Rattle.dcc_tariff.specs.Prices.{price, best, covers};
+ghost use Rattle.dcc_tariff.specs.Terms.{Rate};
+
+use crate::tariff::Tariff;
+
+/// The most that units can cost, in minor units.
+pub const MAX_PRICE: u64 = 1_000_000_000_000_000_000;
+
+/// The price in minor units of that many units, at most 10^12: that of each block that they begin.
+pub fn price_of(tariff: Tariff, units: u64) -> u64
+    requires { units ≤ 10 ^ 12 }
+    ensures value { result ≡ price tariff units }
+    ensures bound { result ≤ MAX_PRICE }
+{
+    units.div_ceil(tariff.block) * u64::from(tariff.price)
+}
+
+/// The greatest amount of units, up to the one asked (at most 10^12), whose price is nothing or within `free` minor units.
+pub fn most_units(tariff: Tariff, asked: u64, free: i128) -> u64
+    requires { asked ≤ 10 ^ 12 }
+    ensures value { result ≡ best tariff asked free }
+    ensures up_to_asked { result ≤ asked }
+    ensures affordable { IsTrue (covers free (price tariff result)) }
+    ensures greatest { (more : ℕ) → result < more → more ≤ asked → covers free (price tariff more) ≡ false }
+{
+    let money = money_for_prices(free);
+    if price_of(tariff, asked) <= money {
+        return asked;
+    }
+    money / u64::from(tariff.price) * tariff.block
+}
+
+/// As much of the free money as a price can ask for.
+fn money_for_prices(free: i128) -> u64
+    ensures { (cost : ℕ) → cost ≤ MAX_PRICE → covers free cost ≡ nat_le cost result }
+{
+    free.clamp(0, i128::from(MAX_PRICE)) as u64
+}
+
+/// More units never cost less.
+pub fn prices_never_fall()
+    ensures { (rate : Rate) (fewer more : ℕ) → fewer ≤ more → price rate fewer ≤ price rate more }
+{
+}
+
+/// The best grant is at most what was asked, the money covers it, and it covers no greater amount up to what was asked.
+pub fn best_grant_is_the_greatest_covered()
+    ensures up_to_asked { (rate : Rate) (asked : ℕ) (free : ℤ) → best rate asked free ≤ asked }
+    ensures covered { (rate : Rate) (asked : ℕ) (free : ℤ) → IsTrue (covers free (price rate (best rate asked free))) }
+    ensures greatest { (rate : Rate) (asked : ℕ) (free : ℤ) (more : ℕ) →
+        best rate asked free < more → more ≤ asked → covers free (price rate more) ≡ false }
+{
+}
