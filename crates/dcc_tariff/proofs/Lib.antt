@@ -1,1 +1,3 @@
 pub mod PriceLemmas
+pub mod VersionLemmas
+pub mod PlanLemmas

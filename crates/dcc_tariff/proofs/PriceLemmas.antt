@@ -1,9 +1,8 @@
 -- The least number of blocks is a quotient rounded up, and the greatest amount that is covered is a number of whole blocks.
-use Rattle.std.proofs.Common.{◌≡◌, ℕ, zero, suc, ◌+◌, ◌*◌, ◌/◌, ◌%◌, ◌^◌, ◌<◌, ◌≤◌, min, Bool, true, false, ◌||◌, ◌==◌, nat_le, cond, ℤ, pos, negsuc, ◌<ℤ◌, ◌≤ℤ◌, refl, sym, ap, ◌∙◌, arith, inl, inr, le-leb}
-use Rattle.std.proofs.lemmas.Grind.{common_steps, div_ceil_times}
+use Rattle.std.proofs.Common.{◌≡◌, ℕ, zero, suc, ◌+◌, ◌*◌, ◌/◌, ◌%◌, ◌^◌, ◌<◌, ◌≤◌, min, Bool, true, false, nat_le, ℤ, refl, sym, ap, ◌∙◌, arith, inl, inr, le-leb}
+use Rattle.std.proofs.lemmas.Grind.{div_ceil_times}
 use Rattle.std.proofs.lemmas.Bool.{cases_lt, cases_Bool, cond_both, cond-true, cond-false}
 use Rattle.std.proofs.lemmas.Bool.Decides.{nat_tests}
-use Rattle.std.proofs.lemmas.Int.{ints}
 use Rattle.std.proofs.lemmas.Nat.{mul-le}
 use Rattle.std.proofs.Math.Nat.{lt_of_mul-lt-mul_right, div-mul-le_self, lt-div-mul-add, mul-le-mul_right, le-mul_of_pos_right, mul-le-mul_left}
 use Rattle.dcc_tariff.specs.Terms.{Rate, IsRate}
@@ -22,9 +21,9 @@ unfolding least
 least-is passes zero c up here below = omega arith
 least-is passes (suc n) c up here below =
     elim (cases_lt n c) [
-      inl last ↦
-        let up' = least_le passes n in
-        cond-false (passes (least passes n)) (least passes n) (suc n) (below (least passes n) (omega arith)) ∙ omega arith
+      | inl last ↦
+          let up' = least_le passes n in
+          cond-false (passes (least passes n)) (least passes n) (suc n) (below (least passes n) (omega arith)) ∙ omega arith
       | inr before ↦ let ih = least-is passes n c before here below in rw (ih, here)
     ]
 
@@ -34,12 +33,12 @@ unfolding greatest
 greatest-is passes zero g up here above = omega arith
 greatest-is passes (suc n) g up here above =
     elim (cases_lt n g) [
-      inl last ↦
-        let same : g ≡ suc n = omega arith in
-        cond-true (passes (suc n)) (suc n) (greatest passes n) (rw same at here) ∙ sym same
+      | inl last ↦
+          let same : g ≡ suc n = omega arith in
+          cond-true (passes (suc n)) (suc n) (greatest passes n) (rw same at here) ∙ sym same
       | inr before ↦
-        cond-false (passes (suc n)) (suc n) (greatest passes n) (above (suc n) (omega arith) (omega arith))
-        ∙ greatest-is passes n g before here (λ k after within. above k after (omega arith))
+          cond-false (passes (suc n)) (suc n) (greatest passes n) (above (suc n) (omega arith) (omega arith))
+          ∙ greatest-is passes n g before here (λ k after within. above k after (omega arith))
     ]
 
 -- a quotient, rounded up
@@ -66,12 +65,12 @@ blocks-is : (rate : Rate) (units : ℕ) → 1 ≤ rate.block → blocks rate uni
 blocks-is rate units some =
     let (enough, close) = div_ceil_times units rate.block some in
     least-is (λ count. nat_le units (count * rate.block)) units (rounded_up units rate.block)
-        (rounded_up_least units rate.block units some (le-mul_of_pos_right units some))
-        (grind (arith, nat_tests))
-        (λ k fewer. elim (cases_lt (k * rate.block) units) [
-          inl short ↦ grind (arith, nat_tests)
-          | inr covered ↦ let least = rounded_up_least units rate.block k some covered in absurd (omega arith)
-        ])
+    (rounded_up_least units rate.block units some (le-mul_of_pos_right units some))
+    (grind (arith, nat_tests))
+    (λ k fewer. elim (cases_lt (k * rate.block) units) [
+      | inl short ↦ grind (arith, nat_tests)
+      | inr covered ↦ let least = rounded_up_least units rate.block k some covered in absurd (omega arith)
+    ])
 
 pub price-is : (rate : Rate) (units : ℕ) → 1 ≤ rate.block → price rate units ≡ rounded_up units rate.block * rate.price
 unfolding price
@@ -88,18 +87,18 @@ least-none passes (suc n) none =
 blocks-empty : (rate : Rate) (units : ℕ) → rate.block ≡ 0 → blocks rate units ≡ units
 blocks-empty rate units none =
     least-none (λ count. nat_le units (count * rate.block)) units
-        (λ k fewer. let nothing : k * rate.block ≡ 0 = rw none (omega arith) in rw nothing (grind (arith, nat_tests)))
+    (λ k fewer. let nothing : k * rate.block ≡ 0 = rw none (omega arith) in rw nothing (grind (arith, nat_tests)))
 
 blocks_grow : (rate : Rate) (fewer more : ℕ) → fewer ≤ more → blocks rate fewer ≤ blocks rate more
 blocks_grow rate fewer more h =
     elim (cases_lt 0 rate.block) [
-      inl some ↦
-        let (enough, close) = div_ceil_times more rate.block some in
-        rw (blocks-is rate fewer some, blocks-is rate more some)
-            (rounded_up_least fewer rate.block (rounded_up more rate.block) some (omega arith))
+      | inl some ↦
+          let (enough, close) = div_ceil_times more rate.block some in
+          rw (blocks-is rate fewer some, blocks-is rate more some)
+          (rounded_up_least fewer rate.block (rounded_up more rate.block) some (omega arith))
       | inr none ↦
-        let empty : rate.block ≡ 0 = omega arith in
-        rw (blocks-empty rate fewer empty, blocks-empty rate more empty) h
+          let empty : rate.block ≡ 0 = omega arith in
+          rw (blocks-empty rate fewer empty, blocks-empty rate more empty) h
     ]
 
 -- more units cost no less
@@ -133,13 +132,13 @@ unfolding greatest
 greatest_last passes zero k over within = absurd (omega arith)
 greatest_last passes (suc n) k over within =
     elim (cases_Bool (passes (suc n))) [
-      inl here ↦ let same = cond-true (passes (suc n)) (suc n) (greatest passes n) here in absurd (omega (arith, over))
+      | inl here ↦ let same = cond-true (passes (suc n)) (suc n) (greatest passes n) here in absurd (omega (arith, over))
       | inr not_here ↦
-        let same = cond-false (passes (suc n)) (suc n) (greatest passes n) not_here in
-        elim (cases_lt n k) [
-          inl last ↦ let at_end : k ≡ suc n = omega arith in rw at_end not_here
-          | inr before ↦ greatest_last passes n k (rw (← same) over) before
-        ]
+          let same = cond-false (passes (suc n)) (suc n) (greatest passes n) not_here in
+          elim (cases_lt n k) [
+            | inl last ↦ let at_end : k ≡ suc n = omega arith in rw at_end not_here
+            | inr before ↦ greatest_last passes n k (rw (← same) over) before
+          ]
     ]
 
 pub price-nothing : (rate : Rate) → price rate 0 ≡ 0
@@ -169,7 +168,7 @@ pub price_some : (rate : Rate) (units : ℕ) → 1 ≤ rate.block → 0 < price 
 price_some rate units some costs =
     let costs' : 0 < rounded_up units rate.block * rate.price = rw (price-is rate units some) at costs in
     elim (cases_lt 0 rate.price) [
-      inl more ↦ more
+      | inl more ↦ more
       | inr none ↦ let free = mul-le-mul_left (rounded_up units rate.block) none in absurd (omega arith)
     ]
 
@@ -197,23 +196,23 @@ whole_blocks rate asked money free some bound short purse =
     let short' : money < rounded_up asked rate.block * rate.price = rw (price-is rate asked some) at short in
     record {
       up_to_asked = elim (cases_lt asked (count * rate.block)) [
-        inl over ↦
-          let few = rounded_up_least asked rate.block count some (omega arith) in
-          let cheap = mul-le-mul_right rate.price few in
-          absurd (omega arith)
+        | inl over ↦
+            let few = rounded_up_least asked rate.block count some (omega arith) in
+            let cheap = mul-le-mul_right rate.price few in
+            absurd (omega arith)
         | inr within ↦ within
       ];
       affordable =
-        let few = rounded_up_least (count * rate.block) rate.block count some (omega arith) in
-        let cheap = mul-le-mul_right rate.price few in
-        let within : price rate (count * rate.block) ≤ money = rw (price-is rate (count * rate.block) some) (omega arith) in
-        purse (price rate (count * rate.block)) (omega arith) ∙ le-leb (price rate (count * rate.block)) money within;
+          let few = rounded_up_least (count * rate.block) rate.block count some (omega arith) in
+          let cheap = mul-le-mul_right rate.price few in
+          let within : price rate (count * rate.block) ≤ money = rw (price-is rate (count * rate.block) some) (omega arith) in
+          purse (price rate (count * rate.block)) (omega arith) ∙ le-leb (price rate (count * rate.block)) money within;
       greatest = λ more after within.
-        let many = rounded_up_more more rate.block count some after in
-        let dear : (count + 1) * rate.price ≤ rounded_up more rate.block * rate.price = mul-le-mul_right rate.price (omega arith) in
-        let over : money < price rate more = rw (price-is rate more some) (omega arith) in
-        let bounded = price_grows rate more asked within in
-        purse (price rate more) (omega arith) ∙ grind (arith, nat_tests);
+          let many = rounded_up_more more rate.block count some after in
+          let dear : (count + 1) * rate.price ≤ rounded_up more rate.block * rate.price = mul-le-mul_right rate.price (omega arith) in
+          let over : money < price rate more = rw (price-is rate more some) (omega arith) in
+          let bounded = price_grows rate more asked within in
+          purse (price rate more) (omega arith) ∙ grind (arith, nat_tests);
     }
 
 pub best_from_most : (rate : Rate) (asked given : ℕ) (free : ℤ) → IsMost rate asked free given → given ≡ best rate asked free

@@ -1,2 +1,6 @@
 pub mod Terms
 pub mod Prices
+pub mod Faults
+pub mod Plans
+pub mod PlanTexts
+pub mod PlanViews

@@ -4,13 +4,21 @@
 //! amount that an amount of money affords, and the value of a plan's text or the first fault in it.
 #![tactic(auto)]
 
+mod fault;
+mod plan;
 mod prices;
 mod tariff;
 mod terms;
+mod version;
 
-pub use prices::{MAX_PRICE, best_grant_is_the_greatest_covered, most_units, price_of, prices_never_fall};
+pub use fault::PlanFault;
+pub use plan::Plan;
+pub use prices::{
+    MAX_PRICE, best_grant_is_the_greatest_covered, most_units, price_of, prices_never_fall,
+};
 pub use tariff::{Tariff, UnitKind};
 pub use terms::Terms;
+pub use version::Version;
 
 #[cfg(test)]
 mod tests;

@@ -43,8 +43,7 @@ fn money_for_prices(free: i128) -> u64
 /// More units never cost less.
 pub fn prices_never_fall()
     ensures { (rate : Rate) (fewer more : ℕ) → fewer ≤ more → price rate fewer ≤ price rate more }
-{
-}
+{}
 
 /// The best grant is at most what was asked, the money covers it, and it covers no greater amount up to what was asked.
 pub fn best_grant_is_the_greatest_covered()
@@ -52,5 +51,4 @@ pub fn best_grant_is_the_greatest_covered()
     ensures covered { (rate : Rate) (asked : ℕ) (free : ℤ) → IsTrue (covers free (price rate (best rate asked free))) }
     ensures greatest { (rate : Rate) (asked : ℕ) (free : ℤ) (more : ℕ) →
         best rate asked free < more → more ≤ asked → covers free (price rate more) ≡ false }
-{
-}
+{}

@@ -16,7 +16,10 @@ fn prices_count_each_block_begun(rt: HostRuntime) {
     for (units, price) in [(0, 0), (1, 5), (1000, 5), (1001, 10), (40_001, 205)] {
         assert_eq!(rt; price_of(octets, units), price, "{units} units");
     }
-    assert_eq!(rt; price_of(tariff(1_000_000, 1), 1_000_000_000_000), MAX_PRICE);
+    assert_eq!(rt;
+        price_of(tariff(1_000_000, 1), 1_000_000_000_000),
+        MAX_PRICE
+    );
 }
 
 #[test]

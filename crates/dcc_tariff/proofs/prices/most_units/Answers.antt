@@ -1,6 +1,6 @@
-use Rattle.std.proofs.Common.{◌≡◌, ◌+◌, ◌*◌, ◌/◌, ◌<◌, ◌≤◌, ◌^◌, arith, nat_le, le-leb, ap, sym, ◌∙◌}
+use Rattle.std.proofs.Common.{◌≡◌, ◌*◌, ◌/◌, ◌<◌, ◌≤◌, ◌^◌, arith, le-leb, ap, ◌∙◌}
 use Rattle.std.proofs.lemmas.Int.{to_z-of_z}
-use Rattle.dcc_tariff.specs.Prices.{price, covers}
+use Rattle.dcc_tariff.specs.Prices.{price}
 use Rattle.dcc_tariff.specs.Terms.{Rate}
 use Rattle.dcc_tariff.proofs.PriceLemmas.{IsMost, all_of_it, whole_blocks, best_from_most, price_some}
 use Rattle.dcc_tariff.proofs.prices.most_units.Goals as goal
@@ -33,7 +33,7 @@ most c =
     let short : c.money_for_prices-money.result < price c.args.tariff c.args.asked = rw (← c.price_of.ensures.value) c.if-price_of-money.false in
     let purse = simp to_z-of_z at c.money_for_prices-money.ensures in
     rw (c.from.ensures, price_is, block_is)
-        (whole_blocks c.args.tariff c.args.asked c.money_for_prices-money.result c.args.free (rw (← block_is) c.tariff.invariant.block_begun) bound short purse)
+    (whole_blocks c.args.tariff c.args.asked c.money_for_prices-money.result c.args.free (rw (← block_is) c.tariff.invariant.block_begun) bound short purse)
 
 pub overflow_mul-result : goal.overflow_mul-result
 overflow_mul-result c = let up = (most c).up_to_asked in omega arith

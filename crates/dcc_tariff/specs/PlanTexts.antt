@@ -1,0 +1,173 @@
+-- What the text of a plan file means, a TOML document: a plan, or the first fault in the order of the keys.
+use Rattle.std.specs.Prelude.{◌≡◌, ℕ, suc, ◌+◌, ◌-◌, ◌*◌, ◌^◌, Bool, true, false, ◌&&◌, ◌==◌, bytes_eq, nat_lt, nat_le, if◌then◌else◌, ℤ, pos, negsuc, int_le, int_div, unsigned_abs, List, [], ◌∷◌, length, codes, slice_index, Option, Some, None, option_and_then, is_some, Result, Ok, Err, ok_or}
+use Rattle.std.specs.Char.{is_ascii_digit}
+use Rattle.std.specs.List.{list_all, list_any}
+use Rattle.std.specs.Net.Text.{ipv4_text}
+use Rattle.toml.specs.Data.{Data, Members, Items, no_items, item, get_member, as_str, as_integer, as_array, as_table}
+use Rattle.toml.specs.Parse.{parse_document}
+use Rattle.jiff.specs.Words.{parse_timestamp}
+use Rattle.dcc_tariff.specs.Terms.{Conditions}
+use Rattle.dcc_tariff.specs.Plans.{PlanView, precedes, all_agree, is_identity, is_of}
+use Rattle.dcc_tariff.specs.declared.tariff.UnitKind.{UnitKind}
+use Rattle.dcc_tariff.specs.declared.tariff.UnitKind.TheVariants.{Octets, Time, Units}
+use Rattle.dcc_tariff.specs.declared.version.Version.{Version}
+use Rattle.dcc_tariff.specs.declared.fault.PlanFault.{PlanFault}
+use Rattle.dcc_tariff.specs.declared.fault.PlanFault.TheVariants.{NotToml, MissingKey, Range, BadMoment, Memory}
+
+-- the first fault decides
+infixl 10 ◌>>=◌
+abbrev pub ◌>>=◌ : {A B : Type 0} → Result A PlanFault → (A → Result B PlanFault) → Result B PlanFault
+(Ok x) >>= f = f x
+(Err fault) >>= f = Err fault
+
+abbrev pub required : {A : Type 0} → Option A → Result A PlanFault
+required found = ok_or found MissingKey
+
+abbrev pub in_range : {A : Type 0} → Bool → A → Result A PlanFault
+in_range fits x = if fits then Ok x else Err Range
+
+-- the value of a key, where it has the type of the values that are looked for
+abbrev pub value_at : {A : Type 0} → (Data → Option A) → List ℕ → Members → Result A PlanFault
+value_at as_type key table = required (option_and_then as_type (get_member key table))
+
+-- a text of visible characters
+unfoldable pub identity_at : List ℕ → Members → Result (List ℕ) PlanFault
+identity_at key table = value_at as_str key table >>= λ text. in_range (is_identity text) text
+
+-- a number within its limits
+unfoldable pub integer_at : List ℕ → ℤ → ℤ → Members → Result ℤ PlanFault
+integer_at key low high table = value_at as_integer key table >>= λ z. in_range (int_le low z && int_le z high) z
+
+unfoldable pub number_at : List ℕ → ℕ → ℕ → Members → Result ℕ PlanFault
+number_at key low high table = integer_at key (pos low) (pos high) table >>= λ z. Ok (unsigned_abs z)
+
+-- the numbers that a text has before, between and after its dots
+abbrev pub numbers_after : ℕ → List ℕ → List ℕ
+numbers_after n [] = n ∷ []
+numbers_after n (c ∷ cs) = if c == 46 then n ∷ numbers_after 0 cs else numbers_after (n * 10 + (c - 48)) cs
+
+-- four numbers below 256 that are written in decimal, without leading zeros, and with dots between them
+unfoldable pub address_of : List ℕ → Option (List ℕ)
+address_of text =
+    let numbers = numbers_after 0 text in
+    if (length numbers == 4 && list_all (λ n. nat_lt n 256) numbers) && bytes_eq text (ipv4_text numbers) then Some numbers else None
+
+unfoldable pub address_at : List ℕ → Members → Result (List ℕ) PlanFault
+address_at key table = value_at as_str key table >>= λ text. ok_or (address_of text) Range
+
+unfoldable pub unit_named : List ℕ → Option UnitKind
+unit_named name =
+    if bytes_eq name (codes "octets") then Some Octets
+    else (if bytes_eq name (codes "time") then Some Time
+    else (if bytes_eq name (codes "units") then Some Units else None))
+
+unfoldable pub unit_at : List ℕ → Members → Result UnitKind PlanFault
+unit_at key table = value_at as_str key table >>= λ name. ok_or (unit_named name) Range
+
+-- the text has the form's characters, and any digit where that has a 0
+abbrev pub has_form : List ℕ → List ℕ → Bool
+has_form [] [] = true
+has_form [] (c ∷ cs) = false
+has_form (f ∷ fs) [] = false
+has_form (f ∷ fs) (c ∷ cs) = (if f == 48 then is_ascii_digit c else c == f) && has_form fs cs
+
+-- the last second that a moment may be, that of the year 2099
+abbrev pub last_moment : ℕ
+last_moment = 4_102_444_799
+
+-- the whole seconds since 1970 that the instant comes after it, within the limit
+abbrev pub moment_of_instant : {E : Type 0} → Result ℤ E → Option ℕ
+moment_of_instant (Ok nanos) =
+    let seconds = int_div nanos (pos 1_000_000_000) in
+    if int_le (pos 0) seconds && int_le seconds (pos last_moment) then Some (unsigned_abs seconds) else None
+moment_of_instant (Err error) = None
+
+-- a UTC date and time of the calendar, with seconds up to 59
+unfoldable pub moment_of : List ℕ → Option ℕ
+moment_of text =
+    if has_form (codes "0000-00-00T00:00:00Z") text && nat_lt (slice_index text 17) 54
+    then moment_of_instant (parse_timestamp text) else None
+
+unfoldable pub moment_at : List ℕ → Members → Result ℕ PlanFault
+moment_at key table = value_at as_str key table >>= λ text. ok_or (moment_of text) BadMoment
+
+-- one version of a group's tariff
+unfoldable pub version_of : Members → Result Version PlanFault
+version_of table = do
+  group ← number_at (codes "group") 0 (2 ^ 32 - 1) table
+  unit ← unit_at (codes "unit") table
+  from ← moment_at (codes "from") table
+  price ← number_at (codes "price") 0 1_000_000 table
+  block ← number_at (codes "block") 1 (10 ^ 12) table
+  Ok (record { group = group; unit = unit; from = from; tariff = record { price = price; block = block } })
+
+-- the version in its place among those that are in order
+abbrev pub place : Version → List Version → List Version
+place version [] = version ∷ []
+place version (other ∷ others) =
+    if precedes other version then other ∷ place version others else version ∷ other ∷ others
+
+-- the versions that the tables are, one after another, each put in its place among those so far
+unfoldable pub versions_onto : List Version → Items → Result (List Version) PlanFault
+versions_onto placed no_items = Ok placed
+versions_onto placed (item value values) =
+    required (as_table value) >>= version_of >>= λ version. versions_onto (place version placed) values
+
+abbrev pub are_tables : Items → Bool
+are_tables no_items = true
+are_tables (item value values) = is_some (as_table value) && are_tables values
+
+abbrev pub count : Items → ℕ
+count no_items = 0
+count (item value values) = suc (count values)
+
+-- from 1 to 1,000 tables
+unfoldable pub versions_at : List ℕ → Members → Result (List Version) PlanFault
+versions_at key table = do
+  tables ← value_at as_array key table
+  all ← if are_tables tables then Ok tables else Err MissingKey
+  some ← in_range (nat_le 1 (count all) && nat_le (count all) 1000) all
+  versions_onto [] some
+
+unfoldable pub terms_of : Members → Result Conditions PlanFault
+terms_of table = do
+  validity ← number_at (codes "validity") 1 1_000_000 table
+  hold ← number_at (codes "hold") 1 1_000_000 table
+  currency ← number_at (codes "currency") 0 999 table
+  exponent ← integer_at (codes "exponent") (negsuc 8) (pos 9) table
+  Ok (record { validity = validity; hold = hold; currency = currency; exponent = exponent })
+
+-- the keys in the order in which their faults count; last, whether the versions agree and the default group has one
+unfoldable pub plan_of : Members → Result PlanView PlanFault
+plan_of table = do
+  host ← identity_at (codes "host") table
+  realm ← identity_at (codes "realm") table
+  address ← address_at (codes "address") table
+  shards ← number_at (codes "shards") 1 8 table
+  default_group ← number_at (codes "default_group") 0 (2 ^ 32 - 1) table
+  quantum ← number_at (codes "quantum") 1 (10 ^ 12) table
+  terms ← terms_of table
+  versions ← versions_at (codes "tariff") table
+  in_range (all_agree versions && list_any (is_of default_group) versions) (record {
+    host = host;
+    realm = realm;
+    address = address;
+    shards = shards;
+    default_group = default_group;
+    quantum = quantum;
+    terms = terms;
+    versions = versions;
+  })
+
+-- what a plan file says
+unfoldable pub plan_of_text : List ℕ → Result PlanView PlanFault
+plan_of_text text = ok_or (parse_document text) NotToml >>= plan_of
+
+-- what was read is what is meant, unless memory ran out
+abbrev pub Gives : {X : Type 0} → Result X PlanFault → Result X PlanFault → Type 0
+Gives (Ok x) meant = meant ≡ Ok x
+Gives (Err Memory) meant = Unit {0}
+Gives (Err NotToml) meant = meant ≡ Err NotToml
+Gives (Err MissingKey) meant = meant ≡ Err MissingKey
+Gives (Err Range) meant = meant ≡ Err Range
+Gives (Err BadMoment) meant = meant ≡ Err BadMoment

@@ -1,0 +1,90 @@
+-- What a plan is: who the server says it is, its terms, and the tariffs of each rating group.
+use Rattle.std.specs.Prelude.{◌≡◌, ℕ, ◌≤◌, ◌^◌, Bool, true, not, ◌&&◌, ◌||◌, ◌==◌, nat_lt, nat_le, if◌then◌else◌, List, [], ◌∷◌, length, filter, Option, Some, None, option_map}
+use Rattle.std.specs.List.{find, list_all, list_any}
+use Rattle.dcc_tariff.specs.Terms.{Rate, Conditions}
+use Rattle.dcc_tariff.specs.declared.tariff.UnitKind.{UnitKind}
+use Rattle.dcc_tariff.specs.declared.tariff.UnitKind.TheVariants.{Octets, Time, Units}
+use Rattle.dcc_tariff.specs.declared.version.Version.{Version}
+
+-- the versions of all groups stand by group, and those of one group by the moment from which they hold
+pub record PlanView : Type 0 where
+  pub host : List ℕ
+  pub realm : List ℕ
+  pub address : List ℕ
+  pub shards : ℕ
+  pub default_group : ℕ
+  pub quantum : ℕ
+  pub terms : Conditions
+  pub versions : List Version
+
+-- the version is one of the group
+abbrev pub is_of : ℕ → Version → Bool
+is_of group version = version.group == group
+
+-- the version is one of the group, and holds at the moment or held before it
+abbrev pub has_begun : ℕ → ℕ → Version → Bool
+has_begun group moment version = is_of group version && nat_le version.from moment
+
+-- of a version and one from after it in the list, where there is one: that with the greater from
+abbrev pub later : Version → Option Version → Option Version
+later version None = Some version
+later version (Some other) = if nat_le version.from other.from then Some other else Some version
+
+-- the version with the greatest from
+abbrev pub latest : List Version → Option Version
+latest [] = None
+latest (version ∷ versions) = later version (latest versions)
+
+-- the unit of a group, if the plan has the group
+unfoldable pub unit_of : PlanView → ℕ → Option UnitKind
+unit_of plan group = option_map (λ version. version.unit) (find (is_of group) plan.versions)
+
+-- the tariff of a group at a moment: the version with the greatest from at or before the moment, if there is one
+unfoldable pub tariff_at : PlanView → ℕ → ℕ → Option (UnitKind × Rate)
+tariff_at plan group moment =
+    option_map (λ version. (version.unit, version.tariff)) (latest (filter (has_begun group moment) plan.versions))
+
+-- the first of two versions stands before the second
+abbrev pub precedes : Version → Version → Bool
+precedes version other =
+    nat_lt version.group other.group || (version.group == other.group && nat_lt version.from other.from)
+
+-- no version stands before an earlier one of the list
+abbrev pub are_ordered : List Version → Bool
+are_ordered [] = true
+are_ordered (version ∷ versions) = list_all (λ other. not (precedes other version)) versions && are_ordered versions
+
+-- a number for each kind of unit
+abbrev pub kind_number : UnitKind → ℕ
+kind_number Octets = 1
+kind_number Time = 2
+kind_number Units = 3
+
+-- two versions of one group count one kind of unit, and hold from different moments
+abbrev pub agrees : Version → Version → Bool
+agrees version other =
+    not (version.group == other.group)
+    || ((kind_number version.unit == kind_number other.unit) && not (version.from == other.from))
+
+-- each two versions do
+abbrev pub all_agree : List Version → Bool
+all_agree [] = true
+all_agree (version ∷ versions) = list_all (agrees version) versions && all_agree versions
+
+-- 1 to 255 octets, each a visible character of ASCII
+abbrev pub is_identity : List ℕ → Bool
+is_identity text =
+    (nat_le 1 (length text) && nat_le (length text) 255) && list_all (λ c. nat_le 0x21 c && nat_le c 0x7E) text
+
+-- what holds of every plan
+pub record IsPlan (plan : PlanView) : Type 0 where
+  pub host : is_identity plan.host ≡ true
+  pub realm : is_identity plan.realm ≡ true
+  pub shards_some : 1 ≤ plan.shards
+  pub shards : plan.shards ≤ 8
+  pub quantum_some : 1 ≤ plan.quantum
+  pub quantum : plan.quantum ≤ 10 ^ 12
+  pub ordered : are_ordered plan.versions ≡ true
+  pub agree : all_agree plan.versions ≡ true
+  pub default_group : list_any (is_of plan.default_group) plan.versions ≡ true
+  pub few : length plan.versions ≤ 1000

@@ -1,0 +1,109 @@
+//! A plan, as the file of an operator says it.
+
+ghost use Rattle.std.specs.Prelude.{◌≡◌, ◌≤◌, ◌^◌, true, Some, IsSome, IfSome};
+ghost use Rattle.dcc_tariff.specs.Plans.{unit_of, tariff_at, is_identity};
+
+use crate::tariff::{Tariff, UnitKind};
+use crate::terms::Terms;
+use crate::version::{Version, version_at, version_of_group};
+use std::marker::Model;
+
+/// Who the server says it is, its terms, and the tariffs of each rating group.
+#[derive(Debug, Drop)]
+pub struct Plan {
+    pub(crate) host: String,
+    pub(crate) realm: String,
+    pub(crate) address: [u8; 4],
+    pub(crate) shards: u8,
+    pub(crate) default_group: u32,
+    pub(crate) quantum: u64,
+    pub(crate) terms: Terms,
+    pub(crate) versions: Vec<Version>,
+}
+
+impl Model for Plan {
+    ghost use Rattle.std.specs.Prelude.{string_bytes};
+    ghost use Rattle.dcc_tariff.specs.Plans.{PlanView, IsPlan};
+    ghost use Rattle.dcc_tariff.specs.PlanViews.{shown};
+
+    ghost Value = { PlanView };
+
+    ghost view = { shown };
+
+    ghost invariant = { λ p. IsPlan (shown p) };
+}
+
+impl Plan {
+    /// The host by which the server names itself, 1 to 255 visible characters of ASCII (Origin-Host, RFC 6733, section 6.3).
+    pub fn host(&self) -> &[u8]
+        ensures value { result.now ≡ self.now.host }
+        ensures limits { is_identity result.now ≡ true }
+    {
+        self.host.as_bytes()
+    }
+
+    /// The realm by which the server names itself, within the same limits (Origin-Realm, RFC 6733, section 6.4).
+    pub fn realm(&self) -> &[u8]
+        ensures value { result.now ≡ self.now.realm }
+        ensures limits { is_identity result.now ≡ true }
+    {
+        self.realm.as_bytes()
+    }
+
+    /// The IPv4 address that the server tells its peers (Host-IP-Address, RFC 6733, section 5.3.5).
+    pub fn address(&self) -> [u8; 4]
+        ensures { result ≡ self.now.address }
+    {
+        self.address
+    }
+
+    /// Among how many shards the subscribers are divided, 1 to 8.
+    pub fn shards(&self) -> u8
+        ensures value { result ≡ self.now.shards }
+        ensures some { 1 ≤ result }
+        ensures limit { result ≤ 8 }
+    {
+        self.shards
+    }
+
+    /// The rating group of a service that names none. It has a unit.
+    pub fn default_group(&self) -> u32
+        ensures value { result ≡ self.now.default_group }
+        ensures in_plan { IsSome (unit_of self.now result) }
+    {
+        self.default_group
+    }
+
+    /// How many units an asked amount of 0 stands for, 1 to 10^12.
+    pub fn quantum(&self) -> u64
+        ensures value { result ≡ self.now.quantum }
+        ensures some { 1 ≤ result }
+        ensures limit { result ≤ 10 ^ 12 }
+    {
+        self.quantum
+    }
+
+    /// The terms by which accounts are judged.
+    pub fn terms(&self) -> &Terms
+        ensures { result.now ≡ self.now.terms }
+    {
+        &self.terms
+    }
+
+    /// What a group's units count, if the plan has the group.
+    pub fn unit(&self, group: u32) -> Option<UnitKind>
+        ensures { result ≡ unit_of self.now group }
+    {
+        let version = version_of_group(self.versions.as_slice(), group)?;
+        Some(version.unit)
+    }
+
+    /// The unit and the tariff of a group at a moment: those of the version with the greatest `from` at or before it.
+    pub fn at(&self, group: u32, moment: u64) -> Option<(UnitKind, Tariff)>
+        ensures value { result ≡ tariff_at self.now group moment }
+        ensures unit { IfSome result (λ found. unit_of self.now group ≡ Some found.0) }
+    {
+        let version = version_at(self.versions.as_slice(), group, moment)?;
+        Some((version.unit, version.tariff))
+    }
+}
