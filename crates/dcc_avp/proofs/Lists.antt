@@ -22,7 +22,8 @@ failed fault = Err fault
 
 -- how reading goes on from octets that are there
 data Steps (octets : List ℕ) : Type 0 where
-  onward : (avp : AvpView) → avp_at octets ≡ Ok avp → avps_of octets ≡ in_front avp (avps_of (drop (padded_len avp) octets)) → Steps octets
+  onward : (avp : AvpView) → avp_at octets ≡ Ok avp → avps_of octets ≡ in_front avp (avps_of (drop (padded_len avp) octets))
+      → Steps octets
   stopped : (fault : FaultView) → avp_at octets ≡ Err fault → avps_of octets ≡ Err fault → Steps octets
 
 steps : (octets : List ℕ) → 0 < length octets → Steps octets
@@ -32,7 +33,8 @@ steps octets some =
     [ Ok avp ↦ λ at. onward avp at (at_ok octets avp some at) | Err fault ↦ λ at. stopped fault at (at_err octets fault some at) ]
     in by (avp_at octets) refl
 
-in_front_ok : (avp : AvpView) (read : Result (List AvpView) FaultView) (first : AvpView) (others : List AvpView) → in_front avp read ≡ done (first ∷ others) → (avp ≡ first) × (read ≡ Ok others)
+in_front_ok : (avp : AvpView) (read : Result (List AvpView) FaultView) (first : AvpView) (others : List AvpView)
+    → in_front avp read ≡ done (first ∷ others) → (avp ≡ first) × (read ≡ Ok others)
 in_front_ok avp (Ok some) first others e = (cc, cc)
 in_front_ok avp (Err fault) first others e = absurd cc
 
@@ -40,7 +42,8 @@ in_front_not_nil : (avp : AvpView) (read : Result (List AvpView) FaultView) → 
 in_front_not_nil avp (Ok some) e = cc
 in_front_not_nil avp (Err fault) e = cc
 
-in_front_err : (avp : AvpView) (read : Result (List AvpView) FaultView) (fault : FaultView) → in_front avp read ≡ failed fault → read ≡ Err fault
+in_front_err : (avp : AvpView) (read : Result (List AvpView) FaultView) (fault : FaultView) → in_front avp read ≡ failed fault
+    → read ≡ Err fault
 in_front_err avp (Ok some) fault e = absurd cc
 in_front_err avp (Err seen) fault e = cc
 
@@ -71,15 +74,24 @@ parted : (octets : List ℕ) (avp : AvpView) → IsTaken octets avp
     → octets ≡ spelling avp ++ (take (padding_len avp) (drop (avp_len avp) octets) ++ drop (padded_len avp) octets)
 parted octets avp t =
     let n = avp_len avp in
-    let behind : drop (padding_len avp) (drop n octets) ≡ drop (padded_len avp) octets = drop-drop (padding_len avp) n octets ∙ ap (λ (k : ℕ). drop k octets) (length_padding avp) in
+    let behind : drop (padding_len avp) (drop n octets) ≡ drop (padded_len avp) octets = drop-drop (padding_len avp) n octets
+    ∙ ap (λ (k : ℕ). drop k octets) (length_padding avp) in
     let rest : take (padding_len avp) (drop n octets) ++ drop (padded_len avp) octets ≡ drop n octets =
     ap (λ (r : List ℕ). take (padding_len avp) (drop n octets) ++ r) (sym behind) ∙ take-append-drop (padding_len avp) (drop n octets) in
     sym (ap (λ (r : List ℕ). spelling avp ++ r) rest ∙ ap (λ (f : List ℕ). f ++ drop n octets) (sym t.front) ∙ take-append-drop n octets)
 
 -- the padding is whole where octets follow it
-whole_padding : (octets : List ℕ) (avp : AvpView) → 0 < length (drop (padded_len avp) octets) → length (take (padding_len avp) (drop (avp_len avp) octets)) ≡ padding_len avp
+whole_padding : (octets : List ℕ) (avp : AvpView) → 0 < length (drop (padded_len avp) octets)
+    → length (take (padding_len avp) (drop (avp_len avp) octets)) ≡ padding_len avp
 whole_padding octets avp some =
-    omega (arith, length-take (padding_len avp) (drop (avp_len avp) octets), length-drop (avp_len avp) octets, length-drop (padded_len avp) octets, length_padding avp)
+    omega (
+      arith,
+      length-take (padding_len avp) (drop (avp_len avp) octets),
+      length-drop (avp_len avp) octets,
+      length-drop
+          (padded_len avp) octets,
+      length_padding avp,
+    )
 
 padding_is : (octets : List ℕ) (avp : AvpView) (others : List AvpView) → avps_of (drop (padded_len avp) octets) ≡ done others
     → IsPadding avp others (take (padding_len avp) (drop (avp_len avp) octets))
@@ -105,6 +117,7 @@ spelled_so (avp ∷ others) octets fits e =
     )
 
 length_spelling : (avp : AvpView) → HasSpelling avp → length (spelling avp) ≡ avp_len avp
+unfolding spelling
 length_spelling avp h = omega (arith, body_len avp.flags avp.vendor avp.value h.is_avp.flagged)
 
 -- nothing is left past the end
@@ -112,13 +125,20 @@ drop_past : (n : ℕ) (octets : List ℕ) → length octets ≤ n → drop n oct
 drop_past n octets le = nil_from_length (drop n octets) (omega (arith, length-drop n octets))
 
 -- what is left behind an AVP and its padding
-left : (n : ℕ) (avp : AvpView) (text : List ℕ) (others : List AvpView) (padding rest : List ℕ) → length text ≡ n → n + padding_len avp ≡ padded_len avp
+left : (n : ℕ) (avp : AvpView) (text : List ℕ) (others : List AvpView) (padding rest : List ℕ) → length text ≡ n
+    → n + padding_len avp ≡ padded_len avp
     → IsPadding avp others padding → Spells rest others → drop (padded_len avp) (text ++ (padding ++ rest)) ≡ rest
 left n avp text [] padding rest len total p s =
     let none : length rest ≡ 0 = ap (λ (r : List ℕ). length r) s in
-    drop_past (padded_len avp) (text ++ (padding ++ rest)) (omega (arith, length-append text (padding ++ rest), length-append padding rest)) ∙ sym s
+    drop_past (padded_len avp) (text ++ (padding ++ rest)) (omega (
+      arith,
+      length-append text
+          (padding ++ rest),
+      length-append padding rest,
+    )) ∙ sym s
 left n avp text (next ∷ others) padding rest len total p s =
-    ap (drop (padded_len avp)) (sym (append_assoc text padding rest)) ∙ drop_at (text ++ padding) rest (padded_len avp) (omega (arith, length-append text padding))
+    ap (drop (padded_len avp)) (sym (append_assoc text padding rest))
+    ∙ drop_at (text ++ padding) rest (padded_len avp) (omega (arith, length-append text padding))
 
 -- what is spelled so is read
 pub read_so : (avps : List AvpView) (octets : List ℕ) → Spells octets avps → avps_of octets ≡ done avps
@@ -126,10 +146,12 @@ read_so [] octets s = rw s avps_of-nil
 read_so (avp ∷ others) octets s =
     let padding = s.1 in
     let rest = s.2 in
-    let some : 0 < length octets = rw s.4 (omega (arith, length-append (spelling avp) (padding ++ rest), length_spelling avp s.0, length_least avp)) in
+    let some : 0 < length octets =
+    rw s.4 (omega (arith, length-append (spelling avp) (padding ++ rest), length_spelling avp s.0, length_least avp)) in
     let at : avp_at octets ≡ Ok avp = rw s.4 (at_again avp (padding ++ rest) s.0) in
     at_ok octets avp some at ∙ ap (λ (r : List ℕ). in_front avp (avps_of (drop (padded_len avp) r))) s.4
-    ∙ ap (λ (r : List ℕ). in_front avp (avps_of r)) (left (avp_len avp) avp (spelling avp) others padding rest (length_spelling avp s.0) (length_padding avp) s.3 s.5)
+    ∙ ap (λ (r : List ℕ). in_front avp (avps_of r)) (left (avp_len avp) avp (spelling avp) others padding rest
+    (length_spelling avp s.0) (length_padding avp) s.3 s.5)
     ∙ ap (in_front avp) (read_so others rest s.5)
 
 -- where reading fails there are octets
@@ -138,7 +160,8 @@ fails_some [] fault e = absurd (let c : done [] ≡ failed fault = sym avps_of-n
 fails_some (octet ∷ octets) fault e = omega arith
 
 -- a fault is that of octets behind whole AVPs
-breaks_within : (n : ℕ) (octets : List ℕ) (fault : FaultView) → length octets ≤ n → IsBytes octets → avps_of octets ≡ failed fault → Breaks octets fault
+breaks_within : (n : ℕ) (octets : List ℕ) (fault : FaultView) → length octets ≤ n → IsBytes octets → avps_of octets ≡ failed fault
+    → Breaks octets fault
 breaks_within n [] fault le fits e = absurd (let c : done [] ≡ failed fault = sym avps_of-nil ∙ e in cc)
 breaks_within zero (octet ∷ octets) fault le fits e = absurd (omega arith)
 breaks_within (suc n) (octet ∷ octets) fault le fits e =
@@ -153,8 +176,20 @@ breaks_within (suc n) (octet ∷ octets) fault le fits e =
           let later : avps_of rest ≡ failed fault = in_front_err avp (avps_of rest) fault (sym is ∙ e) in
           let fewer : length rest ≤ n = omega (arith, length-drop (padded_len avp) whole, length_least avp, length_within avp) in
           let b = breaks_within n rest fault fewer (IsBytes-drop (padded_len avp) whole fits) later in
-          let some : 0 < length rest = fails_some rest fault later in
-          (avp ∷ b.0, b.1, (t.has_spelling, take (padding_len avp) (drop (avp_len avp) whole), rest, whole_padding whole avp some, parted whole avp t, b.2), b.3)
+          let some : 0 < length rest = fails_some rest fault later in (
+            avp ∷ b.0,
+            b.1,
+            (
+              t.has_spelling,
+              take (padding_len avp) (drop
+                  (avp_len avp) whole),
+              rest,
+              whole_padding whole avp some,
+              parted whole avp t,
+              b.2,
+            ),
+            b.3,
+          )
     ]
 
 pub breaks_so : (octets : List ℕ) (fault : FaultView) → IsBytes octets → avps_of octets ≡ failed fault → Breaks octets fault
@@ -162,45 +197,62 @@ breaks_so octets fault fits e = breaks_within (length octets) octets fault (omeg
 
 -- ---- what a call answers
 
-pub is_found : (octets : List ℕ) (r : Result (Vec AvpView) AvpFault) → IsBytes octets → Gives (λ avps. avps.items) r (avps_of octets) → IfOk r (λ avps. Spells octets avps.items)
+pub is_found : (octets : List ℕ) (r : Result (Vec AvpView) AvpFault) → IsBytes octets → Gives (λ avps. avps.items) r (avps_of octets)
+    → IfOk r (λ avps. Spells octets avps.items)
 is_found octets (Ok avps) fits g = spelled_so avps.items octets fits g
 is_found octets (Err fault) fits g = tt
 
-pub is_only : (octets : List ℕ) (r : Result (Vec AvpView) AvpFault) (avps : List AvpView) → Spells octets avps → Gives (λ read. read.items) r (avps_of octets) → Gives (λ read. read.items) r (Ok avps)
-is_only octets r avps s g = subst (λ (read : Result (List AvpView) FaultView). Gives (λ read. read.items) r read) (read_so avps octets s) g
+pub is_only : (octets : List ℕ) (r : Result (Vec AvpView) AvpFault) (avps : List AvpView) → Spells octets avps
+    → Gives (λ read. read.items) r (avps_of octets) → Gives (λ read. read.items) r (Ok avps)
+is_only octets r avps s g =
+    subst (λ (read : Result (List AvpView) FaultView). Gives (λ read. read.items) r read) (read_so avps octets s) g
 
-tells_breaks : (octets : List ℕ) (fault : AvpFault) → IsBytes octets → Tells fault (λ seen. avps_of octets ≡ Err seen) → Tells fault (Breaks octets)
+tells_breaks : (octets : List ℕ) (fault : AvpFault) → IsBytes octets → Tells fault (λ seen. avps_of octets ≡ Err seen)
+    → Tells fault (Breaks octets)
 tells_breaks octets (faults.Short code flags) fits e = breaks_so octets (Short code flags) fits e
 tells_breaks octets (faults.LengthBelowHeader code flags) fits e = breaks_so octets (LengthBelowHeader code flags) fits e
 tells_breaks octets (faults.LengthPastEnd code flags) fits e = breaks_so octets (LengthPastEnd code flags) fits e
 tells_breaks octets faults.WrongSize fits e = e
 tells_breaks octets faults.Memory fits e = tt
 
-pub is_broken : (octets : List ℕ) (r : Result (Vec AvpView) AvpFault) → IsBytes octets → Gives (λ avps. avps.items) r (avps_of octets) → IfErr r (λ fault. Tells fault (Breaks octets))
+pub is_broken : (octets : List ℕ) (r : Result (Vec AvpView) AvpFault) → IsBytes octets
+    → Gives (λ avps. avps.items) r (avps_of octets) → IfErr r (λ fault. Tells fault (Breaks octets))
 is_broken octets (Ok avps) fits g = tt
 is_broken octets (Err fault) fits g = tells_breaks octets fault fits g
 
 -- ---- what was written is read back, whatever follows
 
 pub padded_again : (avp : AvpView) (rest : List ℕ) → HasSpelling avp → avps_of (padded avp ++ rest) ≡ in_front avp (avps_of rest)
+unfolding padded
 padded_again avp rest h =
     let zeros = replicate (padding_len avp) 0 in
     let octets = spelling avp ++ (zeros ++ rest) in
     let regrouped : padded avp ++ rest ≡ octets = append_assoc (spelling avp) zeros rest in
     let some : 0 < length octets = omega (arith, length-append (spelling avp) (zeros ++ rest), length_spelling avp h, length_least avp) in
-    let whole : length (spelling avp ++ zeros) ≡ padded_len avp = omega (arith, length-append (spelling avp) zeros, length-replicate {A = ℕ} (padding_len avp) 0, length_spelling avp h, length_padding avp) in
-    let behind : drop (padded_len avp) octets ≡ rest = ap (drop (padded_len avp)) (sym regrouped) ∙ drop_at (spelling avp ++ zeros) rest (padded_len avp) whole in
+    let whole : length (spelling avp ++ zeros) ≡ padded_len avp =
+    omega (
+      arith,
+      length-append (spelling avp) zeros,
+      length-replicate {A =
+          ℕ} (padding_len avp) 0,
+      length_spelling avp h,
+      length_padding avp,
+    ) in
+    let behind : drop (padded_len avp) octets ≡ rest = ap (drop (padded_len avp)) (sym regrouped)
+    ∙ drop_at (spelling avp ++ zeros) rest (padded_len avp) whole in
     ap avps_of regrouped ∙ at_ok octets avp some (at_again avp (zeros ++ rest) h) ∙ ap (λ (r : List ℕ). in_front avp (avps_of r)) behind
 
 pub list_again : (avps : List AvpView) → AllByRecursion HasSpelling avps → avps_of (flat_map padded avps) ≡ Ok avps
 list_again [] h = avps_of-nil
-list_again (avp ∷ others) h = ap avps_of (flat_map-cons padded avp others) ∙ padded_again avp (flat_map padded others) h.0 ∙ ap (in_front avp) (list_again others h.1)
+list_again (avp ∷ others) h = ap avps_of (flat_map-cons padded avp others) ∙ padded_again avp (flat_map padded others) h.0
+    ∙ ap (in_front avp) (list_again others h.1)
 
 padding_whole : (avp : AvpView) (others : List AvpView) (octets : List ℕ) → length octets ≡ padding_len avp → IsPadding avp others octets
 padding_whole avp [] octets len = omega arith
 padding_whole avp (next ∷ others) octets len = len
 
 pub padded_spells : (avps : List AvpView) → AllByRecursion HasSpelling avps → Spells (flat_map padded avps) avps
+unfolding padded
 padded_spells [] h = refl
 padded_spells (avp ∷ others) h =
     let zeros = replicate (padding_len avp) 0 in (

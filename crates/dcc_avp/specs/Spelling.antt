@@ -13,6 +13,10 @@ pub record AvpView : Type 0 where
 abbrev pub has_vendor : ℕ → Bool
 has_vendor flags = not (bit_and flags 0x80 == 0)
 
+-- the M bit: who doesn't know the AVP has to refuse the message
+abbrev pub is_mandatory : ℕ → Bool
+is_mandatory flags = not (bit_and flags 0x40 == 0)
+
 -- the octets of a header, with its Vendor-ID where the flags ask for one
 abbrev pub header_len : ℕ → ℕ
 header_len flags = if has_vendor flags then 12 else 8
@@ -25,23 +29,25 @@ avp_len avp = header_len avp.flags + length avp.value
 abbrev pub padded_len : AvpView → ℕ
 padded_len avp = next_multiple_of (avp_len avp) 4
 
+-- the octets of the padding alone
 abbrev pub padding_len : AvpView → ℕ
 padding_len avp = padded_len avp - avp_len avp
 
+-- a Vendor-ID has four octets, the highest first, as every number
 abbrev pub vendor_octets : Option ℕ → List ℕ
 vendor_octets None = []
 vendor_octets (Some vendor) = to_be_bytes w32 vendor
 
 -- four octets of code, one of flags, three of length, the Vendor-ID if there is one, and the data
-abbrev pub spelling : AvpView → List ℕ
+unfoldable pub spelling : AvpView → List ℕ
 spelling avp =
     to_be_bytes w32 avp.code ++ (avp.flags ∷ bytes_high_first 3 (avp_len avp)) ++ (vendor_octets avp.vendor ++ avp.value)
 
 -- as an AVP is written, its padding zero
-abbrev pub padded : AvpView → List ℕ
+unfoldable pub padded : AvpView → List ℕ
 padded avp = spelling avp ++ replicate (padding_len avp) 0
 
--- what holds of every AVP: its numbers fit their octets, and its flags say whether it has a vendor
+-- What holds of every AVP: its numbers fit their octets, and its flags say whether it has a vendor.
 pub record IsAvp (avp : AvpView) : Type 0 where
   pub code : avp.code < 2 ^ 32
   pub flags : avp.flags < 2 ^ 8
@@ -53,6 +59,7 @@ pub record HasSpelling (avp : AvpView) : Type 0 where
   pub is_avp : IsAvp avp
   pub length : avp_len avp < 2 ^ 24
 
+-- each is an octet
 abbrev pub AreOctets : List ℕ → Type 0
 AreOctets octets = All (λ octet. octet < 2 ^ 8) octets
 

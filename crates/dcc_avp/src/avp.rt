@@ -2,7 +2,7 @@
 
 ghost use Rattle.std.specs.Prelude.{◌≡◌, ◌+◌, ◌^◌, ◌<◌, ◌≤◌, length, Some, None, bit_and, bit_or};
 ghost use Rattle.std.specs.Int.{w32, w64};
-ghost use Rattle.dcc_avp.specs.Spelling.{AvpView, IsAvp, header_len, avp_len, padded_len, vendor_octets};
+ghost use Rattle.dcc_avp.specs.Spelling.{AvpView, IsAvp, header_len, avp_len, padded_len, vendor_octets, is_mandatory};
 ghost use Rattle.dcc_avp.specs.Reading.{avp_of};
 ghost use Rattle.dcc_avp.specs.Numbers.{unsigned_of, signed_of};
 
@@ -120,6 +120,13 @@ impl<'a> Avp<'a> {
         ensures { result ≡ self.now.flags }
     {
         self.flags
+    }
+
+    /// Whether the flags have M.
+    pub fn is_mandatory(&self) -> bool
+        ensures { result ≡ is_mandatory self.now.flags }
+    {
+        self.flags() & flags::MANDATORY != 0
     }
 
     /// The Vendor-ID, which is there exactly where the flags have V.

@@ -18,6 +18,7 @@ fn put(out: &mut Vec<u8>, octets: &[u8])
 
 /// Appends an AVP with its padding, in zeros, behind what `out` holds. Room is taken first: without memory nothing is
 /// written.
+#[tactic(auto, unfolding(crate::specs::Spelling::spelling, crate::specs::Spelling::padded))]
 pub fn write_avp(out: &mut Vec<u8>, avp: &Avp<'_>) -> Result<(), AllocError>
     requires { avp_len avp.now < 2 ^ 24 }
     ensures ok { OnOk result (out.new.items ≡ out.old.items ++ padded avp.now) }
