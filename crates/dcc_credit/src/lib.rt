@@ -1,0 +1,14 @@
+//! From a message to what it asks of an account, and from an outcome to the octets of an answer.
+//!
+//! Stands on `dcc_message` and `dcc_avp` for octets, on `dcc_act` for acts and outcomes, and on `dcc_tariff` for the plan.
+//! The contract that it gives: a request is read exactly where a message holds one, and an answer's octets are those of
+//! the definition, for each outcome that a request can have (RFC 8506).
+#![tactic(auto)]
+
+mod groups;
+mod lookup;
+mod read;
+mod request;
+
+pub use read::{CcrFault, read_ccr};
+pub use request::{Request, subscriber};
