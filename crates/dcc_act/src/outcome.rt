@@ -59,7 +59,7 @@ impl ResultCode {
 #[derive(Clone, Copy, Debug, PartialEq, Eq)]
 pub struct Grant {
     pub unit: UnitKind,
-    /// How many; in an answer's services at most 10^12.
+    /// How many; in an answer's services at most 10^12, and in time at most 2^32 - 1.
     pub units: u64,
     pub tariff: Tariff,
 }
@@ -121,7 +121,10 @@ impl Answer {
 #[derive(Debug, Drop)]
 pub enum Outcome {
     /// A request of a subscriber who has no account: DIAMETER_USER_UNKNOWN, 5030 (RFC 8506, section 9.2).
-    Unknown,
+    Unknown {
+        request: RequestType,
+        key: RequestKey,
+    },
     /// A request is answered.
     Answered(Answer),
     /// A top-up is added to the funds.
@@ -136,7 +139,10 @@ impl Outcome {
         ensures { IfOk result (λ copy. copy ≡ self.now) }
     {
         match self {
-            Outcome::Unknown => Ok(Outcome::Unknown),
+            Outcome::Unknown { request, key } => Ok(Outcome::Unknown {
+                request: *request,
+                key: key.copy()?,
+            }),
             Outcome::Answered(answer) => Ok(Outcome::Answered(answer.copy()?)),
             Outcome::Added => Ok(Outcome::Added),
             Outcome::Ceiling => Ok(Outcome::Ceiling),

@@ -1,14 +1,16 @@
 //! What the services of a request come to.
 
 ghost use Rattle.std.specs.Prelude.{◌≡◌, ◌≤◌, ◌↔◌, ◌*◌, List, length, sum_by, All, IsTrue, IsSome, IfSome, IfOk};
-ghost use Rattle.dcc_act.specs.Answers.{AreAnswers, IsInRange};
+ghost use Rattle.std.specs.Option.{ForSome};
+ghost use Rattle.dcc_act.specs.Answers.{AreAnswers, IsInRange, IsGrant};
 
-use crate::outcome::ServiceAnswer;
+use crate::outcome::{Grant, ServiceAnswer};
+use dcc_tariff::UnitKind;
 use std::alloc::{AllocError, Global};
 use std::marker::Model;
 
 /// What the services of a request come to, in the order of the request: at most 16, with grants of at most 10^12
-/// units and at most 5,460 identifiers together.
+/// units, in time at most 2^32 - 1, and at most 5,460 identifiers together.
 #[derive(Debug, Drop)]
 pub struct ServiceAnswers {
     items: Vec<ServiceAnswer>,
@@ -64,13 +66,23 @@ impl ServiceAnswers {
     }
 }
 
-/// Whether each grant is within its limit.
+/// Whether each grant is within its limits.
 fn are_in_range(items: &[ServiceAnswer]) -> bool
     ensures { IsTrue result ↔ All IsInRange items.now }
 {
-    items.iter().all(|answer| answer
-        .grant
-        .is_none_or(|grant| grant.units <= 1_000_000_000_000))
+    items.iter().all(|answer| is_in_range(&answer.grant))
+}
+
+fn is_in_range(grant: &Option<Grant>) -> bool
+    ensures { IsTrue result ↔ ForSome grant.now IsGrant }
+{
+    match grant {
+        None => true,
+        Some(grant) => {
+            grant.units <= 1_000_000_000_000
+                && (grant.unit != UnitKind::Time || grant.units <= 0xffff_ffff)
+        }
+    }
 }
 
 /// How many identifiers the answers have together.

@@ -120,6 +120,11 @@ fn outcomes(rt: HostRuntime) -> Result<(), Fail> {
         result: ResultCode::Success,
         services,
     });
+    let unknown = Outcome::Unknown {
+        request: RequestType::Event,
+        key: key(rt.alloc())?,
+    };
+    assert!(rt; matches!(&unknown.copy()?, Outcome::Unknown { key, .. } if key.number == 7));
     let Outcome::Answered(copy) = outcome.copy()? else {
         return Err("an answer".into());
     };

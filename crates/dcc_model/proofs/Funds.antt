@@ -1,5 +1,5 @@
 -- Funds stay within their limits, what is free and overrun is never below nothing, and the entries add up to the funds.
-use Rattle.std.proofs.Common.{◌≡◌, ℕ, ◌+◌, ℤ, pos, ◌+ℤ◌, ◌-ℤ◌, ◌≤ℤ◌, true, ◌==◌, cond, List, [], ◌∷◌, ◌++◌, length, reverse, refl, arith, inl, inr, ◌⊎◌, Option, Some, None}
+use Rattle.std.proofs.Common.{ap, ◌∙◌, ◌≡◌, ℕ, ◌+◌, ℤ, pos, ◌+ℤ◌, ◌-ℤ◌, ◌≤ℤ◌, true, ◌==◌, cond, List, [], ◌∷◌, ◌++◌, length, reverse, refl, arith, inl, inr, ◌⊎◌, Option, Some, None}
 use Rattle.std.specs.Prelude.{int_le, int_lt}
 use Rattle.std.specs.Option.{option_map_or}
 use Rattle.std.proofs.lemmas.Bool.{cases_Bool}
@@ -19,8 +19,8 @@ use Rattle.dcc_act.specs.declared.outcome.Grant.{Grant}
 use Rattle.dcc_act.specs.declared.outcome.Outcome.{Outcome}
 use Rattle.dcc_model.specs.declared.done.Done.{Done}
 use Rattle.dcc_model.specs.declared.decide.TheConstants.{CEILING}
-use Rattle.dcc_model.specs.Money.{is_added, succeeded, asked_units, charged_by, charged, grant_price, credit, debit, funds_of, reserved_by, reserved_of, free_of}
-use Rattle.dcc_model.specs.Outcomes.{is_made, top_up_outcome, debit_outcome, action_outcome, decided, history, funds, overrun, free}
+use Rattle.dcc_model.specs.Money.{is_added, succeeded, asked_units, charged_by, charged, grant_price, credit, debit, funds_of, overran, overrun_of, reserved_by, reserved_of, free_of}
+use Rattle.dcc_model.specs.Outcomes.{is_made, top_up_outcome, debit_outcome, action_outcome, event_outcome, decided, history, funds, overrun, free}
 use Rattle.dcc_model.specs.Entries.{debit_entry, entries_of_kind, entries_by, entries_of, entries, sum_of}
 use Rattle.dcc_model.proofs.Histories.{judged_new}
 
@@ -38,6 +38,22 @@ reserved_none terms (done ∷ past) =
 
 pub free_is_funds : (terms : Terms) (past : List Done) → free_of terms past ≡ funds_of terms past
 free_is_funds terms past = let none = reserved_none terms past in omega (arith, ints)
+
+-- what an event comes to where so much is free
+pub event_at : (event : Event) (a b : ℤ) (outcome : Outcome) → outcome ≡ event_outcome a event → a ≡ b → outcome ≡ event_outcome b event
+event_at event a b outcome is same = is ∙ ap (λ (f : ℤ). event_outcome f event) same
+
+overran_none : (k : Kind) (outcome : Outcome) → overran k outcome ≡ 0
+overran_none (kind.TopUp top_up) outcome = refl
+overran_none (kind.Event event) outcome = refl
+
+-- neither reports beyond what is reserved
+pub overrun_none : (terms : Terms) (past : List Done) → overrun_of terms past ≡ 0
+overrun_none terms [] = refl
+overrun_none terms (done ∷ past) =
+    let before = overrun_none terms past in
+    let here = overran_none done.act.kind done.outcome in
+    omega arith
 
 covers_parts : (money : ℤ) (cost : ℕ) → covers money cost ≡ true → (cost ≡ 0) ⊎ (pos cost ≤ℤ money)
 covers_parts money cost h =
@@ -112,7 +128,7 @@ free_and_overrun terms all =
     let same = free_is_funds terms past in
     omega (arith, ints)
 
-sum_of-append : (xs ys : List Entry) → sum_of (xs ++ ys) ≡ sum_of xs +ℤ sum_of ys
+pub sum_of-append : (xs ys : List Entry) → sum_of (xs ++ ys) ≡ sum_of xs +ℤ sum_of ys
 sum_of-append [] ys = omega (arith, ints)
 sum_of-append (x ∷ xs) ys = let rest = sum_of-append xs ys in omega (arith, ints)
 

@@ -1,25 +1,38 @@
 -- Leaving out what was not made changes nothing.
-use Rattle.std.proofs.Common.{◌≡◌, ℕ, zero, suc, ◌+◌, ◌-◌, ◌≤◌, ◌<◌, true, List, [], ◌∷◌, ◌++◌, length, map, reverse, take, refl, sym, ap, ◌∙◌, arith, inl, inr, Option, Some, None, is_none, slice_get, append-nil}
+use Rattle.std.proofs.Common.{◌≡◌, ℕ, zero, suc, ◌+◌, ◌-◌, ◌≤◌, ◌<◌, Bool, true, false, ◌||◌, cond, List, [], ◌∷◌, ◌++◌, length, map, reverse, take, refl, sym, ap, ◌∙◌, arith, inl, inr, Option, Some, None, is_none, slice_get, append-nil}
+use Rattle.std.specs.Prelude.{unwrap_or}
 use Rattle.std.specs.Option.{option_map_or}
 use Rattle.std.proofs.lemmas.Bool.{cases_Bool, and_parts}
 use Rattle.std.proofs.lemmas.List.{reverse-append, reverse-reverse, take-append-le}
 use Rattle.std.proofs.Math.Seq.{take-append-add}
 use Rattle.dcc_tariff.specs.declared.terms.Terms.{Terms}
 use Rattle.dcc_act.specs.declared.act.Act.{Act}
+use Rattle.dcc_act.specs.declared.act.Kind.{Kind}
+use Rattle.dcc_act.specs.declared.act.Kind.TheVariants as kind
 use Rattle.dcc_act.specs.declared.outcome.Outcome.{Outcome}
-use Rattle.dcc_act.specs.declared.outcome.Outcome.TheVariants.{Unknown}
+use Rattle.dcc_act.specs.declared.outcome.Outcome.TheVariants.{Ceiling}
 use Rattle.dcc_model.specs.declared.done.Done.{Done}
-use Rattle.dcc_model.specs.Outcomes.{counts, first_of, is_made, decided, judged, history, act_of, after, outcome, acts}
+use Rattle.dcc_model.specs.Keys.{request_key}
+use Rattle.dcc_model.specs.Outcomes.{counts, first_of, is_made, decided, unknown_of, settled, has_account, judged, history, act_of, after, outcome, acts}
+
+settled_where : (account : Bool) (k : Kind) (outcome : Outcome) → (account || is_none (request_key k)) ≡ true → cond account outcome (unwrap_or (unknown_of k) outcome) ≡ outcome
+settled_where true k outcome h = refl
+settled_where false (kind.TopUp top_up) outcome h = refl
+settled_where false (kind.Event event) outcome h = absurd cc
 
 from_none : (first : Option Done) (rest : Outcome) → is_none first ≡ true → option_map_or (λ (done : Done). done.outcome) first rest ≡ rest
 from_none None rest h = refl
 from_none (Some done) rest h = absurd cc
 
+-- where an act counts, it is settled
+pub judged_counted : (terms : Terms) (past : List Done) (act : Act) → counts past act.kind ≡ true → judged terms past act ≡ settled terms past act.kind
+judged_counted terms past act counted = settled_where (has_account past) act.kind (settled terms past act.kind) counted
+
 -- what is made comes to what its kind decides
 pub judged_new : (terms : Terms) (past : List Done) (act : Act) → is_made terms past act ≡ true → judged terms past act ≡ decided terms past act.kind
 judged_new terms past act new =
     let parts = and_parts (counts past act.kind) (is_none (first_of past act.kind)) new in
-    rw parts.0 (from_none (first_of past act.kind) (decided terms past act.kind) parts.1)
+    judged_counted terms past act parts.0 ∙ from_none (first_of past act.kind) (decided terms past act.kind) parts.1
 
 pub history_of_made : (terms : Terms) (all : List Act) → history terms (map act_of (history terms all)) ≡ history terms all
 history_of_made terms [] = refl
@@ -58,7 +71,7 @@ slice_get-before (x ∷ xs) ys zero h = refl
 slice_get-before (x ∷ xs) ys (suc k) h = slice_get-before xs ys k (omega arith)
 
 -- what stands at a place behind a list comes to what it comes to after the list and what is between
-pub outcome_behind : (terms : Terms) (xs ys : List Act) (k : ℕ) → 1 ≤ k → outcome terms (xs ++ ys) (length xs + k) ≡ option_map_or (after terms (xs ++ take (k - 1) ys)) (slice_get ys (k - 1)) Unknown
+pub outcome_behind : (terms : Terms) (xs ys : List Act) (k : ℕ) → 1 ≤ k → outcome terms (xs ++ ys) (length xs + k) ≡ option_map_or (after terms (xs ++ take (k - 1) ys)) (slice_get ys (k - 1)) Ceiling
 unfolding outcome
 outcome_behind terms xs ys k one =
     let place : length xs + k - 1 ≡ length xs + (k - 1) = omega arith in

@@ -1,6 +1,6 @@
 -- Requests have the outcomes of requests, and top-ups those of top-ups; without a top-up no request acts.
 use Rattle.std.proofs.Common.{◌≡◌, ℤ, pos, ◌+ℤ◌, Bool, true, false, ◌||◌, List, [], ◌∷◌, ◌++◌, reverse, refl, ap, ◌∙◌, inl, inr, Option, Some, None, is_none, is_some}
-use Rattle.std.specs.Prelude.{int_lt}
+use Rattle.std.specs.Prelude.{int_lt, unwrap_or}
 use Rattle.std.specs.Option.{option_map_or}
 use Rattle.std.proofs.lemmas.Bool.{cases_Bool, cond_both, or_parts, or_from}
 use Rattle.std.proofs.lemmas.List.{reverse-append}
@@ -20,7 +20,7 @@ use Rattle.dcc_model.specs.declared.done.Done.{Done}
 use Rattle.dcc_model.specs.declared.decide.TheConstants.{CEILING}
 use Rattle.dcc_model.specs.Keys.{request_key, same_key}
 use Rattle.dcc_model.specs.Money.{funds_of, free_of}
-use Rattle.dcc_model.specs.Outcomes.{is_top_up, has_account, has_top_up, counts, first_of, is_made, action_outcome, top_up_outcome, decided, judged, history, after, IsOfRequest, IsOfTopUp}
+use Rattle.dcc_model.specs.Outcomes.{is_top_up, has_account, has_top_up, counts, first_of, is_made, action_outcome, top_up_outcome, decided, unknown_of, settled, judged, history, after, IsOfRequest, IsOfTopUp}
 
 abbrev pub IsOf : Kind → Outcome → Type 0
 IsOf (kind.TopUp top_up) outcome = IsOfTopUp outcome
@@ -56,15 +56,16 @@ first_is_of (done ∷ past) k rest all is =
       | inr f ↦ rw f (first_is_of past k rest all.1 is)
     ]
 
-unknown_request : (past : List Done) (k : Kind) → counts past k ≡ false → IsOf k Unknown
-unknown_request past (kind.TopUp top_up) h = let no = (or_parts (has_account past) true h).1 in absurd cc
-unknown_request past (kind.Event event) h = tt
+unknown_is_of : (k : Kind) (rest : Outcome) → IsOf k rest → IsOf k (unwrap_or (unknown_of k) rest)
+unknown_is_of (kind.TopUp top_up) rest is = is
+unknown_is_of (kind.Event event) rest is = tt
 
 judged_is_of : (terms : Terms) (past : List Done) (act : Act) → AllOf past → IsOf act.kind (judged terms past act)
 judged_is_of terms past act all =
-    elim (cases_Bool (counts past act.kind)) [
-      | inl t ↦ rw t (first_is_of past act.kind (decided terms past act.kind) all (decided_is_of terms past act.kind))
-      | inr f ↦ rw f (unknown_request past act.kind f)
+    let is = first_is_of past act.kind (decided terms past act.kind) all (decided_is_of terms past act.kind) in
+    elim (cases_Bool (has_account past)) [
+      | inl t ↦ rw t is
+      | inr f ↦ rw f (unknown_is_of act.kind (settled terms past act.kind) is)
     ]
 
 history_all_of : (terms : Terms) (all : List Act) → AllOf (history terms all)
@@ -99,17 +100,20 @@ has_top_up-reverse (act ∷ all) h =
     let test : Act → Bool = λ act. is_top_up act.kind in
     ap has_top_up turned ∙ list_any-append test (reverse all) (act ∷ []) ∙ or_from (has_top_up (reverse all)) (is_top_up act.kind || false) (has_top_up-reverse all parts.1) (or_from (is_top_up act.kind) false parts.0 refl)
 
-not_none : (key : Option RequestKey) → is_some key ≡ true → is_none key ≡ false
-not_none None h = absurd cc
-not_none (Some key) h = refl
+-- what may be of an unknown user is a request
+unknown_requests : (k : Kind) (unknown : Outcome) → unknown_of k ≡ Some unknown → is_none (request_key k) ≡ false
+unknown_requests (kind.TopUp top_up) unknown h = absurd cc
+unknown_requests (kind.Event event) unknown h = refl
 
-uncounted : (terms : Terms) (xs : List Act) (act : Act) → has_top_up xs ≡ false → is_some (request_key act.kind) ≡ true → counts (history terms (reverse xs)) act.kind ≡ false
-uncounted terms xs act none request =
-    or_from (has_account (history terms (reverse xs))) (is_none (request_key act.kind)) (no_account terms (reverse xs) (has_top_up-reverse xs none)) (not_none (request_key act.kind) request)
+no_account_of : (terms : Terms) (xs : List Act) → has_top_up xs ≡ false → has_account (history terms (reverse xs)) ≡ false
+no_account_of terms xs none = no_account terms (reverse xs) (has_top_up-reverse xs none)
 
 -- without a top-up before, a request is of an unknown user, and doesn't act
-pub after_no_top_up : (terms : Terms) (xs : List Act) (act : Act) → has_top_up xs ≡ false → is_some (request_key act.kind) ≡ true → after terms xs act ≡ Unknown
-after_no_top_up terms xs act none request = let no = uncounted terms xs act none request in rw no refl
+pub after_no_top_up : (terms : Terms) (xs : List Act) (act : Act) (unknown : Outcome) → has_top_up xs ≡ false → unknown_of act.kind ≡ Some unknown → after terms xs act ≡ unknown
+after_no_top_up terms xs act unknown none is = let no_one = no_account_of terms xs none in rw (no_one, is) refl
 
-pub history_no_top_up : (terms : Terms) (xs : List Act) (act : Act) → has_top_up xs ≡ false → is_some (request_key act.kind) ≡ true → history terms (act ∷ reverse xs) ≡ history terms (reverse xs)
-history_no_top_up terms xs act none request = let no = uncounted terms xs act none request in rw no refl
+pub history_no_top_up : (terms : Terms) (xs : List Act) (act : Act) (unknown : Outcome) → has_top_up xs ≡ false → unknown_of act.kind ≡ Some unknown → history terms (act ∷ reverse xs) ≡ history terms (reverse xs)
+history_no_top_up terms xs act unknown none is =
+    let uncounted : counts (history terms (reverse xs)) act.kind ≡ false =
+    or_from (has_account (history terms (reverse xs))) (is_none (request_key act.kind)) (no_account_of terms xs none) (unknown_requests act.kind unknown is) in
+    rw uncounted refl

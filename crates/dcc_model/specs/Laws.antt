@@ -1,12 +1,13 @@
 -- What the layers above know of outcomes and acts without a look into them.
-use Rattle.std.specs.Prelude.{◌≡◌, ℕ, ◌+◌, ◌≤◌, pos, ◌+ℤ◌, neg_ℤ, ◌≤ℤ◌, true, false, List, [], ◌∷◌, ◌++◌, length, is_some}
+use Rattle.std.specs.Prelude.{◌≡◌, ℕ, ◌+◌, ◌≤◌, pos, ◌+ℤ◌, neg_ℤ, ◌≤ℤ◌, true, false, List, [], ◌∷◌, ◌++◌, length, is_some, Some}
 use Rattle.dcc_tariff.specs.declared.terms.Terms.{Terms}
 use Rattle.dcc_act.specs.declared.act.Act.{Act}
+use Rattle.dcc_act.specs.declared.outcome.Outcome.{Outcome}
 use Rattle.dcc_act.specs.declared.outcome.Outcome.TheVariants.{Unknown}
 use Rattle.dcc_act.specs.declared.request_key.RequestKey.{RequestKey}
 use Rattle.dcc_model.specs.declared.decide.TheConstants.{CEILING}
 use Rattle.dcc_model.specs.Keys.{request_key, ticket}
-use Rattle.dcc_model.specs.Outcomes.{outcome, acts, funds, overrun, free, kept, has_top_up, IsOfRequest, IsOfTopUp}
+use Rattle.dcc_model.specs.Outcomes.{outcome, acts, funds, overrun, free, kept, has_top_up, unknown_of, IsOfRequest, IsOfTopUp}
 use Rattle.dcc_model.specs.Entries.{entries, sum_of}
 
 -- what comes later changes no outcome
@@ -35,10 +36,10 @@ KeptStay = (terms : Terms) (xs : List Act) (key : RequestKey) → kept terms (ac
 abbrev pub AccountStays : Type 0
 AccountStays = (terms : Terms) (xs : List Act) → (funds terms (acts terms xs) ≡ funds terms xs) × (overrun terms (acts terms xs) ≡ overrun terms xs) × (free terms (acts terms xs) ≡ free terms xs) × (entries terms (acts terms xs) ≡ entries terms xs)
 
--- without a top-up before, a request is of an unknown user and isn't made
+-- without a top-up before, a request is of an unknown user, under its own type and key, and isn't made
 abbrev pub UnknownBefore : Type 0
-UnknownBefore = (terms : Terms) (xs : List Act) (act : Act) → has_top_up xs ≡ false → is_some (request_key act.kind) ≡ true
-    → (outcome terms (xs ++ act ∷ []) (length xs + 1) ≡ Unknown) × (acts terms (xs ++ act ∷ []) ≡ acts terms xs)
+UnknownBefore = (terms : Terms) (xs : List Act) (act : Act) (unknown : Outcome) → has_top_up xs ≡ false → unknown_of act.kind ≡ Some unknown
+    → (outcome terms (xs ++ act ∷ []) (length xs + 1) ≡ unknown) × (acts terms (xs ++ act ∷ []) ≡ acts terms xs)
 
 -- a request comes to what a request may come to
 abbrev pub RequestsAreAnswered : Type 0

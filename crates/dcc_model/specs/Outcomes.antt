@@ -1,5 +1,5 @@
 -- What each act of one subscriber's list comes to. `past` is the acts that were made, the latest first.
-use Rattle.std.specs.Prelude.{ℕ, ◌-◌, ⊤, ℤ, pos, ◌+ℤ◌, int_lt, Bool, true, false, not, ◌&&◌, ◌||◌, if◌then◌else◌, List, [], ◌∷◌, map, reverse, take, Option, Some, None, is_none, option_map, find, slice_get}
+use Rattle.std.specs.Prelude.{ℕ, ◌-◌, ⊤, ℤ, pos, ◌+ℤ◌, int_lt, Bool, true, false, not, ◌&&◌, ◌||◌, if◌then◌else◌, List, [], ◌∷◌, map, reverse, take, Option, Some, None, is_none, option_map, find, slice_get, unwrap_or}
 use Rattle.std.specs.List.{list_any}
 use Rattle.std.specs.Option.{option_map_or}
 use Rattle.dcc_tariff.specs.Prices.{covers}
@@ -82,11 +82,19 @@ abbrev pub decided : Terms → List Done → Kind → Outcome
 decided terms past (kind.TopUp top_up) = top_up_outcome (funds_of terms past) top_up
 decided terms past (kind.Event event) = event_outcome (free_of terms past) event
 
--- without an account a request is of an unknown user; a repeat comes to what the first came to
+-- what a request comes to that has no account, under its own type and key; a top-up needs none
+abbrev pub unknown_of : Kind → Option Outcome
+unknown_of (kind.TopUp top_up) = None
+unknown_of (kind.Event event) = Some (Unknown request.Event event.key)
+
+-- a repeat comes to what the first came to
+abbrev pub settled : Terms → List Done → Kind → Outcome
+settled terms past kind = option_map_or (λ (done : Done). done.outcome) (first_of past kind) (decided terms past kind)
+
+-- without an account a request is of an unknown user
 abbrev pub judged : Terms → List Done → Act → Outcome
 judged terms past act =
-    if not (counts past act.kind) then Unknown
-    else option_map_or (λ (done : Done). done.outcome) (first_of past act.kind) (decided terms past act.kind)
+    if has_account past then settled terms past act.kind else unwrap_or (unknown_of act.kind) (settled terms past act.kind)
 
 abbrev pub is_new : List Done → Kind → Bool
 is_new past kind = counts past kind && is_none (first_of past kind)
@@ -116,9 +124,10 @@ kept_of past key = option_map outcome_of (find (λ done. same_request (Some key)
 abbrev pub after : Terms → List Act → Act → Outcome
 after terms before act = judged terms (history terms (reverse before)) act
 
--- the outcome of the act at a place of a list, counted from 1: what it comes to after those before
+-- the outcome of the act at a place of a list, counted from 1: what it comes to after those before; where no act stands
+-- there is nothing to say, and Ceiling stands for it
 unfoldable pub outcome : Terms → List Act → ℕ → Outcome
-outcome terms all place = option_map_or (after terms (take (place - 1) all)) (slice_get all (place - 1)) Unknown
+outcome terms all place = option_map_or (after terms (take (place - 1) all)) (slice_get all (place - 1)) Ceiling
 
 -- the acts of a list, in order
 unfoldable pub acts : Terms → List Act → List Act
@@ -139,14 +148,14 @@ kept terms all key = kept_of (history terms (reverse all)) key
 
 -- the outcomes that a request may have
 abbrev pub IsOfRequest : Outcome → Type 0
-IsOfRequest Unknown = ⊤
+IsOfRequest (Unknown request key) = ⊤
 IsOfRequest (Answered answer) = ⊤
 IsOfRequest Added = ⊥
 IsOfRequest Ceiling = ⊥
 
 -- the outcomes that a top-up may have
 abbrev pub IsOfTopUp : Outcome → Type 0
-IsOfTopUp Unknown = ⊥
+IsOfTopUp (Unknown request key) = ⊥
 IsOfTopUp (Answered answer) = ⊥
 IsOfTopUp Added = ⊤
 IsOfTopUp Ceiling = ⊤

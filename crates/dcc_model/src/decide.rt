@@ -3,6 +3,7 @@
 ghost use Rattle.std.specs.Prelude.{◌≡◌, ◌≤◌, ◌^◌, IfOk};
 ghost use Rattle.std.specs.Option.{ForSome};
 ghost use Rattle.dcc_tariff.specs.Prices.{covers};
+ghost use Rattle.dcc_act.specs.Answers.{IsGrant};
 ghost use Rattle.dcc_model.specs.Money.{asked_units, grant_price};
 ghost use Rattle.dcc_model.specs.Outcomes.{top_up_outcome, event_outcome, debit_outcome, debit_result, event_answer};
 
@@ -71,7 +72,7 @@ fn answer(
     code: ResultCode,
     grant: Option<Grant>,
 ) -> Result<Outcome, AllocError>
-    requires { ForSome grant (λ grant. grant.units ≤ 10 ^ 12) }
+    requires { ForSome grant IsGrant }
     ensures { IfOk result (λ outcome. outcome ≡ event_answer event.now code grant) }
 {
     let service = &event.service;
@@ -95,7 +96,7 @@ fn answer(
 /// The units that a service asks for, at the tariff of its moment, where there is one.
 pub(crate) fn units_asked(service: &Service) -> Option<Grant>
     ensures value { result ≡ asked_units service.now }
-    ensures limit { ForSome result (λ grant. grant.units ≤ 10 ^ 12) }
+    ensures limits { ForSome result IsGrant }
 {
     Some(Grant {
         unit: service.unit?,

@@ -4,13 +4,13 @@ ghost use Rattle.std.specs.Prelude.{◌≡◌, ◌≤◌, ◌^◌, length, rever
 ghost use Rattle.std.specs.Option.{option_copied};
 ghost use Rattle.dcc_tariff.specs.declared.terms.Terms.{Terms};
 ghost use Rattle.dcc_model.specs.Money.{funds_of, free_of, credit, debit};
-ghost use Rattle.dcc_model.specs.Outcomes.{has_account, counts, first_of, decided, judged, is_new, history, outcome};
+ghost use Rattle.dcc_model.specs.Outcomes.{has_account, counts, first_of, decided, settled, judged, is_new, history, outcome};
 
 use crate::decide::{decide_event, decide_top_up, price};
 use crate::done::Done;
 use crate::keys::{is_same_key, is_top_up};
 use crate::posting::charged_units;
-use dcc_act::{Act, Kind, Outcome};
+use dcc_act::{Act, Kind, Outcome, RequestType};
 use dcc_tariff::Terms;
 use std::alloc::{AllocError, Global};
 
@@ -49,12 +49,25 @@ fn made(alloc: Global, acts: &[Act]) -> Result<Vec<Done>, AllocError>
 fn judge(alloc: Global, past: &[Done], act: &Act) -> Result<Outcome, AllocError>
     ensures { IfOk result (λ outcome. (terms : Terms) → outcome ≡ judged terms (reverse past.now) act.now) }
 {
-    if !is_counted(past, &act.kind) {
-        return Ok(Outcome::Unknown);
+    if has_account(past) {
+        return settle(alloc, past, &act.kind);
     }
-    match first(past, &act.kind) {
+    match &act.kind {
+        Kind::TopUp(_) => settle(alloc, past, &act.kind),
+        Kind::Event(event) => Ok(Outcome::Unknown {
+            request: RequestType::Event,
+            key: event.key.copy()?,
+        }),
+    }
+}
+
+/// What an act comes to that has an account or makes it.
+fn settle(alloc: Global, past: &[Done], kind: &Kind) -> Result<Outcome, AllocError>
+    ensures { IfOk result (λ outcome. (terms : Terms) → outcome ≡ settled terms (reverse past.now) kind.now) }
+{
+    match first(past, kind) {
         Some(done) => done.outcome.copy(),
-        None => decide(alloc, past, &act.kind),
+        None => decide(alloc, past, kind),
     }
 }
 

@@ -7,7 +7,7 @@ ghost use Rattle.dcc_model.specs.Outcomes.{is_top_up};
 use dcc_act::Kind;
 
 /// Whether two acts have one key: requests their session and number, top-ups their ticket.
-pub(crate) fn is_same_key(a: &Kind, b: &Kind) -> bool
+pub fn is_same_key(a: &Kind, b: &Kind) -> bool
     ensures { result ≡ same_key a.now b.now }
 {
     match (a, b) {
@@ -18,7 +18,7 @@ pub(crate) fn is_same_key(a: &Kind, b: &Kind) -> bool
 }
 
 /// Whether the act is a top-up.
-pub(crate) fn is_top_up(kind: &Kind) -> bool
+pub fn is_top_up(kind: &Kind) -> bool
     ensures { result ≡ is_top_up kind.now }
 {
     matches!(kind, Kind::TopUp(_))

@@ -2,6 +2,7 @@
 
 ghost use Rattle.std.specs.Prelude.{◌≡◌, ◌≤◌, ◌^◌, IfOk};
 ghost use Rattle.std.specs.Option.{ForSome};
+ghost use Rattle.dcc_act.specs.Answers.{IsGrant};
 ghost use Rattle.dcc_model.specs.Money.{charged, charged_by, succeeded};
 ghost use Rattle.dcc_model.specs.Entries.{top_up_entry, debit_entry, entries_of_kind};
 ghost use Rattle.dcc_act.specs.declared.act.Kind.TheVariants.{Event as event_kind};
@@ -70,7 +71,7 @@ fn debited(place: u64, moment: Moment, event: &Event, grant: &Grant) -> Result<E
 /// What an event charged that came to this outcome.
 pub(crate) fn charged_units(event: &Event, outcome: &Outcome) -> Option<Grant>
     ensures value { result ≡ charged (event_kind event.now) outcome.now }
-    ensures limit { ForSome result (λ grant. grant.units ≤ 10 ^ 12) }
+    ensures limits { ForSome result IsGrant }
 {
     if !has_succeeded(outcome) {
         return None;

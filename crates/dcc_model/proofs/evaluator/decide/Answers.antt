@@ -6,11 +6,8 @@ use Rattle.dcc_act.specs.declared.outcome.Outcome.{Outcome}
 use Rattle.dcc_model.specs.Money.{free_of}
 use mir.Syntax.{w128}
 use Rattle.dcc_model.specs.Outcomes.{top_up_outcome, event_outcome}
+use Rattle.dcc_model.proofs.Funds.{event_at}
 use Rattle.dcc_model.proofs.evaluator.decide.Goals as goal
-
--- the same where the number is the same
-event_at : (event : Event) (a b : ℤ) (outcome : Outcome) → outcome ≡ event_outcome a event → a ≡ b → outcome ≡ event_outcome b event
-event_at event a b outcome is same = is ∙ ap (λ (f : ℤ). event_outcome f event) same
 
 pub returns-in-TopUp : goal.returns-in-TopUp
 returns-in-TopUp c =

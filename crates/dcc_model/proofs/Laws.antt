@@ -9,7 +9,7 @@ use Rattle.dcc_act.specs.declared.act.Act.{Act}
 use Rattle.dcc_act.specs.declared.act.Kind.{Kind}
 use Rattle.dcc_act.specs.declared.act.Kind.TheVariants as kind
 use Rattle.dcc_act.specs.declared.outcome.Outcome.{Outcome}
-use Rattle.dcc_act.specs.declared.outcome.Outcome.TheVariants.{Unknown}
+use Rattle.dcc_act.specs.declared.outcome.Outcome.TheVariants.{Ceiling}
 use Rattle.dcc_model.specs.declared.done.Done.{Done}
 use Rattle.dcc_model.specs.Keys.{request_key, ticket}
 use Rattle.dcc_model.specs.Money.{funds_of, overrun_of, free_of}
@@ -27,7 +27,7 @@ later_changes_nothing = outcome_before
 pub after_by_history : (terms : Terms) (xs ys : List Act) (act : Act) → history terms (reverse xs) ≡ history terms (reverse ys) → after terms xs act ≡ after terms ys act
 after_by_history terms xs ys act same = ap (λ (past : List Done). judged terms past act) same
 
-either_after : (terms : Terms) (xs ys : List Act) (act : Option Act) → history terms (reverse xs) ≡ history terms (reverse ys) → option_map_or (after terms xs) act Unknown ≡ option_map_or (after terms ys) act Unknown
+either_after : (terms : Terms) (xs ys : List Act) (act : Option Act) → history terms (reverse xs) ≡ history terms (reverse ys) → option_map_or (after terms xs) act Ceiling ≡ option_map_or (after terms ys) act Ceiling
 either_after terms xs ys None same = refl
 either_after terms xs ys (Some act) same = after_by_history terms xs ys act same
 
@@ -63,10 +63,10 @@ account_stays terms xs =
     (ap (funds_of terms) same, ap (overrun_of terms) same, ap (free_of terms) same, ap entries_of same)
 
 pub unknown_before : UnknownBefore
-unknown_before terms xs act none request =
+unknown_before terms xs act unknown none is =
     let turned : reverse (xs ++ act ∷ []) ≡ act ∷ reverse xs = reverse-append xs (act ∷ []) in (
-      outcome_last terms xs act ∙ after_no_top_up terms xs act none request,
-      acts_by_history terms (xs ++ act ∷ []) xs (ap (history terms) turned ∙ history_no_top_up terms xs act none request),
+      outcome_last terms xs act ∙ after_no_top_up terms xs act unknown none is,
+      acts_by_history terms (xs ++ act ∷ []) xs (ap (history terms) turned ∙ history_no_top_up terms xs act unknown none is),
     )
 
 request_of : (k : Kind) (outcome : Outcome) → is_some (request_key k) ≡ true → IsOf k outcome → IsOfRequest outcome

@@ -1,5 +1,0 @@
-use Rattle.dcc_model.proofs.LawProofs.{unknown_before, requests_are_answered, top_ups_are_added}
-use Rattle.dcc_model.proofs.laws.acts_come_to_their_own.Goals as goal
-
-pub returns : goal.returns
-returns c = record { unknown = unknown_before; requests = requests_are_answered; top_ups = top_ups_are_added }
