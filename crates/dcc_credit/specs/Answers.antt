@@ -73,7 +73,7 @@ head_avps identity type key code =
 
 -- the AVPs of an answer, in their order; a top-up's outcome has none
 unfoldable pub answer_avps : Identity → Conditions → Outcome → List AvpView
-answer_avps identity terms Unknown = []
+answer_avps identity terms (Unknown type key) = head_avps identity type key 5030
 answer_avps identity terms (Answered answer) =
     head_avps identity answer.request answer.key (result_number answer.result) ++ flat_map (λ service. service_avps service.form service) answer.services
 answer_avps identity terms Added = []
