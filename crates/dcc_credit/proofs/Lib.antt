@@ -1,1 +1,2 @@
 pub mod Subscribers
+pub mod ServiceSizes

@@ -1,5 +1,5 @@
 -- The octets of answers (RFC 6733, section 6.2, and RFC 8506, section 3.2).
-use Rattle.std.specs.Prelude.{ℕ, ◌+◌, ◌^◌, Bool, not, ◌&&◌, ◌==◌, bit_and, if◌then◌else◌, List, [], ◌∷◌, ◌++◌, map, filter, slice_index, Option, Some, None, is_none, option_map, option_and_then}
+use Rattle.std.specs.Prelude.{ℕ, Bool, not, ◌&&◌, ◌==◌, bit_and, bit_or, if◌then◌else◌, List, [], ◌∷◌, ◌++◌, map, filter, slice_index, Option, Some, None, is_none, option_map, option_and_then}
 use Rattle.std.specs.Int.{w32, w64, to_be_bytes}
 use Rattle.std.specs.List.{flat_map, find}
 use Rattle.std.specs.Option.{option_to_list}
@@ -42,28 +42,31 @@ sent code value = record { code = code; flags = 0x40; vendor = None; value = val
 abbrev pub sent32 : ℕ → ℕ → AvpView
 sent32 code n = sent code (to_be_bytes w32 n)
 
+abbrev pub sent64 : ℕ → ℕ → AvpView
+sent64 code n = sent code (to_be_bytes w64 n)
+
 abbrev pub grouped : ℕ → List AvpView → AvpView
 grouped code avps = sent code (flat_map padded avps)
 
 -- an amount in the AVP of its unit (RFC 8506, section 8.17)
 abbrev pub amount_avp : UnitKind → ℕ → AvpView
-amount_avp Octets units = sent CC_TOTAL_OCTETS (to_be_bytes w64 units)
+amount_avp Octets units = sent64 CC_TOTAL_OCTETS units
 amount_avp Time units = sent32 CC_TIME units
-amount_avp Units units = sent CC_SERVICE_SPECIFIC_UNITS (to_be_bytes w64 units)
+amount_avp Units units = sent64 CC_SERVICE_SPECIFIC_UNITS units
 
 abbrev pub granted : Grant → AvpView
 granted grant = grouped GRANTED_SERVICE_UNIT (amount_avp grant.unit grant.units ∷ [])
 
 -- the grant, the identifiers and the group as sent, and the result of one service (RFC 8506, section 8.16)
-abbrev pub service_group : ServiceAnswer → AvpView
-service_group service =
-    grouped MULTIPLE_SERVICES_CREDIT_CONTROL (option_to_list (option_map granted service.grant) ++ map (sent32 SERVICE_IDENTIFIER) service.ids ++
-    option_to_list (option_map (sent32 RATING_GROUP) service.group) ++ sent32 RESULT_CODE (result_number service.result) ∷ [])
+abbrev pub service_parts : ServiceAnswer → List AvpView
+service_parts service =
+    option_to_list (option_map granted service.grant) ++ map (sent32 SERVICE_IDENTIFIER) service.ids ++
+    option_to_list (option_map (sent32 RATING_GROUP) service.group) ++ sent32 RESULT_CODE (result_number service.result) ∷ []
 
 -- a service at the message's level shows its grant alone
 abbrev pub service_avps : Form → ServiceAnswer → List AvpView
 service_avps Single service = option_to_list (option_map granted service.grant)
-service_avps Multi service = service_group service ∷ []
+service_avps Multi service = grouped MULTIPLE_SERVICES_CREDIT_CONTROL (service_parts service) ∷ []
 
 -- what each answer to a request begins with
 abbrev pub head_avps : Identity → RequestType → RequestKey → ℕ → List AvpView
@@ -81,7 +84,7 @@ answer_avps identity terms Ceiling = []
 
 -- an answer's header: that of its request, with these bits beside P
 abbrev pub answer_header : HeaderView → ℕ → HeaderView
-answer_header request bits = record request { flags = bits + bit_and request.flags 0x40 }
+answer_header request bits = record request { flags = bit_or (bit_and request.flags 0x40) bits }
 
 -- the answer to a request with an outcome, under the request's identifiers and P bit, with its proxies at the end
 unfoldable pub answer_bytes : Identity → Conditions → HeaderView → List ℕ → Outcome → List ℕ

@@ -5,10 +5,16 @@
 //! the definition, for each outcome that a request can have (RFC 8506).
 #![tactic(auto)]
 
+mod answer;
 mod groups;
 mod lookup;
+mod proxies;
+mod put;
 mod read;
 mod request;
+mod services;
 
+pub use answer::write_cca;
+pub use proxies::{Proxies, session_id};
 pub use read::{CcrFault, read_ccr};
 pub use request::{Request, subscriber};
