@@ -1,15 +1,14 @@
 -- A list: what is read is spelled so, what is spelled so is read, and a fault is that of octets behind whole AVPs.
-use Rattle.std.proofs.Common.{◌≡◌, ℕ, zero, suc, ◌+◌, ◌-◌, ◌<◌, ◌≤◌, List, [], ◌∷◌, ◌++◌, length, take, drop, replicate, Result, Ok, Err, refl, sym, ap, subst, ◌∙◌, append_assoc, arith}
+use Rattle.std.proofs.Common.{◌≡◌, ℕ, zero, suc, ◌+◌, ◌<◌, ◌≤◌, List, [], ◌∷◌, ◌++◌, length, take, drop, replicate, Result, Ok, Err, refl, sym, ap, subst, ◌∙◌, append_assoc, arith}
 use Rattle.std.specs.Prelude.{IfOk, IfErr}
 use Rattle.std.specs.Global.{Vec}
 use Rattle.std.specs.List.{flat_map, AllByRecursion}
-use Rattle.std.proofs.lemmas.List.{append-nil, take_at, drop_at, drop-drop, take-append-drop, nil_from_length, length-append, length-take, length-drop, length-replicate}
+use Rattle.std.proofs.lemmas.List.{drop_at, drop-drop, take-append-drop, nil_from_length, length-append, length-take, length-drop, length-replicate}
 use Rattle.std.proofs.lemmas.List.Concat.{flat_map-cons}
 use Rattle.dcc_avp.specs.declared.fault.AvpFault.{AvpFault}
 use Rattle.dcc_avp.specs.declared.fault.AvpFault.TheVariants as faults
-use Rattle.dcc_avp.specs.declared.avp.Avp.{Avp}
-use Rattle.dcc_avp.specs.Spelling.{AvpView, avp_len, padded_len, padding_len, spelling, padded, HasSpelling, IsPadding, Spells, Begins}
-use Rattle.dcc_avp.specs.Reading.{FaultView, Short, LengthBelowHeader, LengthPastEnd, Tells, Gives, in_front, avp_at, avps_of, IsBroken, Breaks}
+use Rattle.dcc_avp.specs.Spelling.{AvpView, avp_len, padded_len, padding_len, spelling, padded, HasSpelling, IsPadding, Spells}
+use Rattle.dcc_avp.specs.Reading.{FaultView, Short, LengthBelowHeader, LengthPastEnd, Tells, Gives, in_front, avp_at, avps_of, Breaks}
 use Rattle.dcc_avp.proofs.Lengths.{length_least, length_within, length_padding}
 use Rattle.dcc_avp.proofs.Headers.{IsBytes, IsBytes-drop, body_len, IsTaken, at_taken, at_again, at_broken}
 use Rattle.dcc_avp.proofs.Loop.{avps_of-nil, at_ok, at_err}
