@@ -1,0 +1,7 @@
+use Rattle.std.proofs.Common.{refl}
+use Rattle.dcc_model.specs.Entries.{entries}
+use Rattle.dcc_account.proofs.account.Account.new.Goals as goal
+
+pub invariant_of-result : goal.invariant_of-result
+unfolding entries
+invariant_of-result c = rw (c.new.ensures.items, c.new-2.ensures.items, c.new-3.ensures.items) (record { as_many = refl; made = refl; entries_are = refl })

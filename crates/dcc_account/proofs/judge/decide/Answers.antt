@@ -1,0 +1,26 @@
+use Rattle.std.proofs.Common.{ℤ, to_z, of_z, ap, ◌∙◌, arith}
+use Rattle.std.proofs.lemmas.Int.{ints}
+use Rattle.std.proofs.lemmas.Result.{IfOk-weaker}
+use mir.Syntax.{w128}
+use Rattle.dcc_model.specs.Money.{free_of}
+use Rattle.dcc_model.specs.Outcomes.{top_up_outcome}
+use Rattle.dcc_model.proofs.Funds.{event_at, free_is_funds}
+use Rattle.dcc_account.specs.Kept.{past_of}
+use Rattle.dcc_account.proofs.judge.decide.Goals as goal
+
+pub returns-in-TopUp : goal.returns-in-TopUp
+returns-in-TopUp c =
+    λ terms funds.
+    let is = c.sum.ensures in
+    rw c.in-TopUp.is (c.decide_top_up.ensures ∙ ap (λ (f : ℤ). top_up_outcome f c.in-TopUp.top_up) (omega (arith, ints)))
+
+pub returns-in-Event : goal.returns-in-Event
+returns-in-Event c =
+    IfOk-weaker c.decide_event.result _ _
+    (λ outcome is.
+    λ terms funds.
+    let same = free_is_funds terms (past_of c.args.acts.now c.args.outcomes.now) in
+    let sum = c.sum-in-Event.ensures in
+    rw c.in-Event.is
+    (event_at c.in-Event.event (to_z w128 (of_z w128 c.sum-in-Event.result)) (free_of terms (past_of c.args.acts.now c.args.outcomes.now)) outcome is (omega (arith, ints))))
+    c.decide_event.ensures

@@ -1,0 +1,35 @@
+-- A step that is prepared and not yet installed.
+use Rattle.std.specs.Prelude.{ℕ, ◌≡◌, ◌+◌, ◌≤◌, Bool, true, if◌then◌else◌, List, [], length, reverse, Option, MatchOption}
+use Rattle.dcc_act.specs.declared.act.Act.{Act}
+use Rattle.dcc_act.specs.declared.entry.Entry.{Entry}
+use Rattle.dcc_act.specs.declared.outcome.Outcome.{Outcome}
+use Rattle.dcc_model.specs.Outcomes.{after, history, is_made}
+use Rattle.dcc_model.specs.Entries.{entries_by, entries}
+use Rattle.dcc_account.specs.Kept.{AccountView}
+
+-- the sizes of the larger vectors that a step brings
+pub record Space : Type 0 where
+  pub acts : Option ℕ
+  pub outcomes : Option ℕ
+  pub entries : Option ℕ
+
+-- an act, what it comes to, whether it is made, the entries that it adds, and the memory for all that
+pub record StepView : Type 0 where
+  pub act : Act
+  pub outcome : Outcome
+  pub is_new : Bool
+  pub entries : List Entry
+  pub space : Space
+
+-- there is memory for more: in the room that is left, or in a larger vector
+abbrev pub Fits : ℕ → ℕ → ℕ → Option ℕ → Type 0
+Fits count more room larger = MatchOption larger (more ≤ room) (λ capacity. count + more ≤ capacity)
+
+-- the step is that of its act after this account
+pub record IsPrepared (account : AccountView) (step : StepView) : Type 0 where
+  pub outcome_is : step.outcome ≡ after account.terms account.acts step.act
+  pub new_is : step.is_new ≡ is_made account.terms (history account.terms (reverse account.acts)) step.act
+  pub entries_are : step.entries ≡ (if step.is_new then entries_by (length account.acts + 1) (record { act = step.act; outcome = step.outcome }) else [])
+  pub acts_fit : step.is_new ≡ true → Fits (length account.acts) 1 account.room.acts step.space.acts
+  pub outcomes_fit : step.is_new ≡ true → Fits (length account.acts) 1 account.room.outcomes step.space.outcomes
+  pub entries_fit : step.is_new ≡ true → Fits (length (entries account.terms account.acts)) (length step.entries) account.room.entries step.space.entries

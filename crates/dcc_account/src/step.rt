@@ -1,0 +1,71 @@
+//! Steps.
+
+ghost use Rattle.std.specs.Prelude.{◌≡◌};
+
+use dcc_act::{Act, Entry, Outcome};
+use std::marker::Model;
+
+/// A step of an account that is prepared and not yet installed: an act, what it comes to, the entries that it adds, and
+/// all the memory that it takes to install it.
+#[derive(Drop)]
+pub struct Step {
+    pub(crate) act: Act,
+    pub(crate) outcome: Outcome,
+    pub(crate) is_new: bool,
+    pub(crate) entries: Vec<Entry>,
+    pub(crate) larger_acts: Option<Vec<Act>>,
+    pub(crate) larger_outcomes: Option<Vec<Outcome>>,
+    pub(crate) larger_entries: Option<Vec<Entry>>,
+}
+
+impl Model for Step {
+    ghost use Rattle.std.specs.Prelude.{◌≡◌, [], option_map, vec_capacity};
+    ghost use Rattle.std.specs.Option.{ForSome};
+    ghost use Rattle.dcc_account.specs.Prepared.{StepView};
+
+    ghost Value = { StepView };
+
+    ghost view = { λ s. record {
+      act = s.act;
+      outcome = s.outcome;
+      is_new = s.is_new;
+      entries = s.entries.items;
+      space = record {
+        acts = option_map (λ v. vec_capacity v) s.larger_acts;
+        outcomes = option_map (λ v. vec_capacity v) s.larger_outcomes;
+        entries = option_map (λ v. vec_capacity v) s.larger_entries;
+      };
+    } };
+
+    ghost invariant = { λ s. ForSome s.larger_acts (λ v. v.items ≡ []) × ForSome s.larger_outcomes (λ v. v.items ≡ []) × ForSome s.larger_entries (λ v. v.items ≡ []) };
+}
+
+impl Step {
+    /// What the act comes to.
+    pub fn outcome(&self) -> &Outcome
+        ensures { result.now ≡ self.now.outcome }
+    {
+        &self.outcome
+    }
+
+    /// The entries that the act adds, in order.
+    pub fn entries(&self) -> &[Entry]
+        ensures { result.now ≡ self.now.entries }
+    {
+        &self.entries
+    }
+
+    /// The act.
+    pub fn act(&self) -> &Act
+        ensures { result.now ≡ self.now.act }
+    {
+        &self.act
+    }
+
+    /// Whether the act is made, and not a repeat nor a request without an account.
+    pub fn is_new(&self) -> bool
+        ensures { result ≡ self.now.is_new }
+    {
+        self.is_new
+    }
+}
