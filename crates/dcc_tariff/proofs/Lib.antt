@@ -1,3 +1,6 @@
 pub mod PriceLemmas
 pub mod VersionLemmas
 pub mod PlanLemmas
+pub mod AddressLemmas
+pub mod TableLemmas
+pub mod ReadingLemmas

@@ -1,7 +1,8 @@
 -- What the text of a plan file means, a TOML document: a plan, or the first fault in the order of the keys.
-use Rattle.std.specs.Prelude.{◌≡◌, ℕ, suc, ◌+◌, ◌-◌, ◌*◌, ◌^◌, Bool, true, false, ◌&&◌, ◌==◌, bytes_eq, nat_lt, nat_le, if◌then◌else◌, ℤ, pos, negsuc, int_le, int_div, unsigned_abs, List, [], ◌∷◌, length, codes, slice_index, Option, Some, None, option_and_then, is_some, Result, Ok, Err, ok_or}
+use Rattle.std.specs.Prelude.{◌≡◌, ℕ, suc, ◌+◌, ◌-◌, ◌*◌, ◌^◌, Bool, true, false, ◌&&◌, ◌==◌, bytes_eq, nat_lt, nat_le, if◌then◌else◌, ℤ, pos, negsuc, int_le, int_div, unsigned_abs, List, [], ◌∷◌, length, codes, slice_index, Option, Some, None, is_some, Result, Ok, Err, ok_or}
 use Rattle.std.specs.Char.{is_ascii_digit}
-use Rattle.std.specs.List.{list_all, list_any}
+use Rattle.std.specs.List.{list_all, list_any, zip}
+use Rattle.std.specs.Result.{result_map_both}
 use Rattle.std.specs.Net.Text.{ipv4_text}
 use Rattle.toml.specs.Data.{Data, Members, Items, no_items, item, get_member, as_str, as_integer, as_array, as_table}
 use Rattle.toml.specs.Parse.{parse_document}
@@ -26,9 +27,13 @@ required found = ok_or found MissingKey
 abbrev pub in_range : {A : Type 0} → Bool → A → Result A PlanFault
 in_range fits x = if fits then Ok x else Err Range
 
--- the value of a key, where it has the type of the values that are looked for
+-- the value of a key
+abbrev pub found_at : List ℕ → Members → Result Data PlanFault
+found_at key table = required (get_member key table)
+
+-- the value of a key, where it has the type that is looked for
 abbrev pub value_at : {A : Type 0} → (Data → Option A) → List ℕ → Members → Result A PlanFault
-value_at as_type key table = required (option_and_then as_type (get_member key table))
+value_at as_type key table = found_at key table >>= λ value. required (as_type value)
 
 -- a text of visible characters
 unfoldable pub identity_at : List ℕ → Members → Result (List ℕ) PlanFault
@@ -46,11 +51,13 @@ abbrev pub numbers_after : ℕ → List ℕ → List ℕ
 numbers_after n [] = n ∷ []
 numbers_after n (c ∷ cs) = if c == 46 then n ∷ numbers_after 0 cs else numbers_after (n * 10 + (c - 48)) cs
 
--- four numbers below 256 that are written in decimal, without leading zeros, and with dots between them
-unfoldable pub address_of : List ℕ → Option (List ℕ)
-address_of text =
-    let numbers = numbers_after 0 text in
+-- the numbers, if they are four below 256 and the text has them in decimal, without leading zeros, and with dots between them
+abbrev pub if_spelled : List ℕ → List ℕ → Option (List ℕ)
+if_spelled text numbers =
     if (length numbers == 4 && list_all (λ n. nat_lt n 256) numbers) && bytes_eq text (ipv4_text numbers) then Some numbers else None
+
+unfoldable pub address_of : List ℕ → Option (List ℕ)
+address_of text = if_spelled text (numbers_after 0 text)
 
 unfoldable pub address_at : List ℕ → Members → Result (List ℕ) PlanFault
 address_at key table = value_at as_str key table >>= λ text. ok_or (address_of text) Range
@@ -64,12 +71,14 @@ unit_named name =
 unfoldable pub unit_at : List ℕ → Members → Result UnitKind PlanFault
 unit_at key table = value_at as_str key table >>= λ name. ok_or (unit_named name) Range
 
+-- any digit for a 0, and else the same character
+abbrev pub fits_at : ℕ → ℕ → Bool
+fits_at form c = if form == 48 then is_ascii_digit c else c == form
+
 -- the text has the form's characters, and any digit where that has a 0
 abbrev pub has_form : List ℕ → List ℕ → Bool
-has_form [] [] = true
-has_form [] (c ∷ cs) = false
-has_form (f ∷ fs) [] = false
-has_form (f ∷ fs) (c ∷ cs) = (if f == 48 then is_ascii_digit c else c == f) && has_form fs cs
+has_form form text =
+    (length text == length form) && list_all (λ pair. fits_at pair.0 pair.1) (zip form text)
 
 -- the last second that a moment may be, that of the year 2099
 abbrev pub last_moment : ℕ
@@ -101,6 +110,9 @@ version_of table = do
   block ← number_at (codes "block") 1 (10 ^ 12) table
   Ok (record { group = group; unit = unit; from = from; tariff = record { price = price; block = block } })
 
+abbrev pub version_of_value : Data → Result Version PlanFault
+version_of_value value = required (as_table value) >>= version_of
+
 -- the version in its place among those that are in order
 abbrev pub place : Version → List Version → List Version
 place version [] = version ∷ []
@@ -111,7 +123,7 @@ place version (other ∷ others) =
 unfoldable pub versions_onto : List Version → Items → Result (List Version) PlanFault
 versions_onto placed no_items = Ok placed
 versions_onto placed (item value values) =
-    required (as_table value) >>= version_of >>= λ version. versions_onto (place version placed) values
+    version_of_value value >>= λ version. versions_onto (place version placed) values
 
 abbrev pub are_tables : Items → Bool
 are_tables no_items = true
@@ -122,12 +134,9 @@ count no_items = 0
 count (item value values) = suc (count values)
 
 -- from 1 to 1,000 tables
-unfoldable pub versions_at : List ℕ → Members → Result (List Version) PlanFault
-versions_at key table = do
-  tables ← value_at as_array key table
-  all ← if are_tables tables then Ok tables else Err MissingKey
-  some ← in_range (nat_le 1 (count all) && nat_le (count all) 1000) all
-  versions_onto [] some
+unfoldable pub tables_at : List ℕ → Members → Result Items PlanFault
+tables_at key table = value_at as_array key table >>= λ tables.
+    if are_tables tables then in_range (nat_le 1 (count tables) && nat_le (count tables) 1000) tables else Err MissingKey
 
 unfoldable pub terms_of : Members → Result Conditions PlanFault
 terms_of table = do
@@ -147,7 +156,8 @@ plan_of table = do
   default_group ← number_at (codes "default_group") 0 (2 ^ 32 - 1) table
   quantum ← number_at (codes "quantum") 1 (10 ^ 12) table
   terms ← terms_of table
-  versions ← versions_at (codes "tariff") table
+  tables ← tables_at (codes "tariff") table
+  versions ← versions_onto [] tables
   in_range (all_agree versions && list_any (is_of default_group) versions) (record {
     host = host;
     realm = realm;
@@ -163,11 +173,18 @@ plan_of table = do
 unfoldable pub plan_of_text : List ℕ → Result PlanView PlanFault
 plan_of_text text = ok_or (parse_document text) NotToml >>= plan_of
 
--- what was read is what is meant, unless memory ran out
+-- what was read, seen so, is what is meant, unless memory ran out
+abbrev pub GivesBy : {X Y : Type 0} → (X → Y) → Result X PlanFault → Result Y PlanFault → Type 0
+GivesBy seen (Ok x) meant = meant ≡ Ok (seen x)
+GivesBy seen (Err Memory) meant = Unit {0}
+GivesBy seen (Err NotToml) meant = meant ≡ Err NotToml
+GivesBy seen (Err MissingKey) meant = meant ≡ Err MissingKey
+GivesBy seen (Err Range) meant = meant ≡ Err Range
+GivesBy seen (Err BadMoment) meant = meant ≡ Err BadMoment
+
 abbrev pub Gives : {X : Type 0} → Result X PlanFault → Result X PlanFault → Type 0
-Gives (Ok x) meant = meant ≡ Ok x
-Gives (Err Memory) meant = Unit {0}
-Gives (Err NotToml) meant = meant ≡ Err NotToml
-Gives (Err MissingKey) meant = meant ≡ Err MissingKey
-Gives (Err Range) meant = meant ≡ Err Range
-Gives (Err BadMoment) meant = meant ≡ Err BadMoment
+Gives read meant = GivesBy (λ x. x) read meant
+
+-- what was read, seen so
+abbrev pub seen_by : {X Y : Type 0} → (X → Y) → Result X PlanFault → Result Y PlanFault
+seen_by seen read = result_map_both seen (λ fault. fault) read

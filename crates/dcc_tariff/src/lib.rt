@@ -5,8 +5,13 @@
 #![tactic(auto)]
 
 mod fault;
+mod keys;
+mod moment;
 mod plan;
 mod prices;
+mod reading;
+mod rows;
+mod tables;
 mod tariff;
 mod terms;
 mod version;

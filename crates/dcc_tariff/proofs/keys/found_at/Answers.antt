@@ -1,0 +1,14 @@
+use Rattle.std.proofs.Common.{ap, ok_or}
+use Rattle.toml.proofs.Views.{table_get}
+use Rattle.dcc_tariff.specs.PlanTexts.{required}
+use Rattle.dcc_tariff.proofs.keys.found_at.Goals as goal
+
+pub returns-in-Some : goal.returns-in-Some
+returns-in-Some c =
+    let found = table_get c.get.result c.args.key.now c.args.table.now.entries c.get.ensures.value in
+    ap required (rw c.in-Some.is at found)
+
+pub returns-in-None : goal.returns-in-None
+returns-in-None c =
+    let found = table_get c.get.result c.args.key.now c.args.table.now.entries c.get.ensures.value in
+    ap required (rw c.in-None.is at found)

@@ -1,0 +1,319 @@
+use super::texts::{PLAN, check_edits, edited, fault_in};
+use std::alloc::Global;
+use std::test::Fail;
+
+#[test]
+fn first_faults(rt: HostRuntime) -> Result<(), Fail> {
+    assert_eq!(rt; fault_in(rt.alloc(), "="), 20);
+    assert_eq!(rt; fault_in(rt.alloc(), ""), 21);
+    check_edits(
+        &rt,
+        rt.alloc(),
+        &[
+            ("quantum = 100000\n", "", 21),
+            ("block = 1000", "block = 0", 22),
+            ("2020-01-01T00:00:00Z", "2025-02-30T00:00:00Z", 23),
+            ("quantum = 100000", "quantum = 100000\nextra = 1", 0),
+        ],
+    )
+}
+
+#[test]
+fn missing_keys(rt: HostRuntime) -> Result<(), Fail> {
+    check_edits(
+        &rt,
+        rt.alloc(),
+        &[
+            ("host = ", "hosts = ", 21),
+            ("realm = ", "realms = ", 21),
+            ("address = ", "addresses = ", 21),
+            ("shards = 2", "shard = 2", 21),
+            ("default_group = ", "group = ", 21),
+            ("quantum = ", "quanta = ", 21),
+            ("validity = ", "valid = ", 21),
+            ("hold = ", "holds = ", 21),
+            ("currency = ", "currencies = ", 21),
+            ("exponent = ", "exponents = ", 21),
+            ("group = 30", "groups = 30", 21),
+            ("unit = \"units\"", "units = \"units\"", 21),
+            ("from = ", "since = ", 21),
+            ("price = 0", "prices = 0", 21),
+            ("block = 1000", "blocks = 1000", 21),
+        ],
+    )
+}
+
+#[test]
+fn values_of_another_type(rt: HostRuntime) -> Result<(), Fail> {
+    check_edits(
+        &rt,
+        rt.alloc(),
+        &[
+            ("\"ocs.example\"", "1", 21),
+            ("\"example\"", "true", 21),
+            ("\"127.0.0.1\"", "2020-01-01", 21),
+            ("shards = 2", "shards = \"2\"", 21),
+            ("default_group = 10", "default_group = 10.0", 21),
+            ("quantum = 100000", "quantum = 1e5", 21),
+            ("validity = 600", "validity = [600]", 21),
+            ("hold = 1200", "hold = {}", 21),
+            ("currency = 978", "currency = \"EUR\"", 21),
+            ("exponent = -2", "exponent = -2.0", 21),
+            ("group = 30", "group = \"30\"", 21),
+            ("unit = \"units\"", "unit = 3", 21),
+            (
+                "from = \"2020-01-01T00:00:00Z\"",
+                "from = 2020-01-01T00:00:00Z",
+                21,
+            ),
+            ("price = 5", "price = 5.0", 21),
+            ("block = 1000", "block = false", 21),
+        ],
+    )
+}
+
+#[test]
+fn limits_of_names(rt: HostRuntime) -> Result<(), Fail> {
+    let longest =
+        "aaaaaaaaaaaaaaaaaaaaaaaaaaaaaaaaaaaaaaaaaaaaaaaaaaaaaaaaaaaaaaaaaaaaaaaaaaaaaaaaaaaaaaaaaaaaaaaaaaaaaaaaaaaaaaaaaaaaaaaaaaaaaaaaaaaaaaaaaaaaaaaaaaaaaaaaaaaaaaaaaaaaaaaaaaaaaaaaaaaaaaaaaaaaaaaaaaaaaaaaaaaaaaaaaaaaaaaaaaaaaaaaaaaaaaaaaaaaaaaaaaaaaaaaaaaaaaa";
+    let longer =
+        "aaaaaaaaaaaaaaaaaaaaaaaaaaaaaaaaaaaaaaaaaaaaaaaaaaaaaaaaaaaaaaaaaaaaaaaaaaaaaaaaaaaaaaaaaaaaaaaaaaaaaaaaaaaaaaaaaaaaaaaaaaaaaaaaaaaaaaaaaaaaaaaaaaaaaaaaaaaaaaaaaaaaaaaaaaaaaaaaaaaaaaaaaaaaaaaaaaaaaaaaaaaaaaaaaaaaaaaaaaaaaaaaaaaaaaaaaaaaaaaaaaaaaaaaaaaaaaaa";
+    assert_eq!(rt; longest.len(), 255);
+    check_edits(
+        &rt,
+        rt.alloc(),
+        &[
+            ("ocs.example", "", 22),
+            ("ocs.example", "!", 0),
+            ("ocs.example", "~", 0),
+            ("ocs.example", longest, 0),
+            ("ocs.example", longer, 22),
+            ("ocs.example", "ocs example", 22),
+            ("ocs.example", "\\u007F", 22),
+            ("ocs.example", "h\u{f4}te", 22),
+            ("\"example\"", "\"\"", 22),
+            ("\"example\"", "\"a b\"", 22),
+        ],
+    )
+}
+
+#[test]
+fn limits_of_addresses(rt: HostRuntime) -> Result<(), Fail> {
+    let address = "127.0.0.1";
+    check_edits(
+        &rt,
+        rt.alloc(),
+        &[
+            (address, "0.0.0.0", 0),
+            (address, "255.255.255.255", 0),
+            (address, "", 22),
+            (address, "127.0.0.256", 22),
+            (address, "127.0.0", 22),
+            (address, "127.0.0.1.1", 22),
+            (address, "127.0.0.01", 22),
+            (address, "127.0.0.", 22),
+            (address, "127.0.0.1 ", 22),
+            (address, "+1.0.0.1", 22),
+            (address, "::1", 22),
+            (address, "localhost", 22),
+        ],
+    )
+}
+
+#[test]
+fn limits_of_numbers(rt: HostRuntime) -> Result<(), Fail> {
+    check_edits(
+        &rt,
+        rt.alloc(),
+        &[
+            ("shards = 2", "shards = 0", 22),
+            ("shards = 2", "shards = 1", 0),
+            ("shards = 2", "shards = 8", 0),
+            ("shards = 2", "shards = 9", 22),
+            ("shards = 2", "shards = -1", 22),
+            ("quantum = 100000", "quantum = 0", 22),
+            ("quantum = 100000", "quantum = 1", 0),
+            ("quantum = 100000", "quantum = 1000000000000", 0),
+            ("quantum = 100000", "quantum = 1000000000001", 22),
+            ("quantum = 100000", "quantum = 9223372036854775807", 22),
+            ("quantum = 100000", "quantum = -9223372036854775808", 22),
+            ("quantum = 100000", "quantum = 9223372036854775808", 20),
+            ("validity = 600", "validity = 0", 22),
+            ("validity = 600", "validity = 1", 0),
+            ("validity = 600", "validity = 1000000", 0),
+            ("validity = 600", "validity = 1000001", 22),
+            ("hold = 1200", "hold = 0", 22),
+            ("hold = 1200", "hold = 1", 0),
+            ("hold = 1200", "hold = 1000000", 0),
+            ("hold = 1200", "hold = 1000001", 22),
+            ("currency = 978", "currency = -1", 22),
+            ("currency = 978", "currency = 0", 0),
+            ("currency = 978", "currency = 999", 0),
+            ("currency = 978", "currency = 1000", 22),
+            ("exponent = -2", "exponent = -10", 22),
+            ("exponent = -2", "exponent = -9", 0),
+            ("exponent = -2", "exponent = 9", 0),
+            ("exponent = -2", "exponent = 10", 22),
+        ],
+    )
+}
+
+#[test]
+fn limits_of_tariffs(rt: HostRuntime) -> Result<(), Fail> {
+    check_edits(
+        &rt,
+        rt.alloc(),
+        &[
+            ("group = 30", "group = -1", 22),
+            ("group = 30", "group = 0", 0),
+            ("group = 30", "group = 4294967295", 0),
+            ("group = 30", "group = 4294967296", 22),
+            ("unit = \"units\"", "unit = \"Units\"", 22),
+            ("unit = \"units\"", "unit = \"octets\"", 0),
+            ("price = 5", "price = -1", 22),
+            ("price = 5", "price = 0", 0),
+            ("price = 5", "price = 1000000", 0),
+            ("price = 5", "price = 1000001", 22),
+            ("block = 1000", "block = 1", 0),
+            ("block = 1000", "block = 1000000000000", 0),
+            ("block = 1000", "block = 1000000000001", 22),
+        ],
+    )
+}
+
+#[test]
+fn tariffs_that_disagree(rt: HostRuntime) -> Result<(), Fail> {
+    check_edits(
+        &rt,
+        rt.alloc(),
+        &[
+            ("default_group = 10", "default_group = 11", 22),
+            ("default_group = 10", "default_group = -1", 22),
+            ("default_group = 10", "default_group = 4294967296", 22),
+            // Two versions of one group from one moment, and of two units.
+            (
+                "group = 30\nunit = \"units\"",
+                "group = 20\nunit = \"time\"",
+                22,
+            ),
+            (
+                "group = 30\nunit = \"units\"\nfrom = \"2020",
+                "group = 20\nunit = \"units\"\nfrom = \"2021",
+                22,
+            ),
+            (
+                "group = 30\nunit = \"units\"\nfrom = \"2020",
+                "group = 20\nunit = \"time\"\nfrom = \"2021",
+                0,
+            ),
+        ],
+    )?;
+    let last = edited(
+        rt.alloc(),
+        PLAN,
+        "default_group = 10",
+        "default_group = 4294967295",
+    )?;
+    let last = edited(
+        rt.alloc(),
+        last.as_str(),
+        "group = 30",
+        "group = 4294967295",
+    )?;
+    assert_eq!(rt; fault_in(rt.alloc(), last.as_str()), 0);
+    Ok(())
+}
+
+#[test]
+fn the_first_key_decides(rt: HostRuntime) -> Result<(), Fail> {
+    check_edits(
+        &rt,
+        rt.alloc(),
+        &[
+            (
+                "\"ocs.example\"\nrealm = \"example\"",
+                "\"\"\nrealm = 1",
+                22,
+            ),
+            (
+                "\"ocs.example\"\nrealm = \"example\"",
+                "1\nrealm = \"\"",
+                21,
+            ),
+            (
+                "validity = 600\nhold = 1200",
+                "validity = 0\nhold = true",
+                22,
+            ),
+            (
+                "validity = 600\nhold = 1200",
+                "validity = true\nhold = 0",
+                21,
+            ),
+            ("2020-01-01T00:00:00Z\"\nprice = 5", "\"\nprice = -1", 23),
+            ("price = 5\nblock = 1000", "price = -1\nblock = true", 22),
+            // The tables one after another, and what they say together last.
+            (
+                "price = 2\nblock = 60\n\n[[tariff]]\ngroup = 30",
+                "price = 2\nblock = 0\n\n[[tariff]]",
+                22,
+            ),
+            (
+                "price = 2\nblock = 60\n\n[[tariff]]\ngroup = 30",
+                "price = 2\n\n[[tariff]]\ngroup = -1",
+                21,
+            ),
+            (
+                "group = 30\nunit = \"units\"\nfrom = \"2020-01-01T00:00:00Z\"",
+                "group = 20\nunit = \"units\"\nfrom = \"\"",
+                23,
+            ),
+        ],
+    )
+}
+
+/// The keys above the tables, and so many tables of one group.
+fn with_tables(alloc: Global, count: u32) -> Result<String, Fail> {
+    let (keys, _) = PLAN.split_once("[[tariff]]").ok_or("no tables")?;
+    let mut text = String::from_str(alloc, keys)?;
+    for i in 0..count {
+        let (hour, minute) = (i / 60 % 24, i % 60);
+        write!(
+            text,
+            "[[tariff]]\ngroup = 10\nunit = \"octets\"\nfrom = \"2020-01-01T{hour:02}:{minute:02}:00Z\"\nprice = 1\nblock = 1\n"
+        )?;
+    }
+    Ok(text)
+}
+
+#[test]
+fn one_to_a_thousand_tables(rt: HostRuntime) -> Result<(), Fail> {
+    for (count, fault) in [(0, 21), (1, 0), (1000, 0), (1001, 22)] {
+        let text = with_tables(rt.alloc(), count)?;
+        assert_eq!(rt;
+            fault_in(rt.alloc(), text.as_str()),
+            fault,
+            "{count} tables"
+        );
+    }
+    Ok(())
+}
+
+#[test]
+fn lists_of_other_things(rt: HostRuntime) -> Result<(), Fail> {
+    let keys = with_tables(rt.alloc(), 0)?;
+    for (list, fault) in [
+        ("tariff = []", 22),
+        ("tariff = 1", 21),
+        ("tariff = \"\"", 21),
+        ("tariff = {}", 21),
+        ("tariff = [1]", 21),
+        ("tariff = [{ group = -1 }, 1]", 21),
+        ("tariff = [{ group = -1 }]", 22),
+        ("tariff = [{}]", 21),
+    ] {
+        let text = format!(in rt.alloc(); "{keys}{list}")?;
+        assert_eq!(rt; fault_in(rt.alloc(), text.as_str()), fault, "{list}");
+    }
+    Ok(())
+}
