@@ -1,2 +1,3 @@
 pub mod Subscribers
 pub mod ServiceSizes
+pub mod Appended

@@ -5,7 +5,9 @@
 //! the definition, for each outcome that a request can have (RFC 8506).
 #![tactic(auto)]
 
+mod act;
 mod answer;
+mod busy;
 mod groups;
 mod lookup;
 mod proxies;
@@ -14,7 +16,9 @@ mod read;
 mod request;
 mod services;
 
+pub use act::to_act;
 pub use answer::write_cca;
+pub use busy::write_busy;
 pub use proxies::{Proxies, session_id};
 pub use read::{CcrFault, read_ccr};
 pub use request::{Request, subscriber};
