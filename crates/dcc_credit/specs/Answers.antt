@@ -19,6 +19,9 @@ use Rattle.dcc_act.specs.declared.outcome.ServiceAnswer.{ServiceAnswer}
 use Rattle.dcc_act.specs.declared.request_key.RequestKey.{RequestKey}
 use Rattle.dcc_act.specs.declared.service.Form.{Form}
 use Rattle.dcc_act.specs.declared.service.Form.TheVariants.{Single, Multi}
+use Rattle.dcc_act.specs.Limits.{IsSessionId}
+use Rattle.dcc_act.specs.Answers.{AreAnswers}
+use Rattle.dcc_message.specs.Names.{IsName}
 use Rattle.dcc_act.specs.Numbers.{request_type_number, result_number}
 use Rattle.dcc_credit.specs.Requests.{is_session, where_}
 
@@ -104,3 +107,15 @@ busy_bytes identity session request proxies =
 -- the E bit of a message
 unfoldable pub is_busy : List ℕ → Bool
 is_busy octets = not (bit_and (slice_index octets 4) 0x20 == 0)
+
+-- what holds of every server's names
+pub record IsServer (identity : Identity) : Type 0 where
+  pub host : IsName identity.host
+  pub realm : IsName identity.realm
+
+-- what holds of every outcome
+abbrev pub HasLimits : Outcome → Type 0
+HasLimits (Unknown type key) = IsSessionId key.sid
+HasLimits (Answered answer) = IsSessionId answer.key.sid × AreAnswers answer.services
+HasLimits Added = Unit {0}
+HasLimits Ceiling = Unit {0}

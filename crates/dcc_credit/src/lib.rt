@@ -24,3 +24,6 @@ pub use laws::told_apart;
 pub use proxies::{Proxies, session_id};
 pub use read::{CcrFault, read_ccr};
 pub use request::{Request, subscriber};
+
+#[cfg(test)]
+mod tests;
