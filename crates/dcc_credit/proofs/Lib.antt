@@ -2,3 +2,5 @@ pub mod Subscribers
 pub mod ServiceSizes
 pub mod Appended
 pub mod Messages
+pub mod Spelled
+pub mod ReadBack

@@ -1,11 +1,9 @@
 -- What the octets of answers tell by themselves.
-use Rattle.std.proofs.Common.{◌≡◌, ℕ, ◌+◌, ◌≤◌, Bool, true, false, not, ◌==◌, List, ◌++◌, length, get_or, Option, refl, ap, ◌∙◌, arith}
-use Rattle.std.specs.Int.{w32, to_be_bytes, bytes_high_first}
+use Rattle.std.proofs.Common.{◌≡◌, ℕ, ◌≤◌, true, false, not, ◌==◌, List, ◌++◌, length, Option, refl, ◌∙◌, arith}
 use Rattle.std.specs.Prelude.{bit_and, bit_or, slice_index}
 use Rattle.std.specs.List.{flat_map}
 use Rattle.std.specs.Int.Bits.{and_zero_r}
 use Rattle.std.proofs.lemmas.Nat.{and_or_self, and_or_apart, and_assoc}
-use Rattle.std.proofs.lemmas.List.{length-append}
 use Rattle.dcc_avp.specs.Spelling.{padded}
 use Rattle.dcc_message.specs.HeaderView.{HeaderView}
 use Rattle.dcc_message.specs.Headers.{header, message}

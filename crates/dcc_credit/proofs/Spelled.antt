@@ -1,5 +1,5 @@
 -- Each AVP of an answer has a spelling, and the octets of AVPs are whole words.
-use Rattle.std.proofs.Common.{◌≡◌, ℕ, ◌+◌, ◌*◌, ◌%◌, ◌^◌, ◌<◌, ◌≤◌, List, [], ◌∷◌, ◌++◌, length, replicate, map, Option, Some, None, refl, ap, ◌∙◌, arith, lit<}
+use Rattle.std.proofs.Common.{◌≡◌, ℕ, ◌+◌, ◌-◌, ◌*◌, ◌%◌, ◌^◌, ◌<◌, ◌≤◌, List, [], ◌∷◌, ◌++◌, length, replicate, map, Option, Some, None, refl, ap, ◌∙◌, arith, lit<}
 use Rattle.std.specs.Prelude.{option_map}
 use Rattle.std.specs.Int.{w32, w64, to_be_bytes}
 use Rattle.std.specs.List.{flat_map, sum_by, AllByRecursion}
@@ -24,7 +24,7 @@ use Rattle.dcc_act.specs.declared.request_key.RequestKey.{RequestKey}
 use Rattle.dcc_act.specs.declared.service.Form.{Form}
 use Rattle.dcc_act.specs.declared.service.Form.TheVariants.{Single, Multi}
 use Rattle.dcc_act.specs.Numbers.{request_type_number, result_number}
-use Rattle.dcc_credit.specs.Answers.{sent, sent32, sent64, grouped, amount_avp, granted, service_parts, service_avps, head_avps, answer_avps, busy_avps, IsServer, HasLimits}
+use Rattle.dcc_credit.specs.Answers.{sent, sent32, sent64, amount_avp, granted, service_parts, service_avps, head_avps, answer_avps, busy_avps, IsServer, HasLimits}
 use Rattle.dcc_credit.proofs.ServiceSizes.{ids_of}
 
 abbrev pub AllSpelled : List AvpView → Type 0
@@ -35,12 +35,8 @@ AllSpelled avps = AllByRecursion HasSpelling avps
 length_padded : (avp : AvpView) → HasSpelling avp → length (padded avp) ≡ padded_len avp
 unfolding padded
 length_padded avp h =
-    let size = length-spelling avp h in
-    let parts : length (spelling avp ++ replicate (padding_len avp) 0) ≡ length (spelling avp) + length (replicate (padding_len avp) 0) =
-      length-append (spelling avp) (replicate (padding_len avp) 0) in
-    let zeros : length (replicate (padding_len avp) 0) ≡ padding_len avp = length-replicate (padding_len avp) 0 in
-    let whole = length_padding avp in
-    omega arith
+    length-append (spelling avp) (replicate (padding_len avp) 0) ∙ ap (λ (n : ℕ). length (spelling avp) + n) (length-replicate (padding_len avp) 0) ∙
+    ap (λ (n : ℕ). n + padding_len avp) (length-spelling avp h) ∙ length_padding avp
 
 rounded : (n : ℕ) → (n + (4 - n % 4) % 4) % 4 ≡ 0
 rounded n = omega arith
@@ -76,7 +72,7 @@ sent_few code value h =
     let few = rounded_few (8 + length value) in
     omega arith
 
-append_spelled : (xs ys : List AvpView) → AllSpelled xs → AllSpelled ys → AllSpelled (xs ++ ys)
+pub append_spelled : (xs ys : List AvpView) → AllSpelled xs → AllSpelled ys → AllSpelled (xs ++ ys)
 append_spelled [] ys a b = b
 append_spelled (x ∷ xs) ys a b = (a.0, append_spelled xs ys a.1 b)
 
@@ -95,7 +91,7 @@ both_take xs ys m n a b =
     let first = a.few in
     let second = b.few in
     let parts : length (flat_map padded (xs ++ ys)) ≡ length (flat_map padded xs) + length (flat_map padded ys) =
-      ap length (flat_map-append padded xs ys) ∙ length-append (flat_map padded xs) (flat_map padded ys) in
+    ap length (flat_map-append padded xs ys) ∙ length-append (flat_map padded xs) (flat_map padded ys) in
     record { spelled = append_spelled xs ys a.spelled b.spelled; few = omega arith }
 
 none_take : (most : ℕ) → Takes [] most
@@ -174,11 +170,22 @@ services_spelled (service ∷ services) few =
 head_spelled : (identity : Identity) (type : RequestType) (key : RequestKey) (code : ℕ) → IsServer identity → length key.sid ≤ 255 → AllSpelled (head_avps identity type key code)
 head_spelled identity type key code server few =
     let host = server.host.few in
-    let realm = server.realm.few in
-    (sent_spelled SESSION_ID key.sid (lit< tt) (omega arith), sent32_spelled RESULT_CODE code (lit< tt),
-    sent_spelled ORIGIN_HOST identity.host (lit< tt) (omega arith), sent_spelled ORIGIN_REALM identity.realm (lit< tt) (omega arith),
-    sent32_spelled AUTH_APPLICATION_ID 4 (lit< tt), sent32_spelled CC_REQUEST_TYPE (request_type_number type) (lit< tt),
-    sent32_spelled CC_REQUEST_NUMBER key.number (lit< tt), tt)
+    let realm = server.realm.few in (
+      sent_spelled SESSION_ID key.sid (lit< tt) (omega arith),
+      (
+        sent32_spelled RESULT_CODE code (lit< tt),
+        (
+          sent_spelled ORIGIN_HOST identity.host (lit< tt) (omega arith),
+          (
+            sent_spelled ORIGIN_REALM identity.realm (lit< tt) (omega arith),
+            (
+              sent32_spelled AUTH_APPLICATION_ID 4 (lit< tt),
+              (sent32_spelled CC_REQUEST_TYPE (request_type_number type) (lit< tt), (sent32_spelled CC_REQUEST_NUMBER key.number (lit< tt), tt)),
+            ),
+          ),
+        ),
+      ),
+    )
 
 pub answer_spelled : (identity : Identity) (terms : Conditions) (outcome : Outcome) → IsServer identity → HasLimits outcome → AllSpelled (answer_avps identity terms outcome)
 unfolding answer_avps
@@ -193,8 +200,10 @@ answer_spelled identity terms Ceiling server limits = tt
 rest_spelled : (identity : Identity) → IsServer identity → AllSpelled (sent32 RESULT_CODE 3004 ∷ sent ORIGIN_HOST identity.host ∷ sent ORIGIN_REALM identity.realm ∷ [])
 rest_spelled identity server =
     let host = server.host.few in
-    let realm = server.realm.few in
-    (sent32_spelled RESULT_CODE 3004 (lit< tt), sent_spelled ORIGIN_HOST identity.host (lit< tt) (omega arith), sent_spelled ORIGIN_REALM identity.realm (lit< tt) (omega arith), tt)
+    let realm = server.realm.few in (
+      sent32_spelled RESULT_CODE 3004 (lit< tt),
+      (sent_spelled ORIGIN_HOST identity.host (lit< tt) (omega arith), (sent_spelled ORIGIN_REALM identity.realm (lit< tt) (omega arith), tt)),
+    )
 
 pub busy_spelled : (identity : Identity) (session : Option (List ℕ)) → IsServer identity → ForSome session (λ octets. length octets ≤ 255) → AllSpelled (busy_avps identity session)
 busy_spelled identity None server few = rest_spelled identity server

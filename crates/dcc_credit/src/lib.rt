@@ -20,7 +20,7 @@ mod services;
 pub use act::to_act;
 pub use answer::write_cca;
 pub use busy::write_busy;
-pub use laws::told_apart;
+pub use laws::{read_back, told_apart};
 pub use proxies::{Proxies, session_id};
 pub use read::{CcrFault, read_ccr};
 pub use request::{Request, subscriber};
