@@ -1,7 +1,7 @@
 //! Writing an AVP.
 
 ghost use Rattle.std.specs.Prelude.{◌≡◌, ◌+◌, ◌^◌, ◌<◌, ◌≤◌, ◌++◌, length, vec_len, vec_capacity, OnOk, OnErr};
-ghost use Rattle.dcc_avp.specs.Spelling.{avp_len, vendor_octets, padded, HasSpelling};
+ghost use Rattle.dcc_avp.specs.Spelling.{avp_len, padded_len, vendor_octets, padded, HasSpelling};
 
 use crate::avp::Avp;
 use std::alloc::AllocError;
@@ -23,6 +23,7 @@ pub fn write_avp(out: &mut Vec<u8>, avp: &Avp<'_>) -> Result<(), AllocError>
     requires { avp_len avp.now < 2 ^ 24 }
     ensures ok { OnOk result (out.new.items ≡ out.old.items ++ padded avp.now) }
     ensures err { OnErr result (out.new.items ≡ out.old.items) }
+    ensures len { OnOk result (vec_len out.new ≡ vec_len out.old + padded_len avp.now) }
     ensures has_spelling { HasSpelling avp.now }
 {
     let len = avp.length();

@@ -1,0 +1,6 @@
+pub mod Subscribers
+pub mod ServiceSizes
+pub mod Appended
+pub mod Messages
+pub mod Spelled
+pub mod ReadBack

@@ -1,0 +1,7 @@
+-- How octets that are written grow.
+use Rattle.std.specs.Prelude.{◌≡◌, ℕ, ◌+◌, ◌%◌, ◌≤◌}
+
+-- from one length to another, by whole words of four octets, and by so many at most
+pub record Grows (old new most : ℕ) : Type 0 where
+  pub whole : old % 4 ≡ 0 → new % 4 ≡ 0
+  pub within : new ≤ old + most

@@ -1,0 +1,29 @@
+//! From a message to what it asks of an account, and from an outcome to the octets of an answer.
+//!
+//! Stands on `dcc_message` and `dcc_avp` for octets, on `dcc_act` for acts and outcomes, and on `dcc_tariff` for the plan.
+//! The contract that it gives: a request is read exactly where a message holds one, and an answer's octets are those of
+//! the definition, for each outcome that a request can have (RFC 8506).
+#![tactic(auto)]
+
+mod act;
+mod answer;
+mod busy;
+mod groups;
+mod laws;
+mod lookup;
+mod proxies;
+mod put;
+mod read;
+mod request;
+mod services;
+
+pub use act::to_act;
+pub use answer::write_cca;
+pub use busy::write_busy;
+pub use laws::{read_back, told_apart};
+pub use proxies::{Proxies, session_id};
+pub use read::{CcrFault, read_ccr};
+pub use request::{Request, subscriber};
+
+#[cfg(test)]
+mod tests;

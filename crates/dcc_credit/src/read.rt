@@ -1,0 +1,138 @@
+//! Reading a request: checks over the whole message, one after another, and then its groups.
+
+ghost use Rattle.std.specs.Prelude.{◌≡◌, ◌↔◌, Some, None, Err, option_map, IfOk, IfErr};
+ghost use Rattle.dcc_credit.specs.Requests.{Plain, plain_of, is_credit_control, is_session, request_of};
+ghost use Rattle.dcc_credit.specs.declared.read.CcrFault.TheVariants.{Later, Memory};
+
+use crate::groups::{requested, subscription};
+use crate::lookup::{are_of, only_number, only_value};
+use crate::request::Request;
+use dcc_avp::{Avp, codes};
+use dcc_message::Header;
+use std::alloc::{AllocError, Global};
+use std::marker::Model;
+use thiserror::Error;
+
+/// Why a message has no request.
+#[derive(Clone, Copy, Debug, PartialEq, Eq, Error)]
+pub enum CcrFault {
+    /// It is no request of a kind that is served yet.
+    #[error("not served yet")]
+    Later,
+    /// There was no memory to read it.
+    #[error("out of memory")]
+    Memory,
+}
+
+impl From<AllocError> for CcrFault {
+    ghost from_gives = { λ _ fault. fault ≡ Memory };
+
+    fn from(_error: AllocError) -> CcrFault {
+        CcrFault::Memory
+    }
+}
+
+/// The codes that may stand in a request: each once, and any number of Proxy-Info.
+const SERVED: [u32; 12] = [
+    codes::SESSION_ID,
+    codes::ORIGIN_HOST,
+    codes::ORIGIN_REALM,
+    codes::DESTINATION_REALM,
+    codes::AUTH_APPLICATION_ID,
+    codes::SERVICE_CONTEXT_ID,
+    codes::CC_REQUEST_TYPE,
+    codes::CC_REQUEST_NUMBER,
+    codes::REQUESTED_ACTION,
+    codes::SUBSCRIPTION_ID,
+    codes::REQUESTED_SERVICE_UNIT,
+    codes::PROXY_INFO,
+];
+
+/// What a message says outside its groups, and the groups' data.
+#[derive(Drop)]
+struct Outline<'a> {
+    session: &'a [u8],
+    number: u32,
+    subscription: &'a [u8],
+    requested: &'a [u8],
+}
+
+impl<'a> Model for Outline<'a> {
+    ghost use Rattle.dcc_credit.specs.Requests.{Plain, IsSession};
+
+    ghost Value = { Plain };
+
+    ghost view = { λ o. record { session = o.session.now; number = o.number; subscription = o.subscription.now; requested = o.requested.now } };
+
+    ghost invariant = { λ o. IsSession o.session.now };
+}
+
+/// Reads the request of a message, in the shape that is served today (a direct debit of octets, in docs/PROFILE.md).
+#[tactic(auto, unfolding(crate::specs::Requests::request_of))]
+pub fn read_ccr<'a>(
+    alloc: Global,
+    header: &Header,
+    avps: &[Avp<'a>],
+) -> Result<Request<'a>, CcrFault>
+    ensures found { IfOk result (λ request. request_of header.now avps.now ≡ Some request) }
+    ensures later { result ≡ Err Later → request_of header.now avps.now ≡ None }
+{
+    let Some(outline) = outline_of(header, avps) else {
+        return Err(CcrFault::Later);
+    };
+    let Some(sub) = subscription(alloc, outline.subscription)? else {
+        return Err(CcrFault::Later);
+    };
+    let Some(octets) = requested(alloc, outline.requested)? else {
+        return Err(CcrFault::Later);
+    };
+    Ok(Request {
+        sub,
+        session: outline.session,
+        number: outline.number,
+        octets,
+    })
+}
+
+/// What has to be there once, and the numbers that have one value.
+#[tactic(auto, unfolding(crate::specs::Requests::plain_of))]
+fn outline_of<'a>(header: &Header, avps: &[Avp<'a>]) -> Option<Outline<'a>>
+    ensures { result ≡ plain_of header.now avps.now }
+{
+    if !is_credit_control(header) || !are_of(avps, &SERVED) {
+        return None;
+    }
+    let session = only_value(avps, codes::SESSION_ID)?;
+    if session.is_empty() || session.len() > 255 {
+        return None;
+    }
+    only_value(avps, codes::ORIGIN_HOST)?;
+    only_value(avps, codes::ORIGIN_REALM)?;
+    only_value(avps, codes::DESTINATION_REALM)?;
+    if only_number(avps, codes::AUTH_APPLICATION_ID)? != 4 {
+        return None;
+    }
+    only_value(avps, codes::SERVICE_CONTEXT_ID)?;
+    if only_number(avps, codes::CC_REQUEST_TYPE)? != 4 {
+        return None;
+    }
+    let number = only_number(avps, codes::CC_REQUEST_NUMBER)?;
+    if only_number(avps, codes::REQUESTED_ACTION)? != 0 {
+        return None;
+    }
+    let subscription = only_value(avps, codes::SUBSCRIPTION_ID)?;
+    let requested = only_value(avps, codes::REQUESTED_SERVICE_UNIT)?;
+    Some(Outline {
+        session,
+        number,
+        subscription,
+        requested,
+    })
+}
+
+/// R is set and E is clear, and the command is Credit-Control in its application (RFC 8506, sections 1.3 and 3.1).
+fn is_credit_control(header: &Header) -> bool
+    ensures { result ≡ is_credit_control header.now }
+{
+    header.flags & 0x80 != 0 && header.flags & 0x20 == 0 && header.code == 272 && header.app == 4
+}

@@ -1,0 +1,101 @@
+//! The services of an answer.
+
+ghost use Rattle.std.specs.Prelude.{◌≡◌, ◌≤◌, ◌+◌, ◌*◌, ◌<◌, ◌^◌, ◌++◌, Some, length, vec_len, map, option_map, OnOk};
+ghost use Rattle.std.specs.List.{flat_map};
+ghost use Rattle.std.specs.Option.{option_to_list, ForSome};
+ghost use Rattle.dcc_avp.specs.Spelling.{padded};
+ghost use Rattle.dcc_avp.specs.declared.codes.TheConstants.{SERVICE_IDENTIFIER};
+ghost use Rattle.dcc_tariff.specs.declared.tariff.UnitKind.TheVariants.{Time as Seconds};
+ghost use Rattle.dcc_act.specs.Answers.{IsGrant, IsInRange};
+ghost use Rattle.dcc_credit.specs.Answers.{amount_avp, granted, sent32, service_parts, service_avps};
+ghost use Rattle.dcc_credit.specs.Sizes.{Grows};
+
+use crate::put::{put, put_u32, put_u64};
+use dcc_act::{Form, Grant, ServiceAnswer, ServiceAnswers};
+use dcc_avp::codes;
+use dcc_tariff::UnitKind;
+use std::alloc::{AllocError, Global};
+
+/// Appends the services of an answer, in their order.
+pub(crate) fn put_services(
+    alloc: Global,
+    out: &mut Vec<u8>,
+    services: &ServiceAnswers,
+) -> Result<(), AllocError>
+    ensures ok { OnOk result (out.new.items ≡ out.old.items ++ flat_map padded (flat_map (λ service. service_avps service.form service) services.now)) }
+    ensures grows { OnOk result (Grows (vec_len out.old) (vec_len out.new) 99_000) }
+{
+    for service in services.as_slice() {
+        put_service(alloc, out, service)?;
+    }
+    Ok(())
+}
+
+/// Appends one service: at the message's level its grant alone, else a group of its own.
+fn put_service(alloc: Global, out: &mut Vec<u8>, service: &ServiceAnswer) -> Result<(), AllocError>
+    requires range { IsInRange service.now }
+    requires few { length service.now.ids ≤ 5460 }
+    ensures ok { OnOk result (out.new.items ≡ out.old.items ++ flat_map padded (service_avps service.now.form service.now)) }
+    ensures grows { OnOk result (Grows (vec_len out.old) (vec_len out.new) (100 + 15 * length service.now.ids)) }
+{
+    match service.form {
+        Form::Single => put_grant(alloc, out, service.grant),
+        Form::Multi => {
+            let mut parts = Vec::with_capacity(alloc, 64)?;
+            put_parts(alloc, &mut parts, service)?;
+            put(out, codes::MULTIPLE_SERVICES_CREDIT_CONTROL, &parts)
+        }
+    }
+}
+
+/// Appends what a service's group holds.
+fn put_parts(alloc: Global, out: &mut Vec<u8>, service: &ServiceAnswer) -> Result<(), AllocError>
+    requires { IsInRange service.now }
+    ensures ok { OnOk result (out.new.items ≡ out.old.items ++ flat_map padded (service_parts service.now)) }
+    ensures grows { OnOk result (Grows (vec_len out.old) (vec_len out.new) (80 + 15 * length service.now.ids)) }
+{
+    put_grant(alloc, out, service.grant)?;
+    put_identifiers(out, service.ids.as_slice())?;
+    if let Some(group) = service.group {
+        put_u32(out, codes::RATING_GROUP, group)?;
+    }
+    put_u32(out, codes::RESULT_CODE, service.result.number())
+}
+
+/// Appends the Service-Identifiers in their order.
+fn put_identifiers(out: &mut Vec<u8>, ids: &[u32]) -> Result<(), AllocError>
+    ensures ok { OnOk result (out.new.items ≡ out.old.items ++ flat_map padded (map (sent32 SERVICE_IDENTIFIER) ids.now)) }
+    ensures grows { OnOk result (Grows (vec_len out.old) (vec_len out.new) (15 * length ids.now)) }
+{
+    for id in ids {
+        put_u32(out, codes::SERVICE_IDENTIFIER, *id)?;
+    }
+    Ok(())
+}
+
+/// Appends a Granted-Service-Unit, where there is a grant (RFC 8506, section 8.17).
+fn put_grant(alloc: Global, out: &mut Vec<u8>, grant: Option<Grant>) -> Result<(), AllocError>
+    requires { ForSome grant IsGrant }
+    ensures ok { OnOk result (out.new.items ≡ out.old.items ++ flat_map padded (option_to_list (option_map granted grant))) }
+    ensures grows { OnOk result (Grows (vec_len out.old) (vec_len out.new) 35) }
+{
+    let Some(grant) = grant else {
+        return Ok(());
+    };
+    let mut amount = Vec::with_capacity(alloc, 16)?;
+    put_amount(&mut amount, grant)?;
+    put(out, codes::GRANTED_SERVICE_UNIT, &amount)
+}
+
+/// Appends a grant's amount, in the AVP of its unit.
+fn put_amount(out: &mut Vec<u8>, grant: Grant) -> Result<(), AllocError>
+    requires { IsGrant grant }
+    ensures ok { OnOk result (out.new.items ≡ out.old.items ++ padded (amount_avp grant.unit grant.units)) }
+    ensures grows { OnOk result (Grows (vec_len out.old) (vec_len out.new) 19) }
+{
+    match grant.unit {
+        UnitKind::Octets => put_u64(out, codes::CC_TOTAL_OCTETS, grant.units),
+        UnitKind::Time => put_u32(out, codes::CC_TIME, grant.units as u32),
+        UnitKind::Units => put_u64(out, codes::CC_SERVICE_SPECIFIC_UNITS, grant.units),
+    }
+}

@@ -1,0 +1,5 @@
+//! Octets from outside: a request read and turned into its act, and answers written.
+
+mod answers;
+mod octets;
+mod requests;

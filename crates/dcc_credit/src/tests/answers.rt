@@ -1,0 +1,209 @@
+use super::octets::{COPIED, DEBIT, PROXIES, decoded, header, identity};
+use crate::{Proxies, session_id, write_busy, write_cca};
+use dcc_act::{
+    Answer, Form, Grant, Outcome, RequestKey, RequestType, ResultCode, ServiceAnswer,
+    ServiceAnswers, ServiceIds, SessionId,
+};
+use dcc_avp::read_list;
+use dcc_tariff::{Tariff, Terms, UnitKind};
+use std::alloc::Global;
+use std::process::Abort;
+use std::test::Fail;
+
+/// The answer that grants 1,001 octets, P set.
+const GRANTED: &str =
+    "010000984000011000000004000000110000002100000107400000176777312e6578616d706c653b313b3100\
+0000010c4000000c000007d100000108400000136f63732e6578616d706c6500000001284000000f6578616d706c6500\
+000001024000000c00000004000001a04000000c000000040000019f4000000c00000000\
+000001af40000018000001a54000001000000000000003e9";
+
+/// The busy answer, P set.
+const BUSY: &str =
+    "0100005c6000011000000004000000110000002100000107400000176777312e6578616d706c653b313b3100\
+0000010c4000000c00000bbc00000108400000136f63732e6578616d706c6500000001284000000f6578616d706c6500";
+
+/// Identifiers, and the Session-Id.
+const SESSION: &str = "000110000000040000001100000021\
+00000107400000176777312e6578616d706c653b313b3100";
+
+/// From Origin-Host to CC-Request-Number 0.
+const MIDDLE: &str = "00000108400000136f63732e6578616d706c6500000001284000000f6578616d706c6500\
+000001024000000c00000004000001a04000000c000000040000019f4000000c00000000";
+
+const TERMS: Terms = Terms {
+    validity: 600,
+    hold: 1200,
+    currency: 978,
+    exponent: -2,
+};
+
+fn proxies(rt: &(impl Abort + AllocGlobal), text: &str) -> Result<Proxies, Fail> {
+    let octets = decoded(rt.alloc(), text)?;
+    assert!(rt; octets.len() <= 65_512);
+    let avps = read_list(rt.alloc(), &octets)?;
+    Ok(Proxies::of(rt.alloc(), &avps)?)
+}
+
+fn key(alloc: Global) -> Result<RequestKey, Fail> {
+    let octets = b"gw1.example;1;1".to_vec(alloc)?;
+    let sid = SessionId::from_vec(octets).ok_or("a session's name")?;
+    Ok(RequestKey { sid, number: 0 })
+}
+
+/// What a request comes to whose one service has this result.
+fn outcome(
+    alloc: Global,
+    form: Form,
+    code: ResultCode,
+    grant: Option<Grant>,
+) -> Result<Outcome, Fail> {
+    let service = ServiceAnswer {
+        group: Some(10),
+        ids: ServiceIds::from_vec(vec![in alloc; 7, 1]?).ok_or("identifiers")?,
+        form,
+        result: code,
+        grant,
+    };
+    let services = ServiceAnswers::from_vec(vec![in alloc; service]?).ok_or("answers")?;
+    Ok(Outcome::Answered(Answer {
+        request: RequestType::Event,
+        key: key(alloc)?,
+        result: code,
+        services,
+    }))
+}
+
+fn grant(unit: UnitKind, units: u64) -> Option<Grant> {
+    Some(Grant {
+        unit,
+        units,
+        tariff: Tariff {
+            price: 5,
+            block: 1000,
+        },
+    })
+}
+
+/// Compares the answer of an outcome to a request with these flags and proxies.
+fn check(
+    rt: &(impl Abort + AllocGlobal),
+    flags: u8,
+    from: &str,
+    outcome: &Outcome,
+    want: &str,
+) -> Result<(), Fail> {
+    let identity = identity(rt.alloc())?;
+    let copied = proxies(rt, from)?;
+    let answer = write_cca(
+        rt.alloc(),
+        &identity,
+        &TERMS,
+        &header(flags),
+        &copied,
+        outcome,
+    )?;
+    let text = hex::encode(rt.alloc(), &answer)?;
+    assert_eq!(rt; text.as_str(), want);
+    Ok(())
+}
+
+#[test]
+fn granted(rt: HostRuntime) -> Result<(), Fail> {
+    let octets = grant(UnitKind::Octets, 1001);
+    let outcome = outcome(rt.alloc(), Form::Single, ResultCode::Success, octets)?;
+    check(&rt, 0xc0, "", &outcome, GRANTED)
+}
+
+#[test]
+fn granted_in_other_units(rt: HostRuntime) -> Result<(), Fail> {
+    let alloc = rt.alloc();
+    let seconds = grant(UnitKind::Time, 1);
+    let seconds = outcome(alloc, Form::Single, ResultCode::Success, seconds)?;
+    let want = format!(in alloc;
+        "0100009400{SESSION}0000010c4000000c000007d1{MIDDLE}000001af40000014000001a44000000c00000001"
+    )?;
+    check(&rt, 0x90, "", &seconds, want.as_str())?;
+    let units = grant(UnitKind::Units, 1);
+    let units = outcome(alloc, Form::Single, ResultCode::Success, units)?;
+    let want = format!(in alloc;
+        "0100009840{SESSION}0000010c4000000c000007d1{MIDDLE}000001af40000018000001a1400000100000000000000001"
+    )?;
+    check(&rt, 0xd0, "", &units, want.as_str())
+}
+
+#[test]
+fn refused(rt: HostRuntime) -> Result<(), Fail> {
+    let alloc = rt.alloc();
+    let little = outcome(alloc, Form::Single, ResultCode::CreditLimitReached, None)?;
+    let want = format!(in alloc; "0100008040{SESSION}0000010c4000000c00000fac{MIDDLE}")?;
+    check(&rt, 0xc0, "", &little, want.as_str())?;
+    let unrated = outcome(alloc, Form::Single, ResultCode::RatingFailed, None)?;
+    let want = format!(in alloc; "010000a800{SESSION}0000010c4000000c000013a7{MIDDLE}{COPIED}")?;
+    check(&rt, 0x80, PROXIES, &unrated, want.as_str())
+}
+
+#[test]
+fn unknown(rt: HostRuntime) -> Result<(), Fail> {
+    let alloc = rt.alloc();
+    let request = RequestType::Event;
+    let nobody = Outcome::Unknown {
+        request,
+        key: key(alloc)?,
+    };
+    let want = format!(in alloc; "010000a840{SESSION}0000010c4000000c000013a6{MIDDLE}{COPIED}")?;
+    check(&rt, 0xc0, PROXIES, &nobody, want.as_str())
+}
+
+#[test]
+fn granted_in_a_group(rt: HostRuntime) -> Result<(), Fail> {
+    let alloc = rt.alloc();
+    let octets = grant(UnitKind::Octets, 1001);
+    let service = outcome(alloc, Form::Multi, ResultCode::Success, octets)?;
+    let group = "000001c840000050000001af40000018000001a54000001000000000000003e9\
+000001b74000000c00000007000001b74000000c00000001000001b04000000c0000000a0000010c4000000c000007d1";
+    let want = format!(in alloc; "010000d040{SESSION}0000010c4000000c000007d1{MIDDLE}{group}")?;
+    check(&rt, 0xc0, "", &service, want.as_str())
+}
+
+/// Compares the busy answer to a request with these flags and these AVPs.
+fn check_busy(
+    rt: &(impl Abort + AllocGlobal),
+    flags: u8,
+    request: &str,
+    want: &str,
+) -> Result<(), Fail> {
+    let identity = identity(rt.alloc())?;
+    let octets = decoded(rt.alloc(), request)?;
+    assert!(rt; octets.len() <= 65_512);
+    let avps = read_list(rt.alloc(), &octets)?;
+    let copied = Proxies::of(rt.alloc(), &avps)?;
+    let busy = write_busy(
+        rt.alloc(),
+        &identity,
+        session_id(&avps),
+        &header(flags),
+        &copied,
+    )?;
+    let text = hex::encode(rt.alloc(), &busy)?;
+    assert_eq!(rt; text.as_str(), want);
+    Ok(())
+}
+
+#[test]
+fn busy(rt: HostRuntime) -> Result<(), Fail> {
+    let alloc = rt.alloc();
+    check_busy(&rt, 0xc0, DEBIT, BUSY)?;
+    let request = format!(in alloc; "{DEBIT}{PROXIES}")?;
+    let want = format!(in alloc;
+        "0100008420{SESSION}0000010c4000000c00000bbc00000108400000136f63732e6578616d706c6500000001284000000f6578616d706c6500{COPIED}"
+    )?;
+    check_busy(&rt, 0x80, request.as_str(), want.as_str())?;
+    let nameless = "0100004460000110000000040000001100000021\
+0000010c4000000c00000bbc00000108400000136f63732e6578616d706c6500000001284000000f6578616d706c6500";
+    check_busy(&rt, 0xd0, "0000010740000008", nameless)
+}
+
+#[test]
+fn no_proxies(rt: HostRuntime) {
+    assert!(rt; Proxies::none(rt.alloc()).as_slice().is_empty());
+}
