@@ -1,2 +1,4 @@
 pub mod Subscribers
 pub mod ServiceSizes
+pub mod Appended
+pub mod Messages

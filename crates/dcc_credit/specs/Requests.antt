@@ -1,12 +1,11 @@
 -- The request for a direct debit that a message holds, and the act that it asks for (RFC 8506, sections 3.1 and 6.3).
-use Rattle.std.specs.Prelude.{ℕ, ◌≤◌, ◌^◌, Bool, not, ◌&&◌, ◌==◌, nat_le, bit_and, if◌then◌else◌, List, [], ◌∷◌, length, map, filter, Option, Some, None, is_none, option_map, option_and_then, Result, Ok, Err}
+use Rattle.std.specs.Prelude.{ℕ, ◌≤◌, ◌^◌, Bool, not, ◌&&◌, ◌==◌, nat_le, bit_and, if◌then◌else◌, List, [], ◌∷◌, length, map, filter, Option, Some, None, is_none, option_map, Result, Ok, Err}
 use Rattle.std.specs.Int.{w32, w64, from_be_bytes}
 use Rattle.std.specs.List.{list_all, list_any}
 use Rattle.dcc_avp.specs.Spelling.{AvpView}
 use Rattle.dcc_avp.specs.Reading.{FaultView, avps_of}
 use Rattle.dcc_avp.specs.declared.codes.TheConstants.{SESSION_ID, ORIGIN_HOST, ORIGIN_REALM, DESTINATION_REALM, AUTH_APPLICATION_ID, SERVICE_CONTEXT_ID, CC_REQUEST_TYPE, CC_REQUEST_NUMBER, REQUESTED_ACTION, SUBSCRIPTION_ID, SUBSCRIPTION_ID_TYPE, SUBSCRIPTION_ID_DATA, REQUESTED_SERVICE_UNIT, CC_TOTAL_OCTETS, PROXY_INFO}
 use Rattle.dcc_message.specs.HeaderView.{HeaderView}
-use Rattle.dcc_tariff.specs.Terms.{Rate}
 use Rattle.dcc_tariff.specs.Plans.{PlanView, unit_of, tariff_at}
 use Rattle.dcc_tariff.specs.declared.tariff.UnitKind.{UnitKind}
 use Rattle.dcc_tariff.specs.declared.tariff.UnitKind.TheVariants.{Octets, Time, Units}

@@ -3,6 +3,7 @@
 ghost use Rattle.std.specs.Prelude.{◌≡◌, ◌≤◌, ◌+◌, ◌*◌, ◌<◌, ◌%◌, ◌^◌, ◌++◌, length, vec_len, IfOk, OnOk};
 ghost use Rattle.std.specs.List.{flat_map};
 ghost use Rattle.dcc_avp.specs.Spelling.{padded};
+ghost use Rattle.dcc_message.specs.Headers.{message};
 ghost use Rattle.dcc_credit.specs.Answers.{head_avps, answer_avps, answer_header as header_of_answer, answer_bytes};
 ghost use Rattle.dcc_credit.specs.Sizes.{Grows};
 
@@ -33,14 +34,28 @@ pub fn write_cca(
 {
     let mut avps = Vec::with_capacity(alloc, 256)?;
     put_answer(alloc, &mut avps, identity, terms, outcome)?;
+    message_of(alloc, request, 0, avps, proxies)
+}
+
+/// The message of AVPs that are spelled and of a request's proxies, under the request's header with these bits.
+pub(crate) fn message_of(
+    alloc: Global,
+    request: &Header,
+    bits: u8,
+    mut avps: Vec<u8>,
+    proxies: &Proxies,
+) -> Result<Vec<u8>, AllocError>
+    requires { Grows 0 (vec_len avps) 100_000 }
+    ensures { IfOk result (λ answer. answer.items ≡ message (header_of_answer request.now bits) (avps.items ++ proxies.now)) }
+{
     avps.extend_from_slice(proxies.as_slice())?;
     let mut message = Vec::with_capacity(alloc, 20 + avps.len())?;
-    write_message(&mut message, &answer_header(request, 0), &avps)?;
+    write_message(&mut message, &answer_header(request, bits), &avps)?;
     Ok(message)
 }
 
 /// The header of an answer: of the request's flags P alone, and these bits.
-pub(crate) fn answer_header(request: &Header, bits: u8) -> Header
+fn answer_header(request: &Header, bits: u8) -> Header
     ensures { result ≡ header_of_answer request.now bits }
 {
     Header {
@@ -68,7 +83,13 @@ fn put_answer(
     match outcome {
         Outcome::Unknown { request, key } => put_head(out, identity, *request, key, USER_UNKNOWN),
         Outcome::Answered(answer) => {
-            put_head(out, identity, answer.request, &answer.key, answer.result.number())?;
+            put_head(
+                out,
+                identity,
+                answer.request,
+                &answer.key,
+                answer.result.number(),
+            )?;
             put_services(alloc, out, &answer.services)
         }
         Outcome::Added | Outcome::Ceiling => Ok(()),

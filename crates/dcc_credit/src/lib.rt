@@ -5,8 +5,11 @@
 //! the definition, for each outcome that a request can have (RFC 8506).
 #![tactic(auto)]
 
+mod act;
 mod answer;
+mod busy;
 mod groups;
+mod laws;
 mod lookup;
 mod proxies;
 mod put;
@@ -14,7 +17,10 @@ mod read;
 mod request;
 mod services;
 
+pub use act::to_act;
 pub use answer::write_cca;
+pub use busy::write_busy;
+pub use laws::told_apart;
 pub use proxies::{Proxies, session_id};
 pub use read::{CcrFault, read_ccr};
 pub use request::{Request, subscriber};

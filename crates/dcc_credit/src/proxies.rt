@@ -2,6 +2,7 @@
 
 ghost use Rattle.std.specs.Prelude.{◌≡◌, ◌≤◌, ◌++◌, [], length, vec_len, IfOk, OnOk, option_map};
 ghost use Rattle.std.specs.List.{sum_by};
+ghost use Rattle.std.specs.Option.{ForSome};
 ghost use Rattle.dcc_avp.specs.Spelling.{padded_len};
 ghost use Rattle.dcc_credit.specs.Sizes.{Grows};
 ghost use Rattle.dcc_credit.specs.Answers.{is_avp, proxies_of, session_of};
@@ -61,6 +62,7 @@ impl Proxies {
 #[tactic(auto, unfolding(crate::specs::Answers::session_of))]
 pub fn session_id<'a>(avps: &[Avp<'a>]) -> Option<&'a [u8]>
     ensures value { option_map (λ octets. octets.now) result ≡ session_of avps.now }
+    ensures short { ForSome result (λ octets. length octets.now ≤ 255) }
 {
     for avp in avps {
         if is_avp(avp, codes::SESSION_ID) {

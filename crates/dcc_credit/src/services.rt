@@ -32,11 +32,7 @@ pub(crate) fn put_services(
 }
 
 /// Appends one service: at the message's level its grant alone, else a group of its own.
-fn put_service(
-    alloc: Global,
-    out: &mut Vec<u8>,
-    service: &ServiceAnswer,
-) -> Result<(), AllocError>
+fn put_service(alloc: Global, out: &mut Vec<u8>, service: &ServiceAnswer) -> Result<(), AllocError>
     requires range { IsInRange service.now }
     requires few { length service.now.ids ≤ 5460 }
     ensures ok { OnOk result (out.new.items ≡ out.old.items ++ flat_map padded (service_avps service.now.form service.now)) }
