@@ -13,3 +13,6 @@ mod walk;
 
 pub use account::Account;
 pub use step::Step;
+
+#[cfg(test)]
+mod tests;

@@ -1,5 +1,5 @@
 -- Requests have the outcomes of requests, and top-ups those of top-ups; without a top-up no request acts.
-use Rattle.std.proofs.Common.{◌≡◌, ℤ, pos, ◌+ℤ◌, Bool, true, false, ◌||◌, List, [], ◌∷◌, ◌++◌, reverse, refl, ap, ◌∙◌, inl, inr, Option, Some, None, is_none, is_some}
+use Rattle.std.proofs.Common.{◌≡◌, ℤ, pos, ◌+ℤ◌, Bool, true, false, ◌||◌, List, [], ◌∷◌, ◌++◌, reverse, refl, ap, ◌∙◌, inl, inr, Some, is_none}
 use Rattle.std.specs.Prelude.{int_lt, unwrap_or}
 use Rattle.std.specs.Option.{option_map_or}
 use Rattle.std.proofs.lemmas.Bool.{cases_Bool, cond_both, or_parts, or_from}
@@ -14,8 +14,7 @@ use Rattle.dcc_act.specs.declared.act.Kind.{Kind}
 use Rattle.dcc_act.specs.declared.act.Kind.TheVariants as kind
 use Rattle.dcc_act.specs.declared.act.TopUp.{TopUp}
 use Rattle.dcc_act.specs.declared.outcome.Outcome.{Outcome}
-use Rattle.dcc_act.specs.declared.outcome.Outcome.TheVariants.{Unknown, Added, Ceiling}
-use Rattle.dcc_act.specs.declared.request_key.RequestKey.{RequestKey}
+use Rattle.dcc_act.specs.declared.outcome.Outcome.TheVariants.{Added, Ceiling}
 use Rattle.dcc_model.specs.declared.done.Done.{Done}
 use Rattle.dcc_model.specs.declared.decide.TheConstants.{CEILING}
 use Rattle.dcc_model.specs.Keys.{request_key, same_key}

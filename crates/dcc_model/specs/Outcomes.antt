@@ -1,5 +1,5 @@
 -- What each act of one subscriber's list comes to. `past` is the acts that were made, the latest first.
-use Rattle.std.specs.Prelude.{ℕ, ◌-◌, ⊤, ℤ, pos, ◌+ℤ◌, int_lt, Bool, true, false, not, ◌&&◌, ◌||◌, if◌then◌else◌, List, [], ◌∷◌, map, reverse, take, Option, Some, None, is_none, option_map, find, slice_get, unwrap_or}
+use Rattle.std.specs.Prelude.{ℕ, ◌-◌, ⊤, ℤ, pos, ◌+ℤ◌, int_lt, Bool, true, false, ◌&&◌, ◌||◌, if◌then◌else◌, List, [], ◌∷◌, map, reverse, take, Option, Some, None, is_none, option_map, find, slice_get, unwrap_or}
 use Rattle.std.specs.List.{list_any}
 use Rattle.std.specs.Option.{option_map_or}
 use Rattle.dcc_tariff.specs.Prices.{covers}

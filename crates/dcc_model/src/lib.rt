@@ -22,3 +22,6 @@ pub use theorems::{
     acts_come_to_their_own, funds_are_accounted_for, later_acts_change_no_outcome,
     leaving_out_changes_nothing,
 };
+
+#[cfg(test)]
+mod tests;

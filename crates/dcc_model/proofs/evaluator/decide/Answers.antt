@@ -1,11 +1,9 @@
-use Rattle.std.proofs.Common.{◌≡◌, ℤ, reverse, to_z, of_z, ap, ◌∙◌, arith}
+use Rattle.std.proofs.Common.{ℤ, reverse, to_z, of_z, ap, ◌∙◌, arith}
 use Rattle.std.proofs.lemmas.Int.{ints}
 use Rattle.std.proofs.lemmas.Result.{IfOk-weaker}
-use Rattle.dcc_act.specs.declared.act.Event.{Event}
-use Rattle.dcc_act.specs.declared.outcome.Outcome.{Outcome}
 use Rattle.dcc_model.specs.Money.{free_of}
 use mir.Syntax.{w128}
-use Rattle.dcc_model.specs.Outcomes.{top_up_outcome, event_outcome}
+use Rattle.dcc_model.specs.Outcomes.{top_up_outcome}
 use Rattle.dcc_model.proofs.Funds.{event_at}
 use Rattle.dcc_model.proofs.evaluator.decide.Goals as goal
 

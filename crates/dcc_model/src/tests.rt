@@ -1,0 +1,200 @@
+//! Worked examples, answered by the plain program.
+
+use crate::{
+    acts_come_to_their_own, decide_event, decide_top_up, entries_by, funds_are_accounted_for,
+    is_same_key, is_top_up, later_acts_change_no_outcome, leaving_out_changes_nothing,
+    plain_answer,
+};
+use dcc_act::{
+    Act, Action, Entry, EntryName, Event, Form, Kind, Moment, Outcome, RequestKey, Service,
+    ServiceIds, SessionId, TopUp,
+};
+use dcc_tariff::{Tariff, Terms, UnitKind};
+use std::alloc::Global;
+use std::test::Fail;
+
+const TERMS: Terms = Terms {
+    validity: 600,
+    hold: 1200,
+    currency: 978,
+    exponent: -2,
+};
+
+/// A top-up at 2025-06-01T00:00:00Z.
+fn top_up(ticket: u64, amount: u64) -> Result<Act, Fail> {
+    if amount == 0 || amount > 1_000_000_000_000_000_000 {
+        return Err("an amount past its limits".into());
+    }
+    Ok(Act {
+        moment: Moment::new(1_748_736_000).ok_or("a moment")?,
+        kind: Kind::TopUp(TopUp { ticket, amount }),
+    })
+}
+
+/// A direct debit of octets at 5 minor units per 1,000, in single form.
+fn debit(alloc: Global, number: u32, octets: u64) -> Result<Act, Fail> {
+    if octets == 0 || octets > 1_000_000_000_000 {
+        return Err("an amount past its limits".into());
+    }
+    let sid = SessionId::from_vec(b"gw1.example;1;1".to_vec(alloc)?).ok_or("a name")?;
+    let service = Service {
+        group: None,
+        ids: ServiceIds::new(alloc),
+        form: Form::Single,
+        asked: Some(octets),
+        used: None,
+        unit: Some(UnitKind::Octets),
+        tariff: Some(Tariff {
+            price: 5,
+            block: 1000,
+        }),
+    };
+    Ok(Act {
+        moment: Moment::new(1_748_736_000).ok_or("a moment")?,
+        kind: Kind::Event(Event {
+            key: RequestKey { sid, number },
+            action: Action::DirectDebiting,
+            service,
+        }),
+    })
+}
+
+/// The result of a request, with what was granted; 1 for an added top-up, 2 for one past the ceiling.
+fn code(outcome: &Outcome) -> (u32, u64) {
+    match outcome {
+        Outcome::Unknown { .. } => (5030, 0),
+        Outcome::Added => (1, 0),
+        Outcome::Ceiling => (2, 0),
+        Outcome::Answered(answer) => {
+            let mut units = 0;
+            for service in answer.services.as_slice() {
+                if let Some(grant) = &service.grant {
+                    units = grant.units;
+                }
+            }
+            (answer.result.number(), units)
+        }
+    }
+}
+
+/// An act in short.
+#[derive(Clone, Copy)]
+enum Ask {
+    /// Ticket and amount.
+    TopUp(u64, u64),
+    /// Number and octets.
+    Debit(u32, u64),
+}
+
+fn act(alloc: Global, ask: Ask) -> Result<Act, Fail> {
+    match ask {
+        Ask::TopUp(ticket, amount) => top_up(ticket, amount),
+        Ask::Debit(number, octets) => debit(alloc, number, octets),
+    }
+}
+
+/// What each act of a list comes to.
+fn codes(alloc: Global, asks: &[Ask]) -> Result<Vec<(u32, u64)>, Fail> {
+    let mut acts = Vec::new(alloc);
+    for ask in asks {
+        acts.push(act(alloc, *ask)?)?;
+    }
+    let mut codes = Vec::new(alloc);
+    for i in 0..acts.len() {
+        codes.push(code(&plain_answer(alloc, &TERMS, &acts, i + 1)?))?;
+    }
+    Ok(codes)
+}
+
+#[test]
+fn direct_debit_of_1001_octets(rt: HostRuntime) -> Result<(), Fail> {
+    let codes = codes(rt.alloc(), &[Ask::TopUp(1, 1000), Ask::Debit(0, 1001)])?;
+    assert_eq!(rt; codes.as_slice(), [(1, 0), (2001, 1001)].as_slice());
+    Ok(())
+}
+
+#[test]
+fn unknown_account_and_then_a_repeat(rt: HostRuntime) -> Result<(), Fail> {
+    let first = Ask::Debit(0, 1001);
+    let asks = [
+        first,
+        Ask::TopUp(1, 10),
+        first,
+        Ask::Debit(0, 7),
+        Ask::Debit(1, 1),
+    ];
+    let codes = codes(rt.alloc(), &asks)?;
+    assert_eq!(rt;
+        codes.as_slice(),
+        [(5030, 0), (1, 0), (2001, 1001), (2001, 1001), (4012, 0)].as_slice()
+    );
+    Ok(())
+}
+
+#[test]
+fn ceiling_and_ticket_again(rt: HostRuntime) -> Result<(), Fail> {
+    let most = 1_000_000_000_000_000_000;
+    let asks = [
+        Ask::TopUp(1, most),
+        Ask::TopUp(2, 1),
+        Ask::TopUp(2, 1),
+        Ask::TopUp(1, most),
+    ];
+    let codes = codes(rt.alloc(), &asks)?;
+    assert_eq!(rt;
+        codes.as_slice(),
+        [(1, 0), (2, 0), (2, 0), (1, 0)].as_slice()
+    );
+    Ok(())
+}
+
+/// The amount and the units of the only entry.
+fn entry(entries: &[Entry]) -> (usize, i64, u64, bool) {
+    match entries {
+        [entry] => {
+            let is_ticket = matches!(entry.name, EntryName::Ticket(1));
+            (1, entry.amount, entry.units, is_ticket)
+        }
+        _ => (entries.len(), 0, 0, false),
+    }
+}
+
+#[test]
+fn entries(rt: HostRuntime) -> Result<(), Fail> {
+    let alloc = rt.alloc();
+    let added = entries_by(alloc, 1, &top_up(1, 1000)?, &Outcome::Added)?;
+    assert_eq!(rt; entry(&added), (1, 1000, 0, true));
+    let passed = entries_by(alloc, 1, &top_up(1, 1000)?, &Outcome::Ceiling)?;
+    assert_eq!(rt; passed.len(), 0);
+    let act = debit(alloc, 0, 1001)?;
+    let Kind::Event(event) = &act.kind else {
+        return Err("a debit".into());
+    };
+    let made = entries_by(alloc, 2, &act, &decide_event(alloc, 10, event)?)?;
+    assert_eq!(rt; entry(&made), (1, -10, 1001, false));
+    let refused = entries_by(alloc, 2, &act, &decide_event(alloc, 9, event)?)?;
+    assert_eq!(rt; refused.len(), 0);
+    Ok(())
+}
+
+#[test]
+fn keys_and_ceiling(rt: HostRuntime) -> Result<(), Fail> {
+    let act = top_up(1, 1)?;
+    let again = top_up(1, 2)?;
+    assert!(rt; is_top_up(&act.kind) && is_same_key(&act.kind, &again.kind));
+    let Kind::TopUp(top_up) = &act.kind else {
+        return Err("a top-up".into());
+    };
+    let below = 999_999_999_999_999_999;
+    assert!(rt; matches!(decide_top_up(below, top_up), Outcome::Added));
+    assert!(rt; matches!(decide_top_up(below + 1, top_up), Outcome::Ceiling));
+    Ok(())
+}
+
+#[test]
+fn laws() {
+    later_acts_change_no_outcome();
+    leaving_out_changes_nothing();
+    acts_come_to_their_own();
+    funds_are_accounted_for();
+}
