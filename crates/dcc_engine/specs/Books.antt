@@ -56,3 +56,9 @@ pub record IsAbsent (rows : List Row) (sub : Sub) : Type 0 where
 abbrev pub IsInstalled : List Row → List Row → ℕ → Row → Act → Type 0
 IsInstalled old new i row act =
     (account : Account) × (new ≡ slice_set old i (record { sub = row.sub; account = account })) × (account.terms ≡ row.account.terms) × (account.acts ≡ acts row.account.terms (row.account.acts ++ act ∷ []))
+
+-- the acts after the first act are held, under the account's terms
+abbrev pub IsAdded : List Row → List Row → Sub → Account → Act → Type 0
+IsAdded old new sub account act =
+    (held_in new sub ≡ acts account.terms (account.acts ++ act ∷ [])) × ((other : Sub) → other ≢ sub → account_in new other ≡ account_in old other)
+    × ((found : Account) → account_in new sub ≡ Some found → found.terms ≡ account.terms)

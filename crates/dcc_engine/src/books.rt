@@ -36,7 +36,7 @@ fn is_same(a: &Sub, b: &Sub) -> bool
 pub(crate) fn install(rows: &mut [Row], i: usize, step: Step)
     requires within { i < length rows.old }
     requires prepared { (none : Row) → IsPrepared (slice_index_or rows.old i none).account step }
-    ensures { (none : Row) → IsInstalled rows.old rows.new i (slice_index_or rows.old i none) step.act }
+    ensures { (row : Row) × (row ≡ slice_index_or rows.old i row) × IsInstalled rows.old rows.new i row step.act }
 {
     let row = &mut rows[i];
     row.account.install(step);

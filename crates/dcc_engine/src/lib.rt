@@ -10,6 +10,7 @@ mod bytes;
 mod event;
 mod peers;
 mod row;
+mod steps;
 
 pub use bytes::Bytes;
 pub use event::{Event, Out, TopUpAnswer};
