@@ -69,7 +69,7 @@ is_at (row ∷ rows) sub (suc i) none lt before here =
       others = λ given other differ. ap (λ (found : Option Account). cond (same_sub row.sub other) (Some row.account) found) (later.others given other differ);
     }
 
-acts_held : Option Account → List Act
+abbrev pub acts_held : Option Account → List Act
 acts_held found = option_map_or (λ (account : Account). account.acts) found []
 
 -- the books after a step of one subscriber, whose account is then this one
@@ -78,11 +78,11 @@ pub record Moves (old new : List Row) (sub : Sub) (account : Account) : Type 0 w
   pub others : (other : Sub) → other ≢ sub → account_in new other ≡ account_in old other
 
 pub held_own : (old new : List Row) (sub : Sub) (account : Account) → Moves old new sub account → held_in new sub ≡ account.acts
-unfolding acts_held
+
 held_own old new sub account h = ap acts_held h.own
 
 pub held_others : (old new : List Row) (sub : Sub) (account : Account) → Moves old new sub account → (other : Sub) → other ≢ sub → held_in new other ≡ held_in old other
-unfolding acts_held
+
 held_others old new sub account h other apart = ap acts_held (h.others other apart)
 
 -- they stay books, where the account has the terms and its acts are those that they make

@@ -62,3 +62,9 @@ abbrev pub IsAdded : List Row → List Row → Sub → Account → Act → Type 
 IsAdded old new sub account act =
     (held_in new sub ≡ acts account.terms (account.acts ++ act ∷ [])) × ((other : Sub) → other ≢ sub → account_in new other ≡ account_in old other)
     × ((found : Account) → account_in new sub ≡ Some found → found.terms ≡ account.terms)
+
+-- the books after one more act of a subscriber, which leaves the others as they were
+pub record Steps (old new : List Row) (terms : Conditions) (sub : Sub) (act : Act) : Type 0 where
+  pub own : held_in new sub ≡ next_acts terms (held_in old sub) act
+  pub others : (other : Sub) → other ≢ sub → held_in new other ≡ held_in old other
+  pub books : AreBooks new terms
