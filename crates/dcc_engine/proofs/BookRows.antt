@@ -78,11 +78,9 @@ pub record Moves (old new : List Row) (sub : Sub) (account : Account) : Type 0 w
   pub others : (other : Sub) → other ≢ sub → account_in new other ≡ account_in old other
 
 pub held_own : (old new : List Row) (sub : Sub) (account : Account) → Moves old new sub account → held_in new sub ≡ account.acts
-
 held_own old new sub account h = ap acts_held h.own
 
 pub held_others : (old new : List Row) (sub : Sub) (account : Account) → Moves old new sub account → (other : Sub) → other ≢ sub → held_in new other ≡ held_in old other
-
 held_others old new sub account h other apart = ap acts_held (h.others other apart)
 
 -- they stay books, where the account has the terms and its acts are those that they make

@@ -41,7 +41,7 @@ installed_steps old new terms sub i row act law books at is installed =
     } in
     let terms_are : account.terms ≡ terms = installed.2 ∙ found.terms_are in
     let acts_are : account.acts ≡ next_acts terms (held_in old sub) act =
-      installed.3 ∙ ap (λ (t : Conditions). next_acts t row.account.acts act) found.terms_are ∙ ap (λ (xs : List Act). next_acts terms xs act) found.acts_are in
+    installed.3 ∙ ap (λ (t : Conditions). next_acts t row.account.acts act) found.terms_are ∙ ap (λ (xs : List Act). next_acts terms xs act) found.acts_are in
     record {
       own = held_own old new sub account moves ∙ acts_are;
       others = held_others old new sub account moves;
@@ -56,7 +56,7 @@ pub added_steps : (old new : List Row) (terms : Conditions) (sub : Sub) (account
     → IsAdded old new sub account act → Steps old new terms sub act
 added_steps old new terms sub account act law books found added =
     let own : held_in new sub ≡ next_acts terms (held_in old sub) act =
-      added.0 ∙ ap (λ (t : Conditions). next_acts t account.acts act) found.terms_are ∙ ap (λ (xs : List Act). next_acts terms xs act) found.acts_are in
+    added.0 ∙ ap (λ (t : Conditions). next_acts t account.acts act) found.terms_are ∙ ap (λ (xs : List Act). next_acts terms xs act) found.acts_are in
     let others : (other : Sub) → other ≢ sub → held_in new other ≡ held_in old other = λ other apart. ap acts_held (added.1 other apart) in
     record {
       own = own;

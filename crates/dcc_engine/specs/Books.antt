@@ -7,6 +7,9 @@ use Rattle.dcc_act.specs.declared.outcome.Outcome.{Outcome}
 use Rattle.dcc_act.specs.declared.sub.Sub.{Sub}
 use Rattle.dcc_account.specs.declared.account.Account.{Account}
 use Rattle.dcc_model.specs.Outcomes.{outcome, acts}
+use Rattle.dcc_act.specs.declared.outcome.Outcome.TheVariants.{Unknown, Answered, Added, Ceiling as Full}
+use Rattle.dcc_engine.specs.declared.event.TopUpAnswer.{TopUpAnswer}
+use Rattle.dcc_engine.specs.declared.event.TopUpAnswer.TheVariants as answers
 use Rattle.dcc_engine.specs.declared.row.Row.{Row}
 
 -- whether two subscribers are one: the same type and the same data
@@ -28,6 +31,13 @@ next_outcome terms held act = outcome terms (held ++ act ∷ []) (length held + 
 
 abbrev pub next_acts : Conditions → List Act → Act → List Act
 next_acts terms held act = acts terms (held ++ act ∷ [])
+
+-- what a top-up is told of its outcome
+abbrev pub told : Outcome → TopUpAnswer
+told Added = answers.Done
+told Full = answers.Ceiling
+told (Unknown request key) = answers.Ceiling
+told (Answered answer) = answers.Ceiling
 
 -- each account is under the terms, and its acts are those that they themselves make
 pub record AreBooks (rows : List Row) (terms : Conditions) : Type 0 where

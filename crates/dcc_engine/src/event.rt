@@ -7,7 +7,10 @@ use dcc_act::{Moment, Sub};
 #[derive(Debug, Drop)]
 pub enum Event {
     /// A peer is there, under this host's name. It is made anew where it was there before, closed or not.
-    Connect { peer: u32, host: Bytes },
+    Connect {
+        peer: u32,
+        host: Bytes,
+    },
     /// A whole message of a peer.
     Message {
         peer: u32,

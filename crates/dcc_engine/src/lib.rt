@@ -1,8 +1,9 @@
 //! The engine: events in, answers out, each subscriber as if alone.
 //!
 //! Stands on `dcc_credit` for requests and answers, on `dcc_account` for what an act comes to, and on the crates below
-//! them. The contract that it gives is isolation: for every list of events, what is answered to a subscriber's request
-//! is what the definitions give from that request and that subscriber's own earlier events alone.
+//! them. What stands so far: the peers, and one act of one subscriber (`steps`), whose contract is the step of isolation:
+//! the answer is that of the definitions, the subscriber's acts are those of the definitions, every other subscriber's
+//! are as they were, and nothing has changed where memory was refused. The run over a list of events is to come.
 #![tactic(auto)]
 
 mod books;

@@ -13,6 +13,6 @@ returns c =
         c.install.new.self,
         ap (λ (r : Row). set c.args.rows.now c.args.i (record { sub = r.sub; account = c.install.new.self })) same,
         c.install.ensures.terms ∙ ap (λ (r : Row). r.account.terms) same,
-        c.install.ensures.acts ∙ ap (λ (r : Row). acts r.account.terms (r.account.acts ++ c.args.step.act ∷ [])) same
-      )
+        c.install.ensures.acts ∙ ap (λ (r : Row). acts r.account.terms (r.account.acts ++ c.args.step.act ∷ [])) same,
+      ),
     )
