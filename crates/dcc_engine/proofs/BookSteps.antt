@@ -1,0 +1,74 @@
+-- The books after one act of one subscriber.
+use Rattle.std.proofs.Common.{◌≡◌, ◌≢◌, ℕ, ◌+◌, cond, List, [], ◌∷◌, ◌++◌, length, get_or, set, Option, Some, None, refl, sym, ap, subst, ◌∙◌, arith, inl, inr}
+use Rattle.dcc_tariff.specs.Terms.{Conditions}
+use Rattle.dcc_act.specs.declared.act.Act.{Act}
+use Rattle.dcc_act.specs.declared.outcome.Outcome.{Outcome}
+use Rattle.dcc_act.specs.declared.sub.Sub.{Sub}
+use Rattle.dcc_account.specs.declared.account.Account.{Account}
+use Rattle.dcc_model.specs.Outcomes.{acts, outcome}
+use Rattle.dcc_model.specs.Laws.{ActsAreActs}
+use Rattle.dcc_engine.specs.declared.row.Row.{Row}
+use Rattle.dcc_engine.specs.Books.{account_in, held_in, next_outcome, next_acts, IsAt, IsAbsent, IsInstalled, IsAdded, AreBooks, Steps}
+use Rattle.dcc_engine.proofs.Subs.{one_or_other}
+use Rattle.dcc_engine.proofs.BookRows.{acts_held, Moves, held_own, held_others, books_moved}
+
+-- the account that was found has the terms, and the acts that are held
+pub record Found (rows : List Row) (terms : Conditions) (sub : Sub) (account : Account) : Type 0 where
+  pub terms_are : account.terms ≡ terms
+  pub acts_are : account.acts ≡ held_in rows sub
+
+pub found_at : (rows : List Row) (terms : Conditions) (sub : Sub) (i : ℕ) (row : Row) → AreBooks rows terms → IsAt rows sub i → row ≡ get_or rows i row → Found rows terms sub row.account
+found_at rows terms sub i row books at is =
+    let here : account_in rows sub ≡ Some row.account = at.here row ∙ ap (λ (r : Row). Some r.account) (sym is) in
+    record { terms_are = books.terms_are sub row.account here; acts_are = sym (ap acts_held here) }
+
+-- what an account found says of one more act is what comes next of what is held
+pub next_found : (rows : List Row) (terms : Conditions) (sub : Sub) (account : Account) (act : Act) → Found rows terms sub account
+    → outcome account.terms (account.acts ++ act ∷ []) (length account.acts + 1) ≡ next_outcome terms (held_in rows sub) act
+next_found rows terms sub account act found =
+    ap (λ (t : Conditions). next_outcome t account.acts act) found.terms_are ∙ ap (λ (xs : List Act). next_outcome terms xs act) found.acts_are
+
+pub installed_steps : (old new : List Row) (terms : Conditions) (sub : Sub) (i : ℕ) (row : Row) (act : Act) → ActsAreActs → AreBooks old terms → IsAt old sub i → row ≡ get_or old i row
+    → IsInstalled old new i row act → Steps old new terms sub act
+installed_steps old new terms sub i row act law books at is installed =
+    let account = installed.0 in
+    let found = found_at old terms sub i row books at is in
+    let named : row.sub ≡ sub = ap (λ (r : Row). r.sub) is ∙ at.named row in
+    let new_is : new ≡ set old i (record { sub = sub; account = account }) = installed.1 ∙ ap (λ (s : Sub). set old i (record { sub = s; account = account })) named in
+    let moves : Moves old new sub account = record {
+      own = ap (λ (rows : List Row). account_in rows sub) new_is ∙ at.own account;
+      others = λ other apart. ap (λ (rows : List Row). account_in rows other) new_is ∙ at.others account other apart;
+    } in
+    let terms_are : account.terms ≡ terms = installed.2 ∙ found.terms_are in
+    let acts_are : account.acts ≡ next_acts terms (held_in old sub) act =
+    installed.3 ∙ ap (λ (t : Conditions). next_acts t row.account.acts act) found.terms_are ∙ ap (λ (xs : List Act). next_acts terms xs act) found.acts_are in
+    record {
+      own = held_own old new sub account moves ∙ acts_are;
+      others = held_others old new sub account moves;
+      books = books_moved old new terms sub account (held_in old sub ++ act ∷ []) law books moves terms_are acts_are;
+    }
+
+-- of a subscriber without an account nothing is held
+pub absent_found : (rows : List Row) (terms : Conditions) (sub : Sub) (account : Account) → IsAbsent rows sub → account.terms ≡ terms → account.acts ≡ [] → Found rows terms sub account
+absent_found rows terms sub account absent terms_are none = record { terms_are = terms_are; acts_are = none ∙ sym (ap acts_held absent.nothing) }
+
+pub added_steps : (old new : List Row) (terms : Conditions) (sub : Sub) (account : Account) (act : Act) → ActsAreActs → AreBooks old terms → Found old terms sub account
+    → IsAdded old new sub account act → Steps old new terms sub act
+added_steps old new terms sub account act law books found added =
+    let own : held_in new sub ≡ next_acts terms (held_in old sub) act =
+    added.0 ∙ ap (λ (t : Conditions). next_acts t account.acts act) found.terms_are ∙ ap (λ (xs : List Act). next_acts terms xs act) found.acts_are in
+    let others : (other : Sub) → other ≢ sub → held_in new other ≡ held_in old other = λ other apart. ap acts_held (added.1 other apart) in
+    record {
+      own = own;
+      others = others;
+      books = record {
+        terms_are = λ s account' is. elim (one_or_other s sub) [
+          | inl e ↦ added.2 account' (sym (ap (account_in new) e) ∙ is) ∙ found.terms_are
+          | inr apart ↦ books.terms_are s account' (sym (added.1 s apart) ∙ is)
+        ];
+        own = λ s. elim (one_or_other s sub) [
+          | inl e ↦ (let here : held_in new s ≡ next_acts terms (held_in old sub) act = ap (held_in new) e ∙ own in rw here (law terms (held_in old sub ++ act ∷ [])))
+          | inr apart ↦ (let same = others s apart in rw same (books.own s))
+        ];
+      };
+    }

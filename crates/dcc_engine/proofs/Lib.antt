@@ -1,0 +1,4 @@
+pub mod Tables
+pub mod Subs
+pub mod BookRows
+pub mod BookSteps

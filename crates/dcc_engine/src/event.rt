@@ -1,0 +1,53 @@
+//! What comes to an engine, and what goes out.
+
+use crate::bytes::Bytes;
+use dcc_act::{Moment, Sub};
+
+/// Something that happens to the server.
+#[derive(Debug, Drop)]
+pub enum Event {
+    /// A peer is there, under this host's name. It is made anew where it was there before, closed or not.
+    Connect {
+        peer: u32,
+        host: Bytes,
+    },
+    /// A whole message of a peer.
+    Message {
+        peer: u32,
+        moment: Moment,
+        bytes: Bytes,
+    },
+    /// Money for a subscriber, in minor units.
+    TopUp {
+        moment: Moment,
+        sub: Sub,
+        ticket: u64,
+        amount: u64,
+    },
+}
+
+/// What a top-up is told.
+#[derive(Clone, Copy, Debug, PartialEq, Eq)]
+pub enum TopUpAnswer {
+    /// It was added, now or when its ticket came first.
+    Done,
+    /// It would have lifted the funds above 10^18 minor units, and wasn't added.
+    Ceiling,
+    /// Its amount isn't 1 to 10^18 minor units; nothing is kept of it.
+    BadAmount,
+    /// Memory was short, and nothing changed.
+    Refused,
+}
+
+/// What an event is answered.
+#[derive(Debug, Drop)]
+pub struct Out {
+    /// The peer that the event named.
+    pub peer: Option<u32>,
+    /// The answer's octets, none where there is no answer.
+    pub bytes: Bytes,
+    /// Whether the peer's connection is to be closed.
+    pub close: bool,
+    /// What a top-up is told.
+    pub top_up: Option<TopUpAnswer>,
+}
