@@ -21,7 +21,7 @@ spelled_within octets (avp ∷ []) h =
     let padding = h.1 in
     let rest = h.2 in
     let parts : length octets ≡ length (spelling avp) + (length padding + length rest) =
-      ap length h.4 ∙ length-append (spelling avp) (padding ++ rest) ∙ ap (λ (n : ℕ). length (spelling avp) + n) (length-append padding rest) in
+    ap length h.4 ∙ length-append (spelling avp) (padding ++ rest) ∙ ap (λ (n : ℕ). length (spelling avp) + n) (length-append padding rest) in
     let pad = length_padding avp in
     let all = sum_by-cons padded_len avp [] in
     omega arith
@@ -30,7 +30,7 @@ spelled_within octets (avp ∷ next ∷ others) h =
     let padding = h.1 in
     let rest = h.2 in
     let parts : length octets ≡ length (spelling avp) + (length padding + length rest) =
-      ap length h.4 ∙ length-append (spelling avp) (padding ++ rest) ∙ ap (λ (n : ℕ). length (spelling avp) + n) (length-append padding rest) in
+    ap length h.4 ∙ length-append (spelling avp) (padding ++ rest) ∙ ap (λ (n : ℕ). length (spelling avp) + n) (length-append padding rest) in
     let whole : length padding ≡ padding_len avp = h.3 in
     let pad = length_padding avp in
     let after = spelled_within rest (next ∷ others) h.5 in

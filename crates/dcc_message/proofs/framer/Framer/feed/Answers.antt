@@ -6,7 +6,7 @@ use Rattle.dcc_message.proofs.framer.Framer.feed.Goals as goal
 pub invariant_of-self-2 : goal.invariant_of-self-2
 invariant_of-self-2 c =
     let message : c.replace.result.items ≡ c.self.inside.begun.items ++ c.split_at.result.0.now =
-      ap (λ (v : Vec ℕ Global). v.items) c.replace.ensures.value ∙ c.in_ok-extend_from_slice.ensures.items in
+    ap (λ (v : Vec ℕ Global). v.items) c.replace.ensures.value ∙ c.in_ok-extend_from_slice.ensures.items in
     let ok : is_ok c.append.result ≡ true = c.append.ensures.succeeds (omega (arith, c.in_ok-reserve.ensures.ok, c.in_ok-reserve.ensures.len, c.push_back_reserved.ensures.len, c.push_back_reserved.ensures.capacity, c.len.ensures)) in
     let appended : c.append.new.self.items ≡ c.push_back_reserved.new.self.items ++ c.in_ok-later.later.ready.items = rw ok at c.append.ensures.items in
     let ready : c.append.new.self.items ≡ (c.self.inside.ready.items ++ c.replace.result ∷ []) ++ c.in_ok-later.later.ready.items = cc (appended, c.push_back_reserved.ensures.items, c.in_ok-reserve.ensures.items) in
