@@ -1,0 +1,9 @@
+//! Scripts of events, replayed: what a script says, the run of an engine over its events, and what is printed of it.
+//!
+//! Stands on `dcc_engine`. The contract that it gives: [`replay_run`] writes the printed form of the outs of a run over the
+//! events that the script says, or nothing where a line of it has a fault.
+#![tactic(auto)]
+
+mod printing;
+mod script;
+mod words;
