@@ -1,3 +1,4 @@
 pub mod WordLemmas
 pub mod SubLemmas
 pub mod ScriptLemmas
+pub mod PrintingLemmas

@@ -11,28 +11,10 @@ abbrev pub prepended : List Event → Result (List Event) ℕ → Result (List E
 prepended read (Ok events) = Ok (read ++ events)
 prepended read (Err line) = Err line
 
-pub begun : (script : Result (List Event) ℕ) → script ≡ prepended [] script
-begun (Ok events) = refl
-begun (Err line) = refl
-
 -- the line at i, and the later ones
 first_of : (lines : List (Bor (List ℕ))) (i : ℕ) (d : Bor (List ℕ)) → i < length lines
   → map (λ l. l.now) (drop i lines) ≡ (slice_index_or lines i d).now ∷ map (λ l. l.now) (drop (i + 1) lines)
 first_of lines i d within = rw (drop-cons lines i d within) (rw add-one refl)
-
-pub remark_step : (lines : List (Bor (List ℕ))) (i : ℕ) (d : Bor (List ℕ)) → i < length lines → is_remark (slice_index_or lines i d).now ≡ true
-  → events_from (i + 1) (map (λ l. l.now) (drop i lines)) ≡ events_from (i + 1 + 1) (map (λ l. l.now) (drop (i + 1) lines))
-remark_step lines i d within remark = rw (first_of lines i d within) (rw remark refl)
-
-later_step : (read : List Event) (n : ℕ) (event : Event) (later : Result (List Event) ℕ) → prepended read (then_later n (Some event) later) ≡ prepended (read ++ event ∷ []) later
-later_step read n event (Ok events) = ap (λ (all : List Event). Ok all) (sym (append_assoc read (event ∷ []) events))
-later_step read n event (Err line) = refl
-
-pub event_step : (lines : List (Bor (List ℕ))) (i : ℕ) (d : Bor (List ℕ)) (read : List Event) (event : Event) → i < length lines
-  → is_remark (slice_index_or lines i d).now ≡ false → event_of (words_of (slice_index_or lines i d).now) ≡ Some event
-  → prepended read (events_from (i + 1) (map (λ l. l.now) (drop i lines))) ≡ prepended (read ++ event ∷ []) (events_from (i + 1 + 1) (map (λ l. l.now) (drop (i + 1) lines)))
-event_step lines i d read event within plain says =
-    rw (first_of lines i d within) (rw plain (rw says (later_step read (i + 1) event (events_from (i + 1 + 1) (map (λ l. l.now) (drop (i + 1) lines))))))
 
 -- a line that has none of the forms
 pub fault_step : (text : List ℕ) (lines : List (Bor (List ℕ))) (i : ℕ) (d : Bor (List ℕ)) (read : List Event)
