@@ -1,3 +1,5 @@
 pub mod Words
 pub mod Scripts
 pub mod Printed
+pub mod Failures
+pub mod Plans

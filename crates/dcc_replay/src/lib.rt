@@ -4,6 +4,13 @@
 //! events that the script says, or nothing where a line of it has a fault.
 #![tactic(auto)]
 
+mod failure;
+mod plan_file;
 mod printing;
 mod script;
+mod streams;
 mod words;
+
+pub use failure::Failure;
+pub use plan_file::{plan_of, read_plan};
+pub use script::ScriptFault;
