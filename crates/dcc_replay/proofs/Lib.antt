@@ -3,3 +3,4 @@ pub mod SubLemmas
 pub mod ScriptLemmas
 pub mod PrintingLemmas
 pub mod PlanLemmas
+pub mod NameLemmas

@@ -3,3 +3,4 @@ pub mod Scripts
 pub mod Printed
 pub mod Failures
 pub mod Plans
+pub mod Names

@@ -84,6 +84,19 @@ impl From<io::Error> for Failure {
     }
 }
 
+/// What the command line's reader refuses is a failure of usage; a wish for help is none of the commands, either.
+impl From<clap::Error> for Failure {
+    ghost from_gives = { λ _ given. (given ≡ failure.Memory) ⊎ (given ≡ failure.Usage) };
+
+    fn from(error: clap::Error) -> Failure {
+        if error.kind() == clap::error::ErrorKind::OutOfMemory {
+            Failure::Memory
+        } else {
+            Failure::Usage
+        }
+    }
+}
+
 impl From<PlanFault> for Failure {
     ghost from_gives = { λ fault given. given ≡ of_plan fault };
 

@@ -4,13 +4,16 @@
 //! events that the script says, or nothing where a line of it has a fault.
 #![tactic(auto)]
 
+mod command_line;
 mod failure;
+mod names;
 mod plan_file;
 mod printing;
 mod script;
 mod streams;
 mod words;
 
+pub use command_line::plan_path;
 pub use failure::Failure;
 pub use plan_file::{plan_of, read_plan};
 pub use script::ScriptFault;
