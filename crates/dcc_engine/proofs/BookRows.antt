@@ -8,7 +8,7 @@ use Rattle.dcc_account.specs.declared.account.Account.{Account}
 use Rattle.dcc_model.specs.Outcomes.{acts}
 use Rattle.dcc_model.specs.Laws.{ActsAreActs}
 use Rattle.dcc_engine.specs.declared.row.Row.{Row}
-use Rattle.dcc_engine.specs.Books.{same_sub, account_in, held_in, IsAt, IsAbsent, AreBooks, AreSame}
+use Rattle.dcc_engine.specs.Books.{same_sub, account_in, held_in, IsAt, IsAbsent, AreBooks}
 use Rattle.dcc_engine.proofs.Subs.{same_sub-same, same_sub-other, one_or_other}
 
 found_here : (row : Row) (rows : List Row) (sub : Sub) → row.sub ≡ sub → account_in (row ∷ rows) sub ≡ Some row.account

@@ -1,11 +1,10 @@
 -- The books after one act of one subscriber.
-use Rattle.std.proofs.Common.{◌≡◌, ◌≢◌, ℕ, ◌+◌, cond, List, [], ◌∷◌, ◌++◌, length, get_or, set, Option, Some, None, refl, sym, ap, subst, ◌∙◌, arith, inl, inr}
+use Rattle.std.proofs.Common.{◌≡◌, ◌≢◌, ℕ, ◌+◌, List, [], ◌∷◌, ◌++◌, length, get_or, set, Some, sym, ap, ◌∙◌, inl, inr}
 use Rattle.dcc_tariff.specs.Terms.{Conditions}
 use Rattle.dcc_act.specs.declared.act.Act.{Act}
-use Rattle.dcc_act.specs.declared.outcome.Outcome.{Outcome}
 use Rattle.dcc_act.specs.declared.sub.Sub.{Sub}
 use Rattle.dcc_account.specs.declared.account.Account.{Account}
-use Rattle.dcc_model.specs.Outcomes.{acts, outcome}
+use Rattle.dcc_model.specs.Outcomes.{outcome}
 use Rattle.dcc_model.specs.Laws.{ActsAreActs}
 use Rattle.dcc_engine.specs.declared.row.Row.{Row}
 use Rattle.dcc_engine.specs.Books.{account_in, held_in, next_outcome, next_acts, IsAt, IsAbsent, IsInstalled, IsAdded, AreBooks, Steps}

@@ -1,12 +1,9 @@
 -- What an engine holds: its setting, its peers, and the accounts.
-use Rattle.std.specs.Prelude.{◌≡◌, ◌≢◌, ℕ, ◌<◌, ◌==◌, ◌++◌, ◌∷◌, List, [], length, slice_index_or, slice_set, Bool, true, false, Option, Some, None, if◌then◌else◌}
+use Rattle.std.specs.Prelude.{◌≡◌, ℕ, ◌==◌, ◌∷◌, List, [], Bool, true, false, Option, Some, None, if◌then◌else◌}
 use Rattle.dcc_tariff.specs.Plans.{PlanView}
-use Rattle.dcc_tariff.specs.Terms.{Conditions}
 use Rattle.dcc_message.specs.declared.identity.Identity.{Identity}
 use Rattle.dcc_act.specs.declared.act.Act.{Act}
 use Rattle.dcc_act.specs.declared.sub.Sub.{Sub}
-use Rattle.dcc_account.specs.declared.account.Account.{Account}
-use Rattle.dcc_model.specs.Outcomes.{acts}
 use Rattle.dcc_engine.specs.declared.row.Row.{Row}
 use Rattle.dcc_engine.specs.Books.{held_in, AreSame}
 use Rattle.dcc_engine.specs.declared.peers.Peer.{Peer}

@@ -1,2 +1,7 @@
 pub mod Books
 pub mod Core
+pub mod Messages
+pub mod Heard
+pub mod Asks
+pub mod Served
+pub mod Isolation

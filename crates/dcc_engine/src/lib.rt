@@ -1,19 +1,26 @@
 //! The engine: events in, answers out, each subscriber as if alone.
 //!
 //! Stands on `dcc_credit` for requests and answers, on `dcc_account` for what an act comes to, and on the crates below
-//! them. What stands so far: the peers, and one act of one subscriber (`steps`), whose contract is the step of isolation:
-//! the answer is that of the definitions, the subscriber's acts are those of the definitions, every other subscriber's
-//! are as they were, and nothing has changed where memory was refused. The run over a list of events is to come.
+//! them. The contract that it gives is that of `Engine::run`: for every list of events, a subscriber's request is answered
+//! with the octets of the outcome at its place in that subscriber's own entries, or refused with nothing changed; afterwards
+//! the subscriber's acts and money are those of the own entries. The law `isolation` follows: two runs that agree on a
+//! subscriber's own events agree on its answers, byte for byte.
 #![tactic(auto)]
 
 mod books;
 mod bytes;
+mod engine;
 mod event;
+mod laws;
+mod message;
 mod peers;
 mod row;
+mod serve;
 mod steps;
 
 pub use bytes::Bytes;
+pub use engine::Engine;
 pub use event::{Event, Out, TopUpAnswer};
+pub use laws::{isolation, runs_in_turn};
 pub use peers::{Peer, PeerRow};
 pub use row::Row;

@@ -53,6 +53,7 @@ pub(crate) fn answer(
 }
 
 /// What an answer to a request takes beside its outcome.
+#[derive(Drop)]
 pub(crate) struct Asked<'a> {
     pub(crate) identity: &'a Identity,
     pub(crate) terms: &'a Terms,

@@ -1,0 +1,11 @@
+use Rattle.dcc_engine.proofs.OwnAnswers.{same_answers, same_own, own_asked}
+use Rattle.dcc_engine.proofs.laws.isolation.Goals as goal
+
+pub returns-clause-answers : goal.returns-clause-answers
+returns-clause-answers c = same_answers c.later_acts_change_no_outcome.ensures
+
+pub returns-clause-own : goal.returns-clause-own
+returns-clause-own c = same_own
+
+pub returns-clause-asks : goal.returns-clause-asks
+returns-clause-asks c = λ sub a xs. own_asked a xs sub
