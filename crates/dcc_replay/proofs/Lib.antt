@@ -4,3 +4,4 @@ pub mod ScriptLemmas
 pub mod PrintingLemmas
 pub mod PlanLemmas
 pub mod NameLemmas
+pub mod ReplayLemmas

@@ -4,3 +4,4 @@ pub mod Printed
 pub mod Failures
 pub mod Plans
 pub mod Names
+pub mod Replays

@@ -30,12 +30,13 @@ pub(crate) fn read_all<R: Read>(alloc: Global, input: &mut R) -> Result<Vec<u8>,
     Err(Failure::Io)
 }
 
-/// Writes a whole text, and sends it on.
+/// Writes a whole text, and sends it on. Whatever fails there is a failure of output.
 pub(crate) fn write_all<W: Write>(output: &mut W, text: &[u8]) -> Result<(), Failure>
     ensures ok { OnOk result (Appends (W.contents output.old) (W.contents output.new) text.now) }
-    ensures err { IfErr result (λ failure. (failure ≡ Memory) ⊎ (failure ≡ Io)) }
+    ensures err { IfErr result (λ failure. failure ≡ Io) }
 {
-    output.write_all(text)?;
-    output.flush()?;
+    if output.write_all(text).is_err() || output.flush().is_err() {
+        return Err(Failure::Io);
+    }
     Ok(())
 }
