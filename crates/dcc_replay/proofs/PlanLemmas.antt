@@ -1,5 +1,5 @@
 -- What a file's bytes say of a plan.
-use Rattle.std.proofs.Common.{◌≡◌, ℕ, true, List, Result, Ok, Err, inl, inr, refl, ◌∙◌, ◌⊎◌, IfErr, Bool, false}
+use Rattle.std.proofs.Common.{◌≡◌, ℕ, List, Result, Ok, Err, inl, inr, refl, IfErr}
 use Rattle.std.specs.Prelude.{IsErrAnd}
 use Rattle.std.specs.Str.{IsUtf8, is_utf8}
 use Rattle.std.proofs.lemmas.Str.{IsUtf8-from_is_utf8, is_utf8-from_IsUtf8}

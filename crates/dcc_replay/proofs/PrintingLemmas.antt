@@ -1,10 +1,9 @@
 -- Phrases and lines, one after another.
-use Rattle.std.proofs.Common.{◌≡◌, ℕ, ◌+◌, ◌<◌, ◌≤◌, ◌==◌, not, Bool, true, false, List, [], ◌∷◌, ◌++◌, length, length-append, drop, slice_index_or, add-one, refl, sym, ◌∙◌, ap, append_assoc, arith}
+use Rattle.std.proofs.Common.{◌≡◌, ℕ, ◌+◌, ◌<◌, ◌≤◌, ◌==◌, not, Bool, true, List, [], ◌∷◌, ◌++◌, length, length-append, drop, refl, sym, ◌∙◌, append_assoc, arith}
 use Rattle.std.proofs.lemmas.Bool.Decides.{nat_tests}
-use Rattle.std.proofs.Math.Seq.{drop-cons}
 use Rattle.std.proofs.lemmas.List.{drop_all, append-nil}
 use Rattle.dcc_engine.specs.declared.event.Out.{Out}
-use Rattle.dcc_replay.specs.Printed.{or_dash, numbered, lines_of_out, lines_from, printed}
+use Rattle.dcc_replay.specs.Printed.{or_dash, numbered, lines_from, printed}
 
 pub numbered-append : (n : ℕ) (xs ys : List (List ℕ)) → numbered n (xs ++ ys) ≡ numbered n xs ++ numbered n ys
 numbered-append n [] ys = refl

@@ -1,5 +1,5 @@
 -- A replay, put together of its steps.
-use Rattle.std.proofs.Common.{◌≡◌, ℕ, List, length, Option, Some, None, Result, Ok, Err, IfSome, OnOk, ◌∙◌}
+use Rattle.std.proofs.Common.{◌≡◌, ℕ, List, length, Option, Some, None, Result, Ok, Err, IfSome, OnOk}
 use Rattle.std.specs.Io.KnownBytes.{Appends}
 use Rattle.dcc_tariff.specs.Plans.{PlanView}
 use Rattle.dcc_engine.specs.declared.event.Event.{Event}

@@ -1,10 +1,10 @@
 -- A script, read line after line.
-use Rattle.std.proofs.Common.{◌≡◌, ℕ, ◌+◌, ◌<◌, ◌≤◌, Bool, true, false, List, [], ◌∷◌, ◌++◌, length, map, drop, slice_index_or, Bor, Option, Some, None, Result, Ok, Err, add-one, refl, sym, ◌∙◌, ap, append_assoc, append-nil}
+use Rattle.std.proofs.Common.{◌≡◌, ℕ, ◌+◌, ◌<◌, ◌≤◌, false, List, ◌∷◌, ◌++◌, length, map, drop, slice_index_or, Bor, None, Result, Ok, Err, add-one, refl, ◌∙◌, ap, append-nil}
 use Rattle.std.proofs.Math.Seq.{drop-cons}
 use Rattle.std.proofs.lemmas.List.{drop_all}
 use Rattle.dcc_engine.specs.declared.event.Event.{Event}
 use Rattle.dcc_replay.specs.Words.{lines_of, words_of}
-use Rattle.dcc_replay.specs.Scripts.{event_of, is_remark, then_later, events_from, script_of}
+use Rattle.dcc_replay.specs.Scripts.{event_of, is_remark, events_from, script_of}
 
 -- events that were read, before what the later lines say
 abbrev pub prepended : List Event → Result (List Event) ℕ → Result (List Event) ℕ

@@ -1,5 +1,5 @@
 -- The plan of a file's bytes.
-use Rattle.std.specs.Prelude.{◌≡◌, ℕ, List, Result, Ok, Err, ◌⊎◌, if◌then◌else◌}
+use Rattle.std.specs.Prelude.{◌≡◌, ℕ, List, Result, Err, ◌⊎◌, if◌then◌else◌}
 use Rattle.std.specs.Str.{is_utf8}
 use Rattle.dcc_tariff.specs.Plans.{PlanView}
 use Rattle.dcc_tariff.specs.PlanTexts.{plan_of_text}

@@ -1,5 +1,5 @@
 -- A script's events, run and printed.
-use Rattle.std.specs.Prelude.{◌≡◌, ℕ, List, [], length, Option, Some, None, Result, Ok, Err, ⊤}
+use Rattle.std.specs.Prelude.{◌≡◌, ℕ, List, [], length, Option, Some, None, Ok, Err, ⊤}
 use Rattle.dcc_tariff.specs.Plans.{PlanView}
 use Rattle.dcc_act.specs.declared.sub.Sub.{Sub}
 use Rattle.dcc_engine.specs.declared.event.Event.{Event}

@@ -1,5 +1,5 @@
 -- The events of a script.
-use Rattle.std.specs.Prelude.{◌≡◌, ℕ, ◌+◌, Bool, true, false, ◌==◌, if◌then◌else◌, List, [], ◌∷◌, bytes_eq, codes, Option, Some, None, Result, Ok, Err, option_and_then, option_map}
+use Rattle.std.specs.Prelude.{◌≡◌, ℕ, ◌+◌, Bool, true, ◌==◌, if◌then◌else◌, List, [], ◌∷◌, bytes_eq, codes, Option, Some, None, Result, Ok, Err, option_and_then, option_map}
 use Rattle.dcc_engine.specs.declared.event.Event.{Event}
 use Rattle.dcc_engine.specs.declared.event.Event.TheVariants.{Connect, Message, TopUp}
 use Rattle.dcc_replay.specs.declared.script.ScriptFault.{ScriptFault}

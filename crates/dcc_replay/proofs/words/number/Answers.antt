@@ -1,4 +1,4 @@
-use Rattle.std.proofs.Common.{rules, arith, sym, ◌∙◌}
+use Rattle.std.proofs.Common.{arith, sym}
 use Rattle.dcc_replay.proofs.WordLemmas.{IsUtf8-from_digits, number-no_digits, number-parsed, number-too_great, number-unparsed}
 use Rattle.dcc_replay.proofs.words.number.Goals as goal
 
