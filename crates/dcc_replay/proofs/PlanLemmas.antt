@@ -35,6 +35,6 @@ refused_by BadMoment meant failure given says = inr (BadMoment, given, says)
 refused_by Memory meant failure given says = inl says
 
 pub refused : (bytes text : List ℕ) (fault : PlanFault) (r : Result PlanView Failure) → text ≡ bytes → IsUtf8 bytes → Gives (Err fault) (plan_of_text text)
-  → IsErrAnd r (λ failure. failure ≡ of_plan fault) → IfErr r (IsRefusal (plan_of_bytes bytes))
+    → IsErrAnd r (λ failure. failure ≡ of_plan fault) → IfErr r (IsRefusal (plan_of_bytes bytes))
 refused bytes text fault (Ok plan) same is given says = tt
 refused bytes text fault (Err failure) same is given says = rw (plan_of_bytes-text bytes is) (rw (← same) (refused_by fault (plan_of_text text) failure given says))

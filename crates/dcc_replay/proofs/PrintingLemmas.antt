@@ -19,7 +19,7 @@ some_of phrases some says holds = grind (arith, nat_tests)
 
 -- three lists of phrases, of which one has a phrase
 pub spoken : (n : ℕ) (a b c : List (List ℕ)) (old x y z : List ℕ) → x ≡ old ++ numbered n a → y ≡ x ++ numbered n b → z ≡ y ++ numbered n c
-  → 0 < length a + length b + length c → z ≡ old ++ numbered n (or_dash (a ++ b ++ c))
+    → 0 < length a + length b + length c → z ≡ old ++ numbered n (or_dash (a ++ b ++ c))
 spoken n a b c old x y z first second third some =
     let many : 0 < length (a ++ b ++ c) = simp length-append (omega arith) in
     rw (or_dash-some (a ++ b ++ c) many) (rw (numbered-append n (a ++ b) c) (rw (numbered-append n a b) (rw third (rw second (rw first (simp append_assoc))))))

@@ -12,10 +12,10 @@ use Rattle.dcc_replay.specs.Printed.{printed}
 use Rattle.dcc_replay.specs.Replays.{IsNew, IsReplayed}
 
 pub replayed : (plan : PlanView) (given old new : Option (List ℕ)) (text : List ℕ) (events : List Event) (outs : List Out) (written : List ℕ) (r : Result (Unit {0}) Failure)
-  → IfSome given (λ all. text ≡ all) → script_of text ≡ Ok events
-  → ((core : Core) × IsNew plan core × (length outs ≡ length events) × IsRun core (steps events outs))
-  → written ≡ printed outs → OnOk r (Appends old new written)
-  → OnOk r (IfSome given (λ all. (shown : List ℕ) × IsReplayed plan all shown × Appends old new shown))
+    → IfSome given (λ all. text ≡ all) → script_of text ≡ Ok events
+    → ((core : Core) × IsNew plan core × (length outs ≡ length events) × IsRun core (steps events outs))
+    → written ≡ printed outs → OnOk r (Appends old new written)
+    → OnOk r (IfSome given (λ all. (shown : List ℕ) × IsReplayed plan all shown × Appends old new shown))
 replayed plan given old new text events outs written (Err failure) whole says run shown appends = tt
 replayed plan None old new text events outs written (Ok done) whole says run shown appends = tt
 replayed plan (Some all) old new text events outs written (Ok done) whole says run shown appends = (

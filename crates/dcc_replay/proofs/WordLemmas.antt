@@ -38,29 +38,29 @@ number-empty limit word none = grind (arith, nat_tests)
 
 -- what parsing gives of decimal digits
 digits_parse : {E : Type 0} (word : List ℕ) (r : Result ℕ E) → list_all is_ascii_digit word ≡ true → ParsesUnsigned 64 10 word r
-  → OkIff r ((0 < length word) × (digits_value 10 word < 2 ^ 64)) (digits_value 10 word)
+    → OkIff r ((0 < length word) × (digits_value 10 word < 2 ^ 64)) (digits_value 10 word)
 digits_parse word r digits parsed = parse_digits own 64 word r parsed digits
 
 pub number-parsed : {E : Type 0} (limit : ℕ) (word : List ℕ) (r : Result ℕ E) (n : ℕ) → list_all is_ascii_digit word ≡ true → ParsesUnsigned 64 10 word r
-  → r ≡ Ok n → n ≤ limit → number limit word ≡ Some n
+    → r ≡ Ok n → n ≤ limit → number limit word ≡ Some n
 number-parsed limit word r n digits parsed given low =
     let facts = rw given at (digits_parse word r digits parsed) in
     rw facts.1 (number-within limit word digits facts.0.0 (omega (arith, facts.1)))
 
 pub number-too_great : {E : Type 0} (limit : ℕ) (word : List ℕ) (r : Result ℕ E) (n : ℕ) → list_all is_ascii_digit word ≡ true → ParsesUnsigned 64 10 word r
-  → r ≡ Ok n → limit < n → number limit word ≡ None
+    → r ≡ Ok n → limit < n → number limit word ≡ None
 number-too_great limit word r n digits parsed given high =
     let facts = rw given at (digits_parse word r digits parsed) in
     number-above limit word (omega (arith, facts.1))
 
 pub number-unparsed : {E : Type 0} (limit : ℕ) (word : List ℕ) (r : Result ℕ E) (e : E) → list_all is_ascii_digit word ≡ true → limit < 2 ^ 64
-  → ParsesUnsigned 64 10 word r → r ≡ Err e → number limit word ≡ None
+    → ParsesUnsigned 64 10 word r → r ≡ Err e → number limit word ≡ None
 number-unparsed limit word r e digits small parsed refused =
     let never = rw refused at (digits_parse word r digits parsed) in
     elim (cases_lt 0 (length word)) [
       | inr empty ↦ number-empty limit word empty
       | inl some ↦ elim (cases_lt (digits_value 10 word) (2 ^ 64)) [
-          | inr high ↦ number-above limit word (omega arith)
-          | inl low ↦ absurd (never (some, low))
-        ]
+        | inr high ↦ number-above limit word (omega arith)
+        | inl low ↦ absurd (never (some, low))
+      ]
     ]

@@ -19,8 +19,6 @@ pub fn plan_path<'a>(alloc: Global, words: &'a [String]) -> Result<&'a str, Fail
         .subcommand_required(true)
         .subcommand(replay)?;
     let matches = dcc.try_get_matches_from(words)?;
-    let replay = matches
-        .subcommand_matches("replay")
-        .ok_or(Failure::Usage)?;
+    let replay = matches.subcommand_matches("replay").ok_or(Failure::Usage)?;
     replay.get_str("PLAN").ok_or(Failure::Usage)
 }

@@ -21,3 +21,6 @@ pub use plan_file::{plan_of, read_plan};
 pub use program::run;
 pub use replay::replay_run;
 pub use script::ScriptFault;
+
+#[cfg(test)]
+mod tests;

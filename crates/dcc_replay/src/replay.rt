@@ -18,16 +18,25 @@ use dcc_tariff::Plan;
 use std::alloc::{AllocError, Global};
 use std::io::{Read, Write};
 
+/// A script has ended after so many reads.
+const MOST_READS: u32 = u32::MAX;
+
 /// Reads a script, runs its events on an engine just opened under the plan, and writes what is printed of the outs.
 ///
-/// The whole script is judged before anything is written: at a fault of the script, and where memory is short, nothing is.
-pub fn replay_run<R: Read, W: Write>(alloc: Global, plan: Plan, input: &mut R, output: &mut W) -> Result<(), Failure>
+/// The whole script is judged before anything is written: at a fault of the script, and where memory is short, nothing is. A script
+/// that has not ended after 4,294,967,295 reads is a failure of input.
+pub fn replay_run<R: Read, W: Write>(
+    alloc: Global,
+    plan: Plan,
+    input: &mut R,
+    output: &mut W,
+) -> Result<(), Failure>
     ensures ok { OnOk result (IfSome (R.remaining input.old) (λ text.
         (written : List ℕ) × IsReplayed plan text written × Appends (W.contents output.old) (W.contents output.new) written)) }
     ensures failures { IfErr result (IsReplayFailure (R.remaining input.old)) }
     ensures silent { IfErr result (λ failure. failure ≢ Io → Keeps (W.contents output.old) (W.contents output.new)) }
 {
-    let text = read_all(alloc, input)?;
+    let text = read_all(alloc, input, MOST_READS)?;
     let events = read_script(alloc, text.as_slice())?;
     let outs = outs_of(alloc, plan, events.as_slice())?;
     let written = printed(alloc, outs.as_slice())?;

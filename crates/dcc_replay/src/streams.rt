@@ -11,15 +11,18 @@ use std::io::{ErrorKind, Read, Write};
 /// As many octets are asked for at a time.
 const PIECE: usize = 4096;
 
-/// All that a reader gives up to its end. A reader that has not come to its end after 4,294,967,295 reads is a failure of
-/// input.
-pub(crate) fn read_all<R: Read>(alloc: Global, input: &mut R) -> Result<Vec<u8>, Failure>
+/// All that a reader gives up to its end. A reader that has not told its end after so many reads is a failure of input.
+pub(crate) fn read_all<R: Read>(
+    alloc: Global,
+    input: &mut R,
+    reads: u32,
+) -> Result<Vec<u8>, Failure>
     ensures ok { IfOk result (λ text. IfSome (R.remaining input.old) (λ given. text.items ≡ given)) }
     ensures err { IfErr result (λ failure. (failure ≡ Memory) ⊎ (failure ≡ Io)) }
 {
     let mut text = Vec::new(alloc);
     let mut piece = [0; PIECE];
-    for _ in 0..u32::MAX {
+    for _ in 0..reads {
         match input.read(&mut piece) {
             Ok(0) => return Ok(text),
             Ok(n) => text.extend_from_slice(&piece[..n])?,

@@ -84,7 +84,9 @@ pub(crate) fn octets(alloc: Global, word: &[u8]) -> Result<Option<Bytes>, AllocE
     ensures { IfOk result (λ bytes. bytes ≡ octets word.now) }
 {
     match hex::decode(alloc, word) {
-        Ok(bytes) if !bytes.is_empty() && bytes.len() <= MOST_OCTETS => Ok(Some(Bytes::from_vec(bytes))),
+        Ok(bytes) if !bytes.is_empty() && bytes.len() <= MOST_OCTETS => Ok(Some(Bytes::from_vec(
+            bytes,
+        ))),
         Err(FromHexError::OutOfMemory) => Err(AllocError),
         _ => Ok(None),
     }
