@@ -6,6 +6,20 @@ ghost use Rattle.dcc_replay.specs.declared.failure.Failure.TheVariants.{Memory, 
 use crate::failure::Failure;
 use clap::{Arg, ArgAction, Command};
 use std::alloc::Global;
+use std::env;
+use std::io::ErrorKind;
+use std::rt::Env;
+
+/// The words of the command line; one that is no text is none of the program's.
+pub fn given_words<E: Env + AllocGlobal>(rt: &E) -> Result<Vec<String>, Failure>
+    ensures { IfErr result (λ failure. (failure ≡ Memory) ⊎ (failure ≡ Usage)) }
+{
+    match env::args(rt) {
+        Ok(words) => Ok(words.collect(rt.alloc())?),
+        Err(error) if error.kind() == ErrorKind::OutOfMemory => Err(Failure::Memory),
+        Err(_) => Err(Failure::Usage),
+    }
+}
 
 /// The path of the plan, of the command line `dcc replay PLAN`. The first word is the program's name.
 pub fn plan_path<'a>(alloc: Global, words: &'a [String]) -> Result<&'a str, Failure>

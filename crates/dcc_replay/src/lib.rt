@@ -15,7 +15,7 @@ mod script;
 mod streams;
 mod words;
 
-pub use command_line::plan_path;
+pub use command_line::{given_words, plan_path};
 pub use failure::Failure;
 pub use plan_file::{plan_of, read_plan};
 pub use program::run;

@@ -1,7 +1,7 @@
 //! The plan of a file.
 
 ghost use Rattle.std.specs.Prelude.{◌≡◌, IfOk, IfErr, Ok};
-ghost use Rattle.dcc_replay.specs.Plans.{plan_of_bytes, IsRefusal};
+ghost use Rattle.dcc_replay.specs.Plans.{plan_of_bytes, IsRefusal, IsPlanFailure};
 
 use crate::failure::Failure;
 use dcc_tariff::{Plan, PlanFault};
@@ -10,7 +10,9 @@ use std::fs;
 use std::rt::Files;
 
 /// The plan of the file at a path. A file that can't be read, a folder too, is a failure of input.
-pub fn read_plan(rt: &(impl Files + AllocGlobal), path: &str) -> Result<Plan, Failure> {
+pub fn read_plan(rt: &(impl Files + AllocGlobal), path: &str) -> Result<Plan, Failure>
+    ensures { IfErr result IsPlanFailure }
+{
     let bytes = fs::read(rt, path)?;
     plan_of(rt.alloc(), bytes.as_slice())
 }

@@ -4,9 +4,10 @@
 //! a failure becomes a line on standard error and an exit status.
 #![tactic(auto)]
 
-use dcc_replay::{Failure, run};
+use dcc_replay::{Failure, given_words, run};
+use std::io;
 use std::process::ExitCode;
-use std::{env, io};
+
 
 fn main(rt: HostRuntime) -> ExitCode {
     match dcc(&rt) {
@@ -18,8 +19,7 @@ fn main(rt: HostRuntime) -> ExitCode {
     }
 }
 
-/// A command line that is no text is none of the program's.
 fn dcc(rt: &HostRuntime) -> Result<(), Failure> {
-    let words: Vec<String> = env::args(rt)?.collect(rt.alloc())?;
+    let words = given_words(rt)?;
     run(rt, words.as_slice(), &mut rt.reader(), &mut io::writer(rt))
 }
