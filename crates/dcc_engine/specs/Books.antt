@@ -1,5 +1,6 @@
 -- The accounts, by subscriber.
-use Rattle.std.specs.Prelude.{◌≡◌, ◌≢◌, ℕ, ◌<◌, ◌==◌, ◌+◌, ◌++◌, ◌∷◌, List, [], length, slice_index_or, slice_set, bytes_eq, Bool, ◌&&◌, Option, Some, None, if◌then◌else◌}
+use Rattle.std.specs.Prelude.{◌≡◌, ◌≢◌, ℕ, ◌<◌, ◌==◌, ◌+◌, Bool, ◌&&◌, if◌then◌else◌}
+use Rattle.std.specs.Prelude.{List, [], ◌∷◌, ◌++◌, length, slice_index_or, slice_set, bytes_eq, Option, Some, None}
 use Rattle.std.specs.Option.{option_map_or}
 use Rattle.dcc_tariff.specs.Terms.{Conditions}
 use Rattle.dcc_act.specs.declared.act.Act.{Act}
@@ -54,23 +55,27 @@ pub record IsAt (rows : List Row) (sub : Sub) (i : ℕ) : Type 0 where
   pub here : (none : Row) → account_in rows sub ≡ Some (slice_index_or rows i none).account
   pub named : (none : Row) → (slice_index_or rows i none).sub ≡ sub
   pub own : (given : Account) → account_in (slice_set rows i (record { sub = sub; account = given })) sub ≡ Some given
-  pub others : (given : Account) (other : Sub) → other ≢ sub → account_in (slice_set rows i (record { sub = sub; account = given })) other ≡ account_in rows other
+  pub others : (given : Account) (other : Sub) → other ≢ sub
+      → account_in (slice_set rows i (record { sub = sub; account = given })) other ≡ account_in rows other
 
 -- the subscriber has no row, and what is added at the end is what is then held
 pub record IsAbsent (rows : List Row) (sub : Sub) : Type 0 where
   pub nothing : account_in rows sub ≡ None
   pub own : (given : Account) → account_in (rows ++ record { sub = sub; account = given } ∷ []) sub ≡ Some given
-  pub others : (given : Account) (other : Sub) → other ≢ sub → account_in (rows ++ record { sub = sub; account = given } ∷ []) other ≡ account_in rows other
+  pub others : (given : Account) (other : Sub) → other ≢ sub
+      → account_in (rows ++ record { sub = sub; account = given } ∷ []) other ≡ account_in rows other
 
 -- the row at i has the acts after one more act, under the same terms
 abbrev pub IsInstalled : List Row → List Row → ℕ → Row → Act → Type 0
 IsInstalled old new i row act =
-    (account : Account) × (new ≡ slice_set old i (record { sub = row.sub; account = account })) × (account.terms ≡ row.account.terms) × (account.acts ≡ acts row.account.terms (row.account.acts ++ act ∷ []))
+    (account : Account) × (new ≡ slice_set old i (record { sub = row.sub; account = account }))
+    × (account.terms ≡ row.account.terms) × (account.acts ≡ acts row.account.terms (row.account.acts ++ act ∷ []))
 
 -- the acts after the first act are held, under the account's terms
 abbrev pub IsAdded : List Row → List Row → Sub → Account → Act → Type 0
 IsAdded old new sub account act =
-    (held_in new sub ≡ acts account.terms (account.acts ++ act ∷ [])) × ((other : Sub) → other ≢ sub → account_in new other ≡ account_in old other)
+    (held_in new sub ≡ acts account.terms (account.acts ++ act ∷ []))
+    × ((other : Sub) → other ≢ sub → account_in new other ≡ account_in old other)
     × ((found : Account) → account_in new sub ≡ Some found → found.terms ≡ account.terms)
 
 -- the books after one more act of a subscriber, which leaves the others as they were

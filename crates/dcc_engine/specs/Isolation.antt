@@ -74,7 +74,8 @@ asks_after core (step ∷ past) sub = with_own (asked core past step.event sub) 
 
 abbrev pub answers_after : Core → List Step → Sub → List Said
 answers_after core [] sub = []
-answers_after core (step ∷ past) sub = with_own (asked core past step.event sub) step.out (λ ask. said step.out) (answers_after core past sub)
+answers_after core (step ∷ past) sub =
+    with_own (asked core past step.event sub) step.out (λ ask. said step.out) (answers_after core past sub)
 
 -- the same of a list of steps in order
 abbrev pub own_asks : Core → List Step → Sub → List Ask

@@ -17,9 +17,11 @@ use Rattle.dcc_engine.specs.declared.peers.Peer.{Peer}
 use Rattle.dcc_engine.specs.declared.row.Row.{Row}
 
 -- the request was answered by its outcome, and its act made
-pub record IsTaken (setting : Setting) (old new : List Row) (moment : ℕ) (message : Brought) (bytes : List ℕ) (request : RequestView) : Type 0 where
+pub record IsTaken
+    (setting : Setting) (old new : List Row) (moment : ℕ) (message : Brought) (bytes : List ℕ) (request : RequestView) : Type 0 where
   pub is : message.request ≡ Some request
-  pub answer : bytes ≡ answer_to setting message (next_outcome setting.plan.terms (held_in old request.sub) (act_of setting.plan request moment))
+  pub answer : bytes ≡ answer_to setting message
+      (next_outcome setting.plan.terms (held_in old request.sub) (act_of setting.plan request moment))
   pub steps : Steps old new setting.plan.terms request.sub (act_of setting.plan request moment)
 
 -- it was answered busy or not at all, and nothing changed
@@ -32,7 +34,8 @@ IsServed setting old new moment message bytes =
     ((request : RequestView) × IsTaken setting old new moment message bytes request) ⊎ IsTurnedAway setting old new message bytes
 
 -- the top-up was told its outcome, and its act made
-pub record IsToldOutcome (terms : Conditions) (old new : List Row) (moment : ℕ) (sub : Sub) (ticket amount : ℕ) (answer : TopUpAnswer) : Type 0 where
+pub record IsToldOutcome
+    (terms : Conditions) (old new : List Row) (moment : ℕ) (sub : Sub) (ticket amount : ℕ) (answer : TopUpAnswer) : Type 0 where
   pub answer_is : answer ≡ told (next_outcome terms (held_in old sub) (top_up_act moment ticket amount))
   pub steps : Steps old new terms sub (top_up_act moment ticket amount)
 
@@ -56,4 +59,5 @@ pub record IsNext (setting : Setting) (peers : ℕ → Option Peer) (held : Sub 
 -- an event is answered as it has to be, and its act is held where it was made
 pub record IsDone (setting : Setting) (peers : ℕ → Option Peer) (old new : List Row) (event : Event) (out : Out) : Type 0 where
   pub told : IsNext setting peers (held_in old) event out
-  pub acts_are : (sub : Sub) → held_in new sub ≡ acts setting.plan.terms (own_with (ask_for setting peers event sub) out (held_in old sub))
+  pub acts_are : (sub : Sub) → held_in new sub
+      ≡ acts setting.plan.terms (own_with (ask_for setting peers event sub) out (held_in old sub))

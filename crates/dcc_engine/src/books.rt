@@ -1,17 +1,14 @@
 //! The accounts, by subscriber: a step of one leaves the others as they were.
 
-ghost use Rattle.std.specs.Prelude.{◌≡◌, ◌≢◌, ◌+◌, ◌<◌, ◌≤◌, [], ◌∷◌, ◌++◌, length, vec_len, vec_capacity, IfOk, IfSome, IfNone, OnOk, OnErr, slice_set, slice_index_or};
+ghost use Rattle.std.specs.Prelude.{◌≡◌, ◌<◌, length, IfSome, IfNone, slice_index_or};
 ghost use Rattle.dcc_act.specs.declared.sub.Sub.{Sub};
 ghost use Rattle.dcc_account.specs.Prepared.{IsPrepared};
-ghost use Rattle.dcc_model.specs.Outcomes.{acts};
 ghost use Rattle.dcc_engine.specs.declared.row.Row.{Row};
-ghost use Rattle.dcc_engine.specs.Books.{same_sub, account_in, held_in, next_outcome, next_acts, AreBooks, AreSame, IsAt, IsAbsent, IsInstalled};
+ghost use Rattle.dcc_engine.specs.Books.{same_sub, IsAt, IsAbsent, IsInstalled};
 
 use crate::row::Row;
-use dcc_account::{Account, Step};
-use dcc_act::{Act, Outcome, Sub};
-use dcc_tariff::Terms;
-use std::alloc::{AllocError, Global};
+use dcc_account::Step;
+use dcc_act::Sub;
 
 /// Where the subscriber's row is.
 pub(crate) fn find(rows: &[Row], sub: &Sub) -> Option<usize>

@@ -89,12 +89,12 @@ impl Engine {
         // Of each subscriber the acts of the own entries are held, and the money is theirs.
         ensures acts { IfOk result (λ outs. (sub : Sub) →
             held_of self.new sub ≡ acts self.old.setting.plan.terms (own self.old (steps events.now outs.items) sub)) }
-        ensures funds { IfOk result (λ outs. (sub : Sub) →
-            funds self.old.setting.plan.terms (held_of self.new sub) ≡ funds self.old.setting.plan.terms (own self.old (steps events.now outs.items) sub)) }
-        ensures free { IfOk result (λ outs. (sub : Sub) →
-            free self.old.setting.plan.terms (held_of self.new sub) ≡ free self.old.setting.plan.terms (own self.old (steps events.now outs.items) sub)) }
-        ensures overrun { IfOk result (λ outs. (sub : Sub) →
-            overrun self.old.setting.plan.terms (held_of self.new sub) ≡ overrun self.old.setting.plan.terms (own self.old (steps events.now outs.items) sub)) }
+        ensures funds { IfOk result (λ outs. (sub : Sub) → funds self.old.setting.plan.terms (held_of self.new sub)
+            ≡ funds self.old.setting.plan.terms (own self.old (steps events.now outs.items) sub)) }
+        ensures free { IfOk result (λ outs. (sub : Sub) → free self.old.setting.plan.terms (held_of self.new sub)
+            ≡ free self.old.setting.plan.terms (own self.old (steps events.now outs.items) sub)) }
+        ensures overrun { IfOk result (λ outs. (sub : Sub) → overrun self.old.setting.plan.terms (held_of self.new sub)
+            ≡ overrun self.old.setting.plan.terms (own self.old (steps events.now outs.items) sub)) }
         // Each peer is where its own events leave it.
         ensures peers { IfOk result (λ outs. (id : ℕ) → peer_of self.new id ≡ peers self.old (steps events.now outs.items) id) }
         ensures setting { self.new.setting ≡ self.old.setting }

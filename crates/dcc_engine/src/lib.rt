@@ -24,3 +24,6 @@ pub use event::{Event, Out, TopUpAnswer};
 pub use laws::{isolation, runs_in_turn};
 pub use peers::{Peer, PeerRow};
 pub use row::Row;
+
+#[cfg(test)]
+mod tests;

@@ -36,7 +36,8 @@ pub(crate) fn respond(
     requires books { AreBooks rows.old.items plan.now.terms }
     requires least { 20 ≤ length bytes.now }
     requires most { length bytes.now ≤ 65_532 }
-    ensures { IsServed (record { plan = plan.now; identity = identity.now }) rows.old.items rows.new.items moment (brought header bytes.now) result.items }
+    ensures { IsServed (record { plan = plan.now; identity = identity.now }) rows.old.items rows.new.items moment
+        (brought header bytes.now) result.items }
 {
     match Message::read(alloc, header, bytes) {
         Ok(message) => serve(rows, alloc, plan, identity, moment, &message),
@@ -75,7 +76,8 @@ fn take(
     message: &Message<'_>,
 ) -> Result<Vec<u8>, CcrFault>
     requires { AreBooks rows.old.items plan.now.terms }
-    ensures ok { IfOk result (λ bytes. (request : RequestView) × IsTaken (record { plan = plan.now; identity = identity.now }) rows.old.items rows.new.items moment message.now bytes.items request) }
+    ensures ok { IfOk result (λ bytes. (request : RequestView) × IsTaken (record { plan = plan.now; identity = identity.now })
+        rows.old.items rows.new.items moment message.now bytes.items request) }
     ensures err { OnErr result (rows.new.items ≡ rows.old.items) }
 {
     let request = read_ccr(alloc, &message.header, &message.avps)?;

@@ -1,11 +1,10 @@
 //! One act of one subscriber. The others stay as they were, and so does everything where memory is refused.
 
-ghost use Rattle.std.specs.Prelude.{◌≡◌, ◌≢◌, ◌+◌, ◌<◌, ◌≤◌, [], ◌∷◌, ◌++◌, length, vec_len, vec_capacity, IfOk, OnOk, OnErr};
+ghost use Rattle.std.specs.Prelude.{◌≡◌, ◌<◌, [], vec_len, vec_capacity, IfOk, OnOk, OnErr};
 ghost use Rattle.dcc_act.specs.declared.sub.Sub.{Sub};
 ghost use Rattle.dcc_account.specs.Prepared.{IsPrepared};
-ghost use Rattle.dcc_model.specs.Outcomes.{acts};
 ghost use Rattle.dcc_credit.specs.Answers.{answer_bytes};
-ghost use Rattle.dcc_engine.specs.Books.{held_in, next_outcome, next_acts, AreBooks, IsAt, IsAbsent, IsAdded, Steps, told};
+ghost use Rattle.dcc_engine.specs.Books.{held_in, next_outcome, AreBooks, IsAt, IsAbsent, IsAdded, Steps, told};
 
 use crate::books::{find, install};
 use crate::event::TopUpAnswer;
@@ -42,7 +41,8 @@ pub(crate) fn answer(
     act: Act,
 ) -> Result<Vec<u8>, AllocError>
     requires { AreBooks rows.old.items asked.now.terms.now }
-    ensures answer { IfOk result (λ b. b.items ≡ answer_bytes asked.now.identity.now asked.now.terms.now asked.now.request.now asked.now.proxies.now (next_outcome asked.now.terms.now (held_in rows.old.items sub) act)) }
+    ensures answer { IfOk result (λ b. b.items ≡ answer_bytes asked.now.identity.now asked.now.terms.now asked.now.request.now
+        asked.now.proxies.now (next_outcome asked.now.terms.now (held_in rows.old.items sub) act)) }
     ensures steps { OnOk result (Steps rows.old.items rows.new.items asked.now.terms.now sub act) }
     ensures err { OnErr result (rows.new.items ≡ rows.old.items) }
 {
@@ -71,7 +71,8 @@ fn answer_in(
 ) -> Result<Vec<u8>, AllocError>
     requires books { AreBooks rows.old asked.now.terms.now }
     requires at { IsAt rows.old sub i }
-    ensures answer { IfOk result (λ b. b.items ≡ answer_bytes asked.now.identity.now asked.now.terms.now asked.now.request.now asked.now.proxies.now (next_outcome asked.now.terms.now (held_in rows.old sub) act)) }
+    ensures answer { IfOk result (λ b. b.items ≡ answer_bytes asked.now.identity.now asked.now.terms.now asked.now.request.now
+        asked.now.proxies.now (next_outcome asked.now.terms.now (held_in rows.old sub) act)) }
     ensures steps { OnOk result (Steps rows.old rows.new asked.now.terms.now sub act) }
     ensures err { OnErr result (rows.new ≡ rows.old) }
 {
@@ -99,7 +100,8 @@ fn answer_first(
 ) -> Result<Vec<u8>, AllocError>
     requires books { AreBooks rows.old.items asked.now.terms.now }
     requires absent { IsAbsent rows.old.items sub }
-    ensures answer { IfOk result (λ b. b.items ≡ answer_bytes asked.now.identity.now asked.now.terms.now asked.now.request.now asked.now.proxies.now (next_outcome asked.now.terms.now (held_in rows.old.items sub) act)) }
+    ensures answer { IfOk result (λ b. b.items ≡ answer_bytes asked.now.identity.now asked.now.terms.now asked.now.request.now
+        asked.now.proxies.now (next_outcome asked.now.terms.now (held_in rows.old.items sub) act)) }
     ensures steps { OnOk result (Steps rows.old.items rows.new.items asked.now.terms.now sub act) }
     ensures err { OnErr result (rows.new.items ≡ rows.old.items) }
 {
