@@ -5,3 +5,4 @@ pub mod PrintingLemmas
 pub mod PlanLemmas
 pub mod NameLemmas
 pub mod ReplayLemmas
+pub mod VisibleLemmas

@@ -24,17 +24,21 @@ plan_of_bytes-none bytes none =
       | inr fails ↦ rw fails refl
     ]
 
-pub no_text : (bytes : List ℕ) (failure : Failure) → (IsUtf8 bytes → ⊥) → failure ≡ of_plan NotToml → IsRefusal (plan_of_bytes bytes) failure
+pub no_text : (bytes : List ℕ) (failure : Failure) → (IsUtf8 bytes → ⊥) → failure ≡ of_plan NotToml
+    → IsRefusal (plan_of_bytes bytes) failure
 no_text bytes failure none says = inr (NotToml, plan_of_bytes-none bytes none, says)
 
-refused_by : (fault : PlanFault) (meant : Result PlanView PlanFault) (failure : Failure) → Gives (Err fault) meant → failure ≡ of_plan fault → IsRefusal meant failure
+refused_by : (fault : PlanFault) (meant : Result PlanView PlanFault) (failure : Failure)
+    → Gives (Err fault) meant → failure ≡ of_plan fault → IsRefusal meant failure
 refused_by NotToml meant failure given says = inr (NotToml, given, says)
 refused_by MissingKey meant failure given says = inr (MissingKey, given, says)
 refused_by Range meant failure given says = inr (Range, given, says)
 refused_by BadMoment meant failure given says = inr (BadMoment, given, says)
 refused_by Memory meant failure given says = inl says
 
-pub refused : (bytes text : List ℕ) (fault : PlanFault) (r : Result PlanView Failure) → text ≡ bytes → IsUtf8 bytes → Gives (Err fault) (plan_of_text text)
+pub refused : (bytes text : List ℕ) (fault : PlanFault) (r : Result PlanView Failure)
+    → text ≡ bytes → IsUtf8 bytes → Gives (Err fault) (plan_of_text text)
     → IsErrAnd r (λ failure. failure ≡ of_plan fault) → IfErr r (IsRefusal (plan_of_bytes bytes))
 refused bytes text fault (Ok plan) same is given says = tt
-refused bytes text fault (Err failure) same is given says = rw (plan_of_bytes-text bytes is) (rw (← same) (refused_by fault (plan_of_text text) failure given says))
+refused bytes text fault (Err failure) same is given says =
+    rw (plan_of_bytes-text bytes is) (rw (← same) (refused_by fault (plan_of_text text) failure given says))

@@ -11,7 +11,8 @@ use Rattle.dcc_replay.specs.Scripts.{script_of}
 use Rattle.dcc_replay.specs.Printed.{printed}
 use Rattle.dcc_replay.specs.Replays.{IsNew, IsReplayed}
 
-pub replayed : (plan : PlanView) (given old new : Option (List ℕ)) (text : List ℕ) (events : List Event) (outs : List Out) (written : List ℕ) (r : Result (Unit {0}) Failure)
+pub replayed : (plan : PlanView) (given old new : Option (List ℕ)) (text : List ℕ) (events : List Event) (outs : List Out)
+    (written : List ℕ) (r : Result (Unit {0}) Failure)
     → IfSome given (λ all. text ≡ all) → script_of text ≡ Ok events
     → ((core : Core) × IsNew plan core × (length outs ≡ length events) × IsRun core (steps events outs))
     → written ≡ printed outs → OnOk r (Appends old new written)

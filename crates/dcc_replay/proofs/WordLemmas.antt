@@ -24,7 +24,8 @@ pub number-no_digits : (limit : ℕ) (word : List ℕ) → list_all is_ascii_dig
 unfolding number
 number-no_digits limit word fails = grind (arith, nat_tests)
 
-number-within : (limit : ℕ) (word : List ℕ) → list_all is_ascii_digit word ≡ true → 0 < length word → digits_value 10 word ≤ limit → number limit word ≡ Some (digits_value 10 word)
+number-within : (limit : ℕ) (word : List ℕ) → list_all is_ascii_digit word ≡ true → 0 < length word → digits_value 10 word ≤ limit
+    → number limit word ≡ Some (digits_value 10 word)
 unfolding number
 number-within limit word digits some low = grind (arith, nat_tests)
 
@@ -41,19 +42,22 @@ digits_parse : {E : Type 0} (word : List ℕ) (r : Result ℕ E) → list_all is
     → OkIff r ((0 < length word) × (digits_value 10 word < 2 ^ 64)) (digits_value 10 word)
 digits_parse word r digits parsed = parse_digits own 64 word r parsed digits
 
-pub number-parsed : {E : Type 0} (limit : ℕ) (word : List ℕ) (r : Result ℕ E) (n : ℕ) → list_all is_ascii_digit word ≡ true → ParsesUnsigned 64 10 word r
+pub number-parsed : {E : Type 0} (limit : ℕ) (word : List ℕ) (r : Result ℕ E) (n : ℕ) → list_all is_ascii_digit word ≡ true
+    → ParsesUnsigned 64 10 word r
     → r ≡ Ok n → n ≤ limit → number limit word ≡ Some n
 number-parsed limit word r n digits parsed given low =
     let facts = rw given at (digits_parse word r digits parsed) in
     rw facts.1 (number-within limit word digits facts.0.0 (omega (arith, facts.1)))
 
-pub number-too_great : {E : Type 0} (limit : ℕ) (word : List ℕ) (r : Result ℕ E) (n : ℕ) → list_all is_ascii_digit word ≡ true → ParsesUnsigned 64 10 word r
+pub number-too_great : {E : Type 0} (limit : ℕ) (word : List ℕ) (r : Result ℕ E) (n : ℕ) → list_all is_ascii_digit word ≡ true
+    → ParsesUnsigned 64 10 word r
     → r ≡ Ok n → limit < n → number limit word ≡ None
 number-too_great limit word r n digits parsed given high =
     let facts = rw given at (digits_parse word r digits parsed) in
     number-above limit word (omega (arith, facts.1))
 
-pub number-unparsed : {E : Type 0} (limit : ℕ) (word : List ℕ) (r : Result ℕ E) (e : E) → list_all is_ascii_digit word ≡ true → limit < 2 ^ 64
+pub number-unparsed : {E : Type 0} (limit : ℕ) (word : List ℕ) (r : Result ℕ E) (e : E) → list_all is_ascii_digit word ≡ true
+    → limit < 2 ^ 64
     → ParsesUnsigned 64 10 word r → r ≡ Err e → number limit word ≡ None
 number-unparsed limit word r e digits small parsed refused =
     let never = rw refused at (digits_parse word r digits parsed) in

@@ -46,7 +46,7 @@ abbrev pub lines_of_out : ℕ → Out → List ℕ
 lines_of_out n out = numbered n (or_dash (answered out ++ closed out ++ told out))
 
 -- the lines of outs of which the first is event n's
-abbrev pub lines_from : ℕ → List Out → List ℕ
+unfoldable pub lines_from : ℕ → List Out → List ℕ
 lines_from n [] = []
 lines_from n (out ∷ outs) = lines_of_out n out ++ lines_from (n + 1) outs
 

@@ -1,5 +1,7 @@
 -- The events of a script.
-use Rattle.std.specs.Prelude.{◌≡◌, ℕ, ◌+◌, Bool, true, ◌==◌, if◌then◌else◌, List, [], ◌∷◌, bytes_eq, codes, Option, Some, None, Result, Ok, Err, option_and_then, option_map}
+use Rattle.std.specs.Prelude.{◌≡◌, ℕ, ◌+◌, Bool, true, ◌==◌, if◌then◌else◌, List, [], ◌∷◌, bytes_eq, codes, Option, Some, None, Result, Ok}
+use Rattle.std.specs.Prelude.{Err}
+use Rattle.dcc_credit.specs.Requests.{◌>>=◌}
 use Rattle.dcc_engine.specs.declared.event.Event.{Event}
 use Rattle.dcc_engine.specs.declared.event.Event.TheVariants.{Connect, Message, TopUp}
 use Rattle.dcc_replay.specs.declared.script.ScriptFault.{ScriptFault}
@@ -8,18 +10,29 @@ use Rattle.dcc_replay.specs.Words.{lines_of, words_of, peer, any_u64, moment, ho
 
 -- `open P HOST`
 unfoldable pub opened : List (List ℕ) → Option Event
-opened (p ∷ h ∷ []) = option_and_then (λ id. option_map (λ name. Connect id name) (host h)) (peer p)
+opened (p ∷ h ∷ []) = do
+  id ← peer p
+  name ← host h
+  Some (Connect id name)
 opened _ = None
 
 -- `message P MOMENT HEX`
 unfoldable pub arrived : List (List ℕ) → Option Event
-arrived (p ∷ m ∷ x ∷ []) = option_and_then (λ id. option_and_then (λ when. option_map (λ bytes. Message id when bytes) (octets x)) (moment m)) (peer p)
+arrived (p ∷ m ∷ x ∷ []) = do
+  id ← peer p
+  when ← moment m
+  bytes ← octets x
+  Some (Message id when bytes)
 arrived _ = None
 
 -- `topup MOMENT SUB TICKET AMOUNT`
 unfoldable pub topped_up : List (List ℕ) → Option Event
-topped_up (m ∷ s ∷ t ∷ a ∷ []) =
-    option_and_then (λ when. option_and_then (λ who. option_and_then (λ ticket. option_map (λ amount. TopUp when who ticket amount) (any_u64 a)) (any_u64 t)) (sub s)) (moment m)
+topped_up (m ∷ s ∷ t ∷ a ∷ []) = do
+  when ← moment m
+  who ← sub s
+  ticket ← any_u64 t
+  amount ← any_u64 a
+  Some (TopUp when who ticket amount)
 topped_up _ = None
 
 -- the event of a line's words, if they have one of the three forms
@@ -42,7 +55,7 @@ then_later n (Some event) (Ok events) = Ok (event ∷ events)
 then_later n (Some event) (Err line) = Err line
 
 -- the events of lines of which the first has the number n, or the number of the first line with a fault
-abbrev pub events_from : ℕ → List (List ℕ) → Result (List Event) ℕ
+unfoldable pub events_from : ℕ → List (List ℕ) → Result (List Event) ℕ
 events_from n [] = Ok []
 events_from n (line ∷ lines) =
     if is_remark line then events_from (n + 1) lines

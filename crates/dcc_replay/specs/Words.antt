@@ -1,12 +1,13 @@
 -- What the words of a script say.
-use Rattle.std.specs.Prelude.{ℕ, ◌^◌, ◌-◌, ◌+◌, ◌==◌, ◌&&◌, nat_lt, nat_le, if◌then◌else◌, List, length, take, drop, position, Option, Some, None, Result, Ok, Err, option_and_then}
+use Rattle.std.specs.Prelude.{ℕ, ◌^◌, ◌-◌, ◌+◌, ◌==◌, ◌&&◌, nat_lt, nat_le, if◌then◌else◌, List, length, take, drop, position, Option, Some}
+use Rattle.std.specs.Prelude.{None, Result, Ok, Err}
 use Rattle.std.specs.List.{list_all, slice_split}
 use Rattle.std.specs.Char.{is_ascii_digit}
 use Rattle.std.specs.Str.Parse.{digits_value}
 use Rattle.hex.specs.Hex.{decode_of}
 use Rattle.hex.specs.declared.error.FromHexError.{FromHexError}
 use Rattle.dcc_act.specs.Subs.{SubView}
-use Rattle.dcc_credit.specs.Requests.{is_subscriber, where_}
+use Rattle.dcc_credit.specs.Requests.{is_subscriber, where_, ◌>>=◌}
 
 -- the lines of a text: what stands between its line feeds
 abbrev pub lines_of : List ℕ → List (List ℕ)
@@ -52,10 +53,9 @@ octets word = sized (decode_of word)
 unfoldable pub known_sub : List ℕ → ℕ → Option SubView
 known_sub name kind = where_ (is_subscriber kind name) (record { kind = kind; name = name })
 
--- the subscriber of a word that is cut at its first colon
-abbrev pub sub_at : List ℕ → ℕ → Option SubView
-sub_at word colon = option_and_then (known_sub (drop (colon + 1) word)) (number 255 (take colon word))
-
--- a subscriber: its type and its data, with a colon between
+-- a subscriber: its type and its data, with a colon between, the word's first
 unfoldable pub sub : List ℕ → Option SubView
-sub word = option_and_then (sub_at word) (position (λ byte. byte == 58) word)
+sub word = do
+  colon ← position (λ byte. byte == 58) word
+  kind ← number 255 (take colon word)
+  known_sub (drop (colon + 1) word) kind

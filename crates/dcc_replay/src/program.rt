@@ -23,7 +23,8 @@ pub fn run<F: Files + AllocGlobal, R: Read, W: Write>(
     output: &mut W,
 ) -> Result<(), Failure>
     ensures ok { OnOk result (IfSome (R.remaining input.old) (λ text.
-        (plan : PlanView) × (written : List ℕ) × IsReplayed plan text written × Appends (W.contents output.old) (W.contents output.new) written)) }
+        (plan : PlanView) × (written : List ℕ) × IsReplayed plan text written
+        × Appends (W.contents output.old) (W.contents output.new) written)) }
     ensures silent { IfErr result (λ failure. failure ≢ Io → Keeps (W.contents output.old) (W.contents output.new)) }
 {
     let path = plan_path(rt.alloc(), words)?;

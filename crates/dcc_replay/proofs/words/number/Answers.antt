@@ -6,11 +6,13 @@ pub returns-then-not-are_digits-clause-value : goal.returns-then-not-are_digits-
 returns-then-not-are_digits-clause-value c = sym (number-no_digits c.args.limit c.args.word.now (sym c.if-not-are_digits.ensures))
 
 pub returns-in_default-clause-value : goal.returns-in_default-clause-value
-returns-in_default-clause-value c = absurd (c.in_default.ensures.cases.0 (IsUtf8-from_digits c.args.word.now (sym c.if-not-are_digits.ensures)))
+returns-in_default-clause-value c =
+    absurd (c.in_default.ensures.cases.0 (IsUtf8-from_digits c.args.word.now (sym c.if-not-are_digits.ensures)))
 
 pub returns-in_default-parse-clause-value : goal.returns-in_default-parse-clause-value
 returns-in_default-parse-clause-value c =
-    sym (number-unparsed c.args.limit c.args.word.now c.parse.result c.in_default-parse.field-0 (sym c.if-not-are_digits.ensures) (omega (arith, c.ranges.limit))
+    sym (number-unparsed c.args.limit c.args.word.now c.parse.result c.in_default-parse.field-0
+    (sym c.if-not-are_digits.ensures) (omega (arith, c.ranges.limit))
     (rw c.in-Ok.ensures.cases.0 at c.parse.ensures.value.0) c.in_default-parse.is)
 
 pub returns-then-number-limit-clause-value : goal.returns-then-number-limit-clause-value
