@@ -18,9 +18,10 @@ mod words;
 pub use command_line::{given_words, plan_path};
 pub use failure::Failure;
 pub use plan_file::{plan_of, read_plan};
+pub use printing::printed;
 pub use program::run;
 pub use replay::replay_run;
-pub use script::ScriptFault;
+pub use script::{ScriptFault, read_script};
 
 #[cfg(test)]
 mod tests;
