@@ -242,6 +242,17 @@ fn marked(mark: u64, octets: &[u8], place: u32) -> u64 {
     mark.rotate_left(5) ^ u64::from(octets.get((place & 127) as usize).copied().unwrap_or(0))
 }
 
+fn list_all(debit: &mut [u8], count: u32) -> Result<u64, Fault> {
+    let mut mark = 0u64;
+    for i in 0..count {
+        set(debit, i);
+        let header = read_header(debit).ok_or(Fault::Header)?;
+        let avps = read_list(&debit[20..]).ok_or(Fault::Avp)?;
+        mark = mark.rotate_left(5) ^ u64::from(header.hop) ^ std::hint::black_box(&avps).len() as u64;
+    }
+    Ok(mark)
+}
+
 fn read_all(debit: &mut [u8], count: u32) -> Result<u64, Fault> {
     let mut mark = 0u64;
     for i in 0..count {
@@ -304,9 +315,9 @@ fn now() -> Duration {
 
 fn report(name: &str, mut rounds: Vec<Duration>, items: u32) {
     rounds.sort_unstable();
-    let tenths = |round: Duration| round.as_nanos() as u64 * 10 / u64::from(items.max(1));
-    let (least, median, most) = (tenths(rounds[0]), tenths(rounds[ROUNDS / 2]), tenths(rounds[ROUNDS - 1]));
-    eprintln!("{name}: median {median}, least {least}, most {most} tenths of a nanosecond, {ROUNDS} rounds of {items}");
+    let picoseconds = |round: Duration| round.as_nanos() as u64 * 1000 / u64::from(items.max(1));
+    let (least, median, most) = (picoseconds(rounds[0]), picoseconds(rounds[ROUNDS / 2]), picoseconds(rounds[ROUNDS - 1]));
+    eprintln!("{name}: median {median}, least {least}, most {most} picoseconds, {ROUNDS} rounds of {items}");
 }
 
 fn main() -> Result<(), Fault> {
@@ -320,9 +331,11 @@ fn main() -> Result<(), Fault> {
         number: 0,
         granted: 1001,
     };
-    let (mut reading, mut writing, mut both) = (Vec::new(), Vec::new(), Vec::new());
+    let (mut listing, mut reading, mut writing, mut both) = (Vec::new(), Vec::new(), Vec::new(), Vec::new());
     let mut mark = 0;
     for _ in 0..ROUNDS {
+        let start = now();
+        mark ^= list_all(&mut debit, count)?;
         let begin = now();
         mark ^= read_all(&mut debit, count)?;
         let between = now();
@@ -330,10 +343,12 @@ fn main() -> Result<(), Fault> {
         let end = now();
         mark ^= answer_all(&reply, &mut debit, count)?;
         let last = now();
+        listing.push(begin - start);
         reading.push(between - begin);
         writing.push(end - between);
         both.push(last - end);
     }
+    report("codec list", listing, count);
     report("codec read", reading, count);
     report("codec write", writing, count);
     report("codec both", both, count);

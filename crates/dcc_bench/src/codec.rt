@@ -4,7 +4,7 @@ ghost use Rattle.std.specs.Prelude.{◌≤◌, length};
 
 use crate::checksum::{START, marked, summed};
 use crate::debit::Debit;
-use crate::rounds::{ROUNDS, Rounds};
+use crate::rounds::timed;
 use anyhow::{Context, Result, bail};
 use dcc_act::{
     Answer, Form, Grant, Outcome, RequestKey, RequestType, ResultCode, ServiceAnswer,
@@ -25,32 +25,36 @@ struct Reply {
     outcome: Outcome,
 }
 
-/// Measures reading alone, writing alone, and both in turn.
+/// Measures reading the list alone, reading the request, writing its answer, and both in turn.
 pub fn measure<R: AllocGlobal + Print + Eprint + CpuClock>(rt: &R, count: u32) -> Result<()> {
     let alloc = rt.alloc();
     let reply = make_reply(alloc)?;
-    let mut reading = Rounds::new(alloc);
-    let mut writing = Rounds::new(alloc);
-    let mut both = Rounds::new(alloc);
-    let mut mark = 0;
-    for _ in 0..ROUNDS {
-        let begin = rt.thread_cpu_time()?;
-        mark ^= read_all(alloc, count)?;
-        let between = rt.thread_cpu_time()?;
-        mark ^= write_all(alloc, &reply, count)?;
-        let end = rt.thread_cpu_time()?;
-        mark ^= answer_all(alloc, &reply, count)?;
-        let last = rt.thread_cpu_time()?;
-        reading.push(begin, between)?;
-        writing.push(between, end)?;
-        both.push(end, last)?;
-    }
-    reading.report(rt, "codec read", u64::from(count))?;
-    writing.report(rt, "codec write", u64::from(count))?;
-    both.report(rt, "codec both", u64::from(count))?;
+    let items = u64::from(count);
+    let listed = timed(rt, "codec list", items, || list_all(alloc, count))?;
+    let read = timed(rt, "codec read", items, || read_all(alloc, count))?;
+    let written = timed(rt, "codec write", items, || write_all(alloc, &reply, count))?;
+    let both = timed(rt, "codec both", items, || answer_all(alloc, &reply, count))?;
+    let mark = listed ^ read ^ written ^ both;
     let sum = sum_of_answers(alloc, &reply, count)?;
     println!(rt; "codec {count} answers {sum:016x} mark {mark:016x}")?;
     Ok(())
+}
+
+/// Reads the lists of requests.
+fn list_all(alloc: Global, count: u32) -> Result<u64> {
+    let mut debit = Debit::new();
+    let mut mark = 0u64;
+    for i in 0..count {
+        debit.set_identifiers(i);
+        debit.set_number(i);
+        let octets = debit.as_slice();
+        let Ok(header) = read_header(octets) else {
+            bail!("no header");
+        };
+        let avps = read_list(alloc, &octets[20..])?;
+        mark = mark.rotate_left(5) ^ u64::from(header.hop) ^ avps.len() as u64;
+    }
+    Ok(mark)
 }
 
 /// Reads requests.

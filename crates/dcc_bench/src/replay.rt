@@ -1,8 +1,8 @@
 //! Debits of some subscribers, answered by an engine.
 
-use crate::checksum::{START, summed};
+use crate::checksum::{START, marked, summed};
 use crate::debit::Debit;
-use crate::rounds::{ROUNDS, Rounds};
+use crate::rounds::timed;
 use crate::tariffs::plan_text;
 use anyhow::{Context, Result};
 use dcc_act::{Moment, Sub};
@@ -23,19 +23,30 @@ pub fn measure<R: AllocGlobal + Print + Eprint + CpuClock>(
 ) -> Result<()> {
     let alloc = rt.alloc();
     let events = events_of(alloc, subscribers, requests)?;
-    let mut running = Rounds::new(alloc);
-    let mut sum = 0;
-    for _ in 0..ROUNDS {
-        let mut engine = make_engine(alloc)?;
-        let begin = rt.thread_cpu_time()?;
-        let outs = engine.run(alloc, events.as_slice())?;
-        let end = rt.thread_cpu_time()?;
-        running.push(begin, end)?;
-        sum = sum_of(outs.as_slice());
-    }
-    running.report(rt, "replay run", u64::from(requests))?;
-    println!(rt; "replay {subscribers} {requests} answers {sum:016x}")?;
+    let events = events.as_slice();
+    let items = u64::from(requests);
+    let mark = timed(rt, "replay run", items, || {
+        Ok(mark_of(run_all(alloc, events)?.as_slice()))
+    })?;
+    let sum = sum_of(run_all(alloc, events)?.as_slice());
+    println!(rt; "replay {subscribers} {requests} answers {sum:016x} mark {mark:016x}")?;
     Ok(())
+}
+
+/// Runs events on an engine just opened. It stands alone in a profile.
+#[inline(never)]
+fn run_all(alloc: Global, events: &[Event]) -> Result<Vec<Out>> {
+    let mut engine = make_engine(alloc)?;
+    Ok(engine.run(alloc, events)?)
+}
+
+/// A mark of the answers.
+fn mark_of(outs: &[Out]) -> u64 {
+    let mut mark = 0;
+    for out in outs {
+        mark = marked(mark, out.bytes.as_slice(), 15);
+    }
+    mark
 }
 
 /// The checksum of the answers.

@@ -2,7 +2,7 @@
 
 use crate::checksum::marked;
 use crate::debit::{Debit, LENGTH};
-use crate::rounds::{ROUNDS, Rounds};
+use crate::rounds::timed;
 use anyhow::{Result, bail};
 use dcc_message::Framer;
 use std::alloc::{AllocError, Global};
@@ -16,17 +16,11 @@ pub fn measure<R: AllocGlobal + Print + Eprint + CpuClock>(
 ) -> Result<()> {
     let alloc = rt.alloc();
     let stream = stream_of(alloc, bytes as usize / LENGTH + 1)?;
-    let mut framing = Rounds::new(alloc);
-    let mut found = (0, 0);
-    for _ in 0..ROUNDS {
-        let begin = rt.thread_cpu_time()?;
-        found = framed(alloc, stream.as_slice(), piece as usize)?;
-        let end = rt.thread_cpu_time()?;
-        framing.push(begin, end)?;
-    }
-    framing.report(rt, "framer byte", stream.len() as u64)?;
-    let (messages, mark) = found;
-    println!(rt; "framer {bytes} {piece} messages {messages} mark {mark:016x}")?;
+    let stream = stream.as_slice();
+    let mark = timed(rt, "framer byte", stream.len() as u64, || {
+        framed(alloc, stream, piece as usize)
+    })?;
+    println!(rt; "framer {bytes} {piece} mark {mark:016x}")?;
     Ok(())
 }
 
@@ -41,10 +35,9 @@ fn stream_of(alloc: Global, count: usize) -> Result<Vec<u8>, AllocError> {
     Ok(stream)
 }
 
-/// How many messages the framer gives of the pieces, and a mark of them.
-fn framed(alloc: Global, stream: &[u8], piece: usize) -> Result<(u64, u64)> {
+/// A mark of the messages that the framer gives of the pieces.
+fn framed(alloc: Global, stream: &[u8], piece: usize) -> Result<u64> {
     let mut framer = Framer::new(alloc);
-    let mut count = 0u64;
     let mut mark = 0;
     for part in stream.chunks(piece.max(1)) {
         framer.feed(part)?;
@@ -52,11 +45,10 @@ fn framed(alloc: Global, stream: &[u8], piece: usize) -> Result<(u64, u64)> {
             let Some(message) = taken(&mut framer)? else {
                 break;
             };
-            count = count.wrapping_add(1);
             mark = marked(mark, message.as_slice(), 15);
         }
     }
-    Ok((count, mark))
+    Ok(mark)
 }
 
 /// The next message.

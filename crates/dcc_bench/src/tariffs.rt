@@ -1,6 +1,6 @@
 //! Tariffs looked up in a plan.
 
-use crate::rounds::{ROUNDS, Rounds};
+use crate::rounds::timed;
 use anyhow::Result;
 use dcc_tariff::Plan;
 use std::alloc::{AllocError, Global};
@@ -25,27 +25,28 @@ currency = 978
 exponent = -2
 ";
 
-/// Measures the look-up of a tariff.
+/// Measures reading a plan, picking a group, and picking a group and looking its tariff up.
 pub fn measure<R: AllocGlobal + Print + Eprint + CpuClock>(rt: &R, count: u32) -> Result<()> {
     let alloc = rt.alloc();
     let text = plan_text(alloc, count)?;
-    let begin = rt.thread_cpu_time()?;
+    let groups = timed(
+        rt,
+        "plan read a tariff",
+        u64::from(count),
+        || read(alloc, &text),
+    )?;
     let plan = Plan::read(alloc, text.as_str())?;
-    let end = rt.thread_cpu_time()?;
-    let mut reading = Rounds::new(alloc);
-    reading.push(begin, end)?;
-    let mut looking = Rounds::new(alloc);
-    let mut sum = 0;
-    for _ in 0..ROUNDS {
-        let begin = rt.thread_cpu_time()?;
-        sum = looked_up(&plan, count);
-        let end = rt.thread_cpu_time()?;
-        looking.push(begin, end)?;
-    }
-    reading.report(rt, "plan read a tariff", u64::from(count))?;
-    looking.report(rt, "plan look up", u64::from(LOOK_UPS))?;
-    println!(rt; "plan {count} prices {sum}")?;
+    let picks = u64::from(LOOK_UPS);
+    let picked = timed(rt, "plan pick a group", picks, || Ok(picked(count)))?;
+    let prices = timed(rt, "plan look up", picks, || Ok(looked_up(&plan, count)))?;
+    println!(rt; "plan {count} default {groups} groups {picked} prices {prices}")?;
     Ok(())
+}
+
+/// Reads a plan, for its default group.
+fn read(alloc: Global, text: &String) -> Result<u64> {
+    let plan = Plan::read(alloc, text.as_str())?;
+    Ok(u64::from(plan.default_group()))
 }
 
 /// A plan whose groups have one tariff each, from group 10 on.
@@ -62,16 +63,36 @@ pub fn plan_text(alloc: Global, count: u32) -> Result<String, AllocError> {
     Ok(text)
 }
 
-/// The sum of the prices that were found, each in another group than the one before.
-fn looked_up(plan: &Plan, count: u32) -> u64 {
-    let mut state = 1u64;
+/// A place in a sequence of groups without a pattern (a linear congruence, by Knuth's MMIX).
+fn later(state: u64) -> u64 {
+    state
+        .wrapping_mul(6_364_136_223_846_793_005)
+        .wrapping_add(1_442_695_040_888_963_407)
+}
+
+/// The group of a place.
+fn group_of(state: u64, count: u32) -> u32 {
+    10 + ((state >> 33) % u64::from(count.max(1)) & 0x3fff_ffff) as u32
+}
+
+/// The sum of the groups that are looked up.
+fn picked(count: u32) -> u64 {
+    let mut state = 1;
     let mut sum = 0u64;
     for _ in 0..LOOK_UPS {
-        state = state
-            .wrapping_mul(6_364_136_223_846_793_005)
-            .wrapping_add(1_442_695_040_888_963_407);
-        let group = 10 + (state >> 33) % u64::from(count.max(1));
-        if let Some((_, tariff)) = plan.at((group & 0xffff_ffff) as u32, MOMENT) {
+        state = later(state);
+        sum = sum.wrapping_add(u64::from(group_of(state, count)));
+    }
+    sum
+}
+
+/// The sum of the prices that are found.
+fn looked_up(plan: &Plan, count: u32) -> u64 {
+    let mut state = 1;
+    let mut sum = 0u64;
+    for _ in 0..LOOK_UPS {
+        state = later(state);
+        if let Some((_, tariff)) = plan.at(group_of(state, count), MOMENT) {
             sum = sum.wrapping_add(u64::from(tariff.price));
         }
     }
