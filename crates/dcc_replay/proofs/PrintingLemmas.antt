@@ -1,0 +1,53 @@
+-- Phrases and lines, one after another.
+use Rattle.std.proofs.Common.{◌≡◌, ℕ, ◌+◌, ◌<◌, ◌≤◌, ◌==◌, not, Bool, true, List, [], ◌∷◌, ◌++◌, length, length-append, drop}
+use Rattle.std.proofs.Common.{slice_index_or, add-one, refl, sym, ◌∙◌, append_assoc, arith}
+use Rattle.std.proofs.Math.Seq.{drop-cons}
+use Rattle.std.proofs.lemmas.Bool.Decides.{nat_tests}
+use Rattle.std.proofs.lemmas.List.{drop_all, append-nil}
+use Rattle.dcc_engine.specs.declared.event.Out.{Out}
+use Rattle.dcc_replay.specs.Printed.{or_dash, numbered, lines_of_out, lines_from, printed}
+
+pub numbered-append : (n : ℕ) (xs ys : List (List ℕ)) → numbered n (xs ++ ys) ≡ numbered n xs ++ numbered n ys
+numbered-append n [] ys = refl
+numbered-append n (x ∷ xs) ys = rw (numbered-append n xs ys) (sym (append_assoc _ (numbered n xs) (numbered n ys)))
+
+or_dash-some : (phrases : List (List ℕ)) → 0 < length phrases → or_dash phrases ≡ phrases
+or_dash-some [] some = absurd (omega arith)
+or_dash-some (phrase ∷ phrases) some = refl
+
+-- a test that a list isn't empty
+pub some_of : (phrases : List (List ℕ)) (some : Bool) → some ≡ not (length phrases == 0) → some ≡ true → 0 < length phrases
+some_of phrases some says holds = grind (arith, nat_tests)
+
+-- three lists of phrases, of which one has a phrase
+pub spoken : (n : ℕ) (a b c : List (List ℕ)) (old x y z : List ℕ) → x ≡ old ++ numbered n a → y ≡ x ++ numbered n b → z ≡ y ++ numbered n c
+    → 0 < length a + length b + length c → z ≡ old ++ numbered n (or_dash (a ++ b ++ c))
+spoken n a b c old x y z first second third some =
+    let many : 0 < length (a ++ b ++ c) = simp length-append (omega arith) in
+    rw (or_dash-some (a ++ b ++ c) many) (rw (numbered-append n (a ++ b) c)
+    (rw (numbered-append n a b) (rw third (rw second (rw first (simp append_assoc))))))
+
+dropped : (outs : List Out) (i : ℕ) (d : Out) → i < length outs → drop i outs ≡ slice_index_or outs i d ∷ drop (i + 1) outs
+dropped outs i d within = rw (drop-cons outs i d within) (rw add-one refl)
+
+first_line : (n : ℕ) (out : Out) (outs : List Out) → lines_from n (out ∷ outs) ≡ lines_of_out n out ++ lines_from (n + 1) outs
+unfolding lines_from
+first_line n out outs = refl
+
+-- the lines of the event at i, and those of the later ones
+pub line_step : (outs : List Out) (i : ℕ) (d : Out) (old new all : List ℕ) → old ++ lines_from (i + 1) (drop i outs) ≡ all
+    → i < length outs → new ≡ old ++ lines_of_out (i + 1) (slice_index_or outs i d)
+    → new ++ lines_from (i + 1 + 1) (drop (i + 1) outs) ≡ all
+line_step outs i d old new all so_far within given =
+    let later = lines_from (i + 1 + 1) (drop (i + 1) outs) in
+    rw given (append_assoc old (lines_of_out (i + 1) (slice_index_or outs i d)) later
+    ∙ (rw (← (first_line (i + 1) (slice_index_or outs i d) (drop (i + 1) outs))) (rw (← (dropped outs i d within)) so_far)))
+
+nothing_left : (n : ℕ) → lines_from n [] ≡ []
+unfolding lines_from
+nothing_left n = refl
+
+pub last_line : (outs : List Out) (i : ℕ) (text : List ℕ) → length outs ≤ i
+    → text ++ lines_from (i + 1) (drop i outs) ≡ lines_from 1 outs → text ≡ printed outs
+unfolding printed
+last_line outs i text past so_far = sym (append-nil text) ∙ rw (nothing_left (i + 1)) at (rw (drop_all i outs past) at so_far)

@@ -1,0 +1,7 @@
+pub mod Words
+pub mod Scripts
+pub mod Printed
+pub mod Failures
+pub mod Plans
+pub mod Names
+pub mod Replays

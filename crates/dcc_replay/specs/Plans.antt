@@ -1,0 +1,26 @@
+-- The plan of a file's bytes.
+use Rattle.std.specs.Prelude.{⊤, ◌≡◌, ℕ, List, Result, Err, ◌⊎◌, if◌then◌else◌}
+use Rattle.std.specs.Str.{is_utf8}
+use Rattle.dcc_tariff.specs.Plans.{PlanView}
+use Rattle.dcc_tariff.specs.PlanTexts.{plan_of_text}
+use Rattle.dcc_tariff.specs.declared.fault.PlanFault.{PlanFault}
+use Rattle.dcc_tariff.specs.declared.fault.PlanFault.TheVariants.{NotToml}
+use Rattle.dcc_replay.specs.declared.failure.Failure.{Failure}
+use Rattle.dcc_replay.specs.declared.failure.Failure.TheVariants.{Usage, Memory, Io, Plan, Script}
+use Rattle.dcc_replay.specs.Failures.{of_plan}
+
+-- bytes that are no text are no TOML document
+unfoldable pub plan_of_bytes : List ℕ → Result PlanView PlanFault
+plan_of_bytes bytes = if is_utf8 bytes then plan_of_text bytes else Err NotToml
+
+-- what is told of a plan that isn't given: its fault, or want of memory
+abbrev pub IsRefusal : Result PlanView PlanFault → Failure → Type 0
+IsRefusal plan failure = (failure ≡ Memory) ⊎ ((fault : PlanFault) × (plan ≡ Err fault) × (failure ≡ of_plan fault))
+
+-- the failures of a plan file
+abbrev pub IsPlanFailure : Failure → Type 0
+IsPlanFailure Usage = ⊥
+IsPlanFailure Memory = ⊤
+IsPlanFailure Io = ⊤
+IsPlanFailure (Plan number) = ⊤
+IsPlanFailure (Script line) = ⊥

@@ -1,0 +1,55 @@
+-- What is printed of the outs of a run.
+use Rattle.std.specs.Prelude.{ℕ, ◌+◌, ◌==◌, if◌then◌else◌, List, [], ◌∷◌, ◌++◌, length, codes, Some, None}
+use Rattle.std.specs.Fmt.{decimal}
+use Rattle.hex.specs.Hex.{encode_lower}
+use Rattle.dcc_engine.specs.declared.event.Out.{Out}
+use Rattle.dcc_engine.specs.declared.event.TopUpAnswer.{TopUpAnswer}
+use Rattle.dcc_engine.specs.declared.event.TopUpAnswer.TheVariants.{Done, Ceiling, BadAmount, Refused}
+
+-- what a top-up is told, as a word
+abbrev pub word_of : TopUpAnswer → List ℕ
+word_of Done = codes "done"
+word_of Ceiling = codes "ceiling"
+word_of BadAmount = codes "bad"
+word_of Refused = codes "refused"
+
+-- the answer's octets in hex, where there are any, under the peer
+unfoldable pub answered : Out → List (List ℕ)
+answered out = elim out.peer [
+  | None ↦ []
+  | Some peer ↦ if length out.bytes == 0 then [] else (codes "answer " ++ decimal peer ++ codes " " ++ encode_lower out.bytes) ∷ []
+]
+
+-- that the peer is closed
+unfoldable pub closed : Out → List (List ℕ)
+closed out = elim out.peer [
+  | None ↦ []
+  | Some peer ↦ if out.close then (codes "close " ++ decimal peer) ∷ [] else []
+]
+
+-- what a top-up is told
+unfoldable pub told : Out → List (List ℕ)
+told out = elim out.top_up [ None ↦ [] | Some answer ↦ (codes "topup " ++ word_of answer) ∷ [] ]
+
+-- a dash stands for nothing
+abbrev pub or_dash : List (List ℕ) → List (List ℕ)
+or_dash [] = codes "-" ∷ []
+or_dash (phrase ∷ phrases) = phrase ∷ phrases
+
+-- each phrase on a line of its own, behind the event's number
+abbrev pub numbered : ℕ → List (List ℕ) → List ℕ
+numbered n [] = []
+numbered n (phrase ∷ phrases) = (decimal n ++ codes " " ++ phrase ++ 10 ∷ []) ++ numbered n phrases
+
+-- the lines of event n
+abbrev pub lines_of_out : ℕ → Out → List ℕ
+lines_of_out n out = numbered n (or_dash (answered out ++ closed out ++ told out))
+
+-- the lines of outs of which the first is event n's
+unfoldable pub lines_from : ℕ → List Out → List ℕ
+lines_from n [] = []
+lines_from n (out ∷ outs) = lines_of_out n out ++ lines_from (n + 1) outs
+
+-- the outs of a run, whose events have numbers from 1
+unfoldable pub printed : List Out → List ℕ
+printed outs = lines_from 1 outs

@@ -1,0 +1,61 @@
+-- What the words of a script say.
+use Rattle.std.specs.Prelude.{ℕ, ◌^◌, ◌-◌, ◌+◌, ◌==◌, ◌&&◌, nat_lt, nat_le, if◌then◌else◌, List, length, take, drop, position, Option, Some}
+use Rattle.std.specs.Prelude.{None, Result, Ok, Err}
+use Rattle.std.specs.List.{list_all, slice_split}
+use Rattle.std.specs.Char.{is_ascii_digit}
+use Rattle.std.specs.Str.Parse.{digits_value}
+use Rattle.hex.specs.Hex.{decode_of}
+use Rattle.hex.specs.declared.error.FromHexError.{FromHexError}
+use Rattle.dcc_act.specs.Subs.{SubView}
+use Rattle.dcc_credit.specs.Requests.{is_subscriber, where_, ◌>>=◌}
+
+-- the lines of a text: what stands between its line feeds
+abbrev pub lines_of : List ℕ → List (List ℕ)
+lines_of text = slice_split (λ byte. byte == 10) text
+
+-- the words of a line: what stands between its spaces
+abbrev pub words_of : List ℕ → List (List ℕ)
+words_of line = slice_split (λ byte. byte == 32) line
+
+-- a number up to a limit, in decimal digits
+unfoldable pub number : ℕ → List ℕ → Option ℕ
+number limit word =
+    if (nat_lt 0 (length word) && list_all is_ascii_digit word) && nat_le (digits_value 10 word) limit
+    then Some (digits_value 10 word)
+    else None
+
+-- the number of a peer
+abbrev pub peer : List ℕ → Option ℕ
+peer word = number (2 ^ 32 - 1) word
+
+-- a ticket, or an amount in minor units
+abbrev pub any_u64 : List ℕ → Option ℕ
+any_u64 word = number (2 ^ 64 - 1) word
+
+-- a moment, in seconds since 1970-01-01T00:00:00Z
+abbrev pub moment : List ℕ → Option ℕ
+moment word = number 4_102_444_799 word
+
+-- a host's name: any word that isn't empty
+abbrev pub host : List ℕ → Option (List ℕ)
+host word = if length word == 0 then None else Some word
+
+-- octets of a message: 1 to 65,536
+abbrev pub sized : Result (List ℕ) FromHexError → Option (List ℕ)
+sized (Ok bytes) = if nat_le 1 (length bytes) && nat_le (length bytes) 65_536 then Some bytes else None
+sized (Err fault) = None
+
+-- octets in hex digits of either case
+unfoldable pub octets : List ℕ → Option (List ℕ)
+octets word = sized (decode_of word)
+
+-- the subscriber of a type and data: a known type, and 1 to 64 octets of visible ASCII
+unfoldable pub known_sub : List ℕ → ℕ → Option SubView
+known_sub name kind = where_ (is_subscriber kind name) (record { kind = kind; name = name })
+
+-- a subscriber: its type and its data, with a colon between, the word's first
+unfoldable pub sub : List ℕ → Option SubView
+sub word = do
+  colon ← position (λ byte. byte == 58) word
+  kind ← number 255 (take colon word)
+  known_sub (drop (colon + 1) word) kind

@@ -1,0 +1,28 @@
+//! Who answers, as a plan names it.
+
+ghost use Rattle.std.specs.Prelude.{◌≡◌, true, IfOk};
+ghost use Rattle.dcc_tariff.specs.Plans.{is_identity};
+ghost use Rattle.dcc_replay.specs.Names.{identity_of};
+
+use dcc_message::{DiameterIdentity, Identity};
+use dcc_tariff::Plan;
+use std::alloc::{AllocError, Global};
+
+/// Who answers under a plan: its host, its realm and its address.
+pub(crate) fn identity_of(alloc: Global, plan: &Plan) -> Result<Identity, AllocError>
+    ensures { IfOk result (λ identity. identity ≡ identity_of plan.now) }
+{
+    Ok(Identity {
+        host: name_of(alloc, plan.host())?,
+        realm: name_of(alloc, plan.realm())?,
+        address: plan.address(),
+    })
+}
+
+fn name_of(alloc: Global, text: &[u8]) -> Result<DiameterIdentity, AllocError>
+    requires { is_identity text.now ≡ true }
+    ensures { IfOk result (λ name. name ≡ text.now) }
+{
+    let bytes = Vec::from_slice(alloc, text)?;
+    Ok(DiameterIdentity::from_vec(bytes).unwrap())
+}

@@ -1,0 +1,141 @@
+//! The events of a script.
+
+ghost use Rattle.std.specs.Prelude.{◌≡◌, ◌<◌, map, length, IfOk, IfErr, OnOk, Ok, Err, ◌⊎◌};
+ghost use Rattle.dcc_replay.specs.Scripts.{opened, arrived, topped_up, event_of, is_remark, script_of, IsFaultOf};
+ghost use Rattle.dcc_replay.specs.Words.{words_of};
+ghost use Rattle.dcc_replay.specs.declared.script.ScriptFault.TheVariants as fault;
+
+use crate::words::{any_u64, host, moment, octets, parts, peer, sub};
+use dcc_engine::Event;
+use std::alloc::{AllocError, AllocFailed, Global};
+
+/// Why a script gives no events.
+#[derive(Clone, Copy, Debug, PartialEq, Eq)]
+pub enum ScriptFault {
+    /// The line with this number, from 1, has none of the forms.
+    Line(u64),
+    /// Memory was short.
+    Memory,
+}
+
+impl From<AllocError> for ScriptFault {
+    ghost from_gives = { λ _ given. given ≡ fault.Memory };
+
+    fn from(_error: AllocError) -> ScriptFault {
+        ScriptFault::Memory
+    }
+}
+
+impl<T: Drop> From<AllocFailed<T>> for ScriptFault {
+    ghost from_gives = { λ _ given. given ≡ fault.Memory };
+
+    fn from(_error: AllocFailed<T>) -> ScriptFault {
+        ScriptFault::Memory
+    }
+}
+
+/// The events of a script, or the first of its lines that has none of the forms.
+pub fn read_script(alloc: Global, text: &[u8]) -> Result<Vec<Event>, ScriptFault>
+    ensures ok { IfOk result (λ events. script_of text.now ≡ Ok events.items) }
+    ensures err { IfErr result (IsFaultOf (script_of text.now)) }
+{
+    let lines = parts(alloc, text, b'\n')?;
+    let mut events = Vec::new(alloc);
+    for (i, line) in lines.iter().enumerate() {
+        if is_remark(line) {
+            continue;
+        }
+        match read_event(alloc, line)? {
+            Some(event) => events.push(event)?,
+            None => return Err(ScriptFault::Line(i as u64 + 1)),
+        }
+    }
+    Ok(events)
+}
+
+/// Whether a line holds no event: it is empty, or begins with `#`.
+fn is_remark(line: &[u8]) -> bool
+    ensures { result ≡ is_remark line.now }
+{
+    match line {
+        [] => true,
+        [first, ..] => *first == b'#',
+    }
+}
+
+/// The event of a line, if it has one of the forms.
+fn read_event(alloc: Global, line: &[u8]) -> Result<Option<Event>, AllocError>
+    ensures { IfOk result (λ event. event ≡ event_of (words_of line.now)) }
+{
+    let words = parts(alloc, line, b' ')?;
+    event_of(alloc, words.as_slice())
+}
+
+#[tactic(auto, unfolding(crate::specs::Scripts::event_of))]
+fn event_of(alloc: Global, words: &[&[u8]]) -> Result<Option<Event>, AllocError>
+    ensures { IfOk result (λ event. event ≡ event_of (map (λ word. word.now) words.now)) }
+{
+    let Some((verb, words)) = words.split_first() else {
+        return Ok(None);
+    };
+    match *verb {
+        b"open" => opened(alloc, words),
+        b"message" => arrived(alloc, words),
+        b"topup" => Ok(topped_up(words)),
+        _ => Ok(None),
+    }
+}
+
+/// `open P HOST`
+#[tactic(auto, unfolding(crate::specs::Scripts::opened))]
+fn opened(alloc: Global, words: &[&[u8]]) -> Result<Option<Event>, AllocError>
+    ensures { IfOk result (λ event. event ≡ opened (map (λ word. word.now) words.now)) }
+{
+    let [first, second] = words else {
+        return Ok(None);
+    };
+    let Some(peer) = peer(first) else {
+        return Ok(None);
+    };
+    let Some(host) = host(alloc, second)? else {
+        return Ok(None);
+    };
+    Ok(Some(Event::Connect { peer, host }))
+}
+
+/// `message P MOMENT HEX`
+#[tactic(auto, unfolding(crate::specs::Scripts::arrived))]
+fn arrived(alloc: Global, words: &[&[u8]]) -> Result<Option<Event>, AllocError>
+    ensures { IfOk result (λ event. event ≡ arrived (map (λ word. word.now) words.now)) }
+{
+    let [first, second, third] = words else {
+        return Ok(None);
+    };
+    let (Some(peer), Some(moment)) = (peer(first), moment(second)) else {
+        return Ok(None);
+    };
+    let Some(bytes) = octets(alloc, third)? else {
+        return Ok(None);
+    };
+    Ok(Some(Event::Message {
+        peer,
+        moment,
+        bytes,
+    }))
+}
+
+/// `topup MOMENT SUB TICKET AMOUNT`
+#[tactic(auto, unfolding(crate::specs::Scripts::topped_up))]
+fn topped_up(words: &[&[u8]]) -> Option<Event>
+    ensures { result ≡ topped_up (map (λ word. word.now) words.now) }
+{
+    let [first, second, third, fourth] = words else {
+        return None;
+    };
+    Some(Event::TopUp {
+        moment: moment(first)?,
+        sub: sub(second)?,
+        ticket: any_u64(third)?,
+        amount: any_u64(fourth)?,
+    })
+}

@@ -1,0 +1,144 @@
+//! Worked examples: what is printed of a script.
+
+use super::octets::{GRANT, PROXY, answer, debit, debit_through_proxy};
+use super::replayed;
+use dcc_tariff::Plan;
+use std::process::Abort;
+use std::test::Fail;
+
+/// 2025-06-01T00:00:00Z.
+const JUNE: u64 = 1_748_736_000;
+
+/// 2025-07-01T00:00:00Z.
+const JULY: u64 = 1_751_328_000;
+
+/// The subscriber of the examples.
+const SUB: &str = "0:491700000001";
+
+const MIDNIGHT: &str = r#"
+host = "ocs.example"
+realm = "example"
+address = "127.0.0.1"
+shards = 2
+default_group = 10
+quantum = 100000
+validity = 600
+hold = 1200
+currency = 978
+exponent = -2
+tariff = [
+  { group = 10, unit = "octets", from = "2025-07-01T00:00:00Z", price = 7, block = 1000 },
+  { group = 10, unit = "octets", from = "2020-01-01T00:00:00Z", price = 5, block = 1000 },
+]
+"#;
+
+fn prints<R: Abort + AllocGlobal>(
+    rt: &R,
+    plan: Plan,
+    script: &str,
+    printed: &str,
+) -> Result<(), Fail> {
+    let text = replayed(rt.alloc(), plan, script)?;
+    assert_eq!(rt; text.as_str(), printed);
+    Ok(())
+}
+
+#[test]
+fn debits_1001_octets(rt: HostRuntime) -> Result<(), Fail> {
+    let alloc = rt.alloc();
+    let request = debit(alloc, 0)?;
+    let granted = answer(alloc, "0100009840000110", "0000001100000021", 2001, GRANT)?;
+    let script = format!(in alloc;
+        "# remark\nopen 1 gw1.example\n\ntopup {JUNE} {SUB} 1 1000\nmessage 1 {JUNE} {request}"
+    )?;
+    let printed = format!(in alloc; "1 -\n2 topup done\n3 answer 1 {granted}\n")?;
+    prints(&rt, Plan::rows(alloc)?, script.as_str(), printed.as_str())
+}
+
+#[test]
+fn answers_an_unknown_account_and_then_repeats(rt: HostRuntime) -> Result<(), Fail> {
+    let alloc = rt.alloc();
+    let request = debit(alloc, 0)?;
+    let again = debit_through_proxy(alloc)?;
+    let unknown = answer(alloc, "0100008040000110", "0000001100000021", 5030, "")?;
+    let granted = answer(alloc, "0100009840000110", "0000001100000021", 2001, GRANT)?;
+    let end = format!(in alloc; "{GRANT}{PROXY}")?;
+    let repeated = answer(
+        alloc,
+        "010000bc40000110",
+        "0000003100000041",
+        2001,
+        end.as_str(),
+    )?;
+    // The funds stay 990: with them a top-up of 10^18 - 989 passes the ceiling, and one of 10^18 - 990 doesn't.
+    let script = format!(in alloc;
+        "open 1 gw1.example\nmessage 1 {JUNE} {request}\ntopup {JUNE} {SUB} 1 1000\nmessage 1 {JUNE} {request}\n\
+message 1 {JUNE} {again}\ntopup {JUNE} {SUB} 2 999999999999999011\ntopup {JUNE} {SUB} 3 999999999999999010\n"
+    )?;
+    let printed = format!(in alloc;
+        "1 -\n2 answer 1 {unknown}\n3 topup done\n4 answer 1 {granted}\n5 answer 1 {repeated}\n6 topup ceiling\n7 topup done\n"
+    )?;
+    prints(&rt, Plan::rows(alloc)?, script.as_str(), printed.as_str())
+}
+
+#[test]
+fn tells_ceiling_bad_amount_and_a_ticket_that_comes_again(rt: HostRuntime) -> Result<(), Fail> {
+    let alloc = rt.alloc();
+    let script = format!(in alloc;
+        "topup {JUNE} {SUB} 1 1000000000000000000\ntopup {JUNE} {SUB} 2 1\ntopup {JUNE} {SUB} 2 1\n\
+topup {JUNE} {SUB} 3 0\ntopup {JUNE} {SUB} 1 1000000000000000000\ntopup {JUNE} {SUB} 4 1\n"
+    )?;
+    let printed =
+        "1 topup done\n2 topup ceiling\n3 topup ceiling\n4 topup bad\n5 topup done\n6 topup ceiling\n";
+    prints(&rt, Plan::rows(alloc)?, script.as_str(), printed)
+}
+
+#[test]
+fn charges_by_the_tariff_of_the_moment(rt: HostRuntime) -> Result<(), Fail> {
+    let alloc = rt.alloc();
+    let before = debit(alloc, 0)?;
+    let after = debit(alloc, 1)?;
+    let last = JULY - 1;
+    // After the first debit the funds are 990, after the second 976.
+    for (debits, passes, fits) in [
+        (1, "999999999999999011", "999999999999999010"),
+        (2, "999999999999999025", "999999999999999024"),
+    ] {
+        let mut script = format!(in alloc;
+            "open 1 gw1.example\ntopup {last} {SUB} 1 1000\nmessage 1 {last} {before}\n"
+        )?;
+        if debits == 2 {
+            let line = format!(in alloc; "message 1 {JULY} {after}\n")?;
+            script.push_str(line.as_str())?;
+        }
+        let end = format!(in alloc;
+            "topup {JULY} {SUB} 2 {passes}\ntopup {JULY} {SUB} 3 {fits}\n"
+        )?;
+        script.push_str(end.as_str())?;
+        let printed = replayed(alloc, Plan::read(alloc, MIDNIGHT)?, script.as_str())?;
+        let told = format!(in alloc; "{} topup ceiling\n{} topup done\n", debits + 3, debits + 4)?;
+        assert!(&rt; printed.as_str().ends_with(told.as_str()), "{printed}");
+    }
+    Ok(())
+}
+
+#[test]
+fn closes_at_a_bad_header(rt: HostRuntime) -> Result<(), Fail> {
+    let alloc = rt.alloc();
+    let request = debit(alloc, 0)?;
+    let unknown = answer(alloc, "0100008040000110", "0000001100000021", 5030, "")?;
+    // A length of 22, of 65,536, another version; each closes, and what a closed peer or none sends gives nothing.
+    for header in [
+        "01000016c0000110000000040000001100000021",
+        "01010000c0000110000000040000001100000021",
+        "02000014c0000110000000040000001100000021",
+    ] {
+        let script = format!(in alloc;
+            "open 1 gw1.example\nmessage 1 {JUNE} {header}\nmessage 1 {JUNE} {request}\nmessage 2 {JUNE} {request}\n\
+open 1 gw1.example\nmessage 1 {JUNE} {request}\n"
+        )?;
+        let printed = format!(in alloc; "1 -\n2 close 1\n3 -\n4 -\n5 -\n6 answer 1 {unknown}\n")?;
+        prints(&rt, Plan::rows(alloc)?, script.as_str(), printed.as_str())?;
+    }
+    Ok(())
+}

@@ -1,0 +1,118 @@
+//! What the words of a script say.
+
+ghost use Rattle.std.specs.Prelude.{◌≡◌, ◌<◌, ◌==◌, ◌≤◌, length, position, map, IfOk, IfSome};
+ghost use Rattle.std.specs.List.{list_all, slice_split};
+ghost use Rattle.std.specs.Char.{is_ascii_digit};
+ghost use Rattle.dcc_replay.specs.Words.{number, peer, any_u64, moment, host, octets, known_sub, sub};
+
+use dcc_act::{Moment, Sub};
+use dcc_engine::Bytes;
+use hex::FromHexError;
+use std::alloc::{AllocError, Global};
+
+/// The last moment, 2099-12-31T23:59:59Z.
+const LAST_MOMENT: u64 = 4_102_444_799;
+
+/// A message of a script has at most as many octets.
+const MOST_OCTETS: usize = 65_536;
+
+/// The parts of a text, cut at each separator.
+pub(crate) fn parts(alloc: Global, text: &[u8], separator: u8) -> Result<Vec<&[u8]>, AllocError>
+    ensures { IfOk result (λ parts. map (λ part. part.now) parts.items ≡ slice_split (λ byte. byte == separator) text.now) }
+{
+    text.split(|byte| *byte == separator).collect(alloc)
+}
+
+/// A number in decimal digits, up to a limit.
+fn number(word: &[u8], limit: u64) -> Option<u64>
+    ensures value { result ≡ number limit word.now }
+    ensures limit { IfSome result (λ number. number ≤ limit) }
+{
+    if !are_digits(word) {
+        return None;
+    }
+    let Ok(text) = str::from_utf8(word) else {
+        return None;
+    };
+    let Ok(number) = text.parse::<u64>() else {
+        return None;
+    };
+    if number > limit { None } else { Some(number) }
+}
+
+fn are_digits(word: &[u8]) -> bool
+    ensures { result ≡ list_all is_ascii_digit word.now }
+{
+    word.iter().all(|byte| byte.is_ascii_digit())
+}
+
+/// The number of a peer.
+pub(crate) fn peer(word: &[u8]) -> Option<u32>
+    ensures { result ≡ peer word.now }
+{
+    let number = number(word, u32::MAX as u64)?;
+    Some(number as u32)
+}
+
+/// A ticket, or an amount in minor units.
+pub(crate) fn any_u64(word: &[u8]) -> Option<u64>
+    ensures { result ≡ any_u64 word.now }
+{
+    number(word, u64::MAX)
+}
+
+/// A moment, in seconds since 1970-01-01T00:00:00Z.
+pub(crate) fn moment(word: &[u8]) -> Option<Moment>
+    ensures { result ≡ moment word.now }
+{
+    Moment::new(number(word, LAST_MOMENT)?)
+}
+
+/// A host's name: any word that isn't empty.
+pub(crate) fn host(alloc: Global, word: &[u8]) -> Result<Option<Bytes>, AllocError>
+    ensures { IfOk result (λ name. name ≡ host word.now) }
+{
+    if word.is_empty() {
+        return Ok(None);
+    }
+    Ok(Some(Bytes::from_vec(Vec::from_slice(alloc, word)?)))
+}
+
+/// Octets in hex digits of either case, 1 to 65,536.
+#[tactic(auto, unfolding(crate::specs::Words::octets))]
+pub(crate) fn octets(alloc: Global, word: &[u8]) -> Result<Option<Bytes>, AllocError>
+    ensures { IfOk result (λ bytes. bytes ≡ octets word.now) }
+{
+    match hex::decode(alloc, word) {
+        Ok(bytes) if !bytes.is_empty() && bytes.len() <= MOST_OCTETS => Ok(Some(Bytes::from_vec(
+            bytes,
+        ))),
+        Err(FromHexError::OutOfMemory) => Err(AllocError),
+        _ => Ok(None),
+    }
+}
+
+/// A subscriber: its type and its data, with a colon between.
+#[tactic(auto, unfolding(crate::specs::Words::sub))]
+pub(crate) fn sub(word: &[u8]) -> Option<Sub>
+    ensures { result ≡ sub word.now }
+{
+    let colon = first_colon(word)?;
+    let kind = number(&word[..colon], u8::MAX as u64)?;
+    known_sub(kind as u8, &word[colon + 1..])
+}
+
+fn first_colon(word: &[u8]) -> Option<usize>
+    ensures value { result ≡ position (λ byte. byte == 58) word.now }
+    ensures within { IfSome result (λ colon. colon < length word.now) }
+{
+    word.iter().position(|byte| *byte == b':')
+}
+
+/// The subscriber of a type and data.
+#[tactic(auto, unfolding(crate::specs::Words::known_sub))]
+fn known_sub(kind: u8, name: &[u8]) -> Option<Sub>
+    ensures { result ≡ known_sub name.now kind }
+{
+    Sub::new(kind, name)
+}
