@@ -111,10 +111,12 @@ impl Account {
     /// What the act comes to after those that were made, with all the memory that it takes to install it.
     pub fn prepare(&self, act: Act) -> Result<Step, AllocError>
         ensures act { IfOk result (λ step. step.act ≡ act) }
-        ensures outcome { IfOk result (λ step. step.outcome ≡ outcome self.now.terms (self.now.acts ++ act ∷ []) (length self.now.acts + 1)) }
+        ensures outcome { IfOk result (λ step. step.outcome
+            ≡ outcome self.now.terms (self.now.acts ++ act ∷ []) (length self.now.acts + 1)) }
         ensures acts { IfOk result (λ step. acts self.now.terms (self.now.acts ++ act ∷ [])
             ≡ (if step.is_new then self.now.acts ++ act ∷ [] else self.now.acts)) }
-        ensures entries { IfOk result (λ step. entries self.now.terms (self.now.acts ++ act ∷ []) ≡ entries self.now.terms self.now.acts ++ step.entries) }
+        ensures entries { IfOk result (λ step. entries self.now.terms (self.now.acts ++ act ∷ [])
+            ≡ entries self.now.terms self.now.acts ++ step.entries) }
         ensures prepared { IfOk result (λ step. IsPrepared self.now step) }
     {
         let alloc = *self.acts.allocator();

@@ -28,7 +28,8 @@ pub(crate) fn grow<T: Drop>(items: &mut Vec<T>, larger: Option<Vec<T>>)
     requires empty { ForSome larger (λ larger. larger.items ≡ []) }
     requires fits { ForSome larger (λ larger. vec_len items.old ≤ vec_capacity larger) }
     ensures items { items.new.items ≡ items.old.items }
-    ensures capacity { MatchOption larger (vec_capacity items.new ≡ vec_capacity items.old) (λ larger. vec_capacity larger ≤ vec_capacity items.new) }
+    ensures capacity { MatchOption larger (vec_capacity items.new ≡ vec_capacity items.old)
+        (λ larger. vec_capacity larger ≤ vec_capacity items.new) }
 {
     if let Some(mut larger) = larger {
         larger.append(items).unwrap();

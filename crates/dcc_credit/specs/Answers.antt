@@ -1,10 +1,14 @@
 -- The octets of answers (RFC 6733, section 6.2, and RFC 8506, section 3.2).
-use Rattle.std.specs.Prelude.{ℕ, Bool, not, ◌&&◌, ◌==◌, bit_and, bit_or, List, [], ◌∷◌, ◌++◌, map, filter, slice_index, Option, None, is_none, option_map, option_and_then}
+use Rattle.std.specs.Prelude.{ℕ, Bool, not, ◌&&◌, ◌==◌, bit_and, bit_or, List, [], ◌∷◌, ◌++◌, map, filter, slice_index, Option, None}
+use Rattle.std.specs.Prelude.{is_none, option_map, option_and_then}
 use Rattle.std.specs.Int.{w32, w64, to_be_bytes}
 use Rattle.std.specs.List.{flat_map, find}
 use Rattle.std.specs.Option.{option_to_list}
 use Rattle.dcc_avp.specs.Spelling.{AvpView, padded}
-use Rattle.dcc_avp.specs.declared.codes.TheConstants.{SESSION_ID, RESULT_CODE, ORIGIN_HOST, ORIGIN_REALM, AUTH_APPLICATION_ID, CC_REQUEST_TYPE, CC_REQUEST_NUMBER, GRANTED_SERVICE_UNIT, CC_TOTAL_OCTETS, CC_TIME, CC_SERVICE_SPECIFIC_UNITS, MULTIPLE_SERVICES_CREDIT_CONTROL, SERVICE_IDENTIFIER, RATING_GROUP, PROXY_INFO}
+use Rattle.dcc_avp.specs.declared.codes.TheConstants.{SESSION_ID, RESULT_CODE, ORIGIN_HOST, ORIGIN_REALM, AUTH_APPLICATION_ID}
+use Rattle.dcc_avp.specs.declared.codes.TheConstants.{CC_REQUEST_TYPE, CC_REQUEST_NUMBER, GRANTED_SERVICE_UNIT, CC_TOTAL_OCTETS, CC_TIME}
+use Rattle.dcc_avp.specs.declared.codes.TheConstants.{CC_SERVICE_SPECIFIC_UNITS, MULTIPLE_SERVICES_CREDIT_CONTROL, SERVICE_IDENTIFIER}
+use Rattle.dcc_avp.specs.declared.codes.TheConstants.{RATING_GROUP, PROXY_INFO}
 use Rattle.dcc_message.specs.HeaderView.{HeaderView}
 use Rattle.dcc_message.specs.Headers.{message}
 use Rattle.dcc_message.specs.declared.identity.Identity.{Identity}
@@ -80,7 +84,8 @@ head_avps identity type key code =
 unfoldable pub answer_avps : Identity → Conditions → Outcome → List AvpView
 answer_avps identity terms (Unknown type key) = head_avps identity type key 5030
 answer_avps identity terms (Answered answer) =
-    head_avps identity answer.request answer.key (result_number answer.result) ++ flat_map (λ service. service_avps service.form service) answer.services
+    head_avps identity answer.request answer.key (result_number answer.result) ++
+    flat_map (λ service. service_avps service.form service) answer.services
 answer_avps identity terms Added = []
 answer_avps identity terms Ceiling = []
 

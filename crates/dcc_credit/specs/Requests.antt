@@ -1,10 +1,14 @@
 -- The request for a direct debit that a message holds, and the act that it asks for (RFC 8506, sections 3.1 and 6.3).
-use Rattle.std.specs.Prelude.{ℕ, ◌≤◌, ◌^◌, Bool, not, ◌&&◌, ◌==◌, nat_le, bit_and, if◌then◌else◌, List, [], ◌∷◌, length, map, filter, Option, Some, None, is_none, option_map, Result, Ok, Err}
+use Rattle.std.specs.Prelude.{ℕ, ◌≤◌, ◌^◌, Bool, not, ◌&&◌, ◌==◌, nat_le, bit_and, if◌then◌else◌, List, [], ◌∷◌, length, map, filter}
+use Rattle.std.specs.Prelude.{Option, Some, None, is_none, option_map, Result, Ok, Err}
 use Rattle.std.specs.Int.{w32, w64, from_be_bytes}
 use Rattle.std.specs.List.{list_all, list_any}
 use Rattle.dcc_avp.specs.Spelling.{AvpView}
 use Rattle.dcc_avp.specs.Reading.{FaultView, avps_of}
-use Rattle.dcc_avp.specs.declared.codes.TheConstants.{SESSION_ID, ORIGIN_HOST, ORIGIN_REALM, DESTINATION_REALM, AUTH_APPLICATION_ID, SERVICE_CONTEXT_ID, CC_REQUEST_TYPE, CC_REQUEST_NUMBER, REQUESTED_ACTION, SUBSCRIPTION_ID, SUBSCRIPTION_ID_TYPE, SUBSCRIPTION_ID_DATA, REQUESTED_SERVICE_UNIT, CC_TOTAL_OCTETS, PROXY_INFO}
+use Rattle.dcc_avp.specs.declared.codes.TheConstants.{SESSION_ID, ORIGIN_HOST, ORIGIN_REALM, DESTINATION_REALM, AUTH_APPLICATION_ID}
+use Rattle.dcc_avp.specs.declared.codes.TheConstants.{SERVICE_CONTEXT_ID, CC_REQUEST_TYPE, CC_REQUEST_NUMBER, REQUESTED_ACTION}
+use Rattle.dcc_avp.specs.declared.codes.TheConstants.{SUBSCRIPTION_ID, SUBSCRIPTION_ID_TYPE, SUBSCRIPTION_ID_DATA, REQUESTED_SERVICE_UNIT}
+use Rattle.dcc_avp.specs.declared.codes.TheConstants.{CC_TOTAL_OCTETS, PROXY_INFO}
 use Rattle.dcc_message.specs.HeaderView.{HeaderView}
 use Rattle.dcc_tariff.specs.Plans.{PlanView, unit_of, tariff_at}
 use Rattle.dcc_tariff.specs.declared.tariff.UnitKind.{UnitKind}
@@ -94,13 +98,14 @@ requested_of octets = do
 
 -- R is set and E is clear, and the command is Credit-Control in its application (RFC 8506, sections 1.3 and 3.1)
 abbrev pub is_credit_control : HeaderView → Bool
-is_credit_control header = not (bit_and header.flags 0x80 == 0) && (bit_and header.flags 0x20 == 0) && (header.code == 272) && (header.app == 4)
+is_credit_control header =
+    not (bit_and header.flags 0x80 == 0) && (bit_and header.flags 0x20 == 0) && (header.code == 272) && (header.app == 4)
 
 -- what may stand in the message: each once, and any number of Proxy-Info
 abbrev pub served : List ℕ
 served =
-    SESSION_ID ∷ ORIGIN_HOST ∷ ORIGIN_REALM ∷ DESTINATION_REALM ∷ AUTH_APPLICATION_ID ∷ SERVICE_CONTEXT_ID ∷ CC_REQUEST_TYPE ∷ CC_REQUEST_NUMBER ∷
-    REQUESTED_ACTION ∷ SUBSCRIPTION_ID ∷ REQUESTED_SERVICE_UNIT ∷ PROXY_INFO ∷ []
+    SESSION_ID ∷ ORIGIN_HOST ∷ ORIGIN_REALM ∷ DESTINATION_REALM ∷ AUTH_APPLICATION_ID ∷ SERVICE_CONTEXT_ID ∷
+    CC_REQUEST_TYPE ∷ CC_REQUEST_NUMBER ∷ REQUESTED_ACTION ∷ SUBSCRIPTION_ID ∷ REQUESTED_SERVICE_UNIT ∷ PROXY_INFO ∷ []
 
 -- the value has to be this one
 abbrev pub is_number : ℕ → ℕ → Option ℕ
@@ -165,7 +170,10 @@ service_of plan request moment =
 -- the act that a request asks for at a moment
 unfoldable pub act_of : PlanView → RequestView → ℕ → Act
 act_of plan request moment =
-    record { moment = moment; kind = Event (record { key = request.key; action = DirectDebiting; service = service_of plan request moment }) }
+    record {
+      moment = moment;
+      kind = Event (record { key = request.key; action = DirectDebiting; service = service_of plan request moment });
+    }
 
 -- an amount that may be asked for
 pub record IsAmount (amount : ℕ) : Type 0 where

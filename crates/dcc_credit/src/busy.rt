@@ -32,7 +32,8 @@ pub fn write_busy(
     proxies: &Proxies,
 ) -> Result<Vec<u8>, AllocError>
     requires { ForSome session (λ octets. length octets.now ≤ 255) }
-    ensures { IfOk result (λ busy. busy.items ≡ busy_bytes identity.now (option_map (λ octets. octets.now) session.entry) request.now proxies.now) }
+    ensures { IfOk result (λ busy. busy.items
+        ≡ busy_bytes identity.now (option_map (λ octets. octets.now) session.entry) request.now proxies.now) }
 {
     let mut avps = Vec::with_capacity(alloc, 128)?;
     put_busy(&mut avps, identity, session)?;
@@ -46,7 +47,8 @@ fn put_busy(
     session: Option<&[u8]>,
 ) -> Result<(), AllocError>
     requires { ForSome session (λ octets. length octets.now ≤ 255) }
-    ensures ok { OnOk result (out.new.items ≡ out.old.items ++ flat_map padded (busy_avps identity.now (option_map (λ octets. octets.now) session.entry))) }
+    ensures ok { OnOk result (out.new.items
+        ≡ out.old.items ++ flat_map padded (busy_avps identity.now (option_map (λ octets. octets.now) session.entry))) }
     ensures grows { OnOk result (Grows (vec_len out.old) (vec_len out.new) 900) }
 {
     if let Some(octets) = session {

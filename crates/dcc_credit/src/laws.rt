@@ -30,11 +30,13 @@ pub fn told_apart()
 pub fn read_back()
     ensures answered { (identity : Identity) (terms : Conditions) (request : HeaderView) (proxies : List AvpView) (outcome : Outcome) →
         IsServer identity → HasLimits outcome → AllByRecursion HasSpelling proxies →
-        avps_of (drop 20 (answer_bytes identity terms request (flat_map padded proxies) outcome)) ≡ Ok (answer_avps identity terms outcome ++ proxies) }
+        avps_of (drop 20 (answer_bytes identity terms request (flat_map padded proxies) outcome))
+        ≡ Ok (answer_avps identity terms outcome ++ proxies) }
     ensures busy { (identity : Identity) (session : Option (List ℕ)) (request : HeaderView) (proxies : List AvpView) →
         IsServer identity → ForSome session (λ octets. length octets ≤ 255) → AllByRecursion HasSpelling proxies →
         avps_of (drop 20 (busy_bytes identity session request (flat_map padded proxies))) ≡ Ok (busy_avps identity session ++ proxies) }
-    ensures answered_header { (identity : Identity) (terms : Conditions) (request : HeaderView) (proxies : List AvpView) (outcome : Outcome) →
+    ensures answered_header { (identity : Identity) (terms : Conditions) (request : HeaderView)
+        (proxies : List AvpView) (outcome : Outcome) →
         IsServer identity → HasLimits outcome → AllByRecursion HasSpelling proxies → IsHeader request →
         let answer = answer_bytes identity terms request (flat_map padded proxies) outcome in
         length answer ≤ MAX_LENGTH → header_of answer ≡ Ok (record (answer_header request 0) { length = length answer }) }

@@ -62,7 +62,12 @@ impl<'a> Model for Outline<'a> {
 
     ghost Value = { Plain };
 
-    ghost view = { λ o. record { session = o.session.now; number = o.number; subscription = o.subscription.now; requested = o.requested.now } };
+    ghost view = { λ o. record {
+      session = o.session.now;
+      number = o.number;
+      subscription = o.subscription.now;
+      requested = o.requested.now;
+    } };
 
     ghost invariant = { λ o. IsSession o.session.now };
 }

@@ -22,7 +22,8 @@ pub(crate) fn put_services(
     out: &mut Vec<u8>,
     services: &ServiceAnswers,
 ) -> Result<(), AllocError>
-    ensures ok { OnOk result (out.new.items ≡ out.old.items ++ flat_map padded (flat_map (λ service. service_avps service.form service) services.now)) }
+    ensures ok { OnOk result (out.new.items
+        ≡ out.old.items ++ flat_map padded (flat_map (λ service. service_avps service.form service) services.now)) }
     ensures grows { OnOk result (Grows (vec_len out.old) (vec_len out.new) 99_000) }
 {
     for service in services.as_slice() {

@@ -1,5 +1,6 @@
 pub mod Books
 pub mod Core
+pub mod Due
 pub mod Messages
 pub mod Heard
 pub mod Asks

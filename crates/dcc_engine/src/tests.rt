@@ -8,24 +8,6 @@ use std::alloc::Global;
 use std::process::Abort;
 use std::test::Fail;
 
-const PLAN: &str = "host = \"ocs.example\"
-realm = \"example\"
-address = \"127.0.0.1\"
-shards = 2
-default_group = 10
-quantum = 100000
-validity = 600
-hold = 1200
-currency = 978
-exponent = -2
-[[tariff]]
-group = 10
-unit = \"octets\"
-from = \"2020-01-01T00:00:00Z\"
-price = 5
-block = 1000
-";
-
 /// A direct debit of 1,001 octets.
 const DEBIT: &str = "010000e4c0000110000000040000001100000021\
 00000107400000176777312e6578616d706c653b313b3100\
@@ -47,7 +29,7 @@ fn engine(alloc: Global) -> Result<Engine, Fail> {
         realm: DiameterIdentity::from_vec(b"example".to_vec(alloc)?).ok_or("a realm")?,
         address: [127, 0, 0, 1],
     };
-    Ok(Engine::open(alloc, Plan::read(alloc, PLAN)?, identity, 2))
+    Ok(Engine::open(alloc, Plan::rows(alloc)?, identity, 2))
 }
 
 fn subscriber() -> Result<Sub, Fail> {

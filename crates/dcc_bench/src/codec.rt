@@ -1,0 +1,180 @@
+//! Debit requests read, and their answers written.
+
+ghost use Rattle.std.specs.Prelude.{◌≤◌, length};
+
+use crate::checksum::{START, marked, summed};
+use crate::debit::Debit;
+use crate::rounds::timed;
+use anyhow::{Context, Result, bail};
+use dcc_act::{
+    Answer, Form, Grant, Outcome, RequestKey, RequestType, ResultCode, ServiceAnswer,
+    ServiceAnswers, ServiceIds, SessionId,
+};
+use dcc_avp::read_list;
+use dcc_credit::{Proxies, read_ccr, write_cca};
+use dcc_message::{DiameterIdentity, Header, Identity, read_header};
+use dcc_tariff::{Tariff, Terms, UnitKind};
+use std::alloc::Global;
+use std::time::CpuClock;
+
+/// What an answer is written of.
+#[derive(Drop)]
+struct Reply {
+    identity: Identity,
+    terms: Terms,
+    outcome: Outcome,
+}
+
+/// Measures reading the list alone, reading the request, writing its answer, and both in turn.
+pub fn measure<R: AllocGlobal + Print + Eprint + CpuClock>(rt: &R, count: u32) -> Result<()> {
+    let alloc = rt.alloc();
+    let reply = make_reply(alloc)?;
+    let items = u64::from(count);
+    let listed = timed(rt, "codec list", items, || list_all(alloc, count))?;
+    let read = timed(rt, "codec read", items, || read_all(alloc, count))?;
+    let written = timed(rt, "codec write", items, || write_all(alloc, &reply, count))?;
+    let both = timed(rt, "codec both", items, || answer_all(alloc, &reply, count))?;
+    let mark = listed ^ read ^ written ^ both;
+    let sum = sum_of_answers(alloc, &reply, count)?;
+    println!(rt; "codec {count} answers {sum:016x} mark {mark:016x}")?;
+    Ok(())
+}
+
+/// Reads the lists of requests.
+fn list_all(alloc: Global, count: u32) -> Result<u64> {
+    let mut debit = Debit::new();
+    let mut mark = 0u64;
+    for i in 0..count {
+        debit.set_identifiers(i);
+        debit.set_number(i);
+        let octets = debit.as_slice();
+        let Ok(header) = read_header(octets) else {
+            bail!("no header");
+        };
+        let avps = read_list(alloc, &octets[20..])?;
+        mark = mark.rotate_left(5) ^ u64::from(header.hop) ^ avps.len() as u64;
+    }
+    Ok(mark)
+}
+
+/// Reads requests.
+fn read_all(alloc: Global, count: u32) -> Result<u64> {
+    let mut debit = Debit::new();
+    let mut mark = 0u64;
+    for i in 0..count {
+        debit.set_identifiers(i);
+        debit.set_number(i);
+        let (header, proxies) = read(alloc, debit.as_slice())?;
+        mark = mark.rotate_left(5) ^ u64::from(header.hop) ^ proxies.as_slice().len() as u64;
+    }
+    Ok(mark)
+}
+
+/// Writes answers.
+fn write_all(alloc: Global, reply: &Reply, count: u32) -> Result<u64> {
+    let Ok(mut header) = read_header(Debit::new().as_slice()) else {
+        bail!("no header");
+    };
+    let proxies = Proxies::none(alloc);
+    let mut mark = 0;
+    for i in 0..count {
+        header.hop = i;
+        header.end_to_end = i;
+        let answer = written(alloc, reply, &header, &proxies)?;
+        mark = marked(mark, answer.as_slice(), i);
+    }
+    Ok(mark)
+}
+
+/// Reads requests, and writes their answers.
+fn answer_all(alloc: Global, reply: &Reply, count: u32) -> Result<u64> {
+    let mut debit = Debit::new();
+    let mut mark = 0;
+    for i in 0..count {
+        debit.set_identifiers(i);
+        debit.set_number(i);
+        let (header, proxies) = read(alloc, debit.as_slice())?;
+        let answer = written(alloc, reply, &header, &proxies)?;
+        mark = marked(mark, answer.as_slice(), i);
+    }
+    Ok(mark)
+}
+
+/// The checksum of the answers.
+fn sum_of_answers(alloc: Global, reply: &Reply, count: u32) -> Result<u64> {
+    let mut debit = Debit::new();
+    let mut sum = START;
+    for i in 0..count {
+        debit.set_identifiers(i);
+        debit.set_number(i);
+        let (header, proxies) = read(alloc, debit.as_slice())?;
+        sum = summed(sum, written(alloc, reply, &header, &proxies)?.as_slice());
+    }
+    Ok(sum)
+}
+
+/// Reads a request whole: its header, its list, its proxies, and what it asks for.
+fn read(alloc: Global, octets: &[u8]) -> Result<(Header, Proxies)>
+    requires least { 20 ≤ length octets.now }
+    requires most { length octets.now ≤ 65_000 }
+{
+    let Ok(header) = read_header(octets) else {
+        bail!("no header");
+    };
+    let avps = read_list(alloc, &octets[20..])?;
+    let proxies = Proxies::of(alloc, &avps)?;
+    let _ = read_ccr(alloc, &header, &avps)?;
+    Ok((header, proxies))
+}
+
+fn written(alloc: Global, reply: &Reply, header: &Header, proxies: &Proxies) -> Result<Vec<u8>> {
+    Ok(write_cca(
+        alloc,
+        &reply.identity,
+        &reply.terms,
+        header,
+        proxies,
+        &reply.outcome,
+    )?)
+}
+
+/// The answer to a debit of 1,001 octets.
+fn make_reply(alloc: Global) -> Result<Reply> {
+    let host = DiameterIdentity::from_vec(b"ocs.example".to_vec(alloc)?).context("a host")?;
+    let realm = DiameterIdentity::from_vec(b"example".to_vec(alloc)?).context("a realm")?;
+    let sid = SessionId::from_vec(b"gw1.example;1;1".to_vec(alloc)?).context("a session")?;
+    let service = ServiceAnswer {
+        group: None,
+        ids: ServiceIds::new(alloc),
+        form: Form::Single,
+        result: ResultCode::Success,
+        grant: Some(Grant {
+            unit: UnitKind::Octets,
+            units: 1001,
+            tariff: Tariff {
+                price: 5,
+                block: 1000,
+            },
+        }),
+    };
+    let services = ServiceAnswers::from_vec(vec![in alloc; service]?).context("services")?;
+    Ok(Reply {
+        identity: Identity {
+            host,
+            realm,
+            address: [127, 0, 0, 1],
+        },
+        terms: Terms {
+            validity: 600,
+            hold: 1200,
+            currency: 978,
+            exponent: -2,
+        },
+        outcome: Outcome::Answered(Answer {
+            request: RequestType::Event,
+            key: RequestKey { sid, number: 0 },
+            result: ResultCode::Success,
+            services,
+        }),
+    })
+}

@@ -1,0 +1,67 @@
+//! The command line.
+
+/// What is measured.
+#[derive(Clone, Copy, Debug, PartialEq, Eq)]
+pub enum Command {
+    /// Debit requests read, and their answers written.
+    Codec { count: u32 },
+    /// A stream of about so many bytes, fed in pieces of so many.
+    Framer { bytes: u32, piece: u32 },
+    /// A plan of so many tariffs, in which they are looked up.
+    Plan { count: u32 },
+    /// A run of so many subscribers' debits.
+    Replay { subscribers: u32, requests: u32 },
+    /// A little of each.
+    Sample,
+}
+
+/// The command of the words, of which the first is the program's name.
+pub fn command_of(words: &[String]) -> Option<Command> {
+    match words {
+        [_, name] => command_alone(name.as_str()),
+        [_, name, count] => command_with(name.as_str(), number(count)?),
+        [_, name, first, second] => command_with_two(
+            name.as_str(),
+            number(first)?,
+            number(second)?,
+        ),
+        _ => None,
+    }
+}
+
+fn command_alone(name: &str) -> Option<Command> {
+    match name {
+        "sample" => Some(Command::Sample),
+        _ => None,
+    }
+}
+
+fn command_with(name: &str, count: u32) -> Option<Command> {
+    match name {
+        "codec" => Some(Command::Codec { count }),
+        "plan" => Some(Command::Plan { count }),
+        _ => None,
+    }
+}
+
+fn command_with_two(name: &str, first: u32, second: u32) -> Option<Command> {
+    match name {
+        "framer" => Some(Command::Framer {
+            bytes: first,
+            piece: second,
+        }),
+        "replay" => Some(Command::Replay {
+            subscribers: first,
+            requests: second,
+        }),
+        _ => None,
+    }
+}
+
+/// A number from 1 to 1,000,000,000.
+fn number(word: &String) -> Option<u32> {
+    match word.as_str().parse::<u32>() {
+        Ok(number) if (1..=1_000_000_000).contains(&number) => Some(number),
+        _ => None,
+    }
+}

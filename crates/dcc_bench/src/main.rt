@@ -1,0 +1,47 @@
+//! The program that measures the path of a direct debit: `codec N`, `framer BYTES PIECE`, `plan N`,
+//! `replay SUBSCRIBERS REQUESTS`, and `sample`, a little of each.
+//!
+//! It stands on the crates of that path, and calls them as the server does. Standard output has only what the arguments
+//! determine: counts, and a checksum of what was answered. Times go to standard error, one line for each thing that is
+//! measured: the processor time for one item in nanoseconds, the median of the rounds, the least and the most.
+#![tactic(auto)]
+
+mod checksum;
+mod codec;
+mod command;
+mod debit;
+mod replay;
+mod rounds;
+mod stream;
+mod tariffs;
+
+use anyhow::{Result, bail};
+use command::{Command, command_of};
+use std::env;
+
+fn main(rt: HostRuntime) -> Result<()> {
+    let words: Vec<String> = env::args(&rt)?.collect(rt.alloc())?;
+    match command_of(words.as_slice()) {
+        Some(Command::Sample) => sample(&rt),
+        Some(Command::Codec { count }) => codec::measure(&rt, count),
+        Some(Command::Framer { bytes, piece }) => stream::measure(&rt, bytes, piece),
+        Some(Command::Plan { count }) => tariffs::measure(&rt, count),
+        Some(
+            Command::Replay {
+                subscribers,
+                requests,
+            },
+        ) => replay::measure(&rt, subscribers, requests),
+        None => bail!(
+            "usage: codec N | framer BYTES PIECE | plan N | replay SUBSCRIBERS REQUESTS | sample"
+        ),
+    }
+}
+
+/// A little of each, by which the gate sees that all of it runs.
+fn sample(rt: &HostRuntime) -> Result<()> {
+    codec::measure(rt, 100)?;
+    stream::measure(rt, 10_000, 7)?;
+    tariffs::measure(rt, 30)?;
+    replay::measure(rt, 3, 30)
+}
