@@ -61,7 +61,7 @@ fn measure_run<R: AllocGlobal + Eprint + CpuClock>(
 fn replay_all(alloc: Global, script: &[u8]) -> Result<Vec<u8>> {
     let mut input = script;
     let mut output = Vec::new(alloc);
-    replay_run(alloc, make_plan(alloc)?, &mut input, &mut output)?;
+    replay_run(alloc, &make_plan(alloc)?, &mut input, &mut output)?;
     Ok(output)
 }
 

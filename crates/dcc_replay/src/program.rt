@@ -29,5 +29,5 @@ pub fn run<F: Files + AllocGlobal, R: Read, W: Write>(
 {
     let path = plan_path(rt.alloc(), words)?;
     let plan = read_plan(rt, path)?;
-    replay_run(rt.alloc(), plan, input, output)
+    replay_run(rt.alloc(), &plan, input, output)
 }

@@ -27,12 +27,12 @@ const MOST_READS: u32 = u32::MAX;
 /// that has not ended after 4,294,967,295 reads is a failure of input.
 pub fn replay_run<R: Read, W: Write>(
     alloc: Global,
-    plan: Plan,
+    plan: &Plan,
     input: &mut R,
     output: &mut W,
 ) -> Result<(), Failure>
     ensures ok { OnOk result (IfSome (R.remaining input.old) (λ text.
-        (written : List ℕ) × IsReplayed plan text written × Appends (W.contents output.old) (W.contents output.new) written)) }
+        (written : List ℕ) × IsReplayed plan.now text written × Appends (W.contents output.old) (W.contents output.new) written)) }
     ensures failures { IfErr result (IsReplayFailure (R.remaining input.old)) }
     ensures silent { IfErr result (λ failure. failure ≢ Io → Keeps (W.contents output.old) (W.contents output.new)) }
 {
@@ -44,12 +44,11 @@ pub fn replay_run<R: Read, W: Write>(
 }
 
 /// The outs of a run of an engine just opened under the plan.
-fn outs_of(alloc: Global, plan: Plan, events: &[Event]) -> Result<Vec<Out>, AllocError>
+fn outs_of(alloc: Global, plan: &Plan, events: &[Event]) -> Result<Vec<Out>, AllocError>
     ensures { IfOk result (λ outs.
-        (core : Core) × IsNew plan core × (length outs.items ≡ length events.now) × IsRun core (steps events.now outs.items)) }
+        (core : Core) × IsNew plan.now core × (length outs.items ≡ length events.now) × IsRun core (steps events.now outs.items)) }
 {
-    let identity = identity_of(alloc, &plan)?;
-    let shards = plan.shards();
-    let mut engine = Engine::open(alloc, plan, identity, shards);
+    let identity = identity_of(alloc, plan)?;
+    let mut engine = Engine::open(alloc, plan.copy()?, identity, plan.shards());
     engine.run(alloc, events)
 }

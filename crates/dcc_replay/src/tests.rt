@@ -11,6 +11,6 @@ use std::alloc::Global;
 /// What is written of a script.
 fn replayed(alloc: Global, plan: Plan, script: &str) -> Result<String, Failure> {
     let mut output = Vec::new(alloc);
-    replay_run(alloc, plan, &mut script.as_bytes(), &mut output)?;
+    replay_run(alloc, &plan, &mut script.as_bytes(), &mut output)?;
     String::from_utf8(output).map_err(|_| Failure::Io)
 }

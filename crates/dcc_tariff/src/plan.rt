@@ -1,11 +1,12 @@
 //! A plan, as the file of an operator says it.
 
-ghost use Rattle.std.specs.Prelude.{◌≡◌, ◌≤◌, ◌^◌, true, Some, IsSome, IfSome};
+ghost use Rattle.std.specs.Prelude.{◌≡◌, ◌≤◌, ◌^◌, true, Some, IsSome, IfSome, IfOk};
 ghost use Rattle.dcc_tariff.specs.Plans.{unit_of, tariff_at, is_identity};
 
 use crate::tariff::{Tariff, UnitKind};
 use crate::terms::Terms;
 use crate::version::{Version, version_at, version_of_group};
+use std::alloc::AllocError;
 use std::marker::Model;
 
 /// Who the server says it is, its terms, and the tariffs of each rating group.
@@ -88,6 +89,22 @@ impl Plan {
         ensures { result.now ≡ self.now.terms }
     {
         &self.terms
+    }
+
+    /// An equal plan, where memory suffices.
+    pub fn copy(&self) -> Result<Plan, AllocError>
+        ensures { IfOk result (λ copy. copy ≡ self.now) }
+    {
+        Ok(Plan {
+            host: self.host.clone()?,
+            realm: self.realm.clone()?,
+            address: self.address,
+            shards: self.shards,
+            default_group: self.default_group,
+            quantum: self.quantum,
+            terms: self.terms,
+            versions: self.versions.clone()?,
+        })
     }
 
     /// What a group's units count, if the plan has the group.

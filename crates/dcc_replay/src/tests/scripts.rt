@@ -48,7 +48,7 @@ fn finds_the_first_line_that_has_no_form(rt: HostRuntime) -> Result<(), Fail> {
         let mut written = Vec::new(alloc);
         let result = replay_run(
             alloc,
-            Plan::rows(alloc)?,
+            &Plan::rows(alloc)?,
             &mut script.as_bytes(),
             &mut written,
         );
