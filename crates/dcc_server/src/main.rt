@@ -8,7 +8,6 @@ use dcc_replay::{Failure, given_words, run};
 use std::io;
 use std::process::ExitCode;
 
-
 fn main(rt: HostRuntime) -> ExitCode {
     match dcc(&rt) {
         Ok(()) => ExitCode::SUCCESS,
