@@ -13,7 +13,6 @@ use Rattle.dcc_model.specs.Keys.{request_key, same_request, same_key}
 use Rattle.dcc_model.specs.declared.done.Done.{Done}
 use Rattle.dcc_model.specs.Outcomes.{is_top_up, has_account, counts, first_of, kept_of, act_of, outcome_of}
 use Rattle.dcc_model.specs.Entries.{sum_of}
-use Rattle.dcc_model.proofs.Funds.{sum_of-append}
 use Rattle.dcc_account.specs.Kept.{dones, past_of}
 
 dones_push : (acts : List Act) (outcomes : List Outcome) (act : Act) (outcome : Outcome) → length outcomes ≡ length acts
@@ -93,10 +92,14 @@ length_dones (a ∷ acts) (o ∷ outcomes) same = let rest = length_dones acts o
 pub length-past : (acts : List Act) (outcomes : List Outcome) → length outcomes ≡ length acts → length (past_of acts outcomes) ≡ length acts
 length-past acts outcomes same = length-reverse (dones acts outcomes) ∙ length_dones acts outcomes same
 
+sum_of-push : (entries : List Entry) (entry : Entry) → sum_of (entries ++ entry ∷ []) ≡ sum_of entries +ℤ entry.amount
+sum_of-push [] entry = omega (arith, ints)
+sum_of-push (e ∷ entries) entry = let rest = sum_of-push entries entry in omega (arith, ints)
+
 -- one more entry
 pub sum_more : (entries : List Entry) (i : ℕ) (entry : Entry) → i < length entries → entry ≡ get_or entries i entry → sum_of (take (i + 1) entries) ≡ sum_of (take i entries) +ℤ entry.amount
 sum_more entries i entry within is =
-    ap sum_of (take_more entries i entry within) ∙ ap (λ (e : Entry). sum_of (take i entries ++ e ∷ [])) (sym is) ∙ sum_of-append (take i entries) (entry ∷ []) ∙ omega (arith, ints)
+    ap sum_of (take_more entries i entry within) ∙ ap (λ (e : Entry). sum_of (take i entries ++ e ∷ [])) (sym is) ∙ sum_of-push (take i entries) entry
 
 -- a walk finds the act at hand, or what it found before
 pub kept_here : (past : List Done) (key : RequestKey) (act : Act) (outcome : Outcome) → true ≡ same_request (Some key) (request_key act.kind)

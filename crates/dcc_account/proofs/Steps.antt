@@ -10,7 +10,7 @@ use Rattle.dcc_model.specs.declared.done.Done.{Done}
 use Rattle.dcc_model.specs.Money.{funds_of}
 use Rattle.dcc_model.specs.Outcomes.{after, judged, history, is_made, is_new, act_of, acts, funds}
 use Rattle.dcc_model.specs.Entries.{entries_by, entries_of, entries, sum_of}
-use Rattle.dcc_model.proofs.Funds.{entries_add_up}
+use Rattle.dcc_model.specs.Laws.{EntriesAddUp}
 use Rattle.dcc_account.specs.Kept.{AccountView, past_of, IsKept}
 use Rattle.dcc_account.specs.Prepared.{StepView, Fits, IsPrepared}
 use Rattle.dcc_account.proofs.Pasts.{past_push, acts_of_past, length-past}
@@ -80,13 +80,13 @@ pub kept_at : (terms : Terms) (all all' : List Act) (outcomes outcomes' : List O
 kept_at terms all all' outcomes outcomes' posted posted' kept a o e = rw (a, o, e) kept
 
 -- what an account judges is what its acts make of it
-pub judged_at : (terms : Terms) (all all' : List Act) (outcomes outcomes' : List Outcome) (posted posted' : List Entry) (act : Act) (outcome : Outcome) → IsKept terms all outcomes posted
+pub judged_at : EntriesAddUp → (terms : Terms) (all all' : List Act) (outcomes outcomes' : List Outcome) (posted posted' : List Entry) (act : Act) (outcome : Outcome) → IsKept terms all outcomes posted
     → all' ≡ all → outcomes' ≡ outcomes → posted' ≡ posted
     → (sum_of posted' ≡ funds_of terms (past_of all' outcomes') → outcome ≡ judged terms (past_of all' outcomes') act) → outcome ≡ after terms all act
 unfolding funds
-judged_at terms all all' outcomes outcomes' posted posted' act outcome kept a o e judges =
+judged_at add_up terms all all' outcomes outcomes' posted posted' act outcome kept a o e judges =
     let past : past_of all' outcomes' ≡ history terms (reverse all) = ap (λ (xs : List Act). past_of xs outcomes') a ∙ ap (past_of all) o ∙ kept.made in
-    let money : sum_of posted' ≡ funds terms all = ap sum_of (e ∙ kept.entries_are) ∙ entries_add_up terms all in
+    let money : sum_of posted' ≡ funds terms all = ap sum_of (e ∙ kept.entries_are) ∙ add_up terms all in
     judges (money ∙ ap (funds_of terms) (sym past)) ∙ ap (λ (past : List Done). judged terms past act) past
 
 pub new_at : (terms : Terms) (all all' : List Act) (outcomes outcomes' : List Outcome) (posted : List Entry) (act : Act) (new : Bool) → IsKept terms all outcomes posted

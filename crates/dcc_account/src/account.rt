@@ -10,6 +10,7 @@ use crate::judge::{is_made, judge, post};
 use crate::step::Step;
 use crate::walk::{outcome_of_request, sum};
 use dcc_act::{Act, Entry, Outcome, RequestKey};
+use dcc_model::{acts_come_to_their_own, funds_are_accounted_for, nothing_is_reserved};
 use dcc_tariff::Terms;
 use std::alloc::{AllocError, Global};
 use std::marker::Model;
@@ -84,6 +85,7 @@ impl Account {
     pub fn funds(&self) -> i128
         ensures { result ≡ funds self.now.terms self.now.acts }
     {
+        funds_are_accounted_for();
         sum(&self.entries)
     }
 
@@ -91,6 +93,7 @@ impl Account {
     pub fn free(&self) -> i128
         ensures { result ≡ free self.now.terms self.now.acts }
     {
+        nothing_is_reserved();
         self.funds()
     }
 
@@ -98,6 +101,7 @@ impl Account {
     pub fn overrun(&self) -> i128
         ensures { result ≡ pos (overrun self.now.terms self.now.acts) }
     {
+        nothing_is_reserved();
         0
     }
 
@@ -119,6 +123,8 @@ impl Account {
             ≡ entries self.now.terms self.now.acts ++ step.entries) }
         ensures prepared { IfOk result (λ step. IsPrepared self.now step) }
     {
+        acts_come_to_their_own();
+        funds_are_accounted_for();
         let alloc = *self.acts.allocator();
         let is_new = is_made(&self.acts, &self.outcomes, &act.kind);
         let outcome = judge(alloc, &self.acts, &self.outcomes, &self.entries, &act)?;

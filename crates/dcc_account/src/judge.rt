@@ -9,7 +9,7 @@ ghost use Rattle.dcc_account.specs.Kept.{past_of};
 
 use crate::walk::{has_top_up, outcome_of, sum};
 use dcc_act::{Act, Entry, Kind, Outcome, RequestType};
-use dcc_model::{decide_event, decide_top_up, entries_by, is_top_up};
+use dcc_model::{decide_event, decide_top_up, entries_by, is_top_up, nothing_is_reserved};
 use std::alloc::{AllocError, Global};
 
 /// What the act comes to after these.
@@ -81,6 +81,7 @@ fn decide(
     ensures { IfOk result (λ outcome. (terms : Terms) → sum_of entries.now ≡ funds_of terms (past_of acts.now outcomes.now)
         → outcome ≡ decided terms (past_of acts.now outcomes.now) kind.now) }
 {
+    nothing_is_reserved();
     match kind {
         Kind::TopUp(top_up) => Ok(decide_top_up(sum(entries), top_up)),
         Kind::Event(event) => decide_event(alloc, sum(entries), event),

@@ -15,10 +15,10 @@ use Rattle.dcc_model.specs.Keys.{request_key, ticket}
 use Rattle.dcc_model.specs.Money.{funds_of, overrun_of, free_of}
 use Rattle.dcc_model.specs.Outcomes.{judged, history, after, outcome, acts, funds, overrun, free, kept_of, kept, IsOfRequest, IsOfTopUp}
 use Rattle.dcc_model.specs.Entries.{entries_of, entries}
-use Rattle.dcc_model.specs.Laws.{LaterChangesNothing, OutcomesStay, ActsStay, ActsAreActs, NoActs, KeptStay, AccountStays, UnknownBefore, RequestsAreAnswered, TopUpsAreAdded, FundsAreLimited, FreeIsCovered, EntriesAddUp}
+use Rattle.dcc_model.specs.Laws.{LaterChangesNothing, OutcomesStay, ActsStay, ActsAreActs, NoActs, KeptStay, AccountStays, LastComesAfter, UnknownBefore, RequestsAreAnswered, TopUpsAreAdded, FundsAreLimited, FreeIsCovered, EntriesAddUp, FreeIsFunds, NothingIsOverrun}
 use Rattle.dcc_model.proofs.Histories.{history-acts, acts_by_history, outcome_behind, outcome_last, outcome_before}
 use Rattle.dcc_model.proofs.Requests.{IsOf, after_is_of, after_no_top_up, history_no_top_up}
-use Rattle.dcc_model.proofs.Funds.{funds_are, free_and_overrun, entries_add_up}
+use Rattle.dcc_model.proofs.Funds.{funds_are, free_and_overrun, entries_add_up, free_is_funds, overrun_none}
 
 pub later_changes_nothing : LaterChangesNothing
 later_changes_nothing = outcome_before
@@ -62,6 +62,9 @@ account_stays terms xs =
     let same = history_of_acts terms xs in
     (ap (funds_of terms) same, ap (overrun_of terms) same, ap (free_of terms) same, ap entries_of same)
 
+pub last_comes_after : LastComesAfter
+last_comes_after = outcome_last
+
 pub unknown_before : UnknownBefore
 unknown_before terms xs act unknown none is =
     let turned : reverse (xs ++ act ∷ []) ≡ act ∷ reverse xs = reverse-append xs (act ∷ []) in (
@@ -94,3 +97,9 @@ free_is_covered = free_and_overrun
 
 pub sums_of_entries : EntriesAddUp
 sums_of_entries = entries_add_up
+
+pub free_is_the_funds : FreeIsFunds
+free_is_the_funds = free_is_funds
+
+pub nothing_is_overrun : NothingIsOverrun
+nothing_is_overrun = overrun_none

@@ -6,7 +6,9 @@ use Rattle.dcc_act.specs.declared.outcome.Outcome.{Outcome}
 use Rattle.dcc_act.specs.declared.request_key.RequestKey.{RequestKey}
 use Rattle.dcc_model.specs.declared.decide.TheConstants.{CEILING}
 use Rattle.dcc_model.specs.Keys.{request_key, ticket}
-use Rattle.dcc_model.specs.Outcomes.{outcome, acts, funds, overrun, free, kept, has_top_up, unknown_of, IsOfRequest, IsOfTopUp}
+use Rattle.dcc_model.specs.declared.done.Done.{Done}
+use Rattle.dcc_model.specs.Money.{funds_of, overrun_of, free_of}
+use Rattle.dcc_model.specs.Outcomes.{outcome, acts, funds, overrun, free, kept, has_top_up, unknown_of, after, IsOfRequest, IsOfTopUp}
 use Rattle.dcc_model.specs.Entries.{entries, sum_of}
 
 -- what comes later changes no outcome
@@ -39,6 +41,10 @@ AccountStays = (terms : Terms) (xs : List Act)
     → (funds terms (acts terms xs) ≡ funds terms xs) × (overrun terms (acts terms xs) ≡ overrun terms xs)
     × (free terms (acts terms xs) ≡ free terms xs) × (entries terms (acts terms xs) ≡ entries terms xs)
 
+-- the last act comes to what it does after those before it
+abbrev pub LastComesAfter : Type 0
+LastComesAfter = (terms : Terms) (xs : List Act) (act : Act) → outcome terms (xs ++ act ∷ []) (length xs + 1) ≡ after terms xs act
+
 -- without a top-up before, a request is of an unknown user, under its own type and key, and isn't made
 abbrev pub UnknownBefore : Type 0
 UnknownBefore = (terms : Terms) (xs : List Act) (act : Act) (unknown : Outcome) → has_top_up xs ≡ false
@@ -66,3 +72,11 @@ FreeIsCovered = (terms : Terms) (xs : List Act) → pos 0 ≤ℤ (free terms xs 
 -- the entries add up to the funds
 abbrev pub EntriesAddUp : Type 0
 EntriesAddUp = (terms : Terms) (xs : List Act) → sum_of (entries terms xs) ≡ funds terms xs
+
+-- neither a top-up nor an event reserves
+abbrev pub FreeIsFunds : Type 0
+FreeIsFunds = (terms : Terms) (past : List Done) → free_of terms past ≡ funds_of terms past
+
+-- nor reports beyond what is reserved
+abbrev pub NothingIsOverrun : Type 0
+NothingIsOverrun = (terms : Terms) (past : List Done) → overrun_of terms past ≡ 0

@@ -20,7 +20,7 @@ pub use keys::{is_same_key, is_top_up};
 pub use posting::entries_by;
 pub use theorems::{
     acts_come_to_their_own, funds_are_accounted_for, later_acts_change_no_outcome,
-    leaving_out_changes_nothing,
+    leaving_out_changes_nothing, nothing_is_reserved,
 };
 
 #[cfg(test)]

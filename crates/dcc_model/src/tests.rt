@@ -3,6 +3,7 @@
 use crate::{
     acts_come_to_their_own, decide_event, decide_top_up, entries_by, funds_are_accounted_for,
     is_same_key, is_top_up, later_acts_change_no_outcome, leaving_out_changes_nothing,
+    nothing_is_reserved,
     plain_answer,
 };
 use dcc_act::{
@@ -197,4 +198,5 @@ fn laws() {
     leaving_out_changes_nothing();
     acts_come_to_their_own();
     funds_are_accounted_for();
+    nothing_is_reserved();
 }

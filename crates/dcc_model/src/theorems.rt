@@ -1,7 +1,9 @@
 //! Laws of the definitions: what the layers above need to know of outcomes and acts without a look into them. None of
 //! these functions does anything: each has a law as its contract.
 
-ghost use Rattle.dcc_model.specs.Laws.{LaterChangesNothing, OutcomesStay, ActsStay, ActsAreActs, NoActs, KeptStay, AccountStays, UnknownBefore, RequestsAreAnswered, TopUpsAreAdded, FundsAreLimited, FreeIsCovered, EntriesAddUp};
+ghost use Rattle.dcc_model.specs.Laws.{LaterChangesNothing, OutcomesStay, ActsStay, ActsAreActs, NoActs, KeptStay, AccountStays};
+ghost use Rattle.dcc_model.specs.Laws.{LastComesAfter, UnknownBefore, RequestsAreAnswered, TopUpsAreAdded};
+ghost use Rattle.dcc_model.specs.Laws.{FundsAreLimited, FreeIsCovered, EntriesAddUp, FreeIsFunds, NothingIsOverrun};
 
 /// What comes later changes no outcome.
 pub fn later_acts_change_no_outcome()
@@ -19,9 +21,10 @@ pub fn leaving_out_changes_nothing()
     ensures account { AccountStays }
 {}
 
-/// A request comes to what a request may come to, and before the first top-up to nothing; a top-up is added, or passes
-/// the ceiling.
+/// The last act comes to what it does after those before it. A request comes to what a request may come to, and before
+/// the first top-up to nothing; a top-up is added, or passes the ceiling.
 pub fn acts_come_to_their_own()
+    ensures last { LastComesAfter }
     ensures unknown { UnknownBefore }
     ensures requests { RequestsAreAnswered }
     ensures top_ups { TopUpsAreAdded }
@@ -33,4 +36,10 @@ pub fn funds_are_accounted_for()
     ensures limited { FundsAreLimited }
     ensures covered { FreeIsCovered }
     ensures entries { EntriesAddUp }
+{}
+
+/// Top-ups and events reserve nothing and report nothing beyond it: what is free is the funds.
+pub fn nothing_is_reserved()
+    ensures free { FreeIsFunds }
+    ensures overrun { NothingIsOverrun }
 {}

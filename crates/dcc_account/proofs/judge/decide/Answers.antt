@@ -1,12 +1,17 @@
-use Rattle.std.proofs.Common.{ℤ, to_z, of_z, ap, ◌∙◌, arith}
+use Rattle.std.proofs.Common.{◌≡◌, ℤ, to_z, of_z, ap, ◌∙◌, arith}
 use Rattle.std.proofs.lemmas.Int.{ints}
 use Rattle.std.proofs.lemmas.Result.{IfOk-weaker}
 use mir.Syntax.{w128}
+use Rattle.dcc_act.specs.declared.act.Event.{Event}
+use Rattle.dcc_act.specs.declared.outcome.Outcome.{Outcome}
 use Rattle.dcc_model.specs.Money.{free_of}
-use Rattle.dcc_model.specs.Outcomes.{top_up_outcome}
-use Rattle.dcc_model.proofs.Funds.{event_at, free_is_funds}
+use Rattle.dcc_model.specs.Outcomes.{top_up_outcome, event_outcome}
 use Rattle.dcc_account.specs.Kept.{past_of}
 use Rattle.dcc_account.proofs.judge.decide.Goals as goal
+
+-- an event comes to the same where as much is free
+event_at : (event : Event) (a b : ℤ) (outcome : Outcome) → outcome ≡ event_outcome a event → a ≡ b → outcome ≡ event_outcome b event
+event_at event a b outcome is same = is ∙ ap (λ (free : ℤ). event_outcome free event) same
 
 pub returns-in-TopUp : goal.returns-in-TopUp
 returns-in-TopUp c =
@@ -19,7 +24,7 @@ returns-in-Event c =
     IfOk-weaker c.decide_event.result _ _
     (λ outcome is.
     λ terms funds.
-    let same = free_is_funds terms (past_of c.args.acts.now c.args.outcomes.now) in
+    let same = c.nothing_is_reserved.ensures.free terms (past_of c.args.acts.now c.args.outcomes.now) in
     let sum = c.sum-in-Event.ensures in
     rw c.in-Event.is
     (event_at c.in-Event.event (to_z w128 (of_z w128 c.sum-in-Event.result)) (free_of terms (past_of c.args.acts.now c.args.outcomes.now)) outcome is (omega (arith, ints))))

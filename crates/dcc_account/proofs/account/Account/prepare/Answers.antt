@@ -3,7 +3,6 @@ use Rattle.std.specs.Prelude.{vec_capacity}
 use Rattle.dcc_act.specs.declared.entry.Entry.{Entry}
 use Rattle.dcc_model.specs.Outcomes.{outcome, acts}
 use Rattle.dcc_model.specs.Entries.{entries_of_kind, entries}
-use Rattle.dcc_model.proofs.Histories.{outcome_last}
 use Rattle.dcc_account.specs.Kept.{AccountView}
 use Rattle.dcc_account.proofs.Steps.{judged_at, new_at, acts_with, entries_with, fits_of}
 use mir.Val.{bool_byte}
@@ -18,14 +17,14 @@ pub returns-clause-outcome : goal.returns-clause-outcome
 returns-clause-outcome c =
     let own = c.self.inside in
     let all = own.acts.items in
-    let outcome_is = judged_at own.terms all _ own.outcomes.items _ own.entries.items _ c.args.act c.in_ok-outcome.outcome c.self.invariant c.deref-3.ensures.value c.deref-4.ensures.value c.deref-5.ensures.value (c.in_ok-outcome.ensures own.terms) in
-    outcome_is ∙ sym (outcome_last own.terms all c.args.act) ∙ ap (λ (a : AccountView). outcome a.terms (a.acts ++ c.args.act ∷ []) (length a.acts + 1)) c.self.view_is
+    let outcome_is = judged_at c.funds_are_accounted_for.ensures.entries own.terms all _ own.outcomes.items _ own.entries.items _ c.args.act c.in_ok-outcome.outcome c.self.invariant c.deref-3.ensures.value c.deref-4.ensures.value c.deref-5.ensures.value (c.in_ok-outcome.ensures own.terms) in
+    outcome_is ∙ sym (c.acts_come_to_their_own.ensures.last own.terms all c.args.act) ∙ ap (λ (a : AccountView). outcome a.terms (a.acts ++ c.args.act ∷ []) (length a.acts + 1)) c.self.view_is
 
 pub returns-clause-acts : goal.returns-clause-acts
 returns-clause-acts c =
     let own = c.self.inside in
     let all = own.acts.items in
-    let outcome_is = judged_at own.terms all _ own.outcomes.items _ own.entries.items _ c.args.act c.in_ok-outcome.outcome c.self.invariant c.deref-3.ensures.value c.deref-4.ensures.value c.deref-5.ensures.value (c.in_ok-outcome.ensures own.terms) in
+    let outcome_is = judged_at c.funds_are_accounted_for.ensures.entries own.terms all _ own.outcomes.items _ own.entries.items _ c.args.act c.in_ok-outcome.outcome c.self.invariant c.deref-3.ensures.value c.deref-4.ensures.value c.deref-5.ensures.value (c.in_ok-outcome.ensures own.terms) in
     let new_is = new_at own.terms all _ own.outcomes.items _ own.entries.items c.args.act c.is_made-is_new.result c.self.invariant c.deref.ensures.value c.deref-2.ensures.value c.is_made-is_new.ensures in
     sym (ap (λ (a : AccountView). acts a.terms (a.acts ++ c.args.act ∷ [])) c.self.view_is)
     ∙ acts_with own.terms all own.outcomes.items own.entries.items c.args.act c.in_ok-outcome.outcome c.is_made-is_new.result c.self.invariant outcome_is new_is
@@ -35,7 +34,7 @@ pub returns-clause-entries : goal.returns-clause-entries
 returns-clause-entries c =
     let own = c.self.inside in
     let all = own.acts.items in
-    let outcome_is = judged_at own.terms all _ own.outcomes.items _ own.entries.items _ c.args.act c.in_ok-outcome.outcome c.self.invariant c.deref-3.ensures.value c.deref-4.ensures.value c.deref-5.ensures.value (c.in_ok-outcome.ensures own.terms) in
+    let outcome_is = judged_at c.funds_are_accounted_for.ensures.entries own.terms all _ own.outcomes.items _ own.entries.items _ c.args.act c.in_ok-outcome.outcome c.self.invariant c.deref-3.ensures.value c.deref-4.ensures.value c.deref-5.ensures.value (c.in_ok-outcome.ensures own.terms) in
     let new_is = new_at own.terms all _ own.outcomes.items _ own.entries.items c.args.act c.is_made-is_new.result c.self.invariant c.deref.ensures.value c.deref-2.ensures.value c.is_made-is_new.ensures in
     let held : own.acts.len ≡ length all = omega arith in
     let added = c.in_ok-entries.ensures ∙ ap (λ (n : ℕ). cond c.is_made-is_new.result (entries_of_kind (n + 1) c.args.act.moment c.args.act.kind c.in_ok-outcome.outcome) []) (c.len.ensures ∙ held) in
@@ -47,7 +46,7 @@ pub returns-clause-prepared : goal.returns-clause-prepared
 returns-clause-prepared c =
     let own = c.self.inside in
     let all = own.acts.items in
-    let outcome_is = judged_at own.terms all _ own.outcomes.items _ own.entries.items _ c.args.act c.in_ok-outcome.outcome c.self.invariant c.deref-3.ensures.value c.deref-4.ensures.value c.deref-5.ensures.value (c.in_ok-outcome.ensures own.terms) in
+    let outcome_is = judged_at c.funds_are_accounted_for.ensures.entries own.terms all _ own.outcomes.items _ own.entries.items _ c.args.act c.in_ok-outcome.outcome c.self.invariant c.deref-3.ensures.value c.deref-4.ensures.value c.deref-5.ensures.value (c.in_ok-outcome.ensures own.terms) in
     let new_is = new_at own.terms all _ own.outcomes.items _ own.entries.items c.args.act c.is_made-is_new.result c.self.invariant c.deref.ensures.value c.deref-2.ensures.value c.is_made-is_new.ensures in
     let held : own.acts.len ≡ length all = omega arith in
     let added = c.in_ok-entries.ensures ∙ ap (λ (n : ℕ). cond c.is_made-is_new.result (entries_of_kind (n + 1) c.args.act.moment c.args.act.kind c.in_ok-outcome.outcome) []) (c.len.ensures ∙ held) in
