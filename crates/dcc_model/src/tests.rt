@@ -3,8 +3,7 @@
 use crate::{
     acts_come_to_their_own, decide_event, decide_top_up, entries_by, funds_are_accounted_for,
     is_same_key, is_top_up, later_acts_change_no_outcome, leaving_out_changes_nothing,
-    nothing_is_reserved,
-    plain_answer,
+    nothing_is_reserved, plain_answer,
 };
 use dcc_act::{
     Act, Action, Entry, EntryName, Event, Form, Kind, Moment, Outcome, RequestKey, Service,
