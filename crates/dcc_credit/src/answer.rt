@@ -1,6 +1,6 @@
 //! The answer to a request.
 
-ghost use Rattle.std.specs.Prelude.{◌≡◌, ◌≤◌, ◌+◌, ◌*◌, ◌<◌, ◌%◌, ◌^◌, ◌++◌, length, vec_len, IfOk, OnOk};
+ghost use Rattle.std.specs.Prelude.{◌≡◌, ◌≤◌, ◌+◌, ◌*◌, ◌<◌, ◌%◌, ◌^◌, ◌++◌, length, drop, vec_len, IfOk, OnOk};
 ghost use Rattle.std.specs.List.{flat_map};
 ghost use Rattle.dcc_avp.specs.Spelling.{padded};
 ghost use Rattle.dcc_message.specs.Headers.{message};
@@ -12,12 +12,15 @@ use crate::put::{put, put_u32};
 use crate::services::put_services;
 use dcc_act::{Outcome, RequestKey, RequestType};
 use dcc_avp::codes;
-use dcc_message::{Header, Identity, write_message};
+use dcc_message::{Header, Identity, begin_message, finish_message};
 use dcc_tariff::Terms;
 use std::alloc::{AllocError, Global};
 
 /// DIAMETER_USER_UNKNOWN (RFC 8506, section 9.2): there is no account.
 const USER_UNKNOWN: u32 = 5030;
+
+/// The octets that are taken for an answer at first, which most answers fit.
+pub(crate) const ROOM: usize = 256;
 
 /// Writes the answer of an outcome to a request, under the request's identifiers and P bit, with its Proxy-Info at the
 /// end. At want of memory there is no message.
@@ -32,26 +35,26 @@ pub fn write_cca(
 ) -> Result<Vec<u8>, AllocError>
     ensures { IfOk result (λ answer. answer.items ≡ answer_bytes identity.now terms.now request.now proxies.now outcome.now) }
 {
-    let mut avps = Vec::with_capacity(alloc, 256)?;
-    put_answer(alloc, &mut avps, identity, terms, outcome)?;
-    message_of(alloc, request, 0, avps, proxies)
+    let mut answer = begin_message(alloc, ROOM)?;
+    put_answer(&mut answer, identity, terms, outcome)?;
+    finished(answer, request, 0, proxies)
 }
 
-/// The message of AVPs that are spelled and of a request's proxies, under the request's header with these bits.
-pub(crate) fn message_of(
-    alloc: Global,
+/// The message of AVPs that stand behind room for a header, and of a request's proxies, under the request's header with
+/// these bits.
+pub(crate) fn finished(
+    mut begun: Vec<u8>,
     request: &Header,
     bits: u8,
-    mut avps: Vec<u8>,
     proxies: &Proxies,
 ) -> Result<Vec<u8>, AllocError>
-    requires { Grows 0 (vec_len avps) 100_000 }
-    ensures { IfOk result (λ answer. answer.items ≡ message (header_of_answer request.now bits) (avps.items ++ proxies.now)) }
+    requires { Grows 20 (vec_len begun) 100_000 }
+    ensures { IfOk result (λ answer. answer.items
+        ≡ message (header_of_answer request.now bits) (drop 20 begun.items ++ proxies.now)) }
 {
-    avps.extend_from_slice(proxies.as_slice())?;
-    let mut message = Vec::with_capacity(alloc, 20 + avps.len())?;
-    write_message(&mut message, &answer_header(request, bits), &avps)?;
-    Ok(message)
+    begun.extend_from_slice(proxies.as_slice())?;
+    finish_message(&mut begun, &answer_header(request, bits));
+    Ok(begun)
 }
 
 /// The header of an answer: of the request's flags P alone, and these bits.
@@ -71,7 +74,6 @@ fn answer_header(request: &Header, bits: u8) -> Header
 /// Appends the AVPs of an answer.
 #[tactic(auto, unfolding(crate::specs::Answers::answer_avps))]
 fn put_answer(
-    alloc: Global,
     out: &mut Vec<u8>,
     identity: &Identity,
     _terms: &Terms,
@@ -90,7 +92,7 @@ fn put_answer(
                 &answer.key,
                 answer.result.number(),
             )?;
-            put_services(alloc, out, &answer.services)
+            put_services(out, &answer.services)
         }
         Outcome::Added | Outcome::Ceiling => Ok(()),
     }

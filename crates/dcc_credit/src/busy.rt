@@ -7,11 +7,11 @@ ghost use Rattle.dcc_avp.specs.Spelling.{padded};
 ghost use Rattle.dcc_credit.specs.Answers.{busy_avps, busy_bytes};
 ghost use Rattle.dcc_credit.specs.Sizes.{Grows};
 
-use crate::answer::message_of;
+use crate::answer::{ROOM, finished};
 use crate::proxies::Proxies;
 use crate::put::{put, put_u32};
 use dcc_avp::codes;
-use dcc_message::{Header, Identity};
+use dcc_message::{Header, Identity, begin_message};
 use std::alloc::{AllocError, Global};
 
 /// The E bit of a message's flags: the answer is a protocol error (RFC 6733, section 7.2).
@@ -35,9 +35,9 @@ pub fn write_busy(
     ensures { IfOk result (λ busy. busy.items
         ≡ busy_bytes identity.now (option_map (λ octets. octets.now) session.entry) request.now proxies.now) }
 {
-    let mut avps = Vec::with_capacity(alloc, 128)?;
-    put_busy(&mut avps, identity, session)?;
-    message_of(alloc, request, ERROR, avps, proxies)
+    let mut busy = begin_message(alloc, ROOM)?;
+    put_busy(&mut busy, identity, session)?;
+    finished(busy, request, ERROR, proxies)
 }
 
 /// Appends the AVPs of the busy answer.

@@ -5,7 +5,7 @@ ghost use Rattle.dcc_avp.specs.Spelling.{padded};
 ghost use Rattle.dcc_credit.specs.Answers.{sent, sent32, sent64};
 ghost use Rattle.dcc_credit.specs.Sizes.{Grows};
 
-use dcc_avp::{Avp, flags, write_avp};
+use dcc_avp::{Avp, flags, write_avp, write_u32, write_u64};
 use std::alloc::AllocError;
 
 /// Appends an AVP of these data.
@@ -22,7 +22,7 @@ pub(crate) fn put_u32(out: &mut Vec<u8>, code: u32, number: u32) -> Result<(), A
     ensures ok { OnOk result (out.new.items ≡ out.old.items ++ padded (sent32 code number)) }
     ensures grows { OnOk result (Grows (vec_len out.old) (vec_len out.new) 15) }
 {
-    put(out, code, &number.to_be_bytes())
+    write_u32(out, code, flags::MANDATORY, number)
 }
 
 /// Appends an AVP of a number in eight octets.
@@ -30,5 +30,5 @@ pub(crate) fn put_u64(out: &mut Vec<u8>, code: u32, number: u64) -> Result<(), A
     ensures ok { OnOk result (out.new.items ≡ out.old.items ++ padded (sent64 code number)) }
     ensures grows { OnOk result (Grows (vec_len out.old) (vec_len out.new) 19) }
 {
-    put(out, code, &number.to_be_bytes())
+    write_u64(out, code, flags::MANDATORY, number)
 }

@@ -4,58 +4,69 @@ ghost use Rattle.std.specs.Prelude.{◌≡◌, ◌≤◌, ◌+◌, ◌*◌, ◌<
 ghost use Rattle.std.specs.List.{flat_map};
 ghost use Rattle.std.specs.Option.{option_to_list, ForSome};
 ghost use Rattle.dcc_avp.specs.Spelling.{padded};
-ghost use Rattle.dcc_avp.specs.declared.codes.TheConstants.{SERVICE_IDENTIFIER};
+ghost use Rattle.dcc_avp.specs.declared.codes.TheConstants.{SERVICE_IDENTIFIER, MULTIPLE_SERVICES_CREDIT_CONTROL};
 ghost use Rattle.dcc_tariff.specs.declared.tariff.UnitKind.TheVariants.{Time as Seconds};
 ghost use Rattle.dcc_act.specs.Answers.{IsGrant, IsInRange};
-ghost use Rattle.dcc_credit.specs.Answers.{amount_avp, granted, sent32, service_parts, service_avps};
+ghost use Rattle.dcc_credit.specs.Answers.{amount_avp, granted, grouped, sent32, service_parts, service_avps};
 ghost use Rattle.dcc_credit.specs.Sizes.{Grows};
 
-use crate::put::{put, put_u32, put_u64};
+use crate::put::{put_u32, put_u64};
 use dcc_act::{Form, Grant, ServiceAnswer, ServiceAnswers};
-use dcc_avp::codes;
+use dcc_avp::{begin_group, codes, end_group, flags};
 use dcc_tariff::UnitKind;
-use std::alloc::{AllocError, Global};
+use std::alloc::AllocError;
 
 /// Appends the services of an answer, in their order.
-pub(crate) fn put_services(
-    alloc: Global,
-    out: &mut Vec<u8>,
-    services: &ServiceAnswers,
-) -> Result<(), AllocError>
+pub(crate) fn put_services(out: &mut Vec<u8>, services: &ServiceAnswers) -> Result<(), AllocError>
     ensures ok { OnOk result (out.new.items
         ≡ out.old.items ++ flat_map padded (flat_map (λ service. service_avps service.form service) services.now)) }
     ensures grows { OnOk result (Grows (vec_len out.old) (vec_len out.new) 99_000) }
 {
     for service in services.as_slice() {
-        put_service(alloc, out, service)?;
+        put_service(out, service)?;
     }
     Ok(())
 }
 
 /// Appends one service: at the message's level its grant alone, else a group of its own.
-fn put_service(alloc: Global, out: &mut Vec<u8>, service: &ServiceAnswer) -> Result<(), AllocError>
+fn put_service(out: &mut Vec<u8>, service: &ServiceAnswer) -> Result<(), AllocError>
     requires range { IsInRange service.now }
     requires few { length service.now.ids ≤ 5460 }
     ensures ok { OnOk result (out.new.items ≡ out.old.items ++ flat_map padded (service_avps service.now.form service.now)) }
     ensures grows { OnOk result (Grows (vec_len out.old) (vec_len out.new) (100 + 15 * length service.now.ids)) }
 {
     match service.form {
-        Form::Single => put_grant(alloc, out, service.grant),
-        Form::Multi => {
-            let mut parts = Vec::with_capacity(alloc, 64)?;
-            put_parts(alloc, &mut parts, service)?;
-            put(out, codes::MULTIPLE_SERVICES_CREDIT_CONTROL, &parts)
-        }
+        Form::Single => put_grant(out, service.grant),
+        Form::Multi => put_group(out, service),
     }
 }
 
+/// Appends a service's group (RFC 8506, section 8.16).
+fn put_group(out: &mut Vec<u8>, service: &ServiceAnswer) -> Result<(), AllocError>
+    requires range { IsInRange service.now }
+    requires few { length service.now.ids ≤ 5460 }
+    ensures ok { OnOk result (out.new.items
+        ≡ out.old.items ++ padded (grouped MULTIPLE_SERVICES_CREDIT_CONTROL (service_parts service.now))) }
+    ensures grows { OnOk result (Grows (vec_len out.old) (vec_len out.new) (100 + 15 * length service.now.ids)) }
+{
+    let at = begin_group(out)?;
+    put_parts(out, service)?;
+    end_group(
+        out,
+        at,
+        codes::MULTIPLE_SERVICES_CREDIT_CONTROL,
+        flags::MANDATORY,
+    );
+    Ok(())
+}
+
 /// Appends what a service's group holds.
-fn put_parts(alloc: Global, out: &mut Vec<u8>, service: &ServiceAnswer) -> Result<(), AllocError>
+fn put_parts(out: &mut Vec<u8>, service: &ServiceAnswer) -> Result<(), AllocError>
     requires { IsInRange service.now }
     ensures ok { OnOk result (out.new.items ≡ out.old.items ++ flat_map padded (service_parts service.now)) }
     ensures grows { OnOk result (Grows (vec_len out.old) (vec_len out.new) (80 + 15 * length service.now.ids)) }
 {
-    put_grant(alloc, out, service.grant)?;
+    put_grant(out, service.grant)?;
     put_identifiers(out, service.ids.as_slice())?;
     if let Some(group) = service.group {
         put_u32(out, codes::RATING_GROUP, group)?;
@@ -75,7 +86,7 @@ fn put_identifiers(out: &mut Vec<u8>, ids: &[u32]) -> Result<(), AllocError>
 }
 
 /// Appends a Granted-Service-Unit, where there is a grant (RFC 8506, section 8.17).
-fn put_grant(alloc: Global, out: &mut Vec<u8>, grant: Option<Grant>) -> Result<(), AllocError>
+fn put_grant(out: &mut Vec<u8>, grant: Option<Grant>) -> Result<(), AllocError>
     requires { ForSome grant IsGrant }
     ensures ok { OnOk result (out.new.items ≡ out.old.items ++ flat_map padded (option_to_list (option_map granted grant))) }
     ensures grows { OnOk result (Grows (vec_len out.old) (vec_len out.new) 35) }
@@ -83,9 +94,10 @@ fn put_grant(alloc: Global, out: &mut Vec<u8>, grant: Option<Grant>) -> Result<(
     let Some(grant) = grant else {
         return Ok(());
     };
-    let mut amount = Vec::with_capacity(alloc, 16)?;
-    put_amount(&mut amount, grant)?;
-    put(out, codes::GRANTED_SERVICE_UNIT, &amount)
+    let at = begin_group(out)?;
+    put_amount(out, grant)?;
+    end_group(out, at, codes::GRANTED_SERVICE_UNIT, flags::MANDATORY);
+    Ok(())
 }
 
 /// Appends a grant's amount, in the AVP of its unit.

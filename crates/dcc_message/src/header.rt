@@ -1,11 +1,11 @@
 //! The header of a message (RFC 6733, section 3).
 
-ghost use Rattle.std.specs.Prelude.{◌≡◌, ◌+◌, ◌*◌, ◌%◌, ◌<◌, ◌≤◌, ◌^◌, ◌++◌, Ok, List, ℕ, length, drop, IfOk, OnOk, OnErr};
+ghost use Rattle.std.specs.Prelude.{◌≡◌, ◌+◌, ◌*◌, ◌%◌, ◌<◌, ◌≤◌, ◌^◌, ◌++◌, Ok, List, ℕ, length, drop, replicate, vec_len, vec_capacity, IfOk, OnOk, OnErr};
 ghost use Rattle.dcc_message.specs.HeaderView.{HeaderView};
 ghost use Rattle.dcc_message.specs.Headers.{header as spelled, header_of, header_at, three_at, four_at, message, IsHeader};
 
 use crate::length::{FrameFault, HEADER_LENGTH, fault_of_length, length_of};
-use std::alloc::AllocError;
+use std::alloc::{AllocError, Global};
 use std::marker::Model;
 
 /// A message's header. Its version is 1.
@@ -131,6 +131,40 @@ pub fn write_message(out: &mut Vec<u8>, header: &Header, avps: &[u8]) -> Result<
         .unwrap();
     out.extend_from_slice(avps).unwrap();
     Ok(())
+}
+
+/// A message that is begun: room for its header, in a vector of this capacity. The AVPs are to be written behind it,
+/// and then `finish_message` writes the header.
+pub fn begin_message(alloc: Global, capacity: usize) -> Result<Vec<u8>, AllocError>
+    ensures items { IfOk result (λ out. out.items ≡ replicate HEADER_LENGTH 0) }
+    ensures len { IfOk result (λ out. vec_len out ≡ HEADER_LENGTH) }
+    ensures capacity { IfOk result (λ out. capacity ≤ vec_capacity out) }
+{
+    let mut out = Vec::with_capacity(alloc, capacity)?;
+    out.extend_from_slice(&[0; HEADER_LENGTH])?;
+    Ok(out)
+}
+
+/// Makes all of `out` one message, in place: the header, with the length of all, over the first 20 octets, and what
+/// stands behind them the AVPs, which are spelled already. It takes no memory.
+#[tactic(auto, unfolding(crate::specs::Headers::message))]
+pub fn finish_message(out: &mut Vec<u8>, header: &Header)
+    requires room { HEADER_LENGTH ≤ vec_len out.old }
+    requires whole { vec_len out.old % 4 ≡ 0 }
+    requires fits { vec_len out.old < 2 ^ 24 }
+    ensures items { out.new.items ≡ message header.now (drop HEADER_LENGTH out.old.items) }
+    ensures len { vec_len out.new ≡ vec_len out.old }
+{
+    let length = out.len() as u32;
+    put_over(out.as_mut_slice(), &header_bytes(header, length));
+}
+
+/// Writes a header over the first octets.
+fn put_over(all: &mut [u8], header: &[u8; 20])
+    requires { 20 ≤ length all.old }
+    ensures { all.new ≡ header.now ++ drop 20 all.old }
+{
+    all[..20].copy_from_slice(header);
 }
 
 /// The bytes of a header that states this length.

@@ -13,7 +13,7 @@ mod pieces;
 mod tests;
 
 pub use framer::Framer;
-pub use header::{Header, HeaderFault, read_header, write_message};
+pub use header::{Header, HeaderFault, begin_message, finish_message, read_header, write_message};
 pub use identity::{DiameterIdentity, Identity};
 pub use length::{FrameFault, MAX_LENGTH};
 pub use pieces::any_pieces;

@@ -1,8 +1,8 @@
 //! Messages and streams from outside.
 
 use crate::{
-    DiameterIdentity, FrameFault, Framer, Header, HeaderFault, Identity, any_pieces, read_header,
-    write_message,
+    DiameterIdentity, FrameFault, Framer, Header, HeaderFault, Identity, any_pieces, begin_message,
+    finish_message, read_header, write_message,
 };
 use dcc_avp::{read_list, write_avp};
 use std::alloc::Global;
@@ -79,6 +79,10 @@ fn header_of_a_request(rt: HostRuntime) -> Result<(), Fail> {
     assert_eq!(rt; header, want);
     let mut out = Vec::new(rt.alloc());
     write_message(&mut out, &header, &message[20..228])?;
+    assert!(rt; out == message);
+    let mut out = begin_message(rt.alloc(), 256)?;
+    out.extend_from_slice(&message[20..228])?;
+    finish_message(&mut out, &header);
     assert!(rt; out == message);
     Ok(())
 }

@@ -18,4 +18,4 @@ returns-clause-grows c =
     let grows = c.loop-service.invariant.grows in
     let all = most_of_answers c.as_slice-service-items.result.now limits in
     let part = sum_by-take-le most_of c.as_slice-service-items.result.now c.loop-service.service-index in
-    record { whole = grows.whole; within = omega arith }
+    record { no_less = grows.no_less; whole = grows.whole; within = omega arith }
