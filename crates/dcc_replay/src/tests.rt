@@ -1,3 +1,4 @@
+mod corners;
 mod octets;
 mod rows;
 mod scripts;
