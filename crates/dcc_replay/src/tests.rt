@@ -1,3 +1,4 @@
+mod corners;
 mod octets;
 mod rows;
 mod scripts;
@@ -9,8 +10,9 @@ use dcc_tariff::Plan;
 use std::alloc::Global;
 
 /// What is written of a script.
-fn replayed(alloc: Global, plan: Plan, script: &str) -> Result<String, Failure> {
+fn replayed(alloc: Global, plan: Plan, script: &[u8]) -> Result<String, Failure> {
+    let mut input = script;
     let mut output = Vec::new(alloc);
-    replay_run(alloc, &plan, &mut script.as_bytes(), &mut output)?;
+    replay_run(alloc, &plan, &mut input, &mut output)?;
     String::from_utf8(output).map_err(|_| Failure::Io)
 }

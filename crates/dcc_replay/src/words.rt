@@ -7,6 +7,7 @@ ghost use Rattle.dcc_replay.specs.Words.{number, peer, any_u64, moment, host, oc
 
 use dcc_act::{Moment, Sub};
 use dcc_engine::Bytes;
+use dcc_message::DiameterIdentity;
 use hex::FromHexError;
 use std::alloc::{AllocError, Global};
 
@@ -68,14 +69,14 @@ pub(crate) fn moment(word: &[u8]) -> Option<Moment>
     Moment::new(number(word, LAST_MOMENT)?)
 }
 
-/// A host's name: any word that isn't empty.
+/// A host's name: a DiameterIdentity, 1 to 255 octets of visible ASCII (RFC 6733, section 4.3.1).
 pub(crate) fn host(alloc: Global, word: &[u8]) -> Result<Option<Bytes>, AllocError>
     ensures { IfOk result (λ name. name ≡ host word.now) }
 {
-    if word.is_empty() {
+    let Some(name) = DiameterIdentity::from_vec(Vec::from_slice(alloc, word)?) else {
         return Ok(None);
-    }
-    Ok(Some(Bytes::from_vec(Vec::from_slice(alloc, word)?)))
+    };
+    Ok(Some(Bytes::from_vec(name.into_vec())))
 }
 
 /// Octets in hex digits of either case, 1 to 65,536.

@@ -1,21 +1,22 @@
 //! Worked examples: what is printed of a script.
 
-use super::octets::{GRANT, PROXY, answer, debit, debit_through_proxy};
+use super::octets::{debit, debit_through_proxy, granted, granted_through_proxy, refused};
 use super::replayed;
 use dcc_tariff::Plan;
 use std::process::Abort;
 use std::test::Fail;
 
 /// 2025-06-01T00:00:00Z.
-const JUNE: u64 = 1_748_736_000;
+pub(crate) const JUNE: u64 = 1_748_736_000;
 
 /// 2025-07-01T00:00:00Z.
-const JULY: u64 = 1_751_328_000;
+pub(crate) const JULY: u64 = 1_751_328_000;
 
 /// The subscriber of the examples.
-const SUB: &str = "0:491700000001";
+pub(crate) const SUB: &str = "0:491700000001";
 
-const MIDNIGHT: &str = r#"
+/// Five for each 1,000 octets, and seven from July on.
+pub(crate) const MIDNIGHT: &str = r#"
 host = "ocs.example"
 realm = "example"
 address = "127.0.0.1"
@@ -32,13 +33,14 @@ tariff = [
 ]
 "#;
 
-fn prints<R: Abort + AllocGlobal>(
+/// Whether this is printed of the script.
+pub(crate) fn prints<R: Abort + AllocGlobal>(
     rt: &R,
     plan: Plan,
     script: &str,
     printed: &str,
 ) -> Result<(), Fail> {
-    let text = replayed(rt.alloc(), plan, script)?;
+    let text = replayed(rt.alloc(), plan, script.as_bytes())?;
     assert_eq!(rt; text.as_str(), printed);
     Ok(())
 }
@@ -47,7 +49,7 @@ fn prints<R: Abort + AllocGlobal>(
 fn debits_1001_octets(rt: HostRuntime) -> Result<(), Fail> {
     let alloc = rt.alloc();
     let request = debit(alloc, 0)?;
-    let granted = answer(alloc, "0100009840000110", "0000001100000021", 2001, GRANT)?;
+    let granted = granted(alloc, 0, 1001)?;
     let script = format!(in alloc;
         "# remark\nopen 1 gw1.example\n\ntopup {JUNE} {SUB} 1 1000\nmessage 1 {JUNE} {request}"
     )?;
@@ -60,16 +62,9 @@ fn answers_an_unknown_account_and_then_repeats(rt: HostRuntime) -> Result<(), Fa
     let alloc = rt.alloc();
     let request = debit(alloc, 0)?;
     let again = debit_through_proxy(alloc)?;
-    let unknown = answer(alloc, "0100008040000110", "0000001100000021", 5030, "")?;
-    let granted = answer(alloc, "0100009840000110", "0000001100000021", 2001, GRANT)?;
-    let end = format!(in alloc; "{GRANT}{PROXY}")?;
-    let repeated = answer(
-        alloc,
-        "010000bc40000110",
-        "0000003100000041",
-        2001,
-        end.as_str(),
-    )?;
+    let unknown = refused(alloc, 0, 5030)?;
+    let granted = granted(alloc, 0, 1001)?;
+    let repeated = granted_through_proxy(alloc)?;
     // The funds stay 990: with them a top-up of 10^18 - 989 passes the ceiling, and one of 10^18 - 990 doesn't.
     let script = format!(in alloc;
         "open 1 gw1.example\nmessage 1 {JUNE} {request}\ntopup {JUNE} {SUB} 1 1000\nmessage 1 {JUNE} {request}\n\
@@ -115,7 +110,7 @@ fn charges_by_the_tariff_of_the_moment(rt: HostRuntime) -> Result<(), Fail> {
             "topup {JULY} {SUB} 2 {passes}\ntopup {JULY} {SUB} 3 {fits}\n"
         )?;
         script.push_str(end.as_str())?;
-        let printed = replayed(alloc, Plan::read(alloc, MIDNIGHT)?, script.as_str())?;
+        let printed = replayed(alloc, Plan::read(alloc, MIDNIGHT)?, script.as_bytes())?;
         let told = format!(in alloc; "{} topup ceiling\n{} topup done\n", debits + 3, debits + 4)?;
         assert!(&rt; printed.as_str().ends_with(told.as_str()), "{printed}");
     }
@@ -126,7 +121,7 @@ fn charges_by_the_tariff_of_the_moment(rt: HostRuntime) -> Result<(), Fail> {
 fn closes_at_a_bad_header(rt: HostRuntime) -> Result<(), Fail> {
     let alloc = rt.alloc();
     let request = debit(alloc, 0)?;
-    let unknown = answer(alloc, "0100008040000110", "0000001100000021", 5030, "")?;
+    let unknown = refused(alloc, 0, 5030)?;
     // A length of 22, of 65,536, another version; each closes, and what a closed peer or none sends gives nothing.
     for header in [
         "01000016c0000110000000040000001100000021",

@@ -3,37 +3,82 @@
 use super::replayed;
 use crate::{Failure, replay_run};
 use dcc_tariff::Plan;
+use std::alloc::{AllocError, Global};
+use std::process::Abort;
 use std::test::Fail;
+
+/// Whether the fourth line of a script is told, with status 5, where the line is this one, and nothing is written.
+fn tells_line<R: Abort + AllocGlobal>(rt: &R, line: &str) -> Result<(), Fail> {
+    let alloc = rt.alloc();
+    let script = format!(in alloc; "# remark\nopen 1 a\n\n{line}\nopen\n")?;
+    let mut written = Vec::new(alloc);
+    let result = replay_run(
+        alloc,
+        &Plan::rows(alloc)?,
+        &mut script.as_bytes(),
+        &mut written,
+    );
+    assert_eq!(rt; result, Err(Failure::Script(4)), "{line:?}");
+    assert_eq!(rt; result.map_err(|failure| failure.status()), Err(5));
+    assert!(rt; written.is_empty(), "{line:?}");
+    Ok(())
+}
+
+/// The text with a letter behind it, so often.
+fn with_letters(alloc: Global, text: &str, letters: usize) -> Result<String, AllocError> {
+    let mut longer = String::from_str(alloc, text)?;
+    for _ in 0..letters {
+        longer.push_str("a")?;
+    }
+    Ok(longer)
+}
 
 #[test]
 fn finds_the_first_line_that_has_no_form(rt: HostRuntime) -> Result<(), Fail> {
-    let alloc = rt.alloc();
     for line in [
         "open 1",
         "open 1 a b",
         "open 1 ",
         "open  1 a",
+        "open 1  a",
         " open 1 a",
         "open 1 a ",
+        "open 1 a\r",
+        "open\t1 a",
+        "open 1\ta",
+        "open 1 a\tb",
+        "open 1 \u{7f}",
+        "open 1 \u{e4}",
         "OPEN 1 a",
         "open 4294967296 a",
         "open -1 a",
         "open +1 a",
         "open x a",
         "connect 1",
+        "connect 1 a",
         "disconnect 1",
         "sweep 1",
         " ",
         " # remark",
         "\r",
+        "\t",
         "message 1 0",
         "message 1 0 ",
         "message 1 0 0",
+        "message 1 0 000",
         "message 1 0 0g",
+        "message 1 0 G0",
         "message 1 0 00 00",
+        "message 1 0  00",
+        "message 1 0 00\r",
+        "message 1 0\t00",
+        "message 4294967296 0 00",
         "message 1 4102444800 00",
         "topup 0 0:1 1",
         "topup 0 0:1 1 1 1",
+        "topup 0 0:1 1  1",
+        "topup 0 0:1 1 1\r",
+        "topup 0 0:1 1\t1",
         "topup 4102444800 0:1 1 1",
         "topup 0 5:1 1 1",
         "topup 0 01 1 1",
@@ -44,16 +89,27 @@ fn finds_the_first_line_that_has_no_form(rt: HostRuntime) -> Result<(), Fail> {
         "topup 0 0:1 1 18446744073709551616",
         "topup 0 0:\u{e4} 1 1",
     ] {
-        let script = format!(in alloc; "# remark\nopen 1 a\n\n{line}\nopen\n")?;
-        let mut written = Vec::new(alloc);
-        let result = replay_run(
-            alloc,
-            &Plan::rows(alloc)?,
-            &mut script.as_bytes(),
-            &mut written,
-        );
-        assert_eq!(&rt; result, Err(Failure::Script(4)), "{line:?}");
-        assert!(&rt; written.is_empty(), "{line:?}");
+        tells_line(&rt, line)?;
+    }
+    Ok(())
+}
+
+#[test]
+fn takes_hosts_of_255_octets_and_subscribers_of_64_and_none_longer(
+    rt: HostRuntime,
+) -> Result<(), Fail> {
+    let alloc = rt.alloc();
+    for (start, most, end, printed) in [
+        ("open 1 ", 255, "", "1 -\n"),
+        ("topup 0 0:", 64, " 1 1", "1 topup done\n"),
+    ] {
+        let mut longest = with_letters(alloc, start, most)?;
+        longest.push_str(end)?;
+        let text = replayed(alloc, Plan::rows(alloc)?, longest.as_bytes())?;
+        assert_eq!(&rt; text.as_str(), printed, "{start:?}");
+        let mut longer = with_letters(alloc, start, most + 1)?;
+        longer.push_str(end)?;
+        tells_line(&rt, longer.as_str())?;
     }
     Ok(())
 }
@@ -62,15 +118,16 @@ fn finds_the_first_line_that_has_no_form(rt: HostRuntime) -> Result<(), Fail> {
 fn takes_each_form_up_to_its_limits(rt: HostRuntime) -> Result<(), Fail> {
     let alloc = rt.alloc();
     for (script, printed) in [
-        ("", ""),
-        ("\n#\n# open\n", ""),
-        ("open 0004294967295 \u{e4}:#", "1 -\n"),
-        ("message 4294967295 4102444799 aF\n", "1 -\n"),
+        (b"".as_slice(), ""),
+        (b"\n#\n# open\n", ""),
+        (b"#\xff\r\n\n# \0\t\x80\n#", ""),
+        (b"open 0004294967295 !~:#", "1 -\n"),
+        (b"message 4294967295 4102444799 aF\n", "1 -\n"),
         (
-            "topup 4102444799 4:a:b 18446744073709551615 18446744073709551615\n",
+            b"topup 4102444799 4:a:b 18446744073709551615 18446744073709551615\n",
             "1 topup bad\n",
         ),
-        ("topup 0 00:~ 0 00001", "1 topup done\n"),
+        (b"topup 0 00:~ 0 00001", "1 topup done\n"),
     ] {
         let text = replayed(alloc, Plan::rows(alloc)?, script)?;
         assert_eq!(&rt; text.as_str(), printed, "{script:?}");
@@ -81,13 +138,13 @@ fn takes_each_form_up_to_its_limits(rt: HostRuntime) -> Result<(), Fail> {
 #[test]
 fn takes_messages_of_65536_octets_and_none_longer(rt: HostRuntime) -> Result<(), Fail> {
     let alloc = rt.alloc();
-    for (octets, taken) in [(65_536, true), (65_537, false)] {
+    for (octets, fault) in [(65_536, None), (65_537, Some(Failure::Script(1)))] {
         let mut script = String::from_str(alloc, "message 1 0 ")?;
         for _ in 0..octets {
             script.push_str("00")?;
         }
-        let result = replayed(alloc, Plan::rows(alloc)?, script.as_str());
-        assert_eq!(&rt; result.is_ok(), taken);
+        let result = replayed(alloc, Plan::rows(alloc)?, script.as_bytes());
+        assert_eq!(&rt; result.err(), fault, "{octets}");
     }
     Ok(())
 }

@@ -113,14 +113,16 @@ fn usage_is_judged_before_the_plan_and_the_plan_before_the_script(
 ) -> Result<(), Fail> {
     let alloc = rt.alloc();
     let mut output = Vec::new(alloc);
-    for (line, failure) in [
-        ("dcc replay /dev/null b", Failure::Usage),
-        ("dcc replay /dev/null", Failure::Plan(21)),
-        ("dcc replay /", Failure::Io),
+    for (line, failure, status) in [
+        ("dcc replay /dev/null b", Failure::Usage, 2),
+        ("dcc replay /dev/null", Failure::Plan(21), 3),
+        ("dcc replay /", Failure::Io, 1),
+        ("dcc replay /none", Failure::Io, 1),
     ] {
         let words = words(alloc, line)?;
         let result = run(&rt, words.as_slice(), &mut b"open".as_slice(), &mut output);
         assert_eq!(&rt; result, Err(failure), "{line}");
+        assert_eq!(&rt; failure.status(), status, "{line}");
     }
     assert!(&rt; output.is_empty());
     Ok(())

@@ -38,12 +38,13 @@ impl Read for Slow<'_> {
     }
 }
 
-/// Takes one octet at a time, and no more than it has room for.
+/// Takes one octet at a time, and no more than it has room for; what it took it may not send on.
 #[derive(Drop)]
 struct Narrow {
     taken: Vec<u8>,
     room: usize,
     refuses: bool,
+    sends: bool,
 }
 
 impl Write for Narrow {
@@ -64,7 +65,11 @@ impl Write for Narrow {
     }
 
     fn flush(&mut self) -> io::Result<()> {
-        Ok(())
+        if self.sends {
+            Ok(())
+        } else {
+            Err(Error::from(ErrorKind::StorageFull))
+        }
     }
 }
 
@@ -100,12 +105,14 @@ fn gives_up_on_a_reader_that_does_not_end(rt: HostRuntime) -> Result<(), Fail> {
 fn writes_whole_or_fails(rt: HostRuntime) -> Result<(), Fail> {
     let alloc = rt.alloc();
     let whole = b"1 -\n2 -\n";
-    for refuses in [false, true] {
+    // A writer that fails, one that takes no octet any more, and one that fails to send on what it took.
+    for (refuses, sends) in [(true, true), (false, true), (true, false)] {
         for room in 0..=whole.len() {
             let mut output = Narrow {
                 taken: Vec::new(alloc),
                 room,
                 refuses,
+                sends,
             };
             let result = replay_run(
                 alloc,
@@ -113,7 +120,7 @@ fn writes_whole_or_fails(rt: HostRuntime) -> Result<(), Fail> {
                 &mut SCRIPT.as_bytes(),
                 &mut output,
             );
-            let expected = if room == whole.len() {
+            let expected = if sends && room == whole.len() {
                 Ok(())
             } else {
                 Err(Failure::Io)
