@@ -67,8 +67,9 @@ pub(crate) fn version_at(versions: &[Version], group: u32, moment: u64) -> Optio
     requires { are_ordered versions.now ≡ true }
     ensures { option_copied result ≡ latest (filter (has_begun group moment) versions.now) }
 {
+    // Which way a test goes can't be foretold, and a branch on it would cost more than both halves of it.
     let end = versions.partition_point(|version| {
-        version.group < group || version.group == group && version.from <= moment
+        (version.group < group) | (version.group == group) & (version.from <= moment)
     });
     let last = versions[..end].last()?;
     if last.group == group {
