@@ -16,6 +16,7 @@ mod put;
 mod read;
 mod request;
 mod services;
+mod slots;
 
 pub use act::to_act;
 pub use answer::write_cca;

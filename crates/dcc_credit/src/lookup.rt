@@ -1,7 +1,7 @@
 //! AVPs of a list by their code.
 
 ghost use Rattle.std.specs.Prelude.{◌≡◌, option_map, length};
-ghost use Rattle.dcc_credit.specs.Requests.{the, the32, is_of, are_of};
+ghost use Rattle.dcc_credit.specs.Requests.{the, the32, number32, is_of, are_of};
 
 use dcc_avp::Avp;
 
@@ -25,7 +25,14 @@ pub(crate) fn only_value<'a>(avps: &[Avp<'a>], code: u32) -> Option<&'a [u8]>
 pub(crate) fn only_number(avps: &[Avp<'_>], code: u32) -> Option<u32>
     ensures { result ≡ the32 code avps.now }
 {
-    match only_value(avps, code)? {
+    number_in(only_value(avps, code)?)
+}
+
+/// The number in data of four octets.
+pub(crate) fn number_in(octets: &[u8]) -> Option<u32>
+    ensures { result ≡ number32 octets.now }
+{
+    match octets {
         [a, b, c, d] => Some(u32::from_be_bytes([*a, *b, *c, *d])),
         _ => None,
     }

@@ -5,9 +5,9 @@ ghost use Rattle.dcc_credit.specs.Requests.{Plain, plain_of, is_credit_control, 
 ghost use Rattle.dcc_credit.specs.declared.read.CcrFault.TheVariants.{Later, Memory};
 
 use crate::groups::{requested, subscription};
-use crate::lookup::{are_of, only_number, only_value};
 use crate::request::Request;
-use dcc_avp::{Avp, codes};
+use crate::slots::Slots;
+use dcc_avp::Avp;
 use dcc_message::Header;
 use std::alloc::{AllocError, Global};
 use std::marker::Model;
@@ -31,22 +31,6 @@ impl From<AllocError> for CcrFault {
         CcrFault::Memory
     }
 }
-
-/// The codes that may stand in a request: each once, and any number of Proxy-Info.
-const SERVED: [u32; 12] = [
-    codes::SESSION_ID,
-    codes::ORIGIN_HOST,
-    codes::ORIGIN_REALM,
-    codes::DESTINATION_REALM,
-    codes::AUTH_APPLICATION_ID,
-    codes::SERVICE_CONTEXT_ID,
-    codes::CC_REQUEST_TYPE,
-    codes::CC_REQUEST_NUMBER,
-    codes::REQUESTED_ACTION,
-    codes::SUBSCRIPTION_ID,
-    codes::REQUESTED_SERVICE_UNIT,
-    codes::PROXY_INFO,
-];
 
 /// What a message says outside its groups, and the groups' data.
 #[derive(Drop)]
@@ -104,29 +88,30 @@ pub fn read_ccr<'a>(
 fn outline_of<'a>(header: &Header, avps: &[Avp<'a>]) -> Option<Outline<'a>>
     ensures { result ≡ plain_of header.now avps.now }
 {
-    if !is_credit_control(header) || !are_of(avps, &SERVED) {
+    if !is_credit_control(header) {
         return None;
     }
-    let session = only_value(avps, codes::SESSION_ID)?;
+    let slots = Slots::of(avps)?;
+    let session = slots.session.value()?;
     if session.is_empty() || session.len() > 255 {
         return None;
     }
-    only_value(avps, codes::ORIGIN_HOST)?;
-    only_value(avps, codes::ORIGIN_REALM)?;
-    only_value(avps, codes::DESTINATION_REALM)?;
-    if only_number(avps, codes::AUTH_APPLICATION_ID)? != 4 {
+    slots.origin_host.value()?;
+    slots.origin_realm.value()?;
+    slots.destination_realm.value()?;
+    if slots.application.number()? != 4 {
         return None;
     }
-    only_value(avps, codes::SERVICE_CONTEXT_ID)?;
-    if only_number(avps, codes::CC_REQUEST_TYPE)? != 4 {
+    slots.context.value()?;
+    if slots.request_type.number()? != 4 {
         return None;
     }
-    let number = only_number(avps, codes::CC_REQUEST_NUMBER)?;
-    if only_number(avps, codes::REQUESTED_ACTION)? != 0 {
+    let number = slots.request_number.number()?;
+    if slots.requested_action.number()? != 0 {
         return None;
     }
-    let subscription = only_value(avps, codes::SUBSCRIPTION_ID)?;
-    let requested = only_value(avps, codes::REQUESTED_SERVICE_UNIT)?;
+    let subscription = slots.subscription.value()?;
+    let requested = slots.requested.value()?;
     Some(Outline {
         session,
         number,
