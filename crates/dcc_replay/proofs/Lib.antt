@@ -6,3 +6,4 @@ pub mod PlanLemmas
 pub mod NameLemmas
 pub mod ReplayLemmas
 pub mod VisibleLemmas
+pub mod CommandLineLemmas

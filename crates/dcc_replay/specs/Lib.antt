@@ -4,4 +4,5 @@ pub mod Printed
 pub mod Failures
 pub mod Plans
 pub mod Names
+pub mod CommandLines
 pub mod Replays

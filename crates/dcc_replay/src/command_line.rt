@@ -1,11 +1,13 @@
 //! What a command line asks for.
 
-ghost use Rattle.std.specs.Prelude.{◌≡◌, ◌⊎◌, IfErr};
+ghost use Rattle.std.specs.Prelude.{◌≡◌, ◌⊎◌, IfErr, IfOk, map, string_bytes};
+ghost use Rattle.clap.specs.Words.{app_of};
+ghost use Rattle.dcc_replay.specs.CommandLines.{dcc_command, IsUse, IsPathFailure};
 ghost use Rattle.dcc_replay.specs.declared.failure.Failure.TheVariants.{Memory, Usage};
 
 use crate::failure::Failure;
 use clap::{Arg, ArgAction, Command};
-use std::alloc::Global;
+use std::alloc::{AllocError, Global};
 use std::env;
 use std::io::ErrorKind;
 use std::rt::Env;
@@ -23,16 +25,25 @@ pub fn given_words<E: Env + AllocGlobal>(rt: &E) -> Result<Vec<String>, Failure>
 
 /// The path of the plan, of the command line `dcc replay PLAN`. The first word is the program's name.
 pub fn plan_path<'a>(alloc: Global, words: &'a [String]) -> Result<&'a str, Failure>
-    ensures { IfErr result (λ failure. (failure ≡ Memory) ⊎ (failure ≡ Usage)) }
+    ensures path { IfOk result (λ path. IsUse (map string_bytes words.now) path.now) }
+    ensures err { IfErr result (IsPathFailure (map string_bytes words.now)) }
+{
+    let matches = command(alloc)?.try_get_matches_from(words)?;
+    let Some(replay) = matches.subcommand_matches("replay") else {
+        return Err(Failure::Usage);
+    };
+    replay.get_str("PLAN").ok_or(Failure::Usage)
+}
+
+/// The program with its commands and their arguments.
+fn command<'a>(alloc: Global) -> Result<Command<'a>, AllocError>
+    ensures { IfOk result (λ command. app_of command ≡ dcc_command) }
 {
     let plan = Arg::new(alloc, "PLAN")
         .required(true)
         .action(ArgAction::Set);
     let replay = Command::new(alloc, "replay").arg(plan)?;
-    let dcc = Command::new(alloc, "dcc")
+    Command::new(alloc, "dcc")
         .subcommand_required(true)
-        .subcommand(replay)?;
-    let matches = dcc.try_get_matches_from(words)?;
-    let replay = matches.subcommand_matches("replay").ok_or(Failure::Usage)?;
-    replay.get_str("PLAN").ok_or(Failure::Usage)
+        .subcommand(replay)
 }

@@ -1,7 +1,9 @@
 //! How the program ends where it can't do its work.
 
-ghost use Rattle.std.specs.Prelude.{◌≡◌, ◌⊎◌, Some};
-ghost use Rattle.dcc_replay.specs.Failures.{status_of, line_of, of_plan, of_script};
+ghost use Rattle.std.specs.Prelude.{◌≡◌, Some};
+ghost use Rattle.std.specs.IoError.{error_kind};
+ghost use Rattle.clap.specs.Words.{kind_of};
+ghost use Rattle.dcc_replay.specs.Failures.{status_of, line_of, of_plan, of_script, of_io_kind, of_command_line_kind};
 ghost use Rattle.dcc_replay.specs.declared.failure.Failure.TheVariants as failure;
 
 use crate::script::ScriptFault;
@@ -73,26 +75,24 @@ impl<T: Drop> From<AllocFailed<T>> for Failure {
 }
 
 impl From<io::Error> for Failure {
-    ghost from_gives = { λ _ given. (given ≡ failure.Memory) ⊎ (given ≡ failure.Io) };
+    ghost from_gives = { λ error given. given ≡ of_io_kind (error_kind error) };
 
     fn from(error: io::Error) -> Failure {
-        if error.kind() == io::ErrorKind::OutOfMemory {
-            Failure::Memory
-        } else {
-            Failure::Io
+        match error.kind() {
+            io::ErrorKind::OutOfMemory => Failure::Memory,
+            _ => Failure::Io,
         }
     }
 }
 
 /// What the command line's reader refuses is a failure of usage; a wish for help is none of the commands, either.
 impl From<clap::Error> for Failure {
-    ghost from_gives = { λ _ given. (given ≡ failure.Memory) ⊎ (given ≡ failure.Usage) };
+    ghost from_gives = { λ error given. given ≡ of_command_line_kind (kind_of error) };
 
     fn from(error: clap::Error) -> Failure {
-        if error.kind() == clap::error::ErrorKind::OutOfMemory {
-            Failure::Memory
-        } else {
-            Failure::Usage
+        match error.kind() {
+            clap::error::ErrorKind::OutOfMemory => Failure::Memory,
+            _ => Failure::Usage,
         }
     }
 }

@@ -1,9 +1,10 @@
 //! The program's work, over any files, reader and writer.
 
-ghost use Rattle.std.specs.Prelude.{◌≢◌, ℕ, List, IfErr, IfSome, OnOk};
+ghost use Rattle.std.specs.Prelude.{◌≢◌, ℕ, List, map, string_bytes, IfErr, IfSome, OnOk};
 ghost use Rattle.std.specs.Io.KnownBytes.{Appends, Keeps};
 ghost use Rattle.dcc_tariff.specs.Plans.{PlanView};
-ghost use Rattle.dcc_replay.specs.Replays.{IsReplayed};
+ghost use Rattle.dcc_replay.specs.CommandLines.{IsSomeUse};
+ghost use Rattle.dcc_replay.specs.Replays.{IsReplayed, IsRunFailure};
 ghost use Rattle.dcc_replay.specs.declared.failure.Failure.TheVariants.{Io};
 
 use crate::command_line::plan_path;
@@ -25,6 +26,8 @@ pub fn run<F: Files + AllocGlobal, R: Read, W: Write>(
     ensures ok { OnOk result (IfSome (R.remaining input.old) (λ text.
         (plan : PlanView) × (written : List ℕ) × IsReplayed plan text written
         × Appends (W.contents output.old) (W.contents output.new) written)) }
+    ensures used { OnOk result (IsSomeUse (map string_bytes words.now)) }
+    ensures failures { IfErr result (IsRunFailure (map string_bytes words.now) (R.remaining input.old)) }
     ensures silent { IfErr result (λ failure. failure ≢ Io → Keeps (W.contents output.old) (W.contents output.new)) }
 {
     let path = plan_path(rt.alloc(), words)?;
