@@ -42,6 +42,7 @@ pub fn write_cca(
 
 /// The message of AVPs that stand behind room for a header, and of a request's proxies, under the request's header with
 /// these bits.
+#[tactic(auto, using(crate::proofs::Appended::behind_header))]
 pub(crate) fn finished(
     mut begun: Vec<u8>,
     request: &Header,

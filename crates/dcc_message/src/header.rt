@@ -1,6 +1,7 @@
 //! The header of a message (RFC 6733, section 3).
 
-ghost use Rattle.std.specs.Prelude.{◌≡◌, ◌+◌, ◌*◌, ◌%◌, ◌<◌, ◌≤◌, ◌^◌, ◌++◌, Ok, List, ℕ, length, drop, replicate, vec_len, vec_capacity, IfOk, OnOk, OnErr};
+ghost use Rattle.std.specs.Int.{w32, to_be_bytes, bytes_high_first};
+ghost use Rattle.std.specs.Prelude.{◌≡◌, ◌+◌, ◌*◌, ◌%◌, ◌<◌, ◌≤◌, ◌^◌, ◌∷◌, ◌++◌, Ok, List, ℕ, length, take, drop, replicate, vec_len, vec_capacity, IfOk, OnOk, OnErr};
 ghost use Rattle.dcc_message.specs.HeaderView.{HeaderView};
 ghost use Rattle.dcc_message.specs.Headers.{header as spelled, header_of, header_at, three_at, four_at, message, IsHeader};
 
@@ -127,10 +128,22 @@ pub fn write_message(out: &mut Vec<u8>, header: &Header, avps: &[u8]) -> Result<
 {
     let length = HEADER_LENGTH + avps.len();
     out.reserve(length)?;
-    out.extend_from_slice(&header_bytes(header, length as u32))
-        .unwrap();
+    append_header(out, header, length as u32);
     out.extend_from_slice(avps).unwrap();
     Ok(())
+}
+
+/// Appends a header that states this length, for which there is room.
+#[tactic(auto, unfolding(crate::specs::Headers::header))]
+fn append_header(out: &mut Vec<u8>, header: &Header, len: u32)
+    requires room { vec_len out.old + 20 ≤ vec_capacity out.old }
+    requires fits { len < 2 ^ 24 }
+    ensures items { out.new.items ≡ out.old.items ++ spelled (record header.now { length = len }) }
+    ensures len { vec_len out.new ≡ vec_len out.old + 20 }
+    ensures capacity { vec_capacity out.old ≤ vec_capacity out.new }
+{
+    out.extend_from_slice(&front_bytes(header, len)).unwrap();
+    out.extend_from_slice(&identifier_bytes(header)).unwrap();
 }
 
 /// A message that is begun: room for its header, in a vector of this capacity. The AVPs are to be written behind it,
@@ -156,28 +169,28 @@ pub fn finish_message(out: &mut Vec<u8>, header: &Header)
     ensures len { vec_len out.new ≡ vec_len out.old }
 {
     let length = out.len() as u32;
-    put_over(out.as_mut_slice(), &header_bytes(header, length));
+    put_header(out.as_mut_slice(), header, length);
 }
 
-/// Writes a header over the first octets.
-fn put_over(all: &mut [u8], header: &[u8; 20])
-    requires { 20 ≤ length all.old }
-    ensures { all.new ≡ header.now ++ drop 20 all.old }
-{
-    all[..20].copy_from_slice(header);
-}
-
-/// The bytes of a header that states this length.
+/// Writes a header that states this length over the first octets. In two pieces it is cheaper than in one.
 #[tactic(auto, unfolding(crate::specs::Headers::header))]
-fn header_bytes(header: &Header, length: u32) -> [u8; 20]
+fn put_header(all: &mut [u8], header: &Header, len: u32)
+    requires room { 20 ≤ length all.old }
+    requires fits { len < 2 ^ 24 }
+    ensures { all.new ≡ spelled (record header.now { length = len }) ++ drop 20 all.old }
+{
+    put_over(all, 0, &front_bytes(header, len));
+    put_over(all, 12, &identifier_bytes(header));
+}
+
+/// The first twelve bytes of a header that states this length: all up to the application.
+fn front_bytes(header: &Header, length: u32) -> [u8; 12]
     requires { length < 2 ^ 24 }
-    ensures { result ≡ spelled (record header.now { length = length }) }
+    ensures { result ≡ (1 ∷ bytes_high_first 3 length) ++ (header.now.flags ∷ bytes_high_first 3 header.now.code) ++ to_be_bytes w32 header.now.app }
 {
     let l = length.to_be_bytes();
     let c = header.code.to_be_bytes();
     let a = header.app.to_be_bytes();
-    let h = header.hop.to_be_bytes();
-    let e = header.end_to_end.to_be_bytes();
     [
         1,
         l[1],
@@ -191,13 +204,22 @@ fn header_bytes(header: &Header, length: u32) -> [u8; 20]
         a[1],
         a[2],
         a[3],
-        h[0],
-        h[1],
-        h[2],
-        h[3],
-        e[0],
-        e[1],
-        e[2],
-        e[3],
     ]
+}
+
+/// The last eight bytes of a header: the identifiers.
+fn identifier_bytes(header: &Header) -> [u8; 8]
+    ensures { result ≡ to_be_bytes w32 header.now.hop ++ to_be_bytes w32 header.now.end_to_end }
+{
+    let h = header.hop.to_be_bytes();
+    let e = header.end_to_end.to_be_bytes();
+    [h[0], h[1], h[2], h[3], e[0], e[1], e[2], e[3]]
+}
+
+/// Writes octets over those from `at` on.
+fn put_over(all: &mut [u8], at: usize, octets: &[u8])
+    requires { at + length octets.now ≤ length all.old }
+    ensures { all.new ≡ take at all.old ++ (octets.now ++ drop (at + length octets.now) all.old) }
+{
+    all[at..at + octets.len()].copy_from_slice(octets);
 }
