@@ -4,7 +4,7 @@ use Rattle.std.specs.List.{concat}
 use Rattle.std.proofs.lemmas.Bool.{cases_Bool}
 use Rattle.std.proofs.lemmas.List.{length-drop, append-nil, take-append-le, drop-append-le}
 use Rattle.dcc_message.specs.Streams.{length_field, begins_whole, messages_up_to, rest_up_to, messages, rest, messages_by_pieces, rest_by_pieces}
-use Rattle.dcc_message.proofs.Cutting.{Stands, stands, begins, begins_append, field_append, least_length}
+use Rattle.dcc_message.proofs.Cutting.{stands, begins_append, field_append, least_length}
 
 -- how long a whole message is
 record Sized (stream : List ℕ) : Type 0 where

@@ -1,12 +1,10 @@
 -- Where a stream's first message ends.
-use Rattle.std.proofs.Common.{◌≡◌, ℕ, ◌+◌, ◌≤◌, ◌<◌, true, false, List, [], ◌∷◌, ◌++◌, length, take, drop, refl, sym, ap, ◌∙◌, arith, Some, None, Option, get_or, is_none}
-use Rattle.std.proofs.lemmas.Bool.{cases_Bool}
+use Rattle.std.proofs.Common.{◌≡◌, ℕ, ◌≤◌, ◌<◌, true, false, List, ◌++◌, length, refl, ◌∙◌, arith, Some, None, Option, is_none}
 use Rattle.std.proofs.lemmas.Bool.Decides.{nat_tests}
-use Rattle.std.proofs.lemmas.List.{get_or_append_left, length-append, take-append-drop, length-take-le}
-use Rattle.std.proofs.Math.Seq.{take-append_seam, drop-append_seam, take-append-add}
-use Rattle.dcc_message.specs.declared.length.FrameFault.{FrameFault}
+use Rattle.std.proofs.lemmas.List.{get_or_append_left, length-append}
+use Rattle.std.proofs.Math.Seq.{take-append_seam, drop-append_seam}
 use Rattle.dcc_message.specs.Streams.{length_field, length_fault, fault_at, begins_whole, first_message, after_first}
-use Rattle.dcc_message.specs.Frames.{IsMessage, Completes}
+use Rattle.dcc_message.specs.Frames.{IsMessage}
 
 -- what makes a message stand whole at the front
 pub record Stands (stream : List ℕ) : Type 0 where

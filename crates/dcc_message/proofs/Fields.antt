@@ -1,20 +1,17 @@
 -- A header that is read is spelled so, and one that is spelled is read.
-use Rattle.std.proofs.Common.{◌≡◌, ℕ, zero, suc, ◌+◌, ◌*◌, ◌%◌, ◌^◌, ◌<◌, ◌≤◌, Bool, true, false, not, ◌==◌, List, [], ◌∷◌, ◌++◌, length, get_or, take, drop, Option, Some, None, Result, Ok, Err, refl, sym, ap, subst, ◌∙◌, arith, cond, ltb, inl, inr}
+use Rattle.std.proofs.Common.{◌≡◌, ℕ, zero, suc, ◌+◌, ◌%◌, ◌^◌, ◌<◌, ◌≤◌, true, false, ◌==◌, List, [], ◌∷◌, ◌++◌, length, get_or, drop, Option, Some, None, Ok, refl, sym, ap, subst, ◌∙◌, arith, ltb, inl, inr}
 use Rattle.std.proofs.Math.Seq.{drop-cons}
 use Rattle.std.specs.Int.{w32, from_be_bytes, to_be_bytes, bytes_high_first, byte_at}
 use Rattle.std.specs.Result.{IfOk}
 use Rattle.std.proofs.lemmas.Bool.{cases_Bool, eqb-true, eq-eqb, le-ltb}
 use Rattle.std.proofs.lemmas.Bool.Decides.{nat_tests}
-use Rattle.std.proofs.lemmas.List.{length-append}
 use Rattle.std.proofs.lemmas.Nat.{be_bytes_4, from_be_bytes-to_be_bytes_4}
 use Rattle.dcc_message.specs.declared.length.FrameFault.{FrameFault}
 use Rattle.dcc_message.specs.declared.length.FrameFault.TheVariants as frame
-use Rattle.dcc_message.specs.declared.header.HeaderFault.{HeaderFault}
-use Rattle.dcc_message.specs.declared.header.HeaderFault.TheVariants.{Version, TooLong, BadLength}
 use Rattle.dcc_message.specs.declared.length.TheConstants.{MAX_LENGTH}
 use Rattle.dcc_message.specs.HeaderView.{HeaderView}
 use Rattle.dcc_message.specs.Streams.{length_field, length_fault}
-use Rattle.dcc_message.specs.Headers.{IsHeader, header, header_of, header_at, header_if, three_at, four_at}
+use Rattle.dcc_message.specs.Headers.{IsHeader, header, header_of, header_at, header_if}
 
 abbrev pub IsBytes : List ℕ → Type 0
 IsBytes bytes = (i : ℕ) → get_or bytes i 0 < 256

@@ -1,10 +1,9 @@
 -- What a framer holds: whole messages, and then less than one.
-use Rattle.std.proofs.Common.{◌≡◌, ℕ, ◌+◌, ◌≤◌, true, false, List, [], ◌∷◌, ◌++◌, length, take, drop, refl, sym, ap, subst, ◌∙◌, arith, Some, None, Option, append_assoc, Vec}
-use Rattle.std.specs.List.{AllByRecursion}
-use Rattle.std.proofs.lemmas.List.{length-append, length-take-le, take-append-le, take-append-drop}
+use Rattle.std.proofs.Common.{◌≡◌, ℕ, ◌≤◌, List, [], ◌∷◌, ◌++◌, length, take, drop, refl, sym, ap, subst, ◌∙◌, arith, Some, None, append_assoc, Vec}
+use Rattle.std.proofs.lemmas.List.{length-take-le, take-append-drop}
 use Rattle.std.proofs.Math.Seq.{take-append-add}
-use Rattle.dcc_message.specs.Streams.{length_field, fault_at, begins_whole, first_message, after_first}
-use Rattle.dcc_message.specs.Frames.{bytes_of, joined, IsMessage, AreMessages, IsHeld, Completes, IsCut}
+use Rattle.dcc_message.specs.Streams.{length_field, fault_at, first_message, after_first}
+use Rattle.dcc_message.specs.Frames.{joined, IsMessage, AreMessages, IsHeld, Completes}
 use Rattle.dcc_message.proofs.Cutting.{Stands, stands, begins, begins_append, field_append, least_length, first_of, after_of, none_first, none_after, fault_of_whole}
 
 -- the message in front, what stays after it, and that no fault is in its place

@@ -1,5 +1,5 @@
 -- Messages that were cut out of a stream.
-use Rattle.std.specs.Prelude.{◌≡◌, ℕ, ◌+◌, ◌≤◌, true, false, List, [], ◌∷◌, ◌++◌, length, map, Vec}
+use Rattle.std.specs.Prelude.{◌≡◌, ℕ, ◌+◌, ◌≤◌, true, false, List, ◌++◌, length, Vec}
 use Rattle.std.specs.List.{flat_map, AllByRecursion}
 use Rattle.dcc_message.specs.Streams.{length_field, begins_whole}
 

@@ -1,5 +1,5 @@
 -- How a stream of bytes falls into messages: the length of each stands in its second to fourth bytes (RFC 6733, section 3).
-use Rattle.std.specs.Prelude.{ℕ, zero, suc, ◌+◌, ◌*◌, ◌%◌, Bool, not, ◌&&◌, ◌||◌, ◌==◌, nat_lt, nat_le, if◌then◌else◌, List, [], ◌∷◌, ◌++◌, length, take, drop, slice_index, Option, Some, None, is_none}
+use Rattle.std.specs.Prelude.{ℕ, zero, suc, ◌%◌, Bool, not, ◌&&◌, ◌||◌, ◌==◌, nat_lt, nat_le, if◌then◌else◌, List, [], ◌∷◌, ◌++◌, length, take, drop, slice_index, Option, Some, None, is_none}
 use Rattle.std.specs.Int.{w32, from_be_bytes}
 use Rattle.dcc_message.specs.declared.length.FrameFault.{FrameFault}
 use Rattle.dcc_message.specs.declared.length.FrameFault.TheVariants.{BadLength, TooLong}

@@ -1,4 +1,4 @@
-use Rattle.std.proofs.Common.{◌≡◌, sym, ap, ◌∙◌, Some}
+use Rattle.std.proofs.Common.{sym}
 use Rattle.dcc_message.proofs.Held.{front_of_held}
 use Rattle.dcc_message.proofs.framer.Framer.next.Goals as goal
 
