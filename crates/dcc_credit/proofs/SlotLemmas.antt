@@ -1,12 +1,12 @@
 -- What the slots have after a list of AVPs.
-use Rattle.std.proofs.Common.{◌≡◌, ℕ, Bool, true, false, ◌==◌, List, [], ◌∷◌, refl, ap, ◌∙◌, inl, inr}
+use Rattle.std.proofs.Common.{◌≡◌, ℕ, ◌==◌, List, [], ◌∷◌, refl, ap, ◌∙◌, inl, inr}
 use Rattle.std.proofs.lemmas.Bool.{cases_Bool}
 use Rattle.dcc_avp.specs.Spelling.{AvpView}
 use Rattle.dcc_avp.specs.declared.codes.TheConstants.{SESSION_ID, ORIGIN_HOST, ORIGIN_REALM, DESTINATION_REALM, AUTH_APPLICATION_ID}
 use Rattle.dcc_avp.specs.declared.codes.TheConstants.{SERVICE_CONTEXT_ID, CC_REQUEST_TYPE, CC_REQUEST_NUMBER, REQUESTED_ACTION}
 use Rattle.dcc_avp.specs.declared.codes.TheConstants.{SUBSCRIPTION_ID, REQUESTED_SERVICE_UNIT}
 use Rattle.dcc_credit.specs.Requests.{only, data_of, the}
-use Rattle.dcc_credit.specs.Slots.{Found, Nothing, Alone, Many, with_more, alone, SlotsView, no_slots, met, slots_with, AreSlots}
+use Rattle.dcc_credit.specs.Slots.{Found, Nothing, Many, with_more, alone, SlotsView, no_slots, met, slots_with, AreSlots}
 
 -- the slots after a list of AVPs
 abbrev pub slots_after : SlotsView → List AvpView → SlotsView
