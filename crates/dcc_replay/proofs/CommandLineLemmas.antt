@@ -1,5 +1,5 @@
 -- What the reader of command lines gives, in the words of a use.
-use Rattle.std.proofs.Common.{◌≡◌, ◌∙◌, ℕ, true, List, [], Option, Some, None, codes, refl, sym, ap, ap₂, subst, inl, inr, option_map, Result, Ok, Err, IfOk, IfErr}
+use Rattle.std.proofs.Common.{◌≡◌, ◌∙◌, true, List, [], Option, Some, None, codes, refl, sym, ap, ap₂, subst, inl, inr, option_map, Result, Ok, Err, IfOk, IfErr}
 use Rattle.clap.specs.Words.{App, Text, HasKind, IsAmong, Kinds, fault_of, first_of, first_value, found_of, is_simple, is_simple_and_free, kind_of}
 use Rattle.clap.specs.Words.{matches_of, rows_of, subcommand_name_of, subcommand_rows, subcommand_of, subcommand_rows_of}
 use Rattle.clap.specs.declared.Error.{Error}

@@ -91,7 +91,7 @@ pub(crate) fn granted_through_proxy(alloc: Global) -> Result<String, Fail> {
 }
 
 /// The answer with this result, and no units, to the request with this number.
-pub(crate) fn refused(alloc: Global, number: u32, code: u32) -> Result<String, Fail> {
+pub(crate) fn refused(alloc: Global, number: u32, code: u64) -> Result<String, Fail> {
     Ok(format!(in alloc;
         "010000804000011000000004{IDS}{ANSWERED}{code:08x}{ORIGIN}{NUMBERED}{number:08x}"
     )?)

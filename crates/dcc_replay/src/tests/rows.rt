@@ -7,13 +7,13 @@ use std::process::Abort;
 use std::test::Fail;
 
 /// 2025-06-01T00:00:00Z.
-pub(crate) const JUNE: u64 = 1_748_736_000;
+const JUNE: u64 = 1_748_736_000;
 
 /// 2025-07-01T00:00:00Z.
-pub(crate) const JULY: u64 = 1_751_328_000;
+const JULY: u64 = 1_751_328_000;
 
 /// The subscriber of the examples.
-pub(crate) const SUB: &str = "0:491700000001";
+const SUB: &str = "0:491700000001";
 
 /// Five for each 1,000 octets, and seven from July on.
 pub(crate) const MIDNIGHT: &str = r#"
@@ -33,8 +33,7 @@ tariff = [
 ]
 "#;
 
-/// Whether this is printed of the script.
-pub(crate) fn prints<R: Abort + AllocGlobal>(
+fn prints<R: Abort + AllocGlobal>(
     rt: &R,
     plan: Plan,
     script: &str,
