@@ -2,7 +2,7 @@
 //!
 //! In the rows a word such as `debit/0/1001` stands for octets in hex: a request's number and its octets, or an answer's.
 
-use super::octets::{busy, debit_for, debit_of, granted, refused};
+use super::octets::{PROXY, bare_busy, broken, busy, debit_for, debit_of, granted, refused};
 use super::replayed;
 use super::rows::MIDNIGHT;
 use dcc_tariff::Plan;
@@ -17,9 +17,13 @@ const PADDED: &str =
 const CUT: &str =
     "000001bb40000029000001c24000000c00000000000001bc4000001534393137303030303030303133000000";
 
+/// A Device-Watchdog-Request.
+const WATCHDOG: &str = "0100003880000118000000000000000100000002000001084000001367\
+77312e6578616d706c6500000001284000000f6578616d706c6500";
+
 /// A script without its first line, which opens the peer, and what is printed of the rest. The moments are the starts of the
 /// years 2020 and 2025, and of July 2025, from which on a block costs 7 instead of 5; an event before 2020 has no tariff.
-const ROWS: [(&str, &str); 8] = [
+const ROWS: [(&str, &str); 9] = [
     // No request acts before the first top-up, nor its repeat, and none is kept: after it each acts. 1,000 less 10 and 10 is 980.
     (
         "message 1 1735689600 debit/0/1001\nmessage 1 1735689600 debit/0/1001\ntopup 0 0:491700000001 1 1000\n\
@@ -76,6 +80,12 @@ topup 0 0:491700000001 2 999999999999999039\ntopup 0 0:491700000001 3 9999999999
         "2 topup done\n3 answer 1 granted/0/1001\n4 answer 1 granted/1/1001\n5 answer 1 refused/2/5031\n\
 6 answer 1 granted/3/1001\n7 topup ceiling\n8 topup done\n",
     ),
+    // Of a list that can't be read an answer copies nothing, neither a Session-Id nor a Proxy-Info in front of the broken AVP. A
+    // watchdog's request is answered busy as it isn't served yet, and an answer by nothing.
+    (
+        "message 1 0 broken\nmessage 1 0 proxied\nmessage 1 0 watchdog\nmessage 1 0 0100001440000110000000040000001100000021\n",
+        "2 answer 1 bare\n3 answer 1 bare\n4 answer 1 asleep\n5 -\n",
+    ),
 ];
 
 #[test]
@@ -122,6 +132,11 @@ fn octets_of(alloc: Global, word: &str) -> Result<String, Fail> {
         "granted" => granted(alloc, number, amount),
         "refused" => refused(alloc, number, amount),
         "busy" => busy(alloc),
+        "bare" => bare_busy(alloc, "60000110000000040000001100000021"),
+        "asleep" => bare_busy(alloc, "20000118000000000000000100000002"),
+        "broken" => broken(alloc, "0100001c", ""),
+        "proxied" => broken(alloc, "01000040", PROXY),
+        "watchdog" => Ok(String::from_str(alloc, WATCHDOG)?),
         "cut" => debit_for(alloc, CUT),
         "padded" => debit_for(alloc, PADDED),
         _ => Ok(String::from_str(alloc, word)?),

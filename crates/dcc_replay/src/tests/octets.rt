@@ -32,7 +32,8 @@ const NUMBERED: &str = "000001024000000c00000004000001a04000000c000000040000019f
 const GRANTED: &str = "000001af40000018000001a540000010";
 
 /// A Proxy-Info of 36 octets.
-const PROXY: &str = "0000011c40000024000001184000001072656c61792e6578000000214000000c01020304";
+pub(crate) const PROXY: &str =
+    "0000011c40000024000001184000001072656c61792e6578000000214000000c01020304";
 
 /// The identifiers of the requests, and others.
 const IDS: &str = "0000001100000021";
@@ -100,4 +101,14 @@ pub(crate) fn refused(alloc: Global, number: u32, code: u64) -> Result<String, F
 /// The busy answer, DIAMETER_TOO_BUSY (3004).
 pub(crate) fn busy(alloc: Global) -> Result<String, Fail> {
     Ok(format!(in alloc; "0100005c6000011000000004{IDS}{ANSWERED}00000bbc{ORIGIN}")?)
+}
+
+/// The busy answer without anything of its request, behind its length.
+pub(crate) fn bare_busy(alloc: Global, header: &str) -> Result<String, Fail> {
+    Ok(format!(in alloc; "01000044{header}0000010c4000000c00000bbc{ORIGIN}")?)
+}
+
+/// A request that begins so, with these AVPs and then a Session-Id that ends behind the message.
+pub(crate) fn broken(alloc: Global, start: &str, avps: &str) -> Result<String, Fail> {
+    Ok(format!(in alloc; "{start}c000011000000004{IDS}{avps}0000010740000064")?)
 }
