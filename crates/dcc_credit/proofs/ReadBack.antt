@@ -9,9 +9,8 @@ use Rattle.dcc_avp.specs.Reading.{avps_of}
 use Rattle.dcc_message.specs.HeaderView.{HeaderView}
 use Rattle.dcc_message.specs.Headers.{IsHeader, header, header_of, message}
 use Rattle.dcc_message.specs.declared.length.TheConstants.{MAX_LENGTH}
-use Rattle.dcc_message.proofs.Fields.{only_of}
 use Rattle.dcc_credit.specs.Answers.{answer_header}
-use Rattle.dcc_credit.proofs.Spelled.{AllSpelled, whole_words}
+use Rattle.dcc_credit.proofs.Spelled.{AllSpelled, AreSizes, whole_words}
 
 behind_header : (h : HeaderView) (avps : List ℕ) → drop 20 (message h avps) ≡ avps
 unfolding message header
@@ -32,19 +31,23 @@ flags_fit flags bits few =
     let low = and_le_r flags 0x40 in
     or_lt 8 (bit_and flags 0x40) bits (omega arith) few
 
+-- what was written as a message has its header read, with its own length
+abbrev pub AreRead : Type 0
+AreRead = (h : HeaderView) (avps : List ℕ) → IsHeader (record h { length = 20 + length avps }) →
+    header_of (message h avps) ≡ Ok (record h { length = 20 + length avps })
+
 -- the header, with the length of the message
-pub header_back : (request : HeaderView) (bits : ℕ) (own proxies : List AvpView) → IsHeader request → bits < 2 ^ 8 → AllSpelled (own ++ proxies) →
+pub header_back : AreSizes → AreRead → (request : HeaderView) (bits : ℕ) (own proxies : List AvpView) → IsHeader request → bits < 2 ^ 8 → AllSpelled (own ++ proxies) →
     length (message (answer_header request bits) (flat_map padded own ++ flat_map padded proxies)) ≤ MAX_LENGTH →
     header_of (message (answer_header request bits) (flat_map padded own ++ flat_map padded proxies)) ≡
     Ok (record (answer_header request bits) { length = length (message (answer_header request bits) (flat_map padded own ++ flat_map padded proxies)) })
-header_back request bits own proxies fits few spelled small =
+header_back sizes reads request bits own proxies fits few spelled small =
     let avps = flat_map padded own ++ flat_map padded proxies in
     let answer = answer_header request bits in
     let size = length_message answer avps in
     let same : flat_map padded (own ++ proxies) ≡ avps = flat_map-append padded own proxies in
-    let whole : length avps % 4 ≡ 0 = ap (λ (octets : List ℕ). length octets % 4) (sym same) ∙ whole_words (own ++ proxies) spelled in
-    let written : HeaderView = record answer { length = 20 + length avps } in
-    let fine : IsHeader written = record {
+    let whole : length avps % 4 ≡ 0 = ap (λ (octets : List ℕ). length octets % 4) (sym same) ∙ whole_words sizes (own ++ proxies) spelled in
+    let fine : IsHeader (record answer { length = 20 + length avps }) = record {
       flags = flags_fit request.flags bits few;
       code = fits.code;
       app = fits.app;
@@ -54,6 +57,4 @@ header_back request bits own proxies fits few spelled small =
       most = omega arith;
       whole = omega arith;
     } in
-    let stands : message answer avps ≡ header written ++ avps = unfold message in refl in
-    let read : header_of (message answer avps) ≡ Ok written = only_of (message answer avps) written avps fine stands (sym size) in
-    read ∙ ap (λ (n : ℕ). Ok (record answer { length = n })) (sym size)
+    reads answer avps fine ∙ ap (λ (n : ℕ). Ok (record answer { length = n })) (sym size)

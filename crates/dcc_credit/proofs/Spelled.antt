@@ -1,16 +1,14 @@
 -- Each AVP of an answer has a spelling, and the octets of AVPs are whole words.
-use Rattle.std.proofs.Common.{◌≡◌, ℕ, ◌+◌, ◌-◌, ◌*◌, ◌%◌, ◌^◌, ◌<◌, ◌≤◌, List, [], ◌∷◌, ◌++◌, length, replicate, map, Option, Some, None, refl, ap, ◌∙◌, arith, lit<}
+use Rattle.std.proofs.Common.{◌≡◌, ℕ, ◌+◌, ◌-◌, ◌*◌, ◌%◌, ◌^◌, ◌<◌, ◌≤◌, List, [], ◌∷◌, ◌++◌, length, map, Option, Some, None, refl, ap, ◌∙◌, arith, lit<}
 use Rattle.std.specs.Prelude.{option_map}
 use Rattle.std.specs.Int.{w32, w64, to_be_bytes}
 use Rattle.std.specs.List.{flat_map, sum_by, AllByRecursion}
 use Rattle.std.specs.Option.{option_to_list, ForSome}
-use Rattle.std.proofs.lemmas.List.{length-append, length-replicate}
+use Rattle.std.proofs.lemmas.List.{length-append}
 use Rattle.std.proofs.lemmas.List.Concat.{flat_map-append}
 use Rattle.std.proofs.lemmas.List.Sums.{sum_by-cons}
-use Rattle.dcc_avp.specs.Spelling.{AvpView, avp_len, padded_len, padding_len, spelling, padded, HasSpelling}
+use Rattle.dcc_avp.specs.Spelling.{AvpView, avp_len, padded_len, padded, HasSpelling}
 use Rattle.dcc_avp.specs.declared.codes.TheConstants.{SESSION_ID, RESULT_CODE, ORIGIN_HOST, ORIGIN_REALM, AUTH_APPLICATION_ID, CC_REQUEST_TYPE, CC_REQUEST_NUMBER, GRANTED_SERVICE_UNIT, CC_TOTAL_OCTETS, CC_TIME, CC_SERVICE_SPECIFIC_UNITS, MULTIPLE_SERVICES_CREDIT_CONTROL, SERVICE_IDENTIFIER, RATING_GROUP}
-use Rattle.dcc_avp.proofs.Lengths.{length_padding}
-use Rattle.dcc_avp.proofs.Sizes.{length-spelling}
 use Rattle.dcc_message.specs.declared.identity.Identity.{Identity}
 use Rattle.dcc_tariff.specs.Terms.{Conditions}
 use Rattle.dcc_tariff.specs.declared.tariff.UnitKind.{UnitKind}
@@ -32,11 +30,9 @@ AllSpelled avps = AllByRecursion HasSpelling avps
 
 -- ---- lengths
 
-length_padded : (avp : AvpView) → HasSpelling avp → length (padded avp) ≡ padded_len avp
-unfolding padded
-length_padded avp h =
-    length-append (spelling avp) (replicate (padding_len avp) 0) ∙ ap (λ (n : ℕ). length (spelling avp) + n) (length-replicate (padding_len avp) 0) ∙
-    ap (λ (n : ℕ). n + padding_len avp) (length-spelling avp h) ∙ length_padding avp
+-- an AVP with its padding takes whole words, as the law of what is written says
+abbrev pub AreSizes : Type 0
+AreSizes = (avp : AvpView) → HasSpelling avp → length (padded avp) ≡ padded_len avp
 
 rounded : (n : ℕ) → (n + (4 - n % 4) % 4) % 4 ≡ 0
 rounded n = omega arith
@@ -45,12 +41,12 @@ rounded_few : (n : ℕ) → n + (4 - n % 4) % 4 ≤ n + 3
 rounded_few n = omega arith
 
 -- the octets of AVPs are whole words
-pub whole_words : (avps : List AvpView) → AllSpelled avps → length (flat_map padded avps) % 4 ≡ 0
-whole_words [] h = refl
-whole_words (avp ∷ avps) h =
-    let size = length_padded avp h.0 in
+pub whole_words : AreSizes → (avps : List AvpView) → AllSpelled avps → length (flat_map padded avps) % 4 ≡ 0
+whole_words sizes [] h = refl
+whole_words sizes (avp ∷ avps) h =
+    let size = sizes avp h.0 in
     let whole = rounded (avp_len avp) in
-    let others = whole_words avps h.1 in
+    let others = whole_words sizes avps h.1 in
     let parts : length (padded avp ++ flat_map padded avps) ≡ length (padded avp) + length (flat_map padded avps) = length-append (padded avp) (flat_map padded avps) in
     omega arith
 
@@ -66,9 +62,9 @@ sent32_spelled code n small = sent_spelled code (to_be_bytes w32 n) small (lit< 
 sent64_spelled : (code n : ℕ) → code < 2 ^ 32 → HasSpelling (sent64 code n)
 sent64_spelled code n small = sent_spelled code (to_be_bytes w64 n) small (lit< tt)
 
-sent_few : (code : ℕ) (value : List ℕ) → HasSpelling (sent code value) → length (padded (sent code value)) ≤ 11 + length value
-sent_few code value h =
-    let size = length_padded (sent code value) h in
+sent_few : AreSizes → (code : ℕ) (value : List ℕ) → HasSpelling (sent code value) → length (padded (sent code value)) ≤ 11 + length value
+sent_few sizes code value h =
+    let size = sizes (sent code value) h in
     let few = rounded_few (8 + length value) in
     omega arith
 
@@ -97,73 +93,73 @@ both_take xs ys m n a b =
 none_take : (most : ℕ) → Takes [] most
 none_take most = record { spelled = tt; few = omega arith }
 
-sent32_takes : (code n : ℕ) → code < 2 ^ 32 → Takes (sent32 code n ∷ []) 15
-sent32_takes code n small =
+sent32_takes : AreSizes → (code n : ℕ) → code < 2 ^ 32 → Takes (sent32 code n ∷ []) 15
+sent32_takes sizes code n small =
     let h = sent32_spelled code n small in
-    one_takes (sent32 code n) 15 h (sent_few code (to_be_bytes w32 n) h)
+    one_takes (sent32 code n) 15 h (sent_few sizes code (to_be_bytes w32 n) h)
 
-sent64_takes : (code n : ℕ) → code < 2 ^ 32 → Takes (sent64 code n ∷ []) 19
-sent64_takes code n small =
+sent64_takes : AreSizes → (code n : ℕ) → code < 2 ^ 32 → Takes (sent64 code n ∷ []) 19
+sent64_takes sizes code n small =
     let h = sent64_spelled code n small in
-    one_takes (sent64 code n) 19 h (sent_few code (to_be_bytes w64 n) h)
+    one_takes (sent64 code n) 19 h (sent_few sizes code (to_be_bytes w64 n) h)
 
 -- ---- services
 
-amount_takes : (unit : UnitKind) (units : ℕ) → Takes (amount_avp unit units ∷ []) 19
-amount_takes Octets units = sent64_takes CC_TOTAL_OCTETS units (lit< tt)
-amount_takes Time units =
-    let h = sent32_takes CC_TIME units (lit< tt) in
+amount_takes : AreSizes → (unit : UnitKind) (units : ℕ) → Takes (amount_avp unit units ∷ []) 19
+amount_takes sizes Octets units = sent64_takes sizes CC_TOTAL_OCTETS units (lit< tt)
+amount_takes sizes Time units =
+    let h = sent32_takes sizes CC_TIME units (lit< tt) in
     let few = h.few in
     record { spelled = h.spelled; few = omega arith }
-amount_takes Units units = sent64_takes CC_SERVICE_SPECIFIC_UNITS units (lit< tt)
+amount_takes sizes Units units = sent64_takes sizes CC_SERVICE_SPECIFIC_UNITS units (lit< tt)
 
-grant_takes : (grant : Option Grant) → Takes (option_to_list (option_map granted grant)) 30
-grant_takes None = none_take 30
-grant_takes (Some grant) =
-    let amount = amount_takes grant.unit grant.units in
+grant_takes : AreSizes → (grant : Option Grant) → Takes (option_to_list (option_map granted grant)) 30
+grant_takes sizes None = none_take 30
+grant_takes sizes (Some grant) =
+    let amount = amount_takes sizes grant.unit grant.units in
     let few = amount.few in
     let octets = flat_map padded (amount_avp grant.unit grant.units ∷ []) in
     let h : HasSpelling (sent GRANTED_SERVICE_UNIT octets) = sent_spelled GRANTED_SERVICE_UNIT octets (lit< tt) (omega arith) in
-    let size = sent_few GRANTED_SERVICE_UNIT octets h in
+    let size = sent_few sizes GRANTED_SERVICE_UNIT octets h in
     one_takes (granted grant) 30 h (omega arith)
 
-ids_take : (ids : List ℕ) → Takes (map (sent32 SERVICE_IDENTIFIER) ids) (15 * length ids)
-ids_take [] = none_take 0
-ids_take (id ∷ ids) =
-    let first = sent32_takes SERVICE_IDENTIFIER id (lit< tt) in
-    let all = both_take (sent32 SERVICE_IDENTIFIER id ∷ []) (map (sent32 SERVICE_IDENTIFIER) ids) 15 (15 * length ids) first (ids_take ids) in
+ids_take : AreSizes → (ids : List ℕ) → Takes (map (sent32 SERVICE_IDENTIFIER) ids) (15 * length ids)
+ids_take sizes [] = none_take 0
+ids_take sizes (id ∷ ids) =
+    let first = sent32_takes sizes SERVICE_IDENTIFIER id (lit< tt) in
+    let all = both_take (sent32 SERVICE_IDENTIFIER id ∷ []) (map (sent32 SERVICE_IDENTIFIER) ids) 15 (15 * length ids) first (ids_take sizes ids) in
     let few = all.few in
     record { spelled = all.spelled; few = omega arith }
 
-group_takes : (group : Option ℕ) → Takes (option_to_list (option_map (sent32 RATING_GROUP) group)) 15
-group_takes None = none_take 15
-group_takes (Some group) = sent32_takes RATING_GROUP group (lit< tt)
+group_takes : AreSizes → (group : Option ℕ) → Takes (option_to_list (option_map (sent32 RATING_GROUP) group)) 15
+group_takes sizes None = none_take 15
+group_takes sizes (Some group) = sent32_takes sizes RATING_GROUP group (lit< tt)
 
-parts_take : (service : ServiceAnswer) → Takes (service_parts service) (30 + 15 * length service.ids + 15 + 15)
-parts_take service =
+parts_take : AreSizes → (service : ServiceAnswer) → Takes (service_parts service) (30 + 15 * length service.ids + 15 + 15)
+parts_take sizes service =
     let grant = option_to_list (option_map granted service.grant) in
     let ids = map (sent32 SERVICE_IDENTIFIER) service.ids in
     let group = option_to_list (option_map (sent32 RATING_GROUP) service.group) in
     let code = result_number service.result in
     both_take (grant ++ ids ++ group) (sent32 RESULT_CODE code ∷ []) (30 + 15 * length service.ids + 15) 15
     (both_take (grant ++ ids) group (30 + 15 * length service.ids) 15
-    (both_take grant ids 30 (15 * length service.ids) (grant_takes service.grant) (ids_take service.ids)) (group_takes service.group))
-    (sent32_takes RESULT_CODE code (lit< tt))
+    (both_take grant ids 30 (15 * length service.ids) (grant_takes sizes service.grant) (ids_take sizes service.ids)) (group_takes sizes service.group))
+    (sent32_takes sizes RESULT_CODE code (lit< tt))
 
-service_spelled : (form : Form) (service : ServiceAnswer) → length service.ids ≤ 5460 → AllSpelled (service_avps form service)
-service_spelled Single service few = (grant_takes service.grant).spelled
-service_spelled Multi service few =
-    let parts = parts_take service in
+service_spelled : AreSizes → (form : Form) (service : ServiceAnswer) → length service.ids ≤ 5460 → AllSpelled (service_avps form service)
+service_spelled sizes Single service few = (grant_takes sizes service.grant).spelled
+service_spelled sizes Multi service few =
+    let parts = parts_take sizes service in
     let size = parts.few in
     (sent_spelled MULTIPLE_SERVICES_CREDIT_CONTROL (flat_map padded (service_parts service)) (lit< tt) (omega arith), tt)
 
-services_spelled : (services : List ServiceAnswer) → sum_by ids_of services ≤ 5460 → AllSpelled (flat_map (λ service. service_avps service.form service) services)
-services_spelled [] few = tt
-services_spelled (service ∷ services) few =
+services_spelled : AreSizes → (services : List ServiceAnswer) → sum_by ids_of services ≤ 5460 → AllSpelled (flat_map (λ service. service_avps service.form service) services)
+services_spelled sizes [] few = tt
+services_spelled sizes (service ∷ services) few =
     let all = sum_by-cons ids_of service services in
     let here : length service.ids ≤ 5460 = omega arith in
     append_spelled (service_avps service.form service) (flat_map (λ service. service_avps service.form service) services)
-    (service_spelled service.form service here) (services_spelled services (omega arith))
+    (service_spelled sizes service.form service here) (services_spelled sizes services (omega arith))
 
 -- ---- answers
 
@@ -187,15 +183,15 @@ head_spelled identity type key code server few =
       ),
     )
 
-pub answer_spelled : (identity : Identity) (terms : Conditions) (outcome : Outcome) → IsServer identity → HasLimits outcome → AllSpelled (answer_avps identity terms outcome)
+pub answer_spelled : AreSizes → (identity : Identity) (terms : Conditions) (outcome : Outcome) → IsServer identity → HasLimits outcome → AllSpelled (answer_avps identity terms outcome)
 unfolding answer_avps
-answer_spelled identity terms (Unknown type key) server limits = head_spelled identity type key 5030 server limits.not_long
-answer_spelled identity terms (Answered answer) server limits =
+answer_spelled sizes identity terms (Unknown type key) server limits = head_spelled identity type key 5030 server limits.not_long
+answer_spelled sizes identity terms (Answered answer) server limits =
     append_spelled (head_avps identity answer.request answer.key (result_number answer.result)) (flat_map (λ service. service_avps service.form service) answer.services)
     (head_spelled identity answer.request answer.key (result_number answer.result) server limits.0.not_long)
-    (services_spelled answer.services limits.1.few_ids)
-answer_spelled identity terms Added server limits = tt
-answer_spelled identity terms Ceiling server limits = tt
+    (services_spelled sizes answer.services limits.1.few_ids)
+answer_spelled sizes identity terms Added server limits = tt
+answer_spelled sizes identity terms Ceiling server limits = tt
 
 rest_spelled : (identity : Identity) → IsServer identity → AllSpelled (sent32 RESULT_CODE 3004 ∷ sent ORIGIN_HOST identity.host ∷ sent ORIGIN_REALM identity.realm ∷ [])
 rest_spelled identity server =

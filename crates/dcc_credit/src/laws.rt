@@ -46,4 +46,5 @@ pub fn read_back()
         length busy ≤ MAX_LENGTH → header_of busy ≡ Ok (record (answer_header request 0x20) { length = length busy }) }
 {
     dcc_avp::read_back();
+    dcc_message::header_read_back();
 }

@@ -7,6 +7,7 @@
 mod framer;
 mod header;
 mod identity;
+mod laws;
 mod length;
 mod pieces;
 #[cfg(test)]
@@ -15,5 +16,6 @@ mod tests;
 pub use framer::Framer;
 pub use header::{Header, HeaderFault, begin_message, finish_message, read_header, write_message};
 pub use identity::{DiameterIdentity, Identity};
+pub use laws::header_read_back;
 pub use length::{FrameFault, MAX_LENGTH};
 pub use pieces::any_pieces;
