@@ -1,5 +1,6 @@
 -- Subscribers, as a contract sees them.
-use Rattle.std.specs.Prelude.{ℕ, ◌≡◌, ◌-◌, ◌≤◌, List, ◌++◌, length, take, replicate, All}
+use Rattle.std.specs.Prelude.{ℕ, ◌≡◌, ◌-◌, ◌≤◌, Bool, ◌&&◌, nat_le, List, ◌++◌, length, take, replicate}
+use Rattle.std.specs.List.{list_all}
 use Rattle.std.proofs.Common.{sym, arith}
 use Rattle.std.proofs.lemmas.List.{length-take-le}
 
@@ -8,16 +9,10 @@ pub record SubView : Type 0 where
   pub kind : ℕ
   pub name : List ℕ
 
--- a byte of visible ASCII
-abbrev pub IsVisible : ℕ → Type 0
-IsVisible byte = (0x21 ≤ byte) × (byte ≤ 0x7E)
-
 -- the types are those of RFC 8506, section 8.47; the data is 1 to 64 bytes of visible ASCII
-pub record IsSub (kind : ℕ) (name : List ℕ) : Type 0 where
-  pub known_type : kind ≤ 4
-  pub not_empty : 1 ≤ length name
-  pub not_long : length name ≤ 64
-  pub visible : All IsVisible name
+abbrev pub is_sub : ℕ → List ℕ → Bool
+is_sub kind name =
+    nat_le kind 4 && nat_le 1 (length name) && nat_le (length name) 64 && list_all (λ byte. nat_le 0x21 byte && nat_le byte 0x7E) name
 
 -- the data as they are stored: with zeros up to 64 bytes
 abbrev pub padded : List ℕ → List ℕ

@@ -1,7 +1,8 @@
 //! Subscribers.
 
-ghost use Rattle.std.specs.Prelude.{◌≡◌, ◌↔◌, ◌≤◌, length, IsSome, IfSome};
-ghost use Rattle.dcc_act.specs.Subs.{IsSub, padded};
+ghost use Rattle.std.specs.Prelude.{◌≡◌, ◌≤◌, ◌&&◌, nat_le, true, if◌then◌else◌, length, Some, None};
+ghost use Rattle.std.specs.List.{list_all};
+ghost use Rattle.dcc_act.specs.Subs.{is_sub, padded};
 
 use std::marker::Model;
 
@@ -14,14 +15,14 @@ pub struct Sub {
 }
 
 impl Model for Sub {
-    ghost use Rattle.std.specs.Prelude.{◌≡◌, ◌≤◌, length, take};
-    ghost use Rattle.dcc_act.specs.Subs.{SubView, IsSub, padded, unpadded, length_kept};
+    ghost use Rattle.std.specs.Prelude.{◌≡◌, ◌≤◌, true, length, take};
+    ghost use Rattle.dcc_act.specs.Subs.{SubView, is_sub, padded, unpadded, length_kept};
 
     ghost Value = { SubView };
 
     ghost view = { λ s. record { kind = s.kind; name = take s.len s.bytes } };
 
-    ghost invariant = { λ s. IsSub s.kind (take s.len s.bytes)
+    ghost invariant = { λ s. (is_sub s.kind (take s.len s.bytes) ≡ true)
         × (s.len ≤ 64) × (length s.bytes ≡ 64) × (s.bytes ≡ padded (take s.len s.bytes)) };
 
     ghost inverse = { λ v. record { kind = v.kind; len = length v.name; bytes = padded v.name } };
@@ -37,11 +38,9 @@ impl Sub {
     /// The subscriber of this type (0 to 4, RFC 8506, section 8.47) and these data, or none where the type is another or
     /// the data aren't 1 to 64 bytes of visible ASCII (0x21 to 0x7E).
     pub fn new(kind: u8, name: &[u8]) -> Option<Sub>
-        ensures limits { IsSome result ↔ IsSub kind name.now }
-        ensures value { IfSome result (λ sub. sub ≡ record { kind = kind; name = name.now }) }
+        ensures { result ≡ (if is_sub kind name.now then Some (record { kind = kind; name = name.now }) else None) }
     {
-        let visible = name.iter().all(|byte| *byte >= 0x21 && *byte <= 0x7e);
-        if kind > 4 || name.is_empty() || name.len() > 64 || !visible {
+        if !is_sub(kind, name) {
             return None;
         }
         Some(Sub {
@@ -54,7 +53,7 @@ impl Sub {
     /// The type: 0 a telephone number (E.164), 1 an IMSI, 2 a SIP URI, 3 an NAI, 4 private (RFC 8506, section 8.47).
     pub fn kind(&self) -> u8
         ensures value { result ≡ self.now.kind }
-        ensures limits { IsSub self.now.kind self.now.name }
+        ensures limits { is_sub self.now.kind self.now.name ≡ true }
     {
         self.kind
     }
@@ -62,10 +61,23 @@ impl Sub {
     /// The data, 1 to 64 bytes of visible ASCII.
     pub fn name(&self) -> &[u8]
         ensures value { result.now ≡ self.now.name }
-        ensures limits { IsSub self.now.kind self.now.name }
+        ensures limits { is_sub self.now.kind self.now.name ≡ true }
     {
         &self.bytes[..self.len as usize]
     }
+}
+
+/// Whether a subscriber may have this type and these data.
+fn is_sub(kind: u8, name: &[u8]) -> bool
+    ensures { result ≡ is_sub kind name.now }
+{
+    kind <= 4 && 1 <= name.len() && name.len() <= 64 && are_visible(name)
+}
+
+fn are_visible(name: &[u8]) -> bool
+    ensures { result ≡ list_all (λ byte. nat_le 0x21 byte && nat_le byte 0x7E) name.now }
+{
+    name.iter().all(|byte| b'!' <= *byte && *byte <= b'~')
 }
 
 /// The bytes, and zeros behind.

@@ -1,4 +1,3 @@
-pub mod Subscribers
 pub mod ServiceSizes
 pub mod Appended
 pub mod Messages

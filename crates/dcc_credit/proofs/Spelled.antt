@@ -1,5 +1,5 @@
 -- Each AVP of an answer has a spelling, and the octets of AVPs are whole words.
-use Rattle.std.proofs.Common.{◌≡◌, ℕ, ◌+◌, ◌-◌, ◌*◌, ◌%◌, ◌^◌, ◌<◌, ◌≤◌, List, [], ◌∷◌, ◌++◌, length, map, Option, Some, None, refl, ap, ◌∙◌, arith, lit<}
+use Rattle.std.proofs.Common.{◌≡◌, ℕ, ◌+◌, ◌-◌, ◌*◌, ◌%◌, ◌^◌, ◌<◌, ◌≤◌, List, [], ◌∷◌, ◌++◌, length, map, Option, Some, None, true, refl, ap, ◌∙◌, arith, lit<}
 use Rattle.std.specs.Prelude.{option_map}
 use Rattle.std.specs.Int.{w32, w64, to_be_bytes}
 use Rattle.std.specs.List.{flat_map, sum_by, AllByRecursion}
@@ -7,8 +7,10 @@ use Rattle.std.specs.Option.{option_to_list, ForSome}
 use Rattle.std.proofs.lemmas.List.{length-append}
 use Rattle.std.proofs.lemmas.List.Concat.{flat_map-append}
 use Rattle.std.proofs.lemmas.List.Sums.{sum_by-cons}
+use Rattle.std.proofs.lemmas.Bool.Decides.{nat_tests}
 use Rattle.dcc_avp.specs.Spelling.{AvpView, avp_len, padded_len, padded, HasSpelling}
 use Rattle.dcc_avp.specs.declared.codes.TheConstants.{SESSION_ID, RESULT_CODE, ORIGIN_HOST, ORIGIN_REALM, AUTH_APPLICATION_ID, CC_REQUEST_TYPE, CC_REQUEST_NUMBER, GRANTED_SERVICE_UNIT, CC_TOTAL_OCTETS, CC_TIME, CC_SERVICE_SPECIFIC_UNITS, MULTIPLE_SERVICES_CREDIT_CONTROL, SERVICE_IDENTIFIER, RATING_GROUP}
+use Rattle.dcc_message.specs.Names.{is_name}
 use Rattle.dcc_message.specs.declared.identity.Identity.{Identity}
 use Rattle.dcc_tariff.specs.Terms.{Conditions}
 use Rattle.dcc_tariff.specs.declared.tariff.UnitKind.{UnitKind}
@@ -163,10 +165,13 @@ services_spelled sizes (service ∷ services) few =
 
 -- ---- answers
 
+few_of : (name : List ℕ) → is_name name ≡ true → length name ≤ 255
+few_of name h = grind (arith, nat_tests)
+
 head_spelled : (identity : Identity) (type : RequestType) (key : RequestKey) (code : ℕ) → IsServer identity → length key.sid ≤ 255 → AllSpelled (head_avps identity type key code)
 head_spelled identity type key code server few =
-    let host = server.host.few in
-    let realm = server.realm.few in (
+    let host = few_of identity.host server.host in
+    let realm = few_of identity.realm server.realm in (
       sent_spelled SESSION_ID key.sid (lit< tt) (omega arith),
       (
         sent32_spelled RESULT_CODE code (lit< tt),
@@ -195,8 +200,8 @@ answer_spelled sizes identity terms Ceiling server limits = tt
 
 rest_spelled : (identity : Identity) → IsServer identity → AllSpelled (sent32 RESULT_CODE 3004 ∷ sent ORIGIN_HOST identity.host ∷ sent ORIGIN_REALM identity.realm ∷ [])
 rest_spelled identity server =
-    let host = server.host.few in
-    let realm = server.realm.few in (
+    let host = few_of identity.host server.host in
+    let realm = few_of identity.realm server.realm in (
       sent32_spelled RESULT_CODE 3004 (lit< tt),
       (sent_spelled ORIGIN_HOST identity.host (lit< tt) (omega arith), (sent_spelled ORIGIN_REALM identity.realm (lit< tt) (omega arith), tt)),
     )

@@ -1,5 +1,5 @@
 -- The octets of answers (RFC 6733, section 6.2, and RFC 8506, section 3.2).
-use Rattle.std.specs.Prelude.{ℕ, Bool, not, ◌&&◌, ◌==◌, bit_and, bit_or, List, [], ◌∷◌, ◌++◌, map, filter, slice_index, Option, None}
+use Rattle.std.specs.Prelude.{◌≡◌, ℕ, Bool, true, not, ◌&&◌, ◌==◌, bit_and, bit_or, List, [], ◌∷◌, ◌++◌, map, filter, slice_index, Option, None}
 use Rattle.std.specs.Prelude.{is_none, option_map, option_and_then}
 use Rattle.std.specs.Int.{w32, w64, to_be_bytes}
 use Rattle.std.specs.List.{flat_map, find}
@@ -25,7 +25,7 @@ use Rattle.dcc_act.specs.declared.service.Form.{Form}
 use Rattle.dcc_act.specs.declared.service.Form.TheVariants.{Single, Multi}
 use Rattle.dcc_act.specs.Limits.{IsSessionId}
 use Rattle.dcc_act.specs.Answers.{AreAnswers}
-use Rattle.dcc_message.specs.Names.{IsName}
+use Rattle.dcc_message.specs.Names.{is_name}
 use Rattle.dcc_act.specs.Numbers.{request_type_number, result_number}
 use Rattle.dcc_credit.specs.Requests.{is_session, where_}
 
@@ -115,8 +115,8 @@ is_busy octets = not (bit_and (slice_index octets 4) 0x20 == 0)
 
 -- what holds of every server's names
 pub record IsServer (identity : Identity) : Type 0 where
-  pub host : IsName identity.host
-  pub realm : IsName identity.realm
+  pub host : is_name identity.host ≡ true
+  pub realm : is_name identity.realm ≡ true
 
 -- what holds of every outcome
 abbrev pub HasLimits : Outcome → Type 0

@@ -20,6 +20,7 @@ use Rattle.dcc_act.specs.declared.request_key.RequestKey.{RequestKey}
 use Rattle.dcc_act.specs.declared.service.Form.TheVariants.{Single}
 use Rattle.dcc_act.specs.Services.{ServiceView}
 use Rattle.dcc_act.specs.declared.sub.Sub.{Sub}
+use Rattle.dcc_act.specs.Subs.{is_sub}
 
 -- a request for a direct debit: whose, which, and of how many octets
 pub record RequestView : Type 0 where
@@ -76,18 +77,13 @@ read_as codes (Err fault) = None
 abbrev pub group_of : List ℕ → List ℕ → Option (List AvpView)
 group_of codes octets = read_as codes (avps_of octets)
 
--- the types of RFC 8506, section 8.47, and 1 to 64 octets of visible ASCII
-abbrev pub is_subscriber : ℕ → List ℕ → Bool
-is_subscriber kind name =
-    nat_le kind 4 && nat_le 1 (length name) && nat_le (length name) 64 && list_all (λ octet. nat_le 0x21 octet && nat_le octet 0x7E) name
-
 -- the subscriber of a Subscription-Id (RFC 8506, section 8.46)
 unfoldable pub subscriber_of : List ℕ → Option Sub
 subscriber_of octets = do
   avps ← group_of (SUBSCRIPTION_ID_TYPE ∷ SUBSCRIPTION_ID_DATA ∷ []) octets
   kind ← the32 SUBSCRIPTION_ID_TYPE avps
   name ← the SUBSCRIPTION_ID_DATA avps
-  where_ (is_subscriber kind name) (record { kind = kind; name = name })
+  where_ (is_sub kind name) (record { kind = kind; name = name })
 
 -- the octets that a Requested-Service-Unit asks for, 1 to 10^12 (RFC 8506, section 8.18)
 unfoldable pub requested_of : List ℕ → Option ℕ

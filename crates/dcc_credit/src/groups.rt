@@ -1,7 +1,8 @@
 //! The groups of a request.
 
 ghost use Rattle.std.specs.Prelude.{◌≡◌, ◌^◌, ◌&&◌, nat_le, option_map, IfOk, IfSome};
-ghost use Rattle.dcc_credit.specs.Requests.{where_, group_of, subscriber_of, is_subscriber, requested_of, IsAmount};
+ghost use Rattle.dcc_act.specs.Subs.{is_sub};
+ghost use Rattle.dcc_credit.specs.Requests.{where_, group_of, subscriber_of, requested_of, IsAmount};
 
 use crate::lookup::{are_of, only_number, only_value};
 use dcc_act::Sub;
@@ -49,7 +50,7 @@ pub(crate) fn subscription(alloc: Global, octets: &[u8]) -> Result<Option<Sub>, 
 
 /// The subscriber of a type and data.
 fn subscriber_with(kind: u32, name: &[u8]) -> Option<Sub>
-    ensures { result ≡ where_ (is_subscriber kind name.now) (record { kind = kind; name = name.now }) }
+    ensures { result ≡ where_ (is_sub kind name.now) (record { kind = kind; name = name.now }) }
 {
     if kind > 4 {
         return None;

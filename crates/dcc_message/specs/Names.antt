@@ -1,12 +1,8 @@
 -- Names of hosts and realms.
-use Rattle.std.specs.Prelude.{ℕ, ◌≤◌, List, length, All}
+use Rattle.std.specs.Prelude.{ℕ, Bool, ◌&&◌, nat_le, List, length}
+use Rattle.std.specs.List.{list_all}
 
--- a byte of visible ASCII
-abbrev pub IsVisible : ℕ → Type 0
-IsVisible byte = (0x21 ≤ byte) × (byte ≤ 0x7E)
-
--- 1 to 255 visible bytes
-pub record IsName (bytes : List ℕ) : Type 0 where
-  pub some : 1 ≤ length bytes
-  pub few : length bytes ≤ 255
-  pub visible : All IsVisible bytes
+-- 1 to 255 bytes, each a visible character of ASCII
+abbrev pub is_name : List ℕ → Bool
+is_name bytes =
+    (nat_le 1 (length bytes) && nat_le (length bytes) 255) && list_all (λ byte. nat_le 0x21 byte && nat_le byte 0x7E) bytes

@@ -6,9 +6,9 @@ use Rattle.std.specs.Char.{is_ascii_digit}
 use Rattle.std.specs.Str.Parse.{digits_value}
 use Rattle.hex.specs.Hex.{decode_of}
 use Rattle.hex.specs.declared.error.FromHexError.{FromHexError}
-use Rattle.dcc_act.specs.Subs.{SubView}
+use Rattle.dcc_act.specs.Subs.{SubView, is_sub}
 use Rattle.dcc_tariff.specs.Plans.{is_identity}
-use Rattle.dcc_credit.specs.Requests.{is_subscriber, where_, ◌>>=◌}
+use Rattle.dcc_credit.specs.Requests.{where_, ◌>>=◌}
 
 -- the lines of a text: what stands between its line feeds
 abbrev pub lines_of : List ℕ → List (List ℕ)
@@ -52,7 +52,7 @@ octets word = sized (decode_of word)
 
 -- the subscriber of a type and data: a known type, and 1 to 64 octets of visible ASCII
 unfoldable pub known_sub : List ℕ → ℕ → Option SubView
-known_sub name kind = where_ (is_subscriber kind name) (record { kind = kind; name = name })
+known_sub name kind = where_ (is_sub kind name) (record { kind = kind; name = name })
 
 -- a subscriber: its type and its data, with a colon between, the word's first
 unfoldable pub sub : List ℕ → Option SubView
