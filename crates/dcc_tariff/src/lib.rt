@@ -12,6 +12,7 @@
 //!   in order and found by halving, without memory.
 #![tactic(auto)]
 
+mod beginning;
 mod fault;
 mod keys;
 mod moment;

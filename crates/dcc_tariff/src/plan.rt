@@ -3,6 +3,7 @@
 ghost use Rattle.std.specs.Prelude.{◌≡◌, ◌≤◌, ◌^◌, true, Some, IsSome, IfSome, IfOk};
 ghost use Rattle.dcc_tariff.specs.Plans.{unit_of, tariff_at, is_identity};
 
+use crate::beginning::Beginning;
 use crate::tariff::{Tariff, UnitKind};
 use crate::terms::Terms;
 use crate::version::{Version, version_at, version_of_group};
@@ -20,18 +21,20 @@ pub struct Plan {
     pub(crate) quantum: u64,
     pub(crate) terms: Terms,
     pub(crate) versions: Vec<Version>,
+    /// Where the versions begin, by which they are found.
+    pub(crate) beginnings: Vec<Beginning>,
 }
 
 impl Model for Plan {
     ghost use Rattle.std.specs.Prelude.{string_bytes};
-    ghost use Rattle.dcc_tariff.specs.Plans.{PlanView, IsPlan};
-    ghost use Rattle.dcc_tariff.specs.PlanViews.{shown};
+    ghost use Rattle.dcc_tariff.specs.Plans.{PlanView};
+    ghost use Rattle.dcc_tariff.specs.PlanViews.{shown, IsInside};
 
     ghost Value = { PlanView };
 
     ghost view = { shown };
 
-    ghost invariant = { λ p. IsPlan (shown p) };
+    ghost invariant = { IsInside };
 }
 
 impl Plan {
@@ -104,6 +107,7 @@ impl Plan {
             quantum: self.quantum,
             terms: self.terms,
             versions: self.versions.clone()?,
+            beginnings: self.beginnings.clone()?,
         })
     }
 
@@ -120,7 +124,12 @@ impl Plan {
         ensures value { result ≡ tariff_at self.now group moment }
         ensures unit { IfSome result (λ found. unit_of self.now group ≡ Some found.0) }
     {
-        let version = version_at(self.versions.as_slice(), group, moment)?;
+        let version = version_at(
+            self.versions.as_slice(),
+            self.beginnings.as_slice(),
+            group,
+            moment,
+        )?;
         Some((version.unit, version.tariff))
     }
 }

@@ -6,6 +6,7 @@ ghost use Rattle.toml.specs.View.{table_view};
 ghost use Rattle.dcc_tariff.specs.Plans.{is_of};
 ghost use Rattle.dcc_tariff.specs.PlanTexts.{plan_of_text, plan_of, terms_of, Gives};
 
+use crate::beginning::beginnings_of;
 use crate::fault::PlanFault;
 use crate::keys::{address_at, identity_at, integer_at, number_at};
 use crate::plan::Plan;
@@ -50,6 +51,7 @@ fn plan_of(alloc: Global, table: &Table) -> Result<Plan, PlanFault>
     if !agree(versions.as_slice()) || !has_group(versions.as_slice(), default_group) {
         return Err(PlanFault::Range);
     }
+    let beginnings = beginnings_of(alloc, versions.as_slice())?;
     Ok(Plan {
         host,
         realm,
@@ -59,6 +61,7 @@ fn plan_of(alloc: Global, table: &Table) -> Result<Plan, PlanFault>
         quantum,
         terms,
         versions,
+        beginnings,
     })
 }
 

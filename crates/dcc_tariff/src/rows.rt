@@ -3,6 +3,7 @@
 ghost use Rattle.std.specs.Prelude.{◌≡◌, IfOk};
 ghost use Rattle.dcc_tariff.specs.Rows.{rows_plan};
 
+use crate::beginning::beginnings_of;
 use crate::plan::Plan;
 use crate::tariff::{Tariff, UnitKind};
 use crate::terms::Terms;
@@ -18,6 +19,33 @@ impl Plan {
     pub fn rows(alloc: Global) -> Result<Plan, AllocError>
         ensures { IfOk result (λ plan. plan ≡ rows_plan) }
     {
+        let versions = vec![in alloc;
+            Version {
+                group: 10,
+                unit: UnitKind::Octets,
+                from: SINCE_2020,
+                tariff: Tariff {
+                    price: 5,
+                    block: 1000
+                },
+            },
+            Version {
+                group: 20,
+                unit: UnitKind::Time,
+                from: SINCE_2020,
+                tariff: Tariff {
+                    price: 2,
+                    block: 60
+                },
+            },
+            Version {
+                group: 30,
+                unit: UnitKind::Units,
+                from: SINCE_2020,
+                tariff: Tariff { price: 0, block: 1 },
+            },
+        ]?;
+        let beginnings = beginnings_of(alloc, versions.as_slice())?;
         Ok(Plan {
             host: String::from_str(alloc, "ocs.example")?,
             realm: String::from_str(alloc, "example")?,
@@ -31,32 +59,8 @@ impl Plan {
                 currency: 978,
                 exponent: -2,
             },
-            versions: vec![in alloc;
-                Version {
-                    group: 10,
-                    unit: UnitKind::Octets,
-                    from: SINCE_2020,
-                    tariff: Tariff {
-                        price: 5,
-                        block: 1000
-                    },
-                },
-                Version {
-                    group: 20,
-                    unit: UnitKind::Time,
-                    from: SINCE_2020,
-                    tariff: Tariff {
-                        price: 2,
-                        block: 60
-                    },
-                },
-                Version {
-                    group: 30,
-                    unit: UnitKind::Units,
-                    from: SINCE_2020,
-                    tariff: Tariff { price: 0, block: 1 },
-                },
-            ]?,
+            versions,
+            beginnings,
         })
     }
 }

@@ -1,9 +1,11 @@
 //! The versions of the groups' tariffs, kept in order.
 
-ghost use Rattle.std.specs.Prelude.{◌≡◌, true, option_copied, option_map, filter};
+ghost use Rattle.std.specs.Prelude.{◌≡◌, true, option_copied, filter};
 ghost use Rattle.std.specs.List.{find};
 ghost use Rattle.dcc_tariff.specs.Plans.{precedes, agrees, are_ordered, all_agree, is_of, has_begun, latest};
+ghost use Rattle.dcc_tariff.specs.Beginnings.{AreFoundBy};
 
+use crate::beginning::{Beginning, cut};
 use crate::tariff::{Tariff, UnitKind};
 
 /// One version of a rating group's tariff.
@@ -63,13 +65,19 @@ pub(crate) fn version_of_group(versions: &[Version], group: u32) -> Option<&Vers
 }
 
 /// The version of the group that holds at the moment.
-pub(crate) fn version_at(versions: &[Version], group: u32, moment: u64) -> Option<&Version>
-    requires { are_ordered versions.now ≡ true }
+pub(crate) fn version_at<'a>(
+    versions: &'a [Version],
+    beginnings: &[Beginning],
+    group: u32,
+    moment: u64,
+) -> Option<&'a Version>
+    requires { AreFoundBy beginnings.now versions.now }
     ensures { option_copied result ≡ latest (filter (has_begun group moment) versions.now) }
 {
+    let moment = cut(moment);
     // Which way a test goes can't be foretold, and a branch on it would cost more than both halves of it.
-    let end = versions.partition_point(|version| {
-        (version.group < group) | (version.group == group) & (version.from <= moment)
+    let end = beginnings.partition_point(|beginning| {
+        (beginning.group < group) | (beginning.group == group) & (beginning.from <= moment)
     });
     let last = versions[..end].last()?;
     if last.group == group {

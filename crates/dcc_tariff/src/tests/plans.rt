@@ -1,4 +1,4 @@
-use super::texts::{PLAN, VERSIONS};
+use super::texts::{PLAN, VERSIONS, edited};
 use crate::{Plan, UnitKind};
 use std::test::Fail;
 
@@ -62,6 +62,59 @@ fn tariffs_change_at_midnight(rt: HostRuntime) -> Result<(), Fail> {
             tariff,
             "group {group} at {moment}"
         );
+    }
+    Ok(())
+}
+
+/// The last possible group begins at the last possible moment, and group 11, beside 10, at the first.
+#[test]
+fn neighbouring_groups_are_told_apart(rt: HostRuntime) -> Result<(), Fail> {
+    let alloc = rt.alloc();
+    let text = edited(
+        alloc,
+        VERSIONS,
+        "group = 20\nunit = \"time\"\nfrom = \"2020-01-01T00:00:00Z\"",
+        "group = 11\nunit = \"time\"\nfrom = \"1970-01-01T00:00:00Z\"",
+    )?;
+    let text = edited(
+        alloc,
+        text.as_str(),
+        "group = 20\nunit = \"time\"\nfrom = \"2026-01-01T00:00:00Z\"",
+        "group = 4294967295\nunit = \"time\"\nfrom = \"2099-12-31T23:59:59Z\"",
+    )?;
+    let plan = Plan::read(alloc, text.as_str())?;
+    for (group, moment, tariff) in [
+        (0, u64::MAX, (0, 0)),
+        (9, u64::MAX, (0, 0)),
+        (10, 1_577_836_799, (0, 0)),
+        (10, 4_294_967_295, (7, 1000)),
+        (10, 4_294_967_296, (7, 1000)),
+        (10, u64::MAX, (7, 1000)),
+        (11, 0, (60, 60)),
+        (11, 4_294_967_296, (60, 60)),
+        (11, u64::MAX, (60, 60)),
+        (12, 0, (0, 0)),
+        (12, u64::MAX, (0, 0)),
+        (4_294_967_294, u64::MAX, (0, 0)),
+        (u32::MAX, 4_102_444_798, (0, 0)),
+        (u32::MAX, 4_102_444_799, (1, 1)),
+        (u32::MAX, 4_294_967_296, (1, 1)),
+        (u32::MAX, u64::MAX, (1, 1)),
+    ] {
+        assert_eq!(rt;
+            tariff_at(&plan, group, moment),
+            tariff,
+            "group {group} at {moment}"
+        );
+    }
+    for (group, unit) in [
+        (9, None),
+        (10, Some(UnitKind::Octets)),
+        (11, Some(UnitKind::Time)),
+        (12, None),
+        (u32::MAX, Some(UnitKind::Time)),
+    ] {
+        assert!(rt; plan.unit(group) == unit, "group {group}");
     }
     Ok(())
 }
