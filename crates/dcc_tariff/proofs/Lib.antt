@@ -1,6 +1,6 @@
 pub mod PriceLemmas
 pub mod VersionLemmas
-pub mod BeginningLemmas
+pub mod PlaceLemmas
 pub mod PlanLemmas
 pub mod AddressLemmas
 pub mod TableLemmas

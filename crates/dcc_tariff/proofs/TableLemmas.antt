@@ -50,7 +50,7 @@ pub precedes_steady : (version x y : Version) → precedes y x ≡ false → pre
 precedes_steady version x y order h = grind (arith, nat_tests)
 
 -- a test that all pass with the version in its place
-pub list_all-place : (p : Version → Bool) (version : Version) (xs : List Version) → p version ≡ true → list_all p xs ≡ true
+list_all-place : (p : Version → Bool) (version : Version) (xs : List Version) → p version ≡ true → list_all p xs ≡ true
     → list_all p (place version xs) ≡ true
 list_all-place p version [] here all = and_from (p version) true here refl
 list_all-place p version (x ∷ xs) here all =

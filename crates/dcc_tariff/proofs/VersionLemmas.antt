@@ -37,7 +37,7 @@ list_all-left p (x ∷ xs) ys h =
     let (here, more) = and_parts (p x) (list_all p (xs ++ ys)) h in
     and_from (p x) (list_all p xs) here (list_all-left p xs ys more)
 
-pub list_all-get_or : {X : Type 0} (p : X → Bool) (xs : List X) (i : ℕ) (d : X) → i < length xs → list_all p xs ≡ true
+list_all-get_or : {X : Type 0} (p : X → Bool) (xs : List X) (i : ℕ) (d : X) → i < length xs → list_all p xs ≡ true
     → p (get_or xs i d) ≡ true
 list_all-get_or p [] i d h all = absurd (omega arith)
 list_all-get_or p (x ∷ xs) zero d h all = (and_parts (p x) (list_all p xs) all).0

@@ -10,7 +10,7 @@ use Rattle.toml.specs.Data.{Data, Members, Items, no_items, item, get_member, as
 use Rattle.toml.specs.Parse.{parse_document}
 use Rattle.jiff.specs.Words.{parse_timestamp}
 use Rattle.dcc_tariff.specs.Terms.{Conditions}
-use Rattle.dcc_tariff.specs.Plans.{PlanView, last_moment, precedes, all_agree, is_identity, is_of}
+use Rattle.dcc_tariff.specs.Plans.{PlanView, precedes, all_agree, is_identity, is_of}
 use Rattle.dcc_tariff.specs.declared.tariff.UnitKind.{UnitKind}
 use Rattle.dcc_tariff.specs.declared.tariff.UnitKind.TheVariants.{Octets, Time, Units}
 use Rattle.dcc_tariff.specs.declared.version.Version.{Version}
@@ -81,6 +81,10 @@ fits_at form c = if form == 48 then is_ascii_digit c else c == form
 abbrev pub has_form : List ℕ → List ℕ → Bool
 has_form form text =
     (length text == length form) && list_all (λ pair. fits_at pair.0 pair.1) (zip form text)
+
+-- the last second that a moment may be, that of the year 2099
+abbrev pub last_moment : ℕ
+last_moment = 4_102_444_799
 
 -- the whole seconds since 1970 that the instant comes after it, within the limit
 abbrev pub moment_of_instant : {E : Type 0} → Result ℤ E → Option ℕ

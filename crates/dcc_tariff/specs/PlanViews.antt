@@ -1,7 +1,6 @@
 -- What contracts see of a plan.
-use Rattle.std.specs.Prelude.{◌≡◌, map, string_bytes}
-use Rattle.dcc_tariff.specs.Plans.{PlanView, IsPlan}
-use Rattle.dcc_tariff.specs.Beginnings.{beginning_of}
+use Rattle.std.specs.Prelude.{string_bytes}
+use Rattle.dcc_tariff.specs.Plans.{PlanView}
 use Rattle.dcc_tariff.specs.declared.plan.Plan.TheInside.{Inside}
 
 abbrev pub shown : Inside → PlanView
@@ -15,8 +14,3 @@ shown p = record {
   terms = p.terms;
   versions = p.versions.items;
 }
-
--- what holds of a plan's fields
-pub record IsInside (p : Inside) : Type 0 where
-  pub plan : IsPlan (shown p)
-  pub beginnings : p.beginnings.items ≡ map beginning_of p.versions.items

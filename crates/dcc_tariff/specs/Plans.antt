@@ -22,14 +22,6 @@ pub record PlanView : Type 0 where
 abbrev pub is_of : ℕ → Version → Bool
 is_of group version = version.group == group
 
--- the last second that a moment may be, that of the year 2099
-abbrev pub last_moment : ℕ
-last_moment = 4_102_444_799
-
--- the version begins within the limit
-abbrev pub is_dated : Version → Bool
-is_dated version = nat_le version.from last_moment
-
 -- the version is one of the group, and holds at the moment or held before it
 abbrev pub has_begun : ℕ → ℕ → Version → Bool
 has_begun group moment version = is_of group version && nat_le version.from moment
@@ -94,7 +86,6 @@ pub record IsPlan (plan : PlanView) : Type 0 where
   pub quantum_some : 1 ≤ plan.quantum
   pub quantum : plan.quantum ≤ 10 ^ 12
   pub ordered : are_ordered plan.versions ≡ true
-  pub dated : list_all is_dated plan.versions ≡ true
   pub agree : all_agree plan.versions ≡ true
   pub default_group : list_any (is_of plan.default_group) plan.versions ≡ true
   pub few : length plan.versions ≤ 1000

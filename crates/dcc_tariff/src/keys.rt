@@ -4,7 +4,7 @@ ghost use Rattle.std.specs.Prelude.{◌≡◌, ◌≤◌, ◌<◌, ◌≤ℤ◌,
 ghost use Rattle.std.specs.List.{list_all};
 ghost use Rattle.toml.specs.Data.{as_str};
 ghost use Rattle.toml.specs.View.{view, table_view};
-ghost use Rattle.dcc_tariff.specs.Plans.{last_moment, is_identity};
+ghost use Rattle.dcc_tariff.specs.Plans.{is_identity};
 ghost use Rattle.dcc_tariff.specs.PlanTexts.{found_at, value_at, seen_by, integer_at, number_at, identity_at, address_at, address_of};
 ghost use Rattle.dcc_tariff.specs.PlanTexts.{unit_at, unit_named, moment_at, GivesBy};
 
@@ -128,8 +128,7 @@ fn unit_named(name: &str) -> Option<UnitKind>
 /// The moment of a key.
 #[tactic(auto, unfolding(crate::specs::PlanTexts::moment_at))]
 pub(crate) fn moment_at(table: &Table, key: &str) -> Result<u64, PlanFault>
-    ensures value { result ≡ moment_at key.now (table_view table.now) }
-    ensures limit { IfOk result (λ moment. moment ≤ last_moment) }
+    ensures { result ≡ moment_at key.now (table_view table.now) }
 {
     moment_of(text_at(table, key)?).ok_or(PlanFault::BadMoment)
 }

@@ -12,10 +12,10 @@
 //!   in order and found by halving, without memory.
 #![tactic(auto)]
 
-mod beginning;
 mod fault;
 mod keys;
 mod moment;
+mod place;
 mod plan;
 mod prices;
 mod reading;

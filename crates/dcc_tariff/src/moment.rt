@@ -1,8 +1,7 @@
 //! Moments, as the text of a plan has them.
 
-ghost use Rattle.std.specs.Prelude.{◌≡◌, ◌≤◌, IfSome};
+ghost use Rattle.std.specs.Prelude.{◌≡◌};
 ghost use Rattle.std.specs.List.{list_all, zip};
-ghost use Rattle.dcc_tariff.specs.Plans.{last_moment};
 ghost use Rattle.dcc_tariff.specs.PlanTexts.{has_form, fits_at, moment_of};
 
 use jiff::Timestamp;
@@ -16,8 +15,7 @@ const LAST: i64 = 4_102_444_799;
 /// The seconds since 1970 of a UTC date and time, as `2025-06-01T00:00:00Z`, if there is such a moment within the limit.
 #[tactic(auto, unfolding(crate::specs::PlanTexts::moment_of))]
 pub(crate) fn moment_of(text: &str) -> Option<u64>
-    ensures value { result ≡ moment_of text.now }
-    ensures limit { IfSome result (λ moment. moment ≤ last_moment) }
+    ensures { result ≡ moment_of text.now }
 {
     let bytes = text.as_bytes();
     if !has_form(FORM, bytes) || bytes[17] > b'5' {

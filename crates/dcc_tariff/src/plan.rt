@@ -3,7 +3,7 @@
 ghost use Rattle.std.specs.Prelude.{◌≡◌, ◌≤◌, ◌^◌, true, Some, IsSome, IfSome, IfOk};
 ghost use Rattle.dcc_tariff.specs.Plans.{unit_of, tariff_at, is_identity};
 
-use crate::beginning::Beginning;
+use crate::place::place_of;
 use crate::tariff::{Tariff, UnitKind};
 use crate::terms::Terms;
 use crate::version::{Version, version_at, version_of_group};
@@ -21,20 +21,20 @@ pub struct Plan {
     pub(crate) quantum: u64,
     pub(crate) terms: Terms,
     pub(crate) versions: Vec<Version>,
-    /// Where the versions begin, by which they are found.
-    pub(crate) beginnings: Vec<Beginning>,
+    /// Where a look-up begins.
+    pub(crate) places: Vec<u16>,
 }
 
 impl Model for Plan {
     ghost use Rattle.std.specs.Prelude.{string_bytes};
-    ghost use Rattle.dcc_tariff.specs.Plans.{PlanView};
-    ghost use Rattle.dcc_tariff.specs.PlanViews.{shown, IsInside};
+    ghost use Rattle.dcc_tariff.specs.Plans.{PlanView, IsPlan};
+    ghost use Rattle.dcc_tariff.specs.PlanViews.{shown};
 
     ghost Value = { PlanView };
 
     ghost view = { shown };
 
-    ghost invariant = { IsInside };
+    ghost invariant = { λ p. IsPlan (shown p) };
 }
 
 impl Plan {
@@ -107,7 +107,7 @@ impl Plan {
             quantum: self.quantum,
             terms: self.terms,
             versions: self.versions.clone()?,
-            beginnings: self.beginnings.clone()?,
+            places: self.places.clone()?,
         })
     }
 
@@ -124,12 +124,8 @@ impl Plan {
         ensures value { result ≡ tariff_at self.now group moment }
         ensures unit { IfSome result (λ found. unit_of self.now group ≡ Some found.0) }
     {
-        let version = version_at(
-            self.versions.as_slice(),
-            self.beginnings.as_slice(),
-            group,
-            moment,
-        )?;
+        let place = place_of(&self.places, group);
+        let version = version_at(self.versions.as_slice(), place, group, moment)?;
         Some((version.unit, version.tariff))
     }
 }

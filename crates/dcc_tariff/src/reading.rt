@@ -6,9 +6,9 @@ ghost use Rattle.toml.specs.View.{table_view};
 ghost use Rattle.dcc_tariff.specs.Plans.{is_of};
 ghost use Rattle.dcc_tariff.specs.PlanTexts.{plan_of_text, plan_of, terms_of, Gives};
 
-use crate::beginning::beginnings_of;
 use crate::fault::PlanFault;
 use crate::keys::{address_at, identity_at, integer_at, number_at};
+use crate::place::places_of;
 use crate::plan::Plan;
 use crate::tables::{tables_at, versions_of};
 use crate::terms::Terms;
@@ -51,7 +51,7 @@ fn plan_of(alloc: Global, table: &Table) -> Result<Plan, PlanFault>
     if !agree(versions.as_slice()) || !has_group(versions.as_slice(), default_group) {
         return Err(PlanFault::Range);
     }
-    let beginnings = beginnings_of(alloc, versions.as_slice())?;
+    let places = places_of(alloc, versions.as_slice())?;
     Ok(Plan {
         host,
         realm,
@@ -61,7 +61,7 @@ fn plan_of(alloc: Global, table: &Table) -> Result<Plan, PlanFault>
         quantum,
         terms,
         versions,
-        beginnings,
+        places,
     })
 }
 

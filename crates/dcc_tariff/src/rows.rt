@@ -3,7 +3,7 @@
 ghost use Rattle.std.specs.Prelude.{◌≡◌, IfOk};
 ghost use Rattle.dcc_tariff.specs.Rows.{rows_plan};
 
-use crate::beginning::beginnings_of;
+use crate::place::places_of;
 use crate::plan::Plan;
 use crate::tariff::{Tariff, UnitKind};
 use crate::terms::Terms;
@@ -45,7 +45,7 @@ impl Plan {
                 tariff: Tariff { price: 0, block: 1 },
             },
         ]?;
-        let beginnings = beginnings_of(alloc, versions.as_slice())?;
+        let places = places_of(alloc, versions.as_slice())?;
         Ok(Plan {
             host: String::from_str(alloc, "ocs.example")?,
             realm: String::from_str(alloc, "example")?,
@@ -60,7 +60,7 @@ impl Plan {
                 exponent: -2,
             },
             versions,
-            beginnings,
+            places,
         })
     }
 }

@@ -4,7 +4,7 @@ ghost use Rattle.std.specs.Prelude.{◌≡◌, ◌≤◌, ◌+◌, true, is_some
 ghost use Rattle.std.specs.List.{list_all};
 ghost use Rattle.toml.specs.Data.{as_array, as_table};
 ghost use Rattle.toml.specs.View.{view, items_view, array_view, table_view};
-ghost use Rattle.dcc_tariff.specs.Plans.{is_dated, are_ordered};
+ghost use Rattle.dcc_tariff.specs.Plans.{are_ordered};
 ghost use Rattle.dcc_tariff.specs.PlanTexts.{value_at, seen_by, tables_at, version_of, version_of_value, versions_onto, place, Gives};
 ghost use Rattle.dcc_tariff.specs.PlanTexts.{GivesBy};
 
@@ -54,7 +54,6 @@ fn are_tables(values: &[Value]) -> bool
 pub(crate) fn versions_of(alloc: Global, tables: &[Value]) -> Result<Vec<Version>, PlanFault>
     ensures value { GivesBy (λ v. v.items) result (versions_onto [] (items_view tables.now)) }
     ensures ordered { IfOk result (λ v. are_ordered v.items ≡ true) }
-    ensures dated { IfOk result (λ v. list_all is_dated v.items ≡ true) }
     ensures few { IfOk result (λ v. vec_len v ≡ length tables.now) }
 {
     let mut versions = Vec::new(alloc);
@@ -80,8 +79,7 @@ fn put(versions: &mut Vec<Version>, version: Version) -> Result<(), AllocError>
 }
 
 fn version_of_value(value: &Value) -> Result<Version, PlanFault>
-    ensures value { result ≡ version_of_value (view value.now) }
-    ensures dated { IfOk result (λ version. is_dated version ≡ true) }
+    ensures { result ≡ version_of_value (view value.now) }
 {
     match value.as_table() {
         Some(table) => version_of(table),
@@ -92,8 +90,7 @@ fn version_of_value(value: &Value) -> Result<Version, PlanFault>
 /// One version of a group's tariff.
 #[tactic(auto, unfolding(crate::specs::PlanTexts::version_of))]
 fn version_of(table: &Table) -> Result<Version, PlanFault>
-    ensures value { result ≡ version_of (table_view table.now) }
-    ensures dated { IfOk result (λ version. is_dated version ≡ true) }
+    ensures { result ≡ version_of (table_view table.now) }
 {
     let group = number_at(table, "group", 0, u64::from(u32::MAX))? as u32;
     let unit = unit_at(table, "unit")?;

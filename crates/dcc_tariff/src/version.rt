@@ -1,11 +1,9 @@
 //! The versions of the groups' tariffs, kept in order.
 
-ghost use Rattle.std.specs.Prelude.{◌≡◌, true, option_copied, filter};
+ghost use Rattle.std.specs.Prelude.{◌≡◌, true, option_copied, filter, Some, IfSome};
 ghost use Rattle.std.specs.List.{find};
 ghost use Rattle.dcc_tariff.specs.Plans.{precedes, agrees, are_ordered, all_agree, is_of, has_begun, latest};
-ghost use Rattle.dcc_tariff.specs.Beginnings.{AreFoundBy};
 
-use crate::beginning::{Beginning, cut};
 use crate::tariff::{Tariff, UnitKind};
 
 /// One version of a rating group's tariff.
@@ -27,6 +25,13 @@ impl Version {
         ensures { result ≡ precedes self.now other.now }
     {
         self.group < other.group || self.group == other.group && self.from < other.from
+    }
+
+    /// Whether this version is one of the group, and holds at the moment or held before it.
+    fn has_begun(&self, group: u32, moment: u64) -> bool
+        ensures { result ≡ has_begun group moment self.now }
+    {
+        self.group == group && self.from <= moment
     }
 
     /// Whether both count one kind of unit and hold from different moments, where they are of one group.
@@ -64,20 +69,41 @@ pub(crate) fn version_of_group(versions: &[Version], group: u32) -> Option<&Vers
     }
 }
 
-/// The version of the group that holds at the moment.
-pub(crate) fn version_at<'a>(
-    versions: &'a [Version],
-    beginnings: &[Beginning],
+/// The version at a place, if it is the one of the group that holds at the moment.
+fn version_if(versions: &[Version], place: u16, group: u32, moment: u64) -> Option<&Version>
+    requires { are_ordered versions.now ≡ true }
+    ensures { IfSome result (λ version. latest (filter (has_begun group moment) versions.now) ≡ Some version.now) }
+{
+    let place = place as usize;
+    let version = versions.get(place)?;
+    if !version.has_begun(group, moment) {
+        return None;
+    }
+    if let Some(next) = versions.get(place + 1) {
+        if next.has_begun(group, moment) {
+            return None;
+        }
+    }
+    Some(version)
+}
+
+/// The version of the group that holds at the moment. What stands at a place is tested first, and the others are found
+/// by halving: which place it is changes the time alone.
+pub(crate) fn version_at(
+    versions: &[Version],
+    place: u16,
     group: u32,
     moment: u64,
-) -> Option<&'a Version>
-    requires { AreFoundBy beginnings.now versions.now }
+) -> Option<&Version>
+    requires { are_ordered versions.now ≡ true }
     ensures { option_copied result ≡ latest (filter (has_begun group moment) versions.now) }
 {
-    let moment = cut(moment);
+    if let Some(version) = version_if(versions, place, group, moment) {
+        return Some(version);
+    }
     // Which way a test goes can't be foretold, and a branch on it would cost more than both halves of it.
-    let end = beginnings.partition_point(|beginning| {
-        (beginning.group < group) | (beginning.group == group) & (beginning.from <= moment)
+    let end = versions.partition_point(|version| {
+        (version.group < group) | (version.group == group) & (version.from <= moment)
     });
     let last = versions[..end].last()?;
     if last.group == group {

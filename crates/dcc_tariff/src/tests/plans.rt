@@ -119,6 +119,59 @@ fn neighbouring_groups_are_told_apart(rt: HostRuntime) -> Result<(), Fail> {
     Ok(())
 }
 
+/// The groups are the squares up to 59^2, so that some parts of their span have many versions, and others none.
+#[test]
+fn many_tariffs_are_told_apart(rt: HostRuntime) -> Result<(), Fail> {
+    let alloc = rt.alloc();
+    let (head, _) = VERSIONS
+        .split_once("[[tariff]]")
+        .ok_or("a plan without tariffs")?;
+    let mut text = String::from_str(alloc, head)?;
+    for i in 0..60u32 {
+        let group = i * i;
+        let later = i + 1001;
+        let earlier = i + 1;
+        for (year, price) in [(2025, later), (2020, earlier)] {
+            write!(
+                text,
+                "[[tariff]]\ngroup = {group}\nunit = \"time\"\nfrom = \"{year}-07-01T00:00:00Z\"\nprice = {price}\nblock = 1\n"
+            )?;
+        }
+    }
+    let text = edited(
+        alloc,
+        text.as_str(),
+        "default_group = 10",
+        "default_group = 9",
+    )?;
+    let plan = Plan::read(alloc, text.as_str())?;
+    for i in 0..60u32 {
+        let group = i * i;
+        for (moment, tariff) in [
+            (0, (0, 0)),
+            (1_593_561_599, (0, 0)),
+            (1_593_561_600, (i + 1, 1)),
+            (1_751_327_999, (i + 1, 1)),
+            (1_751_328_000, (i + 1001, 1)),
+            (4_294_967_296, (i + 1001, 1)),
+            (u64::MAX, (i + 1001, 1)),
+        ] {
+            assert_eq!(rt;
+                tariff_at(&plan, group, moment),
+                tariff,
+                "group {group} at {moment}"
+            );
+            assert_eq!(rt;
+                tariff_at(&plan, group + 2, moment),
+                (0, 0),
+                "group {group} + 2 at {moment}"
+            );
+        }
+    }
+    assert_eq!(rt; tariff_at(&plan, u32::MAX, u64::MAX), (0, 0));
+    Ok(())
+}
+
 #[test]
 fn groups_have_units(rt: HostRuntime) -> Result<(), Fail> {
     let plan = Plan::rows(rt.alloc())?;

@@ -1,10 +1,9 @@
 use Rattle.std.proofs.Common.{◌≡◌, ◌+◌, ◌<◌, ◌≤◌, List, [], drop, Vec, Global, Ok, Err, sym, ap, ◌∙◌, arith}
 use Rattle.std.proofs.lemmas.Result.{err_from_is_err_and}
 use Rattle.toml.specs.View.{view, items_view}
-use Rattle.dcc_tariff.specs.Plans.{is_dated}
 use Rattle.dcc_tariff.specs.PlanTexts.{versions_onto, version_of_value, place, ◌>>=◌}
 use Rattle.dcc_tariff.specs.declared.version.Version.{Version}
-use Rattle.dcc_tariff.proofs.TableLemmas.{list_all-place, versions_onto-step, versions_onto-end, gives_fault}
+use Rattle.dcc_tariff.proofs.TableLemmas.{versions_onto-step, versions_onto-end, gives_fault}
 use Rattle.dcc_tariff.proofs.tables.versions_of.Goals as goal
 
 pub returns-in_err-version-clause-value : goal.returns-in_err-version-clause-value
@@ -18,7 +17,7 @@ returns-in_err-version-clause-value c =
     (items_view (drop (c.loop-table.table-index + 1) c.args.tables.now)) in
     let meant : versions_onto [] (items_view c.args.tables.now) ≡ Err p.0 =
     sym c.loop-table.invariant.rest ∙ step
-    ∙ ap (λ read. read >>= after) (sym c.version_of_value.ensures.value ∙ c.in_err-version.was ∙ ap Err (sym p.2)) in
+    ∙ ap (λ read. read >>= after) (sym c.version_of_value.ensures ∙ c.in_err-version.was ∙ ap Err (sym p.2)) in
     rw p.1 (gives_fault (λ (v : Vec Version Global). v.items) p.0 (versions_onto [] (items_view c.args.tables.now)) meant)
 
 pub loop-table-preserved : goal.loop-table-preserved
@@ -32,12 +31,9 @@ loop-table-preserved c =
     record {
       rest =
           ap (λ vs. versions_onto vs (items_view (drop (c.loop-table.table-index + 1) c.args.tables.now))) c.in_ok-put.ensures.items
-          ∙ sym (step ∙ ap (λ read. read >>= after) (sym c.version_of_value.ensures.value ∙ c.in_ok-version.was))
+          ∙ sym (step ∙ ap (λ read. read >>= after) (sym c.version_of_value.ensures ∙ c.in_ok-version.was))
           ∙ c.loop-table.invariant.rest;
       ordered = c.in_ok-put.ensures.ordered;
-      dated =
-          rw c.in_ok-put.ensures.items
-          (list_all-place is_dated c.in_ok-version.version c.loop-table.versions.items c.in_ok-version.ensures.dated c.loop-table.invariant.dated);
       few = c.in_ok-put.ensures.len ∙ ap (λ n. n + 1) c.loop-table.invariant.few;
     }
 

@@ -23,6 +23,6 @@ pub returns-clause-unit : goal.returns-clause-unit
 returns-clause-unit c =
     let same = c.as_slice.ensures.value ∙ ap (λ (p : PlanView). p.versions) c.self.view_is in
     let agree : all_agree c.args.self.now.versions ≡ true =
-    rw (← ap (λ (p : PlanView). p.versions) c.self.view_is) c.self.invariant.plan.agree in
+    rw (← ap (λ (p : PlanView). p.versions) c.self.view_is) c.self.invariant.agree in
     unit_of-latest c.args.self.now c.as_slice.result.now c.args.group c.args.moment c.version_at.result c.in_ok-version.version same agree
     c.version_at.ensures c.in_ok-version.was

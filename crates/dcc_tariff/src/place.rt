@@ -1,0 +1,29 @@
+//! Where a look-up begins.
+
+ghost use Rattle.std.specs.Prelude.{◌≡◌, ◌≤◌, ◌%◌, IfOk, length, slice_get, unwrap_or};
+
+use crate::version::Version;
+use std::alloc::{AllocError, Global};
+
+/// How many remainders groups are told apart by: twice as many as a plan has versions at most.
+const PLACES: usize = 2_048;
+
+/// For each remainder of a group's number the place of the last version whose group has it, 0 where there is none. What
+/// stands at a place is tested, so that other places would only make a look-up slower.
+pub(crate) fn places_of(alloc: Global, versions: &[Version]) -> Result<Vec<u16>, AllocError>
+    requires { length versions.now ≤ 1000 }
+    ensures { IfOk result (λ places. length places.items ≡ PLACES) }
+{
+    let mut places = vec![in alloc; 0; PLACES]?;
+    for (i, version) in versions.iter().enumerate() {
+        places[version.group as usize % PLACES] = i as u16;
+    }
+    Ok(places)
+}
+
+/// The place at which a look-up of the group begins.
+pub(crate) fn place_of(places: &Vec<u16>, group: u32) -> u16
+    ensures { result ≡ unwrap_or (slice_get places.now.items (group % PLACES)) 0 }
+{
+    places.get(group as usize % PLACES).copied().unwrap_or(0)
+}
