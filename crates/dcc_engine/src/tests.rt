@@ -50,13 +50,12 @@ fn connect(alloc: Global, peer: u32) -> Result<Event, Fail> {
     })
 }
 
-/// The subscriber's first money.
-fn top_up() -> Result<Event, Fail> {
+fn top_up(ticket: u64, amount: u64) -> Result<Event, Fail> {
     Ok(Event::TopUp {
         moment: moment()?,
         sub: subscriber()?,
-        ticket: 1,
-        amount: 1000,
+        ticket,
+        amount,
     })
 }
 
@@ -70,7 +69,11 @@ fn message(alloc: Global, peer: u32, octets: &str) -> Result<Event, Fail> {
 
 /// A peer, its subscriber's first money, and a debit.
 fn events(alloc: Global) -> Result<Vec<Event>, Fail> {
-    Ok(vec![in alloc; connect(alloc, 1)?, top_up()?, message(alloc, 1, DEBIT)?]?)
+    Ok(vec![in alloc;
+        connect(alloc, 1)?,
+        top_up(1, 1000)?,
+        message(alloc, 1, DEBIT)?,
+    ]?)
 }
 
 #[test]
@@ -103,7 +106,7 @@ const AGAIN: [(u32, &str, &str); 10] = [
 
 /// The subscriber's first money, and what the peers do.
 fn events_again(alloc: Global) -> Result<Vec<Event>, Fail> {
-    let mut events = vec![in alloc; top_up()?]?;
+    let mut events = vec![in alloc; top_up(1, 1000)?]?;
     for (peer, octets, _) in AGAIN {
         let event = if octets.is_empty() {
             connect(alloc, peer)?
@@ -158,5 +161,33 @@ fn a_refusal_changes_no_answer(rt: HostRuntime) -> Result<(), Fail> {
         _ => 0,
     };
     assert_eq!(rt; funds, wanted);
+    Ok(())
+}
+
+/// A ticket, its amount, and what it is told.
+const TICKETS: [(u64, u64, TopUpAnswer); 7] = [
+    (1, 1000, TopUpAnswer::Done),
+    (1, 5, TopUpAnswer::Done),
+    (1, 0, TopUpAnswer::BadAmount),
+    (1, 1_000_000_000_000_000_001, TopUpAnswer::BadAmount),
+    (2, 1_000_000_000_000_000_000, TopUpAnswer::Ceiling),
+    (2, 1, TopUpAnswer::Ceiling),
+    (3, 999_999_999_999_999_000, TopUpAnswer::Done),
+];
+
+/// A ticket that comes again is told what it was told first, whatever its amount, unless the amount may not be; here each comes in
+/// a run of its own, after one without events.
+#[test]
+fn tickets_come_again(rt: HostRuntime) -> Result<(), Fail> {
+    let alloc = rt.alloc();
+    let mut engine = engine(alloc)?;
+    assert!(rt; engine.run(alloc, &[])?.is_empty());
+    for (ticket, amount, told) in TICKETS {
+        let outs = engine.run(alloc, &[top_up(ticket, amount)?])?;
+        assert_eq!(rt; outs.len(), 1);
+        assert_eq!(rt; outs[0].top_up, Some(told));
+    }
+    let account = engine.account(subscriber()?).ok_or("an account")?;
+    assert_eq!(rt; account.funds(), 1_000_000_000_000_000_000);
     Ok(())
 }
