@@ -1,6 +1,8 @@
 -- One row of the books.
-use Rattle.std.proofs.Common.{◌≡◌, ◌≢◌, ℕ, zero, suc, ◌<◌, cond, List, [], ◌∷◌, ◌++◌, length, get_or, set, Option, Some, None, refl, sym, ap, ◌∙◌, arith, inl, inr}
+use Rattle.std.proofs.Common.{◌≡◌, ◌≢◌, ℕ, zero, suc, ◌<◌, true, cond, List, [], ◌∷◌, ◌++◌, length, get_or, set, Option, Some, None, refl, sym, ap, ◌∙◌, arith, inl, inr}
+use Rattle.std.specs.Prelude.{is_none}
 use Rattle.std.specs.Option.{option_map_or}
+use Rattle.std.proofs.lemmas.Bool.{and_parts, and_from}
 use Rattle.dcc_tariff.specs.Terms.{Conditions}
 use Rattle.dcc_act.specs.declared.act.Act.{Act}
 use Rattle.dcc_act.specs.declared.sub.Sub.{Sub}
@@ -8,7 +10,7 @@ use Rattle.dcc_account.specs.declared.account.Account.{Account}
 use Rattle.dcc_model.specs.Outcomes.{acts}
 use Rattle.dcc_model.specs.Laws.{ActsAreActs}
 use Rattle.dcc_engine.specs.declared.row.Row.{Row}
-use Rattle.dcc_engine.specs.Books.{same_sub, account_in, held_in, IsAt, IsAbsent, AreBooks}
+use Rattle.dcc_engine.specs.Books.{same_sub, account_in, held_in, are_once, IsAt, IsAbsent, AreBooks}
 use Rattle.dcc_engine.proofs.Subs.{same_sub-same, same_sub-other, one_or_other}
 
 found_here : (row : Row) (rows : List Row) (sub : Sub) → row.sub ≡ sub → account_in (row ∷ rows) sub ≡ Some row.account
@@ -38,6 +40,13 @@ found_push_other [] row sub h = found_past row [] sub h
 found_push_other (first ∷ rows) row sub h =
     ap (λ (found : Option Account). cond (same_sub first.sub sub) (Some first.account) found) (found_push_other rows row sub h)
 
+once_push : (rows : List Row) (row : Row) → NoneBefore rows row.sub (length rows) → are_once rows ≡ true → are_once (rows ++ row ∷ []) ≡ true
+once_push [] row h once = refl
+once_push (first ∷ rows) row h once =
+    let apart = head_none first rows row.sub (length rows) h in
+    let parts = and_parts (is_none (account_in rows first.sub)) (are_once rows) once in
+    and_from _ _ (ap is_none (found_push_other rows row first.sub (λ e. apart (sym e))) ∙ parts.0) (once_push rows row (tail_none first rows row.sub (length rows) h) parts.1)
+
 found_none : (rows : List Row) (sub : Sub) → NoneBefore rows sub (length rows) → account_in rows sub ≡ None
 found_none [] sub h = refl
 found_none (row ∷ rows) sub h = found_past row rows sub (head_none row rows sub (length rows) h) ∙ found_none rows sub (tail_none row rows sub (length rows) h)
@@ -47,6 +56,7 @@ is_absent rows sub h = record {
   nothing = found_none rows sub h;
   own = λ given. found_push rows (record { sub = sub; account = given }) sub h ∙ found_here (record { sub = sub; account = given }) [] sub refl;
   others = λ given other apart. found_push_other rows (record { sub = sub; account = given }) other (λ e. apart (sym e));
+  once = λ given once. once_push rows (record { sub = sub; account = given }) h once;
 }
 
 pub is_at : (rows : List Row) (sub : Sub) (i : ℕ) (none : Row) → i < length rows → NoneBefore rows sub i → (get_or rows i none).sub ≡ sub → IsAt rows sub i
@@ -57,6 +67,9 @@ is_at (row ∷ rows) sub zero none lt before here = record {
   named = λ n. here;
   own = λ given. found_here (record { sub = sub; account = given }) rows sub refl;
   others = λ given other apart. found_past (record { sub = sub; account = given }) rows other (λ e. apart (sym e)) ∙ sym (found_past row rows other (λ e. apart (sym e ∙ here)));
+  once = λ given once.
+      let parts = and_parts (is_none (account_in rows row.sub)) (are_once rows) once in
+      and_from _ _ (ap (λ (s : Sub). is_none (account_in rows s)) (sym here) ∙ parts.0) parts.1;
 }
 is_at (row ∷ rows) sub (suc i) none lt before here =
     let later = is_at rows sub i none (omega arith) (tail_none row rows sub i before) here in
@@ -67,6 +80,9 @@ is_at (row ∷ rows) sub (suc i) none lt before here =
       named = λ n. later.named n;
       own = λ given. found_past row (set rows i (record { sub = sub; account = given })) sub apart ∙ later.own given;
       others = λ given other differ. ap (λ (found : Option Account). cond (same_sub row.sub other) (Some row.account) found) (later.others given other differ);
+      once = λ given once.
+          let parts = and_parts (is_none (account_in rows row.sub)) (are_once rows) once in
+          and_from _ _ (ap is_none (later.others given row.sub apart) ∙ parts.0) (later.once given parts.1);
     }
 
 abbrev pub acts_held : Option Account → List Act
@@ -85,14 +101,19 @@ held_others old new sub account h other apart = ap acts_held (h.others other apa
 
 -- they stay books, where the account has the terms and its acts are those that they make
 pub books_moved : (old new : List Row) (terms : Conditions) (sub : Sub) (account : Account) (next : List Act) → ActsAreActs → AreBooks old terms → Moves old new sub account
-    → account.terms ≡ terms → account.acts ≡ acts terms next → AreBooks new terms
-books_moved old new terms sub account next law books moves terms_are acts_are = record {
+    → account.terms ≡ terms → account.acts ≢ [] → account.acts ≡ acts terms next → are_once new ≡ true → AreBooks new terms
+books_moved old new terms sub account next law books moves terms_are begun acts_are once = record {
   terms_are = λ s found is. elim (one_or_other s sub) [
     | inl e ↦ (let here : Some found ≡ Some account = sym is ∙ ap (account_in new) e ∙ moves.own in let same : found ≡ account = cc in rw same terms_are)
     | inr apart ↦ books.terms_are s found (sym (moves.others s apart) ∙ is)
+  ];
+  begun = λ s found is. elim (one_or_other s sub) [
+    | inl e ↦ (let here : Some found ≡ Some account = sym is ∙ ap (account_in new) e ∙ moves.own in let same : found ≡ account = cc in rw same begun)
+    | inr apart ↦ books.begun s found (sym (moves.others s apart) ∙ is)
   ];
   own = λ s. elim (one_or_other s sub) [
     | inl e ↦ (let here : held_in new s ≡ acts terms next = ap (held_in new) e ∙ held_own old new sub account moves ∙ acts_are in rw here (law terms next))
     | inr apart ↦ (let same = held_others old new sub account moves s apart in rw same (books.own s))
   ];
+  once = once;
 }

@@ -1,13 +1,15 @@
 -- The books after one act of one subscriber.
-use Rattle.std.proofs.Common.{◌≡◌, ◌≢◌, ℕ, ◌+◌, List, [], ◌∷◌, ◌++◌, length, get_or, set, Some, sym, ap, ◌∙◌, inl, inr}
+use Rattle.std.proofs.Common.{◌≡◌, ◌≢◌, ℕ, ◌+◌, Bool, true, false, if◌then◌else◌, List, [], ◌∷◌, ◌++◌, length, get_or, set, Some, sym, ap, subst, ◌∙◌, inl, inr}
 use Rattle.dcc_tariff.specs.Terms.{Conditions}
 use Rattle.dcc_act.specs.declared.act.Act.{Act}
 use Rattle.dcc_act.specs.declared.sub.Sub.{Sub}
 use Rattle.dcc_account.specs.declared.account.Account.{Account}
-use Rattle.dcc_model.specs.Outcomes.{outcome}
+use Rattle.dcc_model.specs.Outcomes.{outcome, acts}
 use Rattle.dcc_model.specs.Laws.{ActsAreActs}
 use Rattle.dcc_engine.specs.declared.row.Row.{Row}
-use Rattle.dcc_engine.specs.Books.{account_in, held_in, next_outcome, next_acts, IsAt, IsAbsent, IsInstalled, IsAdded, AreBooks, Steps}
+use Rattle.dcc_engine.specs.Books.{account_in, held_in, next_outcome, next_acts, are_once, IsAt, IsAbsent, IsInstalled, IsAdded, AreBooks, Steps}
+use Rattle.dcc_engine.specs.Due.{step_of, HasTerms, IsDue}
+use Rattle.dcc_engine.specs.declared.steps.Due.{Due}
 use Rattle.dcc_engine.proofs.Subs.{one_or_other}
 use Rattle.dcc_engine.proofs.BookRows.{acts_held, Moves, held_own, held_others, books_moved}
 
@@ -27,9 +29,15 @@ pub next_found : (rows : List Row) (terms : Conditions) (sub : Sub) (account : A
 next_found rows terms sub account act found =
     ap (λ (t : Conditions). next_outcome t account.acts act) found.terms_are ∙ ap (λ (xs : List Act). next_outcome terms xs act) found.acts_are
 
-pub installed_steps : (old new : List Row) (terms : Conditions) (sub : Sub) (i : ℕ) (row : Row) (act : Act) → ActsAreActs → AreBooks old terms → IsAt old sub i → row ≡ get_or old i row
-    → IsInstalled old new i row act → Steps old new terms sub act
-installed_steps old new terms sub i row act law books at is installed =
+-- with acts there are acts after one more
+still_some : (is_new : Bool) (xs : List Act) (act : Act) → xs ≢ [] → (if is_new then xs ++ act ∷ [] else xs) ≢ []
+still_some true [] act some none = cc
+still_some true (x ∷ xs) act some none = cc
+still_some false xs act some none = some none
+
+pub installed_steps : (old new : List Row) (terms : Conditions) (sub : Sub) (i : ℕ) (row : Row) (act : Act) (is_new : Bool) → ActsAreActs → AreBooks old terms → IsAt old sub i → row ≡ get_or old i row
+    → acts row.account.terms (row.account.acts ++ act ∷ []) ≡ (if is_new then row.account.acts ++ act ∷ [] else row.account.acts) → IsInstalled old new i row act → Steps old new terms sub act
+installed_steps old new terms sub i row act is_new law books at is adds installed =
     let account = installed.0 in
     let found = found_at old terms sub i row books at is in
     let named : row.sub ≡ sub = ap (λ (r : Row). r.sub) is ∙ at.named row in
@@ -39,12 +47,14 @@ installed_steps old new terms sub i row act law books at is installed =
       others = λ other apart. ap (λ (rows : List Row). account_in rows other) new_is ∙ at.others account other apart;
     } in
     let terms_are : account.terms ≡ terms = installed.2 ∙ found.terms_are in
+    let here : account_in old sub ≡ Some row.account = at.here row ∙ ap (λ (r : Row). Some r.account) (sym is) in
+    let begun : account.acts ≢ [] = λ none. still_some is_new row.account.acts act (books.begun sub row.account here) (sym adds ∙ sym installed.3 ∙ none) in
     let acts_are : account.acts ≡ next_acts terms (held_in old sub) act =
     installed.3 ∙ ap (λ (t : Conditions). next_acts t row.account.acts act) found.terms_are ∙ ap (λ (xs : List Act). next_acts terms xs act) found.acts_are in
     record {
       own = held_own old new sub account moves ∙ acts_are;
       others = held_others old new sub account moves;
-      books = books_moved old new terms sub account (held_in old sub ++ act ∷ []) law books moves terms_are acts_are;
+      books = books_moved old new terms sub account (held_in old sub ++ act ∷ []) law books moves terms_are begun acts_are (ap are_once new_is ∙ at.once account books.once);
     }
 
 -- of a subscriber without an account nothing is held
@@ -62,12 +72,24 @@ added_steps old new terms sub account act law books found added =
       others = others;
       books = record {
         terms_are = λ s account' is. elim (one_or_other s sub) [
-          | inl e ↦ added.2 account' (sym (ap (account_in new) e) ∙ is) ∙ found.terms_are
+          | inl e ↦ (added.2 account' (sym (ap (account_in new) e) ∙ is)).0 ∙ found.terms_are
           | inr apart ↦ books.terms_are s account' (sym (added.1 s apart) ∙ is)
+        ];
+        begun = λ s account' is. elim (one_or_other s sub) [
+          | inl e ↦ (added.2 account' (sym (ap (account_in new) e) ∙ is)).1
+          | inr apart ↦ books.begun s account' (sym (added.1 s apart) ∙ is)
         ];
         own = λ s. elim (one_or_other s sub) [
           | inl e ↦ (let here : held_in new s ≡ next_acts terms (held_in old sub) act = ap (held_in new) e ∙ own in rw here (law terms (held_in old sub ++ act ∷ [])))
           | inr apart ↦ (let same = others s apart in rw same (books.own s))
         ];
+        once = added.3 books.once;
       };
     }
+
+-- a step that was due of the rows as they were, and is taken of the same rows
+pub due_steps : (old now new : List Row) (terms : Conditions) (sub : Sub) (act : Act) (due : Due) → now ≡ old → AreBooks old terms → IsDue old terms sub act due
+    → ((t : Conditions) → AreBooks now t → HasTerms t due → Steps now new t sub (step_of due).act) → Steps old new terms sub act
+due_steps old now new terms sub act due same books is taken =
+    let steps = taken terms (subst (λ (rows : List Row). AreBooks rows terms) (sym same) books) is.has_terms in
+    subst (λ (rows : List Row). Steps rows new terms sub act) same (subst (λ (a : Act). Steps now new terms sub a) is.act_is steps)

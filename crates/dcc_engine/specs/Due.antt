@@ -1,9 +1,11 @@
 -- A step that is due: in its subscriber's row, or in an account that is added with it.
-use Rattle.std.specs.Prelude.{◌≡◌, ℕ, ◌<◌, List, [], slice_index_or}
+use Rattle.std.specs.Prelude.{◌≡◌, ℕ, ◌<◌, if◌then◌else◌, List, [], ◌∷◌, ◌++◌, slice_index_or}
 use Rattle.dcc_tariff.specs.Terms.{Conditions}
 use Rattle.dcc_act.specs.declared.act.Act.{Act}
 use Rattle.dcc_act.specs.declared.sub.Sub.{Sub}
+use Rattle.dcc_account.specs.Kept.{AccountView}
 use Rattle.dcc_account.specs.Prepared.{StepView, IsPrepared}
+use Rattle.dcc_model.specs.Outcomes.{acts}
 use Rattle.dcc_engine.specs.Books.{held_in, next_outcome, IsAt, IsAbsent}
 use Rattle.dcc_engine.specs.declared.row.Row.{Row}
 use Rattle.dcc_engine.specs.declared.steps.Due.{Due}
@@ -13,9 +15,16 @@ abbrev pub step_of : Due → StepView
 step_of (Known i step) = step
 step_of (First account step) = step
 
+-- its act comes behind the account's acts, or leaves them as they are
+abbrev pub Adds : AccountView → StepView → Type 0
+Adds account step =
+    acts account.terms (account.acts ++ step.act ∷ []) ≡ (if step.is_new then account.acts ++ step.act ∷ [] else account.acts)
+
 -- it is prepared for what stands in the rows
 abbrev pub Stands : List Row → Sub → Due → Type 0
-Stands rows sub (Known i step) = IsAt rows sub i × ((none : Row) → IsPrepared (slice_index_or rows i none).account step)
+Stands rows sub (Known i step) =
+    IsAt rows sub i × ((none : Row) → IsPrepared (slice_index_or rows i none).account step)
+    × ((none : Row) → Adds (slice_index_or rows i none).account step)
 Stands rows sub (First account step) = IsAbsent rows sub × (account.acts ≡ []) × IsPrepared account step
 
 -- an account that is added is under the terms

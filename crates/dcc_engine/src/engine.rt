@@ -1,6 +1,7 @@
 //! The engine.
 
-ghost use Rattle.std.specs.Prelude.{◌≡◌, ◌+◌, ◌<◌, ◌≤◌, ℕ, [], map, length, true, false, Some, None, IfOk, IfSome, IfNone, OnErr};
+ghost use Rattle.std.specs.Prelude.{◌≡◌, ◌≢◌, ◌+◌, ◌<◌, ◌≤◌, ℕ, [], map, length, true, false, Some, None};
+ghost use Rattle.std.specs.Prelude.{IfOk, IfSome, IfNone, OnErr};
 ghost use Rattle.dcc_act.specs.declared.sub.Sub.{Sub};
 ghost use Rattle.dcc_model.specs.Outcomes.{acts, funds, free, overrun};
 ghost use Rattle.dcc_engine.specs.Core.{Core, held_of, peer_of, IsUnchanged};
@@ -69,6 +70,7 @@ impl Engine {
     pub fn account(&self, sub: Sub) -> Option<&Account>
         ensures terms { IfSome result (λ account. account.now.terms ≡ self.now.setting.plan.terms) }
         ensures acts { IfSome result (λ account. account.now.acts ≡ held_of self.now sub) }
+        ensures some { IfSome result (λ account. account.now.acts ≢ []) }
         ensures none { IfNone result (held_of self.now sub ≡ []) }
     {
         let i = find(&self.rows, &sub)?;

@@ -23,6 +23,9 @@ const ANSWER: &str = "0100009840000110000000040000001100000021\
 000001024000000c00000004000001a04000000c000000040000019f4000000c00000000\
 000001af40000018000001a54000001000000000000003e9";
 
+/// A header whose length isn't a multiple of four.
+const BROKEN: &str = "01000016c0000110000000040000001100000021";
+
 fn engine(alloc: Global) -> Result<Engine, Fail> {
     let identity = Identity {
         host: DiameterIdentity::from_vec(b"ocs.example".to_vec(alloc)?).ok_or("a host")?,
@@ -36,25 +39,41 @@ fn subscriber() -> Result<Sub, Fail> {
     Ok(Sub::new(0, b"491700000001").ok_or("a subscriber")?)
 }
 
+fn moment() -> Result<Moment, Fail> {
+    Ok(Moment::new(1_751_328_000).ok_or("a moment")?)
+}
+
+fn connect(alloc: Global, peer: u32) -> Result<Event, Fail> {
+    Ok(Event::Connect {
+        peer,
+        host: Bytes::from_vec(b"gw1.example".to_vec(alloc)?),
+    })
+}
+
+fn top_up(ticket: u64, amount: u64) -> Result<Event, Fail> {
+    Ok(Event::TopUp {
+        moment: moment()?,
+        sub: subscriber()?,
+        ticket,
+        amount,
+    })
+}
+
+fn message(alloc: Global, peer: u32, octets: &str) -> Result<Event, Fail> {
+    Ok(Event::Message {
+        peer,
+        moment: moment()?,
+        bytes: Bytes::from_vec(hex::decode(alloc, octets)?),
+    })
+}
+
 /// A peer, its subscriber's first money, and a debit.
 fn events(alloc: Global) -> Result<Vec<Event>, Fail> {
-    let moment = Moment::new(1_751_328_000).ok_or("a moment")?;
-    let connect = Event::Connect {
-        peer: 1,
-        host: Bytes::from_vec(b"gw1.example".to_vec(alloc)?),
-    };
-    let top_up = Event::TopUp {
-        moment,
-        sub: subscriber()?,
-        ticket: 1,
-        amount: 1000,
-    };
-    let debit = Event::Message {
-        peer: 1,
-        moment,
-        bytes: Bytes::from_vec(hex::decode(alloc, DEBIT)?),
-    };
-    Ok(vec![in alloc; connect, top_up, debit]?)
+    Ok(vec![in alloc;
+        connect(alloc, 1)?,
+        top_up(1, 1000)?,
+        message(alloc, 1, DEBIT)?,
+    ]?)
 }
 
 #[test]
@@ -66,6 +85,52 @@ fn a_debit_is_answered(rt: HostRuntime) -> Result<(), Fail> {
     assert_eq!(rt; outs[1].top_up, Some(TopUpAnswer::Done));
     let answer = hex::encode(alloc, outs[2].bytes.as_slice())?;
     assert_eq!(rt; answer.as_str(), ANSWER);
+    let account = engine.account(subscriber()?).ok_or("an account")?;
+    assert_eq!(rt; account.funds(), 990);
+    Ok(())
+}
+
+/// What a peer sends, or that it connects where it sends nothing, and what it is answered.
+const AGAIN: [(u32, &str, &str); 10] = [
+    (1, "", ""),
+    (1, "", ""),
+    (1, DEBIT, ANSWER),
+    (2, "", ""),
+    (2, DEBIT, ANSWER),
+    (2, BROKEN, "close"),
+    (2, DEBIT, ""),
+    (1, DEBIT, ANSWER),
+    (2, "", ""),
+    (2, DEBIT, ANSWER),
+];
+
+/// The subscriber's first money, and what the peers do.
+fn events_again(alloc: Global) -> Result<Vec<Event>, Fail> {
+    let mut events = vec![in alloc; top_up(1, 1000)?]?;
+    for (peer, octets, _) in AGAIN {
+        let event = if octets.is_empty() {
+            connect(alloc, peer)?
+        } else {
+            message(alloc, peer, octets)?
+        };
+        events.push(event)?;
+    }
+    Ok(events)
+}
+
+/// A peer that connects again is heard, whether it was open or closed, and a request that comes again over another peer is
+/// answered as before, to that peer.
+#[test]
+fn peers_come_again(rt: HostRuntime) -> Result<(), Fail> {
+    let alloc = rt.alloc();
+    let mut engine = engine(alloc)?;
+    let outs = engine.run(alloc, &events_again(alloc)?)?;
+    assert_eq!(rt; outs.len(), 11);
+    for (out, (peer, _, told)) in outs.iter().skip(1).zip(AGAIN) {
+        let octets = hex::encode(alloc, out.bytes.as_slice())?;
+        let said = if out.close { "close" } else { octets.as_str() };
+        assert_eq!(rt; (out.peer, said), (Some(peer), told));
+    }
     let account = engine.account(subscriber()?).ok_or("an account")?;
     assert_eq!(rt; account.funds(), 990);
     Ok(())
@@ -96,5 +161,33 @@ fn a_refusal_changes_no_answer(rt: HostRuntime) -> Result<(), Fail> {
         _ => 0,
     };
     assert_eq!(rt; funds, wanted);
+    Ok(())
+}
+
+/// A ticket, its amount, and what it is told.
+const TICKETS: [(u64, u64, TopUpAnswer); 7] = [
+    (1, 1000, TopUpAnswer::Done),
+    (1, 5, TopUpAnswer::Done),
+    (1, 0, TopUpAnswer::BadAmount),
+    (1, 1_000_000_000_000_000_001, TopUpAnswer::BadAmount),
+    (2, 1_000_000_000_000_000_000, TopUpAnswer::Ceiling),
+    (2, 1, TopUpAnswer::Ceiling),
+    (3, 999_999_999_999_999_000, TopUpAnswer::Done),
+];
+
+/// A ticket that comes again is told what it was told first, whatever its amount, unless the amount may not be; here each comes in
+/// a run of its own, after one without events.
+#[test]
+fn tickets_come_again(rt: HostRuntime) -> Result<(), Fail> {
+    let alloc = rt.alloc();
+    let mut engine = engine(alloc)?;
+    assert!(rt; engine.run(alloc, &[])?.is_empty());
+    for (ticket, amount, told) in TICKETS {
+        let outs = engine.run(alloc, &[top_up(ticket, amount)?])?;
+        assert_eq!(rt; outs.len(), 1);
+        assert_eq!(rt; outs[0].top_up, Some(told));
+    }
+    let account = engine.account(subscriber()?).ok_or("an account")?;
+    assert_eq!(rt; account.funds(), 1_000_000_000_000_000_000);
     Ok(())
 }

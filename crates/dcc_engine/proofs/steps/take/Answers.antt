@@ -1,7 +1,8 @@
-use Rattle.std.proofs.Common.{refl, subst}
+use Rattle.std.proofs.Common.{refl, sym, subst}
 use Rattle.dcc_engine.specs.Books.{IsInstalled}
 use Rattle.std.specs.Prelude.{slice_set}
-use Rattle.dcc_engine.specs.Due.{Stands, HasTerms}
+use Rattle.dcc_engine.specs.Due.{Stands, HasTerms, Adds}
+use Rattle.dcc_engine.specs.declared.row.Row.{Row}
 use Rattle.dcc_engine.proofs.BookSteps.{installed_steps, added_steps, absent_found}
 use Rattle.dcc_engine.proofs.steps.take.Goals as goal
 
@@ -14,7 +15,9 @@ returns-in-Known c = λ terms books terms_are.
     let new = slice_set old i (record { sub = row.sub; account = c.install.new.self }) in
     let stands = subst (Stands old c.args.sub) c.in-Known.is c.requires.stands in
     let installed : IsInstalled old new i row act = (c.install.new.self, refl, c.install.ensures.terms, c.install.ensures.acts) in
-    rw c.in-Known.is (installed_steps old new terms c.args.sub i row act c.leaving_out_changes_nothing.ensures.whole books stands.0 c.index_mut-row.ensures.value installed)
+    let is = c.index_mut-row.ensures.value in
+    let adds = subst (λ (r : Row). Adds r.account c.in-Known.step) (sym is) (stands.2 row) in
+    rw c.in-Known.is (installed_steps old new terms c.args.sub i row act c.in-Known.step.is_new c.leaving_out_changes_nothing.ensures.whole books stands.0 is adds installed)
 
 pub returns-in-First : goal.returns-in-First
 returns-in-First c = λ terms books terms_are.
