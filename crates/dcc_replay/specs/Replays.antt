@@ -10,6 +10,7 @@ use Rattle.dcc_replay.specs.declared.failure.Failure.{Failure}
 use Rattle.dcc_replay.specs.declared.failure.Failure.TheVariants.{Usage, Memory, Io, Plan, Script}
 use Rattle.dcc_replay.specs.CommandLines.{IsSomeUse}
 use Rattle.dcc_replay.specs.Names.{identity_of}
+use Rattle.dcc_replay.specs.Plans.{IsPlanFailure}
 use Rattle.dcc_replay.specs.Scripts.{script_of}
 use Rattle.dcc_replay.specs.Printed.{printed}
 
@@ -39,10 +40,18 @@ IsReplayFailure text (Plan number) = ⊥
 IsReplayFailure None (Script line) = ⊤
 IsReplayFailure (Some text) (Script line) = script_of text ≡ Err line
 
+-- the failures that are told before any of the script is read
+abbrev pub IsBeforeScript : Failure → Type 0
+IsBeforeScript Usage = ⊤
+IsBeforeScript Memory = ⊥
+IsBeforeScript Io = ⊥
+IsBeforeScript (Plan number) = ⊤
+IsBeforeScript (Script line) = ⊥
+
 -- the failures that the program comes to: usage where the words of the command line are no use, and the others where they are
 abbrev pub IsRunFailure : List (List ℕ) → Option (List ℕ) → Failure → Type 0
 IsRunFailure words text Usage = ¬ IsSomeUse words
 IsRunFailure words text Memory = ⊤
 IsRunFailure words text Io = IsSomeUse words
-IsRunFailure words text (Plan number) = IsSomeUse words
+IsRunFailure words text (Plan number) = IsSomeUse words × IsPlanFailure None (Plan number)
 IsRunFailure words text (Script line) = IsSomeUse words × IsReplayFailure text (Script line)

@@ -4,7 +4,7 @@ ghost use Rattle.std.specs.Prelude.{◌≢◌, ℕ, List, map, string_bytes, IfE
 ghost use Rattle.std.specs.Io.KnownBytes.{Appends, Keeps};
 ghost use Rattle.dcc_tariff.specs.Plans.{PlanView};
 ghost use Rattle.dcc_replay.specs.CommandLines.{IsSomeUse};
-ghost use Rattle.dcc_replay.specs.Replays.{IsReplayed, IsRunFailure};
+ghost use Rattle.dcc_replay.specs.Replays.{IsReplayed, IsBeforeScript, IsRunFailure};
 ghost use Rattle.dcc_replay.specs.declared.failure.Failure.TheVariants.{Io};
 
 use crate::command_line::plan_path;
@@ -28,6 +28,7 @@ pub fn run<F: Files + AllocGlobal, R: Read, W: Write>(
         × Appends (W.contents output.old) (W.contents output.new) written)) }
     ensures used { OnOk result (IsSomeUse (map string_bytes words.now)) }
     ensures failures { IfErr result (IsRunFailure (map string_bytes words.now) (R.remaining input.old)) }
+    ensures order { IfErr result (λ failure. IsBeforeScript failure → Keeps (R.remaining input.old) (R.remaining input.new)) }
     ensures silent { IfErr result (λ failure. failure ≢ Io → Keeps (W.contents output.old) (W.contents output.new)) }
 {
     let path = plan_path(rt.alloc(), words)?;

@@ -12,14 +12,11 @@ use crate::failure::Failure;
 use crate::names::identity_of;
 use crate::printing::printed;
 use crate::script::read_script;
-use crate::streams::{read_all, write_all};
+use crate::streams::{MOST_READS, read_all, write_all};
 use dcc_engine::{Engine, Event, Out};
 use dcc_tariff::Plan;
 use std::alloc::{AllocError, Global};
 use std::io::{Read, Write};
-
-/// A script has ended after so many reads.
-const MOST_READS: u32 = u32::MAX;
 
 /// Reads a script, runs its events on an engine just opened under the plan, and writes what is printed of the outs.
 ///

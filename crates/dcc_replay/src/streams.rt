@@ -11,6 +11,9 @@ use std::io::{ErrorKind, Read, Write};
 /// As many octets are asked for at a time.
 const PIECE: usize = 4096;
 
+/// A script, or a plan, has ended after so many reads.
+pub(crate) const MOST_READS: u32 = u32::MAX;
+
 /// All that a reader gives up to its end. A reader that has not told its end after so many reads is a failure of input.
 pub(crate) fn read_all<R: Read>(
     alloc: Global,

@@ -138,7 +138,11 @@ fn takes_each_form_up_to_its_limits(rt: HostRuntime) -> Result<(), Fail> {
 #[test]
 fn takes_messages_of_65536_octets_and_none_longer(rt: HostRuntime) -> Result<(), Fail> {
     let alloc = rt.alloc();
-    for (octets, fault) in [(65_536, None), (65_537, Some(Failure::Script(1)))] {
+    for (octets, fault) in [
+        (65_536, None),
+        (65_537, Some(Failure::Script(1))),
+        (524_288, Some(Failure::Script(1))),
+    ] {
         let mut script = String::from_str(alloc, "message 1 0 ")?;
         for _ in 0..octets {
             script.push_str("00")?;

@@ -1,26 +1,13 @@
 //! How the program ends.
 
+use super::rows::MIDNIGHT;
 use crate::{Failure, plan_of, plan_path, read_plan, run};
 use std::alloc::{AllocError, Global};
 use std::io::{Error, ErrorKind};
 use std::test::Fail;
 
-const PLAN: &str = r#"
-host = "ocs.example"
-realm = "example"
-address = "127.0.0.1"
-shards = 2
-default_group = 10
-quantum = 100000
-validity = 600
-hold = 1200
-currency = 978
-exponent = -2
-tariff = [{ group = 10, unit = "octets", from = "2020-01-01T00:00:00Z", price = 5, block = 1000 }]
-"#;
-
 fn edited(alloc: Global, old: &str, new: &str) -> Result<String, Fail> {
-    let (before, after) = PLAN.split_once(old).ok_or("an edit of nothing")?;
+    let (before, after) = MIDNIGHT.split_once(old).ok_or("an edit of nothing")?;
     Ok(format!(in alloc; "{before}{new}{after}")?)
 }
 
@@ -71,7 +58,7 @@ fn plan_faults_have_their_numbers(rt: HostRuntime) -> Result<(), Fail> {
     ] {
         assert_eq!(&rt; plan_of(alloc, bytes).err(), Some(Failure::Plan(number)));
     }
-    assert_eq!(&rt; plan_of(alloc, PLAN.as_bytes())?.quantum(), 100_000);
+    assert_eq!(&rt; plan_of(alloc, MIDNIGHT.as_bytes())?.quantum(), 100_000);
     Ok(())
 }
 
@@ -85,8 +72,13 @@ fn files_that_cannot_be_read_are_failures_of_input(rt: HostRuntime) {
 #[test]
 fn command_lines_have_one_form(rt: HostRuntime) -> Result<(), Fail> {
     let alloc = rt.alloc();
-    let good = words(alloc, "dcc replay plan.toml")?;
-    assert_eq!(&rt; plan_path(alloc, good.as_slice()), Ok("plan.toml"));
+    for (line, path) in [
+        ("dcc replay plan.toml", "plan.toml"),
+        ("dcc replay -- -plan", "-plan"),
+    ] {
+        let good = words(alloc, line)?;
+        assert_eq!(&rt; plan_path(alloc, good.as_slice()), Ok(path));
+    }
     for line in [
         "dcc",
         "dcc replay",
@@ -116,6 +108,7 @@ fn usage_is_judged_before_the_plan_and_the_plan_before_the_script(
     for (line, failure, status) in [
         ("dcc replay /dev/null b", Failure::Usage, 2),
         ("dcc replay /dev/null", Failure::Plan(21), 3),
+        ("dcc replay -- /dev/null", Failure::Plan(21), 3),
         ("dcc replay /", Failure::Io, 1),
         ("dcc replay /none", Failure::Io, 1),
     ] {
