@@ -9,7 +9,7 @@
 //! - [`Plan::read`] gives the plan that a text means, or its first fault in the order of the keys, or says that memory
 //!   ran out.
 //! - [`Plan::at`] is the version of a group's tariff with the greatest `from` at or before a moment. The versions are kept
-//!   in order and found by halving, without memory.
+//!   in order, and found where the group's number says or else by halving, without memory.
 #![tactic(auto)]
 
 mod fault;
