@@ -4,7 +4,6 @@ use Rattle.std.proofs.lemmas.Bool.{cond-true, cases_Bool, false≢true}
 use Rattle.std.proofs.lemmas.Bool.Decides.{nat_tests}
 use Rattle.std.proofs.lemmas.List.{get_or_default, length-take-le}
 use Rattle.std.proofs.lemmas.Option.{slice_get_read}
-use Rattle.std.specs.List.Sorted.{IsPartitionPoint}
 use Rattle.dcc_tariff.specs.Plans.{are_ordered, is_of, has_begun, latest}
 use Rattle.dcc_tariff.specs.declared.version.Version.{Version}
 use Rattle.dcc_tariff.proofs.VersionLemmas.{partitioned, is_below, is_below_steady, is_up_to, is_up_to_steady, if_of, latest-is}

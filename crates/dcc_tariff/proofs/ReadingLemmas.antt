@@ -1,8 +1,7 @@
 -- A plan whose parts were all read.
-use Rattle.std.proofs.Common.{◌≡◌, ℕ, ◌-◌, ◌^◌, true, ◌&&◌, List, [], codes, Ok, ap, ◌∙◌}
+use Rattle.std.proofs.Common.{◌≡◌, ◌-◌, ◌^◌, true, ◌&&◌, [], codes, Ok}
 use Rattle.std.specs.List.{list_any}
 use Rattle.toml.specs.Data.{Members, Items}
-use Rattle.dcc_tariff.specs.Terms.{Conditions}
 use Rattle.dcc_tariff.specs.Plans.{PlanView, all_agree, is_of}
 use Rattle.dcc_tariff.specs.PlanTexts.{identity_at, address_at, number_at, terms_of, tables_at, versions_onto, plan_of}
 

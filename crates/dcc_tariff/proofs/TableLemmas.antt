@@ -1,14 +1,14 @@
 -- The tables of a plan, from the values that the code goes over.
-use Rattle.std.proofs.Common.{◌≡◌, ℕ, zero, suc, ◌+◌, ◌<◌, ◌≤◌, Bool, true, false, not, ◌&&◌, nat_le, cond, List, [], ◌∷◌, ◌++◌, length}
-use Rattle.std.proofs.Common.{take, drop, get_or, ◌⊎◌, Option, Some, None, is_some, Result, Ok, Err, refl, sym, ap, ◌∙◌, arith, inl}
+use Rattle.std.proofs.Common.{◌≡◌, ℕ, zero, suc, ◌+◌, ◌<◌, ◌≤◌, Bool, true, false, not, ◌&&◌, nat_le, cond, List, [], ◌∷◌, length}
+use Rattle.std.proofs.Common.{drop, get_or, ◌⊎◌, is_some, Result, Ok, Err, refl, sym, ap, ◌∙◌, arith, inl}
 use Rattle.std.proofs.Common.{inr}
-use Rattle.std.specs.List.{list_all, insert, AllWithin}
+use Rattle.std.specs.List.{list_all, insert}
 use Rattle.std.specs.List.Sorted.{IsPartitionPoint}
 use Rattle.std.proofs.lemmas.Bool.{and_parts, and_from, cases_Bool, cond-true, cond-false}
 use Rattle.std.proofs.lemmas.Bool.Decides.{nat_tests}
 use Rattle.std.proofs.Math.ListN.{drop_of_length-le}
 use Rattle.toml.proofs.Views.{items_view-drop}
-use Rattle.toml.specs.Data.{Data, Members, Items, as_table, as_array}
+use Rattle.toml.specs.Data.{Members, as_table, as_array}
 use Rattle.toml.specs.View.{view, items_view}
 use Rattle.toml.specs.declared.value.Value.{Value}
 use Rattle.dcc_tariff.specs.Plans.{precedes, are_ordered}

@@ -1,5 +1,5 @@
 -- What the text of a plan file means, a TOML document: a plan, or the first fault in the order of the keys.
-use Rattle.std.specs.Prelude.{◌≡◌, ℕ, suc, ◌+◌, ◌-◌, ◌*◌, ◌^◌, Bool, true, false, ◌&&◌, ◌==◌, bytes_eq, nat_lt, nat_le, if◌then◌else◌}
+use Rattle.std.specs.Prelude.{◌≡◌, ℕ, suc, ◌+◌, ◌-◌, ◌*◌, ◌^◌, Bool, true, ◌&&◌, ◌==◌, bytes_eq, nat_lt, nat_le, if◌then◌else◌}
 use Rattle.std.specs.Prelude.{ℤ, pos, negsuc, int_le, int_div, unsigned_abs, List, [], ◌∷◌, length, codes, slice_index, Option, Some}
 use Rattle.std.specs.Prelude.{None, is_some, Result, Ok, Err, ok_or}
 use Rattle.std.specs.Char.{is_ascii_digit}

@@ -23,7 +23,7 @@ const WATCHDOG: &str = "01000038800001180000000000000001000000020000010840000013
 
 /// A script without its first line, which opens the peer, and what is printed of the rest. The moments are the starts of the
 /// years 2020 and 2025, and of July 2025, from which on a block costs 7 instead of 5; an event before 2020 has no tariff.
-const ROWS: [(&str, &str); 9] = [
+const ROWS: [(&str, &str); 12] = [
     // No request acts before the first top-up, nor its repeat, and none is kept: after it each acts. 1,000 less 10 and 10 is 980.
     (
         "message 1 1735689600 debit/0/1001\nmessage 1 1735689600 debit/0/1001\ntopup 0 0:491700000001 1 1000\n\
@@ -79,6 +79,26 @@ message 1 1577836799 debit/2/1001\nmessage 1 1751328000 debit/3/1001\n\
 topup 0 0:491700000001 2 999999999999999039\ntopup 0 0:491700000001 3 999999999999999038\n",
         "2 topup done\n3 answer 1 granted/0/1001\n4 answer 1 granted/1/1001\n5 answer 1 refused/2/5031\n\
 6 answer 1 granted/3/1001\n7 topup ceiling\n8 topup done\n",
+    ),
+    // A request that comes again with other octets is answered as the first was, and takes nothing more: 1,000 less 10 is 990.
+    (
+        "topup 0 0:491700000001 1 1000\nmessage 1 1735689600 debit/0/1001\nmessage 1 1735689600 debit/0/2001\n\
+topup 0 0:491700000001 2 999999999999999011\ntopup 0 0:491700000001 3 999999999999999010\n",
+        "2 topup done\n3 answer 1 granted/0/1001\n4 answer 1 granted/0/1001\n5 topup ceiling\n6 topup done\n",
+    ),
+    // Two subscribers, one with money for two debits and the other for one, under one session and number: each has its own.
+    (
+        "topup 0 0:491700000001 1 20\ntopup 0 0:4917000000013 1 10\nmessage 1 1735689600 padded\n\
+message 1 1735689600 debit/0/1001\nmessage 1 1735689600 debit/1/1001\nmessage 1 1735689600 padded\n\
+message 1 1735689600 debit/2/1001\n",
+        "2 topup done\n3 topup done\n4 answer 1 granted/0/1001\n5 answer 1 granted/0/1001\n6 answer 1 granted/1/1001\n\
+7 answer 1 granted/0/1001\n8 answer 1 refused/2/4012\n",
+    ),
+    // What is no message closes a peer that is open, and is passed over on one that is closed, or was never opened.
+    (
+        "message 1 0 01000016c0000110000000040000001100000021\nmessage 1 0 01000016c0000110000000040000001100000021\n\
+message 2 0 01000016c0000110000000040000001100000021\n",
+        "2 close 1\n3 -\n4 -\n",
     ),
     // Of a list that can't be read an answer copies nothing, neither a Session-Id nor a Proxy-Info in front of the broken AVP. A
     // watchdog's request is answered busy as it isn't served yet, and an answer by nothing.

@@ -1,4 +1,4 @@
-use Rattle.std.proofs.Common.{◌≡◌, ap, sym, ◌∙◌}
+use Rattle.std.proofs.Common.{sym}
 use Rattle.dcc_tariff.proofs.AddressLemmas.{address_of-dotted, address_of-none}
 use Rattle.dcc_tariff.proofs.keys.address_of.Goals as goal
 

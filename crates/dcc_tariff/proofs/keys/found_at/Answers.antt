@@ -1,4 +1,4 @@
-use Rattle.std.proofs.Common.{ap, ok_or}
+use Rattle.std.proofs.Common.{ap}
 use Rattle.toml.proofs.Views.{table_get}
 use Rattle.dcc_tariff.specs.PlanTexts.{required}
 use Rattle.dcc_tariff.proofs.keys.found_at.Goals as goal

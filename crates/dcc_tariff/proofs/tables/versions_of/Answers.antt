@@ -1,7 +1,7 @@
-use Rattle.std.proofs.Common.{◌≡◌, ◌+◌, ◌<◌, ◌≤◌, List, [], drop, Vec, Global, Ok, Err, sym, ap, ◌∙◌, arith}
+use Rattle.std.proofs.Common.{◌≡◌, ◌+◌, [], drop, Vec, Global, Err, sym, ap, ◌∙◌}
 use Rattle.std.proofs.lemmas.Result.{err_from_is_err_and}
-use Rattle.toml.specs.View.{view, items_view}
-use Rattle.dcc_tariff.specs.PlanTexts.{versions_onto, version_of_value, place, ◌>>=◌}
+use Rattle.toml.specs.View.{items_view}
+use Rattle.dcc_tariff.specs.PlanTexts.{versions_onto, place, ◌>>=◌}
 use Rattle.dcc_tariff.specs.declared.version.Version.{Version}
 use Rattle.dcc_tariff.proofs.TableLemmas.{versions_onto-step, versions_onto-end, gives_fault}
 use Rattle.dcc_tariff.proofs.tables.versions_of.Goals as goal
