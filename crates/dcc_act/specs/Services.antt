@@ -3,7 +3,7 @@ use Rattle.std.specs.Prelude.{◌≡◌, ℕ, ◌≤◌, ◌<◌, ◌^◌, true,
 use Rattle.std.specs.Option.{ForSome}
 use Rattle.dcc_tariff.specs.declared.tariff.UnitKind.{UnitKind}
 use Rattle.dcc_tariff.specs.declared.tariff.UnitKind.TheVariants.{Time}
-use Rattle.dcc_tariff.specs.Terms.{Rate}
+use Rattle.dcc_tariff.specs.Terms.{TariffView}
 use Rattle.dcc_act.specs.declared.act.Action.{Action}
 use Rattle.dcc_act.specs.declared.request_key.RequestKey.{RequestKey}
 use Rattle.dcc_act.specs.declared.service.Form.{Form}
@@ -16,11 +16,11 @@ pub record ServiceView : Type 0 where
   pub asked : Option ℕ
   pub used : Option ℕ
   pub unit : Option UnitKind
-  pub tariff : Option Rate
+  pub tariff : Option TariffView
 
 -- amounts are at most 10^12; with a unit at least 1 is asked for, and in time less than 2^32; without one they are 0
 -- and there is no tariff
-pub record IsService (asked used : Option ℕ) (unit : Option UnitKind) (tariff : Option Rate) : Type 0 where
+pub record IsService (asked used : Option ℕ) (unit : Option UnitKind) (tariff : Option TariffView) : Type 0 where
   pub asked_in_range : ForSome asked (λ units. units ≤ 10 ^ 12)
   pub asked_not_none : is_some unit ≡ true → ForSome asked (λ units. 1 ≤ units)
   pub asked_time : unit ≡ Some Time → ForSome asked (λ units. units < 2 ^ 32)

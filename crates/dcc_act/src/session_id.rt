@@ -8,10 +8,10 @@ ghost use Rattle.dcc_act.specs.Limits.{IsSessionId};
 use std::alloc::AllocError;
 use std::marker::Model;
 
-/// The name of a session: 1 to 255 bytes of any value (Session-Id, RFC 6733, section 8.8).
+/// The name of a session: 1 to 255 octets of any value (Session-Id, RFC 6733, section 8.8).
 #[derive(Debug, Drop)]
 pub struct SessionId {
-    bytes: Vec<u8>,
+    octets: Vec<u8>,
 }
 
 impl Model for SessionId {
@@ -20,37 +20,37 @@ impl Model for SessionId {
 
     ghost Value = { List ℕ };
 
-    ghost view = { λ s. s.bytes.items };
+    ghost view = { λ s. s.octets.items };
 
-    ghost invariant = { λ s. IsSessionId s.bytes.items };
+    ghost invariant = { λ s. IsSessionId s.octets.items };
 }
 
 impl SessionId {
-    /// The name of these bytes, or none where they aren't 1 to 255.
-    pub fn from_vec(bytes: Vec<u8>) -> Option<SessionId>
-        ensures limit { IsSome result ↔ IsSessionId bytes.items }
-        ensures value { IfSome result (λ sid. sid ≡ bytes.items) }
+    /// The name of these octets, or none where they aren't 1 to 255.
+    pub fn from_vec(octets: Vec<u8>) -> Option<SessionId>
+        ensures limit { IsSome result ↔ IsSessionId octets.items }
+        ensures value { IfSome result (λ sid. sid ≡ octets.items) }
     {
-        if bytes.is_empty() || bytes.len() > 255 {
+        if octets.is_empty() || octets.len() > 255 {
             return None;
         }
-        Some(SessionId { bytes })
+        Some(SessionId { octets })
     }
 
-    /// The bytes, moved out.
+    /// The octets, moved out.
     pub fn into_vec(self) -> Vec<u8>
         ensures value { result.items ≡ self }
         ensures limit { IsSessionId self }
     {
-        self.bytes
+        self.octets
     }
 
-    /// The bytes.
+    /// The octets.
     pub fn as_slice(&self) -> &[u8]
         ensures value { result.now ≡ self.now }
         ensures limit { IsSessionId self.now }
     {
-        &self.bytes
+        &self.octets
     }
 
     /// An equal name, where memory suffices.
@@ -58,7 +58,7 @@ impl SessionId {
         ensures { IfOk result (λ copy. copy ≡ self.now) }
     {
         Ok(SessionId {
-            bytes: self.bytes.clone()?,
+            octets: self.octets.clone()?,
         })
     }
 }

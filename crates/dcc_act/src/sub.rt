@@ -11,7 +11,7 @@ use std::marker::Model;
 pub struct Sub {
     kind: u8,
     len: u8,
-    bytes: [u8; 64],
+    octets: [u8; 64],
 }
 
 impl Model for Sub {
@@ -20,23 +20,23 @@ impl Model for Sub {
 
     ghost Value = { SubView };
 
-    ghost view = { λ s. record { kind = s.kind; name = take s.len s.bytes } };
+    ghost view = { λ s. record { kind = s.kind; name = take s.len s.octets } };
 
-    ghost invariant = { λ s. (is_sub s.kind (take s.len s.bytes) ≡ true)
-        × (s.len ≤ 64) × (length s.bytes ≡ 64) × (s.bytes ≡ padded (take s.len s.bytes)) };
+    ghost invariant = { λ s. (is_sub s.kind (take s.len s.octets) ≡ true)
+        × (s.len ≤ 64) × (length s.octets ≡ 64) × (s.octets ≡ padded (take s.len s.octets)) };
 
-    ghost inverse = { λ v. record { kind = v.kind; len = length v.name; bytes = padded v.name } };
+    ghost inverse = { λ v. record { kind = v.kind; len = length v.name; octets = padded v.name } };
 
     ghost inverse_ok = { λ s h i. record {
       kind = s.kind;
-      len = length_kept s.len s.bytes h.1 h.2 i;
-      bytes = unpadded s.len s.bytes h.3 i;
+      len = length_kept s.len s.octets h.1 h.2 i;
+      octets = unpadded s.len s.octets h.3 i;
     } };
 }
 
 impl Sub {
     /// The subscriber of this type (0 to 4, RFC 8506, section 8.47) and these data, or none where the type is another or
-    /// the data aren't 1 to 64 bytes of visible ASCII (0x21 to 0x7E).
+    /// the data aren't 1 to 64 octets of visible ASCII (0x21 to 0x7E).
     pub fn new(kind: u8, name: &[u8]) -> Option<Sub>
         ensures { result ≡ (if is_sub kind name.now then Some (record { kind = kind; name = name.now }) else None) }
     {
@@ -46,7 +46,7 @@ impl Sub {
         Some(Sub {
             kind,
             len: name.len() as u8,
-            bytes: with_zeros(name),
+            octets: with_zeros(name),
         })
     }
 
@@ -58,12 +58,12 @@ impl Sub {
         self.kind
     }
 
-    /// The data, 1 to 64 bytes of visible ASCII.
+    /// The data, 1 to 64 octets of visible ASCII.
     pub fn name(&self) -> &[u8]
         ensures value { result.now ≡ self.now.name }
         ensures limits { is_sub self.now.kind self.now.name ≡ true }
     {
-        &self.bytes[..self.len as usize]
+        &self.octets[..self.len as usize]
     }
 }
 
@@ -75,17 +75,17 @@ fn is_sub(kind: u8, name: &[u8]) -> bool
 }
 
 fn are_visible(name: &[u8]) -> bool
-    ensures { result ≡ list_all (λ byte. nat_le 0x21 byte && nat_le byte 0x7E) name.now }
+    ensures { result ≡ list_all (λ octet. nat_le 0x21 octet && nat_le octet 0x7E) name.now }
 {
-    name.iter().all(|byte| b'!' <= *byte && *byte <= b'~')
+    name.iter().all(|octet| b'!' <= *octet && *octet <= b'~')
 }
 
-/// The bytes, and zeros behind.
+/// The octets, and zeros behind.
 fn with_zeros(name: &[u8]) -> [u8; 64]
     requires { length name.now ≤ 64 }
     ensures { result ≡ padded name.now }
 {
-    let mut bytes = [0; 64];
-    bytes[..name.len()].copy_from_slice(name);
-    bytes
+    let mut octets = [0; 64];
+    octets[..name.len()].copy_from_slice(name);
+    octets
 }

@@ -1,4 +1,4 @@
-//! How subscribers compare: by type, and then by the data, byte by byte.
+//! How subscribers compare: by type, and then by the data, octet by octet.
 
 ghost use Rattle.std.specs.Prelude.{◌==◌, ◌++◌};
 ghost use Rattle.std.proofs.Common.{rules};

@@ -32,8 +32,8 @@ fn moments(rt: HostRuntime) -> Result<(), Fail> {
 }
 
 fn key(alloc: Global) -> Result<RequestKey, Fail> {
-    let bytes = b"gw1.example;1;1".to_vec(alloc)?;
-    let sid = SessionId::from_vec(bytes).ok_or("a session's name")?;
+    let octets = b"gw1.example;1;1".to_vec(alloc)?;
+    let sid = SessionId::from_vec(octets).ok_or("a session's name")?;
     Ok(RequestKey { sid, number: 7 })
 }
 

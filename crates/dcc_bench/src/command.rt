@@ -5,8 +5,8 @@
 pub enum Command {
     /// Debit requests read, and their answers written.
     Codec { count: u32 },
-    /// A stream of about so many bytes, fed in pieces of so many.
-    Framer { bytes: u32, piece: u32 },
+    /// A stream of about so many octets, fed in pieces of so many.
+    Framer { octets: u32, piece: u32 },
     /// A plan of so many tariffs, in which they are looked up.
     Plan { count: u32 },
     /// A run of so many subscribers' debits.
@@ -47,7 +47,7 @@ fn command_with(name: &str, count: u32) -> Option<Command> {
 fn command_with_two(name: &str, first: u32, second: u32) -> Option<Command> {
     match name {
         "framer" => Some(Command::Framer {
-            bytes: first,
+            octets: first,
             piece: second,
         }),
         "replay" => Some(Command::Replay {

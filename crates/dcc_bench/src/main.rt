@@ -24,7 +24,7 @@ fn main(rt: HostRuntime) -> Result<()> {
     match command_of(words.as_slice()) {
         Some(Command::Sample) => sample(&rt),
         Some(Command::Codec { count }) => codec::measure(&rt, count),
-        Some(Command::Framer { bytes, piece }) => stream::measure(&rt, bytes, piece),
+        Some(Command::Framer { octets, piece }) => stream::measure(&rt, octets, piece),
         Some(Command::Plan { count }) => tariffs::measure(&rt, count),
         Some(
             Command::Replay {

@@ -6,7 +6,7 @@ use crate::rounds::timed;
 use crate::tariffs::plan_text;
 use anyhow::{Context, Result};
 use dcc_act::{Moment, Sub};
-use dcc_engine::{Bytes, Engine, Event, Out};
+use dcc_engine::{OctetString, Engine, Event, Out};
 use dcc_message::{DiameterIdentity, Identity};
 use dcc_replay::replay_run;
 use dcc_tariff::Plan;
@@ -76,7 +76,7 @@ fn run_all(alloc: Global, events: &[Event]) -> Result<Vec<Out>> {
 fn mark_of(outs: &[Out]) -> u64 {
     let mut mark = 0;
     for out in outs {
-        mark = marked(mark, out.bytes.as_slice(), 15);
+        mark = marked(mark, out.octets.as_slice(), 15);
     }
     mark
 }
@@ -85,7 +85,7 @@ fn mark_of(outs: &[Out]) -> u64 {
 fn sum_of(outs: &[Out]) -> u64 {
     let mut sum = START;
     for out in outs {
-        sum = summed(sum, out.bytes.as_slice());
+        sum = summed(sum, out.octets.as_slice());
     }
     sum
 }
@@ -94,7 +94,7 @@ fn events_of(alloc: Global, subscribers: u32, requests: u32) -> Result<Vec<Event
     let moment = Moment::new(MOMENT).context("a moment")?;
     let connect = Event::Connect {
         peer: 1,
-        host: Bytes::from_vec(b"gw1.example".to_vec(alloc)?),
+        host: OctetString::from_vec(b"gw1.example".to_vec(alloc)?),
     };
     let mut events = vec![in alloc; connect]?;
     for i in 0..subscribers {
@@ -115,7 +115,7 @@ fn events_of(alloc: Global, subscribers: u32, requests: u32) -> Result<Vec<Event
         events.push(Event::Message {
             peer: 1,
             moment,
-            bytes: Bytes::from_vec(debit.as_slice().to_vec(alloc)?),
+            octets: OctetString::from_vec(debit.as_slice().to_vec(alloc)?),
         })?;
     }
     Ok(events)

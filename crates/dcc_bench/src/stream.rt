@@ -11,14 +11,14 @@ use std::time::CpuClock;
 /// Measures framing, where the messages are taken after each piece, and copying the same messages alone.
 pub fn measure<R: AllocGlobal + Print + Eprint + CpuClock>(
     rt: &R,
-    bytes: u32,
+    octets: u32,
     piece: u32,
 ) -> Result<()> {
     let alloc = rt.alloc();
-    let stream = stream_of(alloc, bytes as usize / LENGTH + 1)?;
+    let stream = stream_of(alloc, octets as usize / LENGTH + 1)?;
     let stream = stream.as_slice();
     let length = stream.len() as u64;
-    let mark = timed(rt, "framer byte", length, || {
+    let mark = timed(rt, "framer octet", length, || {
         framed(alloc, stream, piece as usize)
     })?;
     let copies = timed(rt, "framer copy", length, || {
@@ -27,7 +27,7 @@ pub fn measure<R: AllocGlobal + Print + Eprint + CpuClock>(
     if mark != copies {
         bail!("other messages than the stream's");
     }
-    println!(rt; "framer {bytes} {piece} mark {mark:016x}")?;
+    println!(rt; "framer {octets} {piece} mark {mark:016x}")?;
     Ok(())
 }
 

@@ -8,9 +8,9 @@ use Rattle.dcc_avp.specs.Spelling.{padded}
 use Rattle.dcc_message.specs.HeaderView.{HeaderView}
 use Rattle.dcc_message.specs.Headers.{header, message}
 use Rattle.dcc_message.specs.declared.identity.Identity.{Identity}
-use Rattle.dcc_tariff.specs.Terms.{Conditions}
+use Rattle.dcc_tariff.specs.Terms.{TermsView}
 use Rattle.dcc_act.specs.declared.outcome.Outcome.{Outcome}
-use Rattle.dcc_credit.specs.Answers.{answer_avps, answer_bytes, answer_header, busy_avps, busy_bytes, is_busy}
+use Rattle.dcc_credit.specs.Answers.{answer_avps, answer_octets, answer_header, busy_avps, busy_octets, is_busy}
 
 -- the flags of a message are its fifth octet
 flags_of_message : (h : HeaderView) (avps : List ℕ) → slice_index (message h avps) 4 ≡ h.flags
@@ -29,26 +29,26 @@ busy_by_flags : (h : HeaderView) (avps : List ℕ) (bits : ℕ) → bit_and h.fl
 unfolding is_busy
 busy_by_flags h avps bits e = rw (flags_of_message h avps, e) refl
 
-pub answer_not_busy : (identity : Identity) (terms : Conditions) (request : HeaderView) (proxies : List ℕ) (outcome : Outcome) →
-    is_busy (answer_bytes identity terms request proxies outcome) ≡ false
-unfolding answer_bytes
+pub answer_not_busy : (identity : Identity) (terms : TermsView) (request : HeaderView) (proxies : List ℕ) (outcome : Outcome) →
+    is_busy (answer_octets identity terms request proxies outcome) ≡ false
+unfolding answer_octets
 answer_not_busy identity terms request proxies outcome =
     busy_by_flags (answer_header request 0) (flat_map padded (answer_avps identity terms outcome) ++ proxies) 0 (is_clear request.flags)
 
 pub busy_is_busy : (identity : Identity) (session : Option (List ℕ)) (request : HeaderView) (proxies : List ℕ) →
-    is_busy (busy_bytes identity session request proxies) ≡ true
-unfolding busy_bytes
+    is_busy (busy_octets identity session request proxies) ≡ true
+unfolding busy_octets
 busy_is_busy identity session request proxies =
     busy_by_flags (answer_header request 0x20) (flat_map padded (busy_avps identity session) ++ proxies) 0x20 (and_or_self 0x20 (bit_and request.flags 0x40))
 
-pub answer_least : (identity : Identity) (terms : Conditions) (request : HeaderView) (proxies : List ℕ) (outcome : Outcome) →
-    20 ≤ length (answer_bytes identity terms request proxies outcome)
-unfolding answer_bytes
+pub answer_least : (identity : Identity) (terms : TermsView) (request : HeaderView) (proxies : List ℕ) (outcome : Outcome) →
+    20 ≤ length (answer_octets identity terms request proxies outcome)
+unfolding answer_octets
 answer_least identity terms request proxies outcome =
     least_message (answer_header request 0) (flat_map padded (answer_avps identity terms outcome) ++ proxies)
 
 pub busy_least : (identity : Identity) (session : Option (List ℕ)) (request : HeaderView) (proxies : List ℕ) →
-    20 ≤ length (busy_bytes identity session request proxies)
-unfolding busy_bytes
+    20 ≤ length (busy_octets identity session request proxies)
+unfolding busy_octets
 busy_least identity session request proxies =
     least_message (answer_header request 0x20) (flat_map padded (busy_avps identity session) ++ proxies)

@@ -12,7 +12,7 @@ use Rattle.dcc_avp.specs.Spelling.{AvpView, avp_len, padded_len, padded, HasSpel
 use Rattle.dcc_avp.specs.declared.codes.TheConstants.{SESSION_ID, RESULT_CODE, ORIGIN_HOST, ORIGIN_REALM, AUTH_APPLICATION_ID, CC_REQUEST_TYPE, CC_REQUEST_NUMBER, GRANTED_SERVICE_UNIT, CC_TOTAL_OCTETS, CC_TIME, CC_SERVICE_SPECIFIC_UNITS, MULTIPLE_SERVICES_CREDIT_CONTROL, SERVICE_IDENTIFIER, RATING_GROUP}
 use Rattle.dcc_message.specs.Names.{is_name}
 use Rattle.dcc_message.specs.declared.identity.Identity.{Identity}
-use Rattle.dcc_tariff.specs.Terms.{Conditions}
+use Rattle.dcc_tariff.specs.Terms.{TermsView}
 use Rattle.dcc_tariff.specs.declared.tariff.UnitKind.{UnitKind}
 use Rattle.dcc_tariff.specs.declared.tariff.UnitKind.TheVariants.{Octets, Time, Units}
 use Rattle.dcc_act.specs.declared.outcome.Grant.{Grant}
@@ -188,7 +188,7 @@ head_spelled identity type key code server few =
       ),
     )
 
-pub answer_spelled : AreSizes → (identity : Identity) (terms : Conditions) (outcome : Outcome) → IsServer identity → HasLimits outcome → AllSpelled (answer_avps identity terms outcome)
+pub answer_spelled : AreSizes → (identity : Identity) (terms : TermsView) (outcome : Outcome) → IsServer identity → HasLimits outcome → AllSpelled (answer_avps identity terms outcome)
 unfolding answer_avps
 answer_spelled sizes identity terms (Unknown type key) server limits = head_spelled identity type key 5030 server limits.not_long
 answer_spelled sizes identity terms (Answered answer) server limits =

@@ -12,7 +12,7 @@ use Rattle.dcc_avp.specs.declared.codes.TheConstants.{RATING_GROUP, PROXY_INFO}
 use Rattle.dcc_message.specs.HeaderView.{HeaderView}
 use Rattle.dcc_message.specs.Headers.{message}
 use Rattle.dcc_message.specs.declared.identity.Identity.{Identity}
-use Rattle.dcc_tariff.specs.Terms.{Conditions}
+use Rattle.dcc_tariff.specs.Terms.{TermsView}
 use Rattle.dcc_tariff.specs.declared.tariff.UnitKind.{UnitKind}
 use Rattle.dcc_tariff.specs.declared.tariff.UnitKind.TheVariants.{Octets, Time, Units}
 use Rattle.dcc_act.specs.declared.outcome.Grant.{Grant}
@@ -81,7 +81,7 @@ head_avps identity type key code =
     sent32 AUTH_APPLICATION_ID 4 ∷ sent32 CC_REQUEST_TYPE (request_type_number type) ∷ sent32 CC_REQUEST_NUMBER key.number ∷ []
 
 -- the AVPs of an answer, in their order; a top-up's outcome has none
-unfoldable pub answer_avps : Identity → Conditions → Outcome → List AvpView
+unfoldable pub answer_avps : Identity → TermsView → Outcome → List AvpView
 answer_avps identity terms (Unknown type key) = head_avps identity type key 5030
 answer_avps identity terms (Answered answer) =
     head_avps identity answer.request answer.key (result_number answer.result) ++
@@ -94,8 +94,8 @@ abbrev pub answer_header : HeaderView → ℕ → HeaderView
 answer_header request bits = record request { flags = bit_or (bit_and request.flags 0x40) bits }
 
 -- the answer to a request with an outcome, under the request's identifiers and P bit, with its proxies at the end
-unfoldable pub answer_bytes : Identity → Conditions → HeaderView → List ℕ → Outcome → List ℕ
-answer_bytes identity terms request proxies outcome =
+unfoldable pub answer_octets : Identity → TermsView → HeaderView → List ℕ → Outcome → List ℕ
+answer_octets identity terms request proxies outcome =
     message (answer_header request 0) (flat_map padded (answer_avps identity terms outcome) ++ proxies)
 
 -- DIAMETER_TOO_BUSY (RFC 6733, section 7.1.3)
@@ -105,8 +105,8 @@ busy_avps identity session =
     sent32 RESULT_CODE 3004 ∷ sent ORIGIN_HOST identity.host ∷ sent ORIGIN_REALM identity.realm ∷ []
 
 -- the busy answer, with E set
-unfoldable pub busy_bytes : Identity → Option (List ℕ) → HeaderView → List ℕ → List ℕ
-busy_bytes identity session request proxies =
+unfoldable pub busy_octets : Identity → Option (List ℕ) → HeaderView → List ℕ → List ℕ
+busy_octets identity session request proxies =
     message (answer_header request 0x20) (flat_map padded (busy_avps identity session) ++ proxies)
 
 -- the E bit of a message

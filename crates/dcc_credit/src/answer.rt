@@ -4,7 +4,7 @@ ghost use Rattle.std.specs.Prelude.{◌≡◌, ◌≤◌, ◌+◌, ◌*◌, ◌<
 ghost use Rattle.std.specs.List.{flat_map};
 ghost use Rattle.dcc_avp.specs.Spelling.{padded};
 ghost use Rattle.dcc_message.specs.Headers.{message};
-ghost use Rattle.dcc_credit.specs.Answers.{head_avps, answer_avps, answer_header as header_of_answer, answer_bytes};
+ghost use Rattle.dcc_credit.specs.Answers.{head_avps, answer_avps, answer_header as header_of_answer, answer_octets};
 ghost use Rattle.dcc_credit.specs.Sizes.{Grows};
 
 use crate::proxies::Proxies;
@@ -24,7 +24,7 @@ pub(crate) const ROOM: usize = 256;
 
 /// Writes the answer of an outcome to a request, under the request's identifiers and P bit, with its Proxy-Info at the
 /// end. At want of memory there is no message.
-#[tactic(auto, unfolding(crate::specs::Answers::answer_bytes))]
+#[tactic(auto, unfolding(crate::specs::Answers::answer_octets))]
 pub fn write_cca(
     alloc: Global,
     identity: &Identity,
@@ -33,7 +33,7 @@ pub fn write_cca(
     proxies: &Proxies,
     outcome: &Outcome,
 ) -> Result<Vec<u8>, AllocError>
-    ensures { IfOk result (λ answer. answer.items ≡ answer_bytes identity.now terms.now request.now proxies.now outcome.now) }
+    ensures { IfOk result (λ answer. answer.items ≡ answer_octets identity.now terms.now request.now proxies.now outcome.now) }
 {
     let mut answer = begin_message(alloc, ROOM)?;
     put_answer(&mut answer, identity, terms, outcome)?;

@@ -4,7 +4,7 @@ ghost use Rattle.std.specs.Prelude.{◌≡◌, ◌≤◌, ◌++◌, length, vec_
 ghost use Rattle.std.specs.List.{flat_map};
 ghost use Rattle.std.specs.Option.{ForSome};
 ghost use Rattle.dcc_avp.specs.Spelling.{padded};
-ghost use Rattle.dcc_credit.specs.Answers.{busy_avps, busy_bytes};
+ghost use Rattle.dcc_credit.specs.Answers.{busy_avps, busy_octets};
 ghost use Rattle.dcc_credit.specs.Sizes.{Grows};
 
 use crate::answer::{ROOM, finished};
@@ -23,7 +23,7 @@ const TOO_BUSY: u32 = 3004;
 /// Writes the answer that a request gets which isn't served: DIAMETER_TOO_BUSY (RFC 6733, section 7.1.3), with E set,
 /// under the request's identifiers and P bit, with its Session-Id, if it has one of at most 255 octets, and its
 /// Proxy-Info. At want of memory there is no message.
-#[tactic(auto, unfolding(crate::specs::Answers::busy_bytes))]
+#[tactic(auto, unfolding(crate::specs::Answers::busy_octets))]
 pub fn write_busy(
     alloc: Global,
     identity: &Identity,
@@ -33,7 +33,7 @@ pub fn write_busy(
 ) -> Result<Vec<u8>, AllocError>
     requires { ForSome session (λ octets. length octets.now ≤ 255) }
     ensures { IfOk result (λ busy. busy.items
-        ≡ busy_bytes identity.now (option_map (λ octets. octets.now) session.entry) request.now proxies.now) }
+        ≡ busy_octets identity.now (option_map (λ octets. octets.now) session.entry) request.now proxies.now) }
 {
     let mut busy = begin_message(alloc, ROOM)?;
     put_busy(&mut busy, identity, session)?;

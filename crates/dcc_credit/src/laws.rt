@@ -8,41 +8,41 @@ ghost use Rattle.dcc_avp.specs.Reading.{avps_of};
 ghost use Rattle.dcc_message.specs.HeaderView.{HeaderView};
 ghost use Rattle.dcc_message.specs.Headers.{IsHeader, header_of};
 ghost use Rattle.dcc_message.specs.declared.identity.Identity.{Identity};
-ghost use Rattle.dcc_tariff.specs.Terms.{Conditions};
+ghost use Rattle.dcc_tariff.specs.Terms.{TermsView};
 ghost use Rattle.dcc_act.specs.declared.outcome.Outcome.{Outcome};
 ghost use Rattle.dcc_message.specs.declared.length.TheConstants.{MAX_LENGTH};
-ghost use Rattle.dcc_credit.specs.Answers.{answer_avps, answer_bytes, answer_header, busy_avps, busy_bytes, is_busy, IsServer, HasLimits};
+ghost use Rattle.dcc_credit.specs.Answers.{answer_avps, answer_octets, answer_header, busy_avps, busy_octets, is_busy, IsServer, HasLimits};
 
 /// The answer of an outcome is never busy, the busy answer always is, and each has at least a header.
 pub fn told_apart()
-    ensures answered { (identity : Identity) (terms : Conditions) (request : HeaderView) (proxies : List ℕ) (outcome : Outcome) →
-        is_busy (answer_bytes identity terms request proxies outcome) ≡ false }
+    ensures answered { (identity : Identity) (terms : TermsView) (request : HeaderView) (proxies : List ℕ) (outcome : Outcome) →
+        is_busy (answer_octets identity terms request proxies outcome) ≡ false }
     ensures busy { (identity : Identity) (session : Option (List ℕ)) (request : HeaderView) (proxies : List ℕ) →
-        is_busy (busy_bytes identity session request proxies) ≡ true }
-    ensures answered_some { (identity : Identity) (terms : Conditions) (request : HeaderView) (proxies : List ℕ) (outcome : Outcome) →
-        20 ≤ length (answer_bytes identity terms request proxies outcome) }
+        is_busy (busy_octets identity session request proxies) ≡ true }
+    ensures answered_some { (identity : Identity) (terms : TermsView) (request : HeaderView) (proxies : List ℕ) (outcome : Outcome) →
+        20 ≤ length (answer_octets identity terms request proxies outcome) }
     ensures busy_some { (identity : Identity) (session : Option (List ℕ)) (request : HeaderView) (proxies : List ℕ) →
-        20 ≤ length (busy_bytes identity session request proxies) }
+        20 ≤ length (busy_octets identity session request proxies) }
 {}
 
 /// What is written is read back, where the names and the outcome are within their limits: the AVPs, with the proxies
 /// behind the others, and the header with the length of the message, which the codec reads up to 65,532 octets.
 pub fn read_back()
-    ensures answered { (identity : Identity) (terms : Conditions) (request : HeaderView) (proxies : List AvpView) (outcome : Outcome) →
+    ensures answered { (identity : Identity) (terms : TermsView) (request : HeaderView) (proxies : List AvpView) (outcome : Outcome) →
         IsServer identity → HasLimits outcome → AllByRecursion HasSpelling proxies →
-        avps_of (drop 20 (answer_bytes identity terms request (flat_map padded proxies) outcome))
+        avps_of (drop 20 (answer_octets identity terms request (flat_map padded proxies) outcome))
         ≡ Ok (answer_avps identity terms outcome ++ proxies) }
     ensures busy { (identity : Identity) (session : Option (List ℕ)) (request : HeaderView) (proxies : List AvpView) →
         IsServer identity → ForSome session (λ octets. length octets ≤ 255) → AllByRecursion HasSpelling proxies →
-        avps_of (drop 20 (busy_bytes identity session request (flat_map padded proxies))) ≡ Ok (busy_avps identity session ++ proxies) }
-    ensures answered_header { (identity : Identity) (terms : Conditions) (request : HeaderView)
+        avps_of (drop 20 (busy_octets identity session request (flat_map padded proxies))) ≡ Ok (busy_avps identity session ++ proxies) }
+    ensures answered_header { (identity : Identity) (terms : TermsView) (request : HeaderView)
         (proxies : List AvpView) (outcome : Outcome) →
         IsServer identity → HasLimits outcome → AllByRecursion HasSpelling proxies → IsHeader request →
-        let answer = answer_bytes identity terms request (flat_map padded proxies) outcome in
+        let answer = answer_octets identity terms request (flat_map padded proxies) outcome in
         length answer ≤ MAX_LENGTH → header_of answer ≡ Ok (record (answer_header request 0) { length = length answer }) }
     ensures busy_header { (identity : Identity) (session : Option (List ℕ)) (request : HeaderView) (proxies : List AvpView) →
         IsServer identity → ForSome session (λ octets. length octets ≤ 255) → AllByRecursion HasSpelling proxies → IsHeader request →
-        let busy = busy_bytes identity session request (flat_map padded proxies) in
+        let busy = busy_octets identity session request (flat_map padded proxies) in
         length busy ≤ MAX_LENGTH → header_of busy ≡ Ok (record (answer_header request 0x20) { length = length busy }) }
 {
     dcc_avp::read_back();

@@ -3,7 +3,7 @@ use Rattle.std.proofs.Common.{◌≡◌, ◌≢◌, ℕ, zero, suc, ◌<◌, tru
 use Rattle.std.specs.Prelude.{is_none}
 use Rattle.std.specs.Option.{option_map_or}
 use Rattle.std.proofs.lemmas.Bool.{and_parts, and_from}
-use Rattle.dcc_tariff.specs.Terms.{Conditions}
+use Rattle.dcc_tariff.specs.Terms.{TermsView}
 use Rattle.dcc_act.specs.declared.act.Act.{Act}
 use Rattle.dcc_act.specs.declared.sub.Sub.{Sub}
 use Rattle.dcc_account.specs.declared.account.Account.{Account}
@@ -100,7 +100,7 @@ pub held_others : (old new : List Row) (sub : Sub) (account : Account) → Moves
 held_others old new sub account h other apart = ap acts_held (h.others other apart)
 
 -- they stay books, where the account has the terms and its acts are those that they make
-pub books_moved : (old new : List Row) (terms : Conditions) (sub : Sub) (account : Account) (next : List Act) → ActsAreActs → AreBooks old terms → Moves old new sub account
+pub books_moved : (old new : List Row) (terms : TermsView) (sub : Sub) (account : Account) (next : List Act) → ActsAreActs → AreBooks old terms → Moves old new sub account
     → account.terms ≡ terms → account.acts ≢ [] → account.acts ≡ acts terms next → are_once new ≡ true → AreBooks new terms
 books_moved old new terms sub account next law books moves terms_are begun acts_are once = record {
   terms_are = λ s found is. elim (one_or_other s sub) [

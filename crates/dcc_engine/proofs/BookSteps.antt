@@ -1,6 +1,6 @@
 -- The books after one act of one subscriber.
 use Rattle.std.proofs.Common.{◌≡◌, ◌≢◌, ℕ, ◌+◌, Bool, true, false, if◌then◌else◌, List, [], ◌∷◌, ◌++◌, length, get_or, set, Some, sym, ap, subst, ◌∙◌, inl, inr}
-use Rattle.dcc_tariff.specs.Terms.{Conditions}
+use Rattle.dcc_tariff.specs.Terms.{TermsView}
 use Rattle.dcc_act.specs.declared.act.Act.{Act}
 use Rattle.dcc_act.specs.declared.sub.Sub.{Sub}
 use Rattle.dcc_account.specs.declared.account.Account.{Account}
@@ -14,20 +14,20 @@ use Rattle.dcc_engine.proofs.Subs.{one_or_other}
 use Rattle.dcc_engine.proofs.BookRows.{acts_held, Moves, held_own, held_others, books_moved}
 
 -- the account that was found has the terms, and the acts that are held
-pub record Found (rows : List Row) (terms : Conditions) (sub : Sub) (account : Account) : Type 0 where
+pub record Found (rows : List Row) (terms : TermsView) (sub : Sub) (account : Account) : Type 0 where
   pub terms_are : account.terms ≡ terms
   pub acts_are : account.acts ≡ held_in rows sub
 
-pub found_at : (rows : List Row) (terms : Conditions) (sub : Sub) (i : ℕ) (row : Row) → AreBooks rows terms → IsAt rows sub i → row ≡ get_or rows i row → Found rows terms sub row.account
+pub found_at : (rows : List Row) (terms : TermsView) (sub : Sub) (i : ℕ) (row : Row) → AreBooks rows terms → IsAt rows sub i → row ≡ get_or rows i row → Found rows terms sub row.account
 found_at rows terms sub i row books at is =
     let here : account_in rows sub ≡ Some row.account = at.here row ∙ ap (λ (r : Row). Some r.account) (sym is) in
     record { terms_are = books.terms_are sub row.account here; acts_are = sym (ap acts_held here) }
 
 -- what an account found says of one more act is what comes next of what is held
-pub next_found : (rows : List Row) (terms : Conditions) (sub : Sub) (account : Account) (act : Act) → Found rows terms sub account
+pub next_found : (rows : List Row) (terms : TermsView) (sub : Sub) (account : Account) (act : Act) → Found rows terms sub account
     → outcome account.terms (account.acts ++ act ∷ []) (length account.acts + 1) ≡ next_outcome terms (held_in rows sub) act
 next_found rows terms sub account act found =
-    ap (λ (t : Conditions). next_outcome t account.acts act) found.terms_are ∙ ap (λ (xs : List Act). next_outcome terms xs act) found.acts_are
+    ap (λ (t : TermsView). next_outcome t account.acts act) found.terms_are ∙ ap (λ (xs : List Act). next_outcome terms xs act) found.acts_are
 
 -- with acts there are acts after one more
 still_some : (is_new : Bool) (xs : List Act) (act : Act) → xs ≢ [] → (if is_new then xs ++ act ∷ [] else xs) ≢ []
@@ -35,7 +35,7 @@ still_some true [] act some none = cc
 still_some true (x ∷ xs) act some none = cc
 still_some false xs act some none = some none
 
-pub installed_steps : (old new : List Row) (terms : Conditions) (sub : Sub) (i : ℕ) (row : Row) (act : Act) (is_new : Bool) → ActsAreActs → AreBooks old terms → IsAt old sub i → row ≡ get_or old i row
+pub installed_steps : (old new : List Row) (terms : TermsView) (sub : Sub) (i : ℕ) (row : Row) (act : Act) (is_new : Bool) → ActsAreActs → AreBooks old terms → IsAt old sub i → row ≡ get_or old i row
     → acts row.account.terms (row.account.acts ++ act ∷ []) ≡ (if is_new then row.account.acts ++ act ∷ [] else row.account.acts) → IsInstalled old new i row act → Steps old new terms sub act
 installed_steps old new terms sub i row act is_new law books at is adds installed =
     let account = installed.0 in
@@ -50,7 +50,7 @@ installed_steps old new terms sub i row act is_new law books at is adds installe
     let here : account_in old sub ≡ Some row.account = at.here row ∙ ap (λ (r : Row). Some r.account) (sym is) in
     let begun : account.acts ≢ [] = λ none. still_some is_new row.account.acts act (books.begun sub row.account here) (sym adds ∙ sym installed.3 ∙ none) in
     let acts_are : account.acts ≡ next_acts terms (held_in old sub) act =
-    installed.3 ∙ ap (λ (t : Conditions). next_acts t row.account.acts act) found.terms_are ∙ ap (λ (xs : List Act). next_acts terms xs act) found.acts_are in
+    installed.3 ∙ ap (λ (t : TermsView). next_acts t row.account.acts act) found.terms_are ∙ ap (λ (xs : List Act). next_acts terms xs act) found.acts_are in
     record {
       own = held_own old new sub account moves ∙ acts_are;
       others = held_others old new sub account moves;
@@ -58,14 +58,14 @@ installed_steps old new terms sub i row act is_new law books at is adds installe
     }
 
 -- of a subscriber without an account nothing is held
-pub absent_found : (rows : List Row) (terms : Conditions) (sub : Sub) (account : Account) → IsAbsent rows sub → account.terms ≡ terms → account.acts ≡ [] → Found rows terms sub account
+pub absent_found : (rows : List Row) (terms : TermsView) (sub : Sub) (account : Account) → IsAbsent rows sub → account.terms ≡ terms → account.acts ≡ [] → Found rows terms sub account
 absent_found rows terms sub account absent terms_are none = record { terms_are = terms_are; acts_are = none ∙ sym (ap acts_held absent.nothing) }
 
-pub added_steps : (old new : List Row) (terms : Conditions) (sub : Sub) (account : Account) (act : Act) → ActsAreActs → AreBooks old terms → Found old terms sub account
+pub added_steps : (old new : List Row) (terms : TermsView) (sub : Sub) (account : Account) (act : Act) → ActsAreActs → AreBooks old terms → Found old terms sub account
     → IsAdded old new sub account act → Steps old new terms sub act
 added_steps old new terms sub account act law books found added =
     let own : held_in new sub ≡ next_acts terms (held_in old sub) act =
-    added.0 ∙ ap (λ (t : Conditions). next_acts t account.acts act) found.terms_are ∙ ap (λ (xs : List Act). next_acts terms xs act) found.acts_are in
+    added.0 ∙ ap (λ (t : TermsView). next_acts t account.acts act) found.terms_are ∙ ap (λ (xs : List Act). next_acts terms xs act) found.acts_are in
     let others : (other : Sub) → other ≢ sub → held_in new other ≡ held_in old other = λ other apart. ap acts_held (added.1 other apart) in
     record {
       own = own;
@@ -88,8 +88,8 @@ added_steps old new terms sub account act law books found added =
     }
 
 -- a step that was due of the rows as they were, and is taken of the same rows
-pub due_steps : (old now new : List Row) (terms : Conditions) (sub : Sub) (act : Act) (due : Due) → now ≡ old → AreBooks old terms → IsDue old terms sub act due
-    → ((t : Conditions) → AreBooks now t → HasTerms t due → Steps now new t sub (step_of due).act) → Steps old new terms sub act
+pub due_steps : (old now new : List Row) (terms : TermsView) (sub : Sub) (act : Act) (due : Due) → now ≡ old → AreBooks old terms → IsDue old terms sub act due
+    → ((t : TermsView) → AreBooks now t → HasTerms t due → Steps now new t sub (step_of due).act) → Steps old new terms sub act
 due_steps old now new terms sub act due same books is taken =
     let steps = taken terms (subst (λ (rows : List Row). AreBooks rows terms) (sym same) books) is.has_terms in
     subst (λ (rows : List Row). Steps rows new terms sub act) same (subst (λ (a : Act). Steps now new terms sub a) is.act_is steps)

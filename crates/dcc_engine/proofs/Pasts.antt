@@ -2,7 +2,7 @@
 use Rattle.std.proofs.Common.{◌≡◌, ℕ, ◌+◌, List, [], ◌∷◌, ◌++◌, length, sym, ap, ◌∙◌, arith}
 use Rattle.std.proofs.lemmas.List.{append_assoc, length-append}
 use Rattle.dcc_act.specs.declared.act.Act.{Act}
-use Rattle.dcc_tariff.specs.Terms.{Conditions}
+use Rattle.dcc_tariff.specs.Terms.{TermsView}
 use Rattle.dcc_model.specs.Laws.{OutcomesStay, ActsStay, ActsAreActs}
 use Rattle.dcc_model.specs.Outcomes.{outcome, acts}
 use Rattle.dcc_engine.specs.Asks.{Step}
@@ -22,11 +22,11 @@ pub record AreStable : Type 0 where
   pub acts_stay : ActsStay
   pub whole : ActsAreActs
 
-pub next_stays : AreStable → (terms : Conditions) (xs : List Act) (act : Act) → next_outcome terms (acts terms xs) act ≡ next_outcome terms xs act
+pub next_stays : AreStable → (terms : TermsView) (xs : List Act) (act : Act) → next_outcome terms (acts terms xs) act ≡ next_outcome terms xs act
 next_stays stable terms xs act = stable.outcomes terms xs (act ∷ []) 1 (omega arith)
 
 -- also with what came between
-pub next_stays_behind : AreStable → (terms : Conditions) (xs rest : List Act) (act : Act) → next_outcome terms (acts terms xs ++ rest) act ≡ next_outcome terms (xs ++ rest) act
+pub next_stays_behind : AreStable → (terms : TermsView) (xs rest : List Act) (act : Act) → next_outcome terms (acts terms xs ++ rest) act ≡ next_outcome terms (xs ++ rest) act
 next_stays_behind stable terms xs rest act =
     let one = act ∷ [] in
     let places : (ys : List Act) → length (ys ++ rest) + 1 ≡ length ys + (length rest + 1) = λ ys. omega (arith, length-append ys rest) in

@@ -1,28 +1,28 @@
 -- Which octets are a refusal.
 use Rattle.std.proofs.Common.{◌≡◌, ℕ, ◌≤◌, ◌==◌, true, false, List, [], length, Option, refl, ◌∙◌, arith}
 use Rattle.std.proofs.lemmas.Bool.{eqb-true, false_from_ne_true}
-use Rattle.dcc_tariff.specs.Terms.{Conditions}
+use Rattle.dcc_tariff.specs.Terms.{TermsView}
 use Rattle.dcc_message.specs.HeaderView.{HeaderView}
 use Rattle.dcc_message.specs.declared.identity.Identity.{Identity}
 use Rattle.dcc_act.specs.declared.outcome.Outcome.{Outcome}
-use Rattle.dcc_credit.specs.Answers.{answer_bytes, busy_bytes, is_busy}
+use Rattle.dcc_credit.specs.Answers.{answer_octets, busy_octets, is_busy}
 use Rattle.dcc_engine.specs.Core.{Setting}
 use Rattle.dcc_engine.specs.Messages.{Brought}
 use Rattle.dcc_engine.specs.Asks.{is_refusal, answer_to, busy_to}
 
 -- what is known of the octets of answers
 pub record AreApart : Type 0 where
-  pub answered : (identity : Identity) (terms : Conditions) (request : HeaderView) (proxies : List ℕ) (outcome : Outcome) → is_busy (answer_bytes identity terms request proxies outcome) ≡ false
-  pub busy : (identity : Identity) (session : Option (List ℕ)) (request : HeaderView) (proxies : List ℕ) → is_busy (busy_bytes identity session request proxies) ≡ true
-  pub answered_some : (identity : Identity) (terms : Conditions) (request : HeaderView) (proxies : List ℕ) (outcome : Outcome) → 20 ≤ length (answer_bytes identity terms request proxies outcome)
-  pub busy_some : (identity : Identity) (session : Option (List ℕ)) (request : HeaderView) (proxies : List ℕ) → 20 ≤ length (busy_bytes identity session request proxies)
+  pub answered : (identity : Identity) (terms : TermsView) (request : HeaderView) (proxies : List ℕ) (outcome : Outcome) → is_busy (answer_octets identity terms request proxies outcome) ≡ false
+  pub busy : (identity : Identity) (session : Option (List ℕ)) (request : HeaderView) (proxies : List ℕ) → is_busy (busy_octets identity session request proxies) ≡ true
+  pub answered_some : (identity : Identity) (terms : TermsView) (request : HeaderView) (proxies : List ℕ) (outcome : Outcome) → 20 ≤ length (answer_octets identity terms request proxies outcome)
+  pub busy_some : (identity : Identity) (session : Option (List ℕ)) (request : HeaderView) (proxies : List ℕ) → 20 ≤ length (busy_octets identity session request proxies)
 
 some_length : (n : ℕ) → 20 ≤ n → (n == 0) ≡ false
 some_length n le = false_from_ne_true (n == 0) (λ h. let e = eqb-true n 0 h in absurd (omega arith))
 
-refusal_of : (bytes : List ℕ) → 20 ≤ length bytes → is_refusal bytes ≡ is_busy bytes
+refusal_of : (octets : List ℕ) → 20 ≤ length octets → is_refusal octets ≡ is_busy octets
 unfolding is_refusal
-refusal_of bytes le = rw (some_length (length bytes) le) refl
+refusal_of octets le = rw (some_length (length octets) le) refl
 
 pub answer_is_none : AreApart → (setting : Setting) (message : Brought) (outcome : Outcome) → is_refusal (answer_to setting message outcome) ≡ false
 answer_is_none apart setting message outcome =

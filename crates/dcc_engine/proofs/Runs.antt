@@ -7,7 +7,7 @@ use Rattle.std.proofs.lemmas.Option.{slice_get_within, get_or_from_slice_get}
 use Rattle.dcc_act.specs.declared.act.Act.{Act}
 use Rattle.dcc_act.specs.declared.outcome.Outcome.{Outcome}
 use Rattle.dcc_act.specs.declared.sub.Sub.{Sub}
-use Rattle.dcc_tariff.specs.Terms.{Conditions}
+use Rattle.dcc_tariff.specs.Terms.{TermsView}
 use Rattle.dcc_model.specs.Laws.{LaterChangesNothing}
 use Rattle.dcc_model.specs.Outcomes.{acts, outcome}
 use Rattle.dcc_engine.specs.Asks.{Step, Ask, ask_for, is_refused, IsAsked, answer_by, own_with}
@@ -57,7 +57,7 @@ next_moved setting peers others held now event out same alike next =
       plain = moved.plain;
     }
 
-own_acts : AreStable → (terms : Conditions) (o : Option Ask) (out : Out) (before : List Act) → acts terms (own_with o out (acts terms before)) ≡ acts terms (own_with o out before)
+own_acts : AreStable → (terms : TermsView) (o : Option Ask) (out : Out) (before : List Act) → acts terms (own_with o out (acts terms before)) ≡ acts terms (own_with o out before)
 own_acts stable terms None out before = stable.whole terms before
 own_acts stable terms (Some ask) out before =
     elim (cases_Bool (is_refused ask out)) [

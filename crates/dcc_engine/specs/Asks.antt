@@ -7,7 +7,7 @@ use Rattle.dcc_act.specs.declared.act.Kind.TheVariants as kind
 use Rattle.dcc_act.specs.declared.outcome.Outcome.{Outcome}
 use Rattle.dcc_act.specs.declared.sub.Sub.{Sub}
 use Rattle.dcc_credit.specs.Requests.{RequestView, act_of}
-use Rattle.dcc_credit.specs.Answers.{answer_bytes, busy_bytes, is_busy}
+use Rattle.dcc_credit.specs.Answers.{answer_octets, busy_octets, is_busy}
 use Rattle.dcc_engine.specs.Books.{same_sub, told}
 use Rattle.dcc_engine.specs.Core.{Setting}
 use Rattle.dcc_engine.specs.Messages.{Brought, Met, met_on}
@@ -52,35 +52,35 @@ top_up_act moment ticket amount = record { moment = moment; kind = kind.TopUp (r
 -- may be is its subscriber's, and all others are nobody's
 abbrev pub ask_for : Setting → (ℕ → Option Peer) → Event → Sub → Option Ask
 ask_for setting peers (events.Connect peer host) sub = None
-ask_for setting peers (events.Message peer moment bytes) sub = message_ask setting.plan moment (met_on (peers peer) bytes) sub
+ask_for setting peers (events.Message peer moment octets) sub = message_ask setting.plan moment (met_on (peers peer) octets) sub
 ask_for setting peers (events.TopUp moment owner ticket amount) sub =
     if is_amount amount && same_sub owner sub then Some (record { act = top_up_act moment ticket amount; message = None }) else None
 
 -- the peer that an event names
 abbrev pub peer_named : Event → Option ℕ
 peer_named (events.Connect peer host) = Some peer
-peer_named (events.Message peer moment bytes) = Some peer
+peer_named (events.Message peer moment octets) = Some peer
 peer_named (events.TopUp moment sub ticket amount) = None
 
-abbrev pub out_bytes : Event → List ℕ → Out
-out_bytes event bytes = record { peer = peer_named event; bytes = bytes; close = false; top_up = None }
+abbrev pub out_octets : Event → List ℕ → Out
+out_octets event octets = record { peer = peer_named event; octets = octets; close = false; top_up = None }
 
 abbrev pub out_close : Event → Out
-out_close event = record { peer = peer_named event; bytes = []; close = true; top_up = None }
+out_close event = record { peer = peer_named event; octets = []; close = true; top_up = None }
 
 abbrev pub out_top_up : TopUpAnswer → Out
-out_top_up answer = record { peer = None; bytes = []; close = false; top_up = Some answer }
+out_top_up answer = record { peer = None; octets = []; close = false; top_up = Some answer }
 
 -- a request is refused by the busy answer or by nothing, a top-up by being told so
 unfoldable pub is_refusal : List ℕ → Bool
-is_refusal bytes = (length bytes == 0) || is_busy bytes
+is_refusal octets = (length octets == 0) || is_busy octets
 
 abbrev pub is_refused_top_up : Option TopUpAnswer → Bool
 is_refused_top_up (Some Refused) = true
 is_refused_top_up other = false
 
 abbrev pub refused_by : Option Brought → Out → Bool
-refused_by (Some message) out = is_refusal out.bytes
+refused_by (Some message) out = is_refusal out.octets
 refused_by None out = is_refused_top_up out.top_up
 
 abbrev pub is_refused : Ask → Out → Bool
@@ -88,19 +88,19 @@ is_refused ask out = refused_by ask.message out
 
 -- the octets under a message: of an outcome, and of the busy answer
 abbrev pub answer_to : Setting → Brought → Outcome → List ℕ
-answer_to setting message outcome = answer_bytes setting.identity setting.plan.terms message.header message.proxies outcome
+answer_to setting message outcome = answer_octets setting.identity setting.plan.terms message.header message.proxies outcome
 
 abbrev pub busy_to : Setting → Brought → List ℕ
-busy_to setting message = busy_bytes setting.identity message.session message.header message.proxies
+busy_to setting message = busy_octets setting.identity message.session message.header message.proxies
 
 -- what an event is answered by its outcome: the octets under its message, or what a top-up is told
 abbrev pub answer_by : Setting → Event → Option Brought → Outcome → Out
-answer_by setting event (Some message) outcome = out_bytes event (answer_to setting message outcome)
+answer_by setting event (Some message) outcome = out_octets event (answer_to setting message outcome)
 answer_by setting event None outcome = out_top_up (told outcome)
 
 -- the busy answer, or nothing
 abbrev pub IsBusy : Setting → Event → Brought → Out → Type 0
-IsBusy setting event message out = (out ≡ out_bytes event (busy_to setting message)) ⊎ (out ≡ out_bytes event [])
+IsBusy setting event message out = (out ≡ out_octets event (busy_to setting message)) ⊎ (out ≡ out_octets event [])
 
 abbrev pub IsRefusal : Setting → Event → Option Brought → Out → Type 0
 IsRefusal setting event (Some message) out = IsBusy setting event message out
@@ -117,27 +117,27 @@ IsPlainRequest setting event message None out = IsBusy setting event message out
 IsPlainRequest setting event message (Some request) out = Unit {0}
 
 abbrev pub IsPlainMessage : Setting → Event → Met → Out → Type 0
-IsPlainMessage setting event Passed out = out ≡ out_bytes event []
+IsPlainMessage setting event Passed out = out ≡ out_octets event []
 IsPlainMessage setting event Broken out = out ≡ out_close event
 IsPlainMessage setting event (Asking message) out = IsPlainRequest setting event message message.request out
 
 -- what an event of nobody is answered; of a subscriber's event this says nothing
 abbrev pub IsPlain : Setting → (ℕ → Option Peer) → Event → Out → Type 0
-IsPlain setting peers (events.Connect peer host) out = out ≡ out_bytes (events.Connect peer host) []
-IsPlain setting peers (events.Message peer moment bytes) out =
-    IsPlainMessage setting (events.Message peer moment bytes) (met_on (peers peer) bytes) out
+IsPlain setting peers (events.Connect peer host) out = out ≡ out_octets (events.Connect peer host) []
+IsPlain setting peers (events.Message peer moment octets) out =
+    IsPlainMessage setting (events.Message peer moment octets) (met_on (peers peer) octets) out
 IsPlain setting peers (events.TopUp moment sub ticket amount) out = MatchBool (is_amount amount) (Unit {0}) (out ≡ out_top_up BadAmount)
 
 -- the host of an event that has one
 abbrev pub host_of : Event → List ℕ
 host_of (events.Connect peer host) = host
-host_of (events.Message peer moment bytes) = []
+host_of (events.Message peer moment octets) = []
 host_of (events.TopUp moment sub ticket amount) = []
 
 -- whether an event is of this peer
 abbrev pub is_from : ℕ → Event → Bool
 is_from id (events.Connect peer host) = peer == id
-is_from id (events.Message peer moment bytes) = peer == id
+is_from id (events.Message peer moment octets) = peer == id
 is_from id (events.TopUp moment sub ticket amount) = false
 
 -- where a message leaves its peer
@@ -148,7 +148,7 @@ left_by (Asking message) peer = peer
 
 abbrev pub moved : Option Peer → Event → Option Peer
 moved peer (events.Connect id host) = Some (Open host)
-moved peer (events.Message id moment bytes) = left_by (met_on peer bytes) peer
+moved peer (events.Message id moment octets) = left_by (met_on peer octets) peer
 moved peer (events.TopUp moment sub ticket amount) = peer
 
 -- where an event leaves each peer

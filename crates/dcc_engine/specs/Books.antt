@@ -2,7 +2,7 @@
 use Rattle.std.specs.Prelude.{◌≡◌, ◌≢◌, ℕ, ◌<◌, ◌==◌, ◌+◌, Bool, true, ◌&&◌, if◌then◌else◌}
 use Rattle.std.specs.Prelude.{List, [], ◌∷◌, ◌++◌, length, slice_index_or, slice_set, bytes_eq, Option, Some, None, is_none}
 use Rattle.std.specs.Option.{option_map_or}
-use Rattle.dcc_tariff.specs.Terms.{Conditions}
+use Rattle.dcc_tariff.specs.Terms.{TermsView}
 use Rattle.dcc_act.specs.declared.act.Act.{Act}
 use Rattle.dcc_act.specs.declared.outcome.Outcome.{Outcome}
 use Rattle.dcc_act.specs.declared.sub.Sub.{Sub}
@@ -27,10 +27,10 @@ abbrev pub held_in : List Row → Sub → List Act
 held_in rows sub = option_map_or (λ (account : Account). account.acts) (account_in rows sub) []
 
 -- the outcome of one more act after these, and the acts that are then held
-abbrev pub next_outcome : Conditions → List Act → Act → Outcome
+abbrev pub next_outcome : TermsView → List Act → Act → Outcome
 next_outcome terms held act = outcome terms (held ++ act ∷ []) (length held + 1)
 
-abbrev pub next_acts : Conditions → List Act → Act → List Act
+abbrev pub next_acts : TermsView → List Act → Act → List Act
 next_acts terms held act = acts terms (held ++ act ∷ [])
 
 -- what a top-up is told of its outcome
@@ -46,7 +46,7 @@ are_once [] = true
 are_once (row ∷ rows) = is_none (account_in rows row.sub) && are_once rows
 
 -- each account is under the terms, has at least one act, and its acts are those that they themselves make
-pub record AreBooks (rows : List Row) (terms : Conditions) : Type 0 where
+pub record AreBooks (rows : List Row) (terms : TermsView) : Type 0 where
   pub terms_are : (sub : Sub) (account : Account) → account_in rows sub ≡ Some account → account.terms ≡ terms
   pub begun : (sub : Sub) (account : Account) → account_in rows sub ≡ Some account → account.acts ≢ []
   pub own : (sub : Sub) → acts terms (held_in rows sub) ≡ held_in rows sub
@@ -89,7 +89,7 @@ IsAdded old new sub account act =
     × (are_once old ≡ true → are_once new ≡ true)
 
 -- the books after one more act of a subscriber, which leaves the others as they were
-pub record Steps (old new : List Row) (terms : Conditions) (sub : Sub) (act : Act) : Type 0 where
+pub record Steps (old new : List Row) (terms : TermsView) (sub : Sub) (act : Act) : Type 0 where
   pub own : held_in new sub ≡ next_acts terms (held_in old sub) act
   pub others : (other : Sub) → other ≢ sub → held_in new other ≡ held_in old other
   pub books : AreBooks new terms

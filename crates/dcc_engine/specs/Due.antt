@@ -1,6 +1,6 @@
 -- A step that is due: in its subscriber's row, or in an account that is added with it.
 use Rattle.std.specs.Prelude.{◌≡◌, ℕ, ◌<◌, if◌then◌else◌, List, [], ◌∷◌, ◌++◌, slice_index_or}
-use Rattle.dcc_tariff.specs.Terms.{Conditions}
+use Rattle.dcc_tariff.specs.Terms.{TermsView}
 use Rattle.dcc_act.specs.declared.act.Act.{Act}
 use Rattle.dcc_act.specs.declared.sub.Sub.{Sub}
 use Rattle.dcc_account.specs.Kept.{AccountView}
@@ -28,7 +28,7 @@ Stands rows sub (Known i step) =
 Stands rows sub (First account step) = IsAbsent rows sub × (account.acts ≡ []) × IsPrepared account step
 
 -- an account that is added is under the terms
-abbrev pub HasTerms : Conditions → Due → Type 0
+abbrev pub HasTerms : TermsView → Due → Type 0
 HasTerms terms (Known i step) = Unit {0}
 HasTerms terms (First account step) = account.terms ≡ terms
 
@@ -38,7 +38,7 @@ HasRoom len capacity (Known i step) = Unit {0}
 HasRoom len capacity (First account step) = len < capacity
 
 -- the step of one more act of a subscriber
-pub record IsDue (rows : List Row) (terms : Conditions) (sub : Sub) (act : Act) (due : Due) : Type 0 where
+pub record IsDue (rows : List Row) (terms : TermsView) (sub : Sub) (act : Act) (due : Due) : Type 0 where
   pub stands : Stands rows sub due
   pub has_terms : HasTerms terms due
   pub act_is : (step_of due).act ≡ act

@@ -61,7 +61,7 @@ abbrev pub Said : Type 0
 Said = List ℕ × Option TopUpAnswer
 
 abbrev pub said : Out → Said
-said out = (out.bytes, out.top_up)
+said out = (out.octets, out.top_up)
 
 -- x in front, where the event asked of the subscriber and was not refused
 abbrev pub with_own : {X : Type 0} → Option Ask → Out → (Ask → X) → List X → List X

@@ -1,4 +1,4 @@
--- What a message is to the engine, by its bytes alone.
+-- What a message is to the engine, by its octets alone.
 use Rattle.std.specs.Prelude.{ℕ, Bool, not, ◌==◌, bit_and, if◌then◌else◌, List, [], drop, Option, Result, Ok, Err}
 use Rattle.dcc_avp.specs.Spelling.{AvpView}
 use Rattle.dcc_avp.specs.Reading.{FaultView, avps_of}
@@ -39,15 +39,15 @@ brought_in header avps = record { header = header; session = session_of avps; pr
 
 -- the list stands behind the twenty octets of the header
 abbrev pub brought : HeaderView → List ℕ → Brought
-brought header bytes = brought_in header (readable (avps_of (drop 20 bytes)))
+brought header octets = brought_in header (readable (avps_of (drop 20 octets)))
 
 abbrev pub met_with : Result HeaderView HeaderFault → List ℕ → Met
-met_with (Ok header) bytes = if is_request header then Asking (brought header bytes) else Passed
-met_with (Err fault) bytes = Broken
+met_with (Ok header) octets = if is_request header then Asking (brought header octets) else Passed
+met_with (Err fault) octets = Broken
 
 unfoldable pub met : List ℕ → Met
-met bytes = met_with (header_of bytes) bytes
+met octets = met_with (header_of octets) octets
 
 -- a peer that isn't connected, or is closed, is not heard
 abbrev pub met_on : Option Peer → List ℕ → Met
-met_on peer bytes = if is_open peer then met bytes else Passed
+met_on peer octets = if is_open peer then met octets else Passed

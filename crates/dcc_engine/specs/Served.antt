@@ -2,7 +2,7 @@
 use Rattle.std.specs.Prelude.{◌≡◌, ℕ, List, [], MatchBool, Option, Some, ◌⊎◌}
 use Rattle.dcc_act.specs.declared.act.Act.{Act}
 use Rattle.dcc_act.specs.declared.sub.Sub.{Sub}
-use Rattle.dcc_tariff.specs.Terms.{Conditions}
+use Rattle.dcc_tariff.specs.Terms.{TermsView}
 use Rattle.dcc_model.specs.Outcomes.{acts}
 use Rattle.dcc_credit.specs.Requests.{RequestView, act_of}
 use Rattle.dcc_engine.specs.Books.{held_in, next_outcome, Steps, told}
@@ -18,24 +18,24 @@ use Rattle.dcc_engine.specs.declared.row.Row.{Row}
 
 -- the request was answered by its outcome, and its act made
 pub record IsTaken
-    (setting : Setting) (old new : List Row) (moment : ℕ) (message : Brought) (bytes : List ℕ) (request : RequestView) : Type 0 where
+    (setting : Setting) (old new : List Row) (moment : ℕ) (message : Brought) (octets : List ℕ) (request : RequestView) : Type 0 where
   pub is : message.request ≡ Some request
-  pub answer : bytes ≡ answer_to setting message
+  pub answer : octets ≡ answer_to setting message
       (next_outcome setting.plan.terms (held_in old request.sub) (act_of setting.plan request moment))
   pub steps : Steps old new setting.plan.terms request.sub (act_of setting.plan request moment)
 
 -- it was answered busy or not at all, and nothing changed
-pub record IsTurnedAway (setting : Setting) (old new : List Row) (message : Brought) (bytes : List ℕ) : Type 0 where
-  pub answer : (bytes ≡ busy_to setting message) ⊎ (bytes ≡ [])
+pub record IsTurnedAway (setting : Setting) (old new : List Row) (message : Brought) (octets : List ℕ) : Type 0 where
+  pub answer : (octets ≡ busy_to setting message) ⊎ (octets ≡ [])
   pub same : new ≡ old
 
 abbrev pub IsServed : Setting → List Row → List Row → ℕ → Brought → List ℕ → Type 0
-IsServed setting old new moment message bytes =
-    ((request : RequestView) × IsTaken setting old new moment message bytes request) ⊎ IsTurnedAway setting old new message bytes
+IsServed setting old new moment message octets =
+    ((request : RequestView) × IsTaken setting old new moment message octets request) ⊎ IsTurnedAway setting old new message octets
 
 -- the top-up was told its outcome, and its act made
 pub record IsToldOutcome
-    (terms : Conditions) (old new : List Row) (moment : ℕ) (sub : Sub) (ticket amount : ℕ) (answer : TopUpAnswer) : Type 0 where
+    (terms : TermsView) (old new : List Row) (moment : ℕ) (sub : Sub) (ticket amount : ℕ) (answer : TopUpAnswer) : Type 0 where
   pub answer_is : answer ≡ told (next_outcome terms (held_in old sub) (top_up_act moment ticket amount))
   pub steps : Steps old new terms sub (top_up_act moment ticket amount)
 
@@ -44,7 +44,7 @@ pub record IsToldRefused (old new : List Row) (answer refusal : TopUpAnswer) : T
   pub answer_is : answer ≡ refusal
   pub same : new ≡ old
 
-abbrev pub IsToppedUp : Conditions → List Row → List Row → ℕ → Sub → ℕ → ℕ → TopUpAnswer → Type 0
+abbrev pub IsToppedUp : TermsView → List Row → List Row → ℕ → Sub → ℕ → ℕ → TopUpAnswer → Type 0
 IsToppedUp terms old new moment sub ticket amount answer =
     MatchBool (is_amount amount)
     (IsToldOutcome terms old new moment sub ticket amount answer ⊎ IsToldRefused old new answer Refused)

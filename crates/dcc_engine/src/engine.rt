@@ -11,9 +11,9 @@ ghost use Rattle.dcc_engine.specs.Isolation.{steps, own, peers, IsRun};
 ghost use Rattle.dcc_engine.specs.Served.{IsDone};
 
 use crate::books::find;
-use crate::bytes::Bytes;
 use crate::event::{Event, Out, TopUpAnswer};
 use crate::message::{Heard, hear};
+use crate::octet_string::OctetString;
 use crate::peers::{Peer, Peers};
 use crate::row::Row;
 use crate::serve::{respond, serve_top_up};
@@ -108,7 +108,7 @@ impl Engine {
         let mut hosts = hosts_of(alloc, events)?;
         self.peers.reserve(events.len())?;
         for (i, event) in events.iter().enumerate() {
-            let host = mem::replace(&mut hosts[i], Bytes::new(alloc));
+            let host = mem::replace(&mut hosts[i], OctetString::new(alloc));
             let out = self.step(alloc, event, host);
             outs.push_reserved(out);
         }
@@ -116,7 +116,7 @@ impl Engine {
     }
 
     /// Answers one event. The room for a new peer is there, and its host.
-    fn step(&mut self, alloc: Global, event: &Event, host: Bytes) -> Out
+    fn step(&mut self, alloc: Global, event: &Event, host: OctetString) -> Out
         requires room { 0 < self.old.peers.room }
         requires host { host ≡ host_in event.now }
         ensures setting { self.new.setting ≡ self.old.setting }
@@ -149,45 +149,45 @@ impl Engine {
             Event::Message {
                 peer,
                 moment,
-                bytes,
-            } => self.hear(alloc, *peer, *moment, bytes),
+                octets,
+            } => self.hear(alloc, *peer, *moment, octets),
         }
     }
 
     /// Answers a message of a peer.
-    fn hear(&mut self, alloc: Global, peer: u32, moment: Moment, bytes: &Bytes) -> Out
+    fn hear(&mut self, alloc: Global, peer: u32, moment: Moment, octets: &OctetString) -> Out
         requires room { 0 < self.old.peers.room }
         ensures setting { self.new.setting ≡ self.old.setting }
-        ensures done { IsDone self.old.setting (peer_of self.old) self.old.books self.new.books (Message peer moment bytes.now) result }
-        ensures peers { (id : ℕ) → peer_of self.new id ≡ moved_by id (Message peer moment bytes.now) (peer_of self.old id) }
+        ensures done { IsDone self.old.setting (peer_of self.old) self.old.books self.new.books (Message peer moment octets.now) result }
+        ensures peers { (id : ℕ) → peer_of self.new id ≡ moved_by id (Message peer moment octets.now) (peer_of self.old id) }
         ensures room { self.old.peers.room ≤ self.new.peers.room + 1 }
     {
         told_apart();
         let is_heard = self.peers.is_open(peer);
-        match hear(is_heard, bytes.as_slice()) {
+        match hear(is_heard, octets.as_slice()) {
             Heard::Nothing => quiet(alloc, peer),
             Heard::Break => {
                 self.peers.set(peer, Peer::Closed);
                 closing(alloc, peer)
             }
             Heard::Request(header) => {
-                let bytes = respond(
+                let octets = respond(
                     &mut self.rows,
                     alloc,
                     &self.plan,
                     &self.identity,
                     moment,
                     header,
-                    bytes.as_slice(),
+                    octets.as_slice(),
                 );
-                sending(peer, bytes)
+                sending(peer, octets)
             }
         }
     }
 }
 
-/// The hosts of the events that have one, without bytes where there is none.
-fn hosts_of(alloc: Global, events: &[Event]) -> Result<Vec<Bytes>, AllocError>
+/// The hosts of the events that have one, without octets where there is none.
+fn hosts_of(alloc: Global, events: &[Event]) -> Result<Vec<OctetString>, AllocError>
     ensures { IfOk result (λ hosts. hosts.items ≡ map host_in events.now) }
 {
     let mut hosts = Vec::with_capacity(alloc, events.len())?;
@@ -197,22 +197,22 @@ fn hosts_of(alloc: Global, events: &[Event]) -> Result<Vec<Bytes>, AllocError>
     Ok(hosts)
 }
 
-fn host_of(alloc: Global, event: &Event) -> Result<Bytes, AllocError>
+fn host_of(alloc: Global, event: &Event) -> Result<OctetString, AllocError>
     ensures { IfOk result (λ host. host ≡ host_in event.now) }
 {
     match event {
         Event::Connect { host, .. } => host.copy(),
-        _ => Ok(Bytes::new(alloc)),
+        _ => Ok(OctetString::new(alloc)),
     }
 }
 
 /// An out that sends nothing.
 fn quiet(alloc: Global, peer: u32) -> Out
-    ensures { result ≡ record { peer = Some peer; bytes = []; close = false; top_up = None } }
+    ensures { result ≡ record { peer = Some peer; octets = []; close = false; top_up = None } }
 {
     Out {
         peer: Some(peer),
-        bytes: Bytes::new(alloc),
+        octets: OctetString::new(alloc),
         close: false,
         top_up: None,
     }
@@ -220,23 +220,23 @@ fn quiet(alloc: Global, peer: u32) -> Out
 
 /// An out that closes a connection.
 fn closing(alloc: Global, peer: u32) -> Out
-    ensures { result ≡ record { peer = Some peer; bytes = []; close = true; top_up = None } }
+    ensures { result ≡ record { peer = Some peer; octets = []; close = true; top_up = None } }
 {
     Out {
         peer: Some(peer),
-        bytes: Bytes::new(alloc),
+        octets: OctetString::new(alloc),
         close: true,
         top_up: None,
     }
 }
 
 /// An out that sends an answer, or nothing.
-fn sending(peer: u32, bytes: Vec<u8>) -> Out
-    ensures { result ≡ record { peer = Some peer; bytes = bytes.items; close = false; top_up = None } }
+fn sending(peer: u32, octets: Vec<u8>) -> Out
+    ensures { result ≡ record { peer = Some peer; octets = octets.items; close = false; top_up = None } }
 {
     Out {
         peer: Some(peer),
-        bytes: Bytes::from_vec(bytes),
+        octets: OctetString::from_vec(octets),
         close: false,
         top_up: None,
     }
@@ -244,11 +244,11 @@ fn sending(peer: u32, bytes: Vec<u8>) -> Out
 
 /// An out that tells a top-up its answer.
 fn telling(alloc: Global, answer: TopUpAnswer) -> Out
-    ensures { result ≡ record { peer = None; bytes = []; close = false; top_up = Some answer } }
+    ensures { result ≡ record { peer = None; octets = []; close = false; top_up = Some answer } }
 {
     Out {
         peer: None,
-        bytes: Bytes::new(alloc),
+        octets: OctetString::new(alloc),
         close: false,
         top_up: Some(answer),
     }

@@ -1,6 +1,6 @@
 //! What comes to an engine, and what goes out.
 
-use crate::bytes::Bytes;
+use crate::octet_string::OctetString;
 use dcc_act::{Moment, Sub};
 
 /// Something that happens to the server.
@@ -9,13 +9,13 @@ pub enum Event {
     /// A peer is there, under this host's name. It is made anew where it was there before, closed or not.
     Connect {
         peer: u32,
-        host: Bytes,
+        host: OctetString,
     },
     /// A whole message of a peer.
     Message {
         peer: u32,
         moment: Moment,
-        bytes: Bytes,
+        octets: OctetString,
     },
     /// Money for a subscriber, in minor units.
     TopUp {
@@ -45,7 +45,7 @@ pub struct Out {
     /// The peer that the event named.
     pub peer: Option<u32>,
     /// The answer's octets, none where there is no answer.
-    pub bytes: Bytes,
+    pub octets: OctetString,
     /// Whether the peer's connection is to be closed.
     pub close: bool,
     /// What a top-up is told.

@@ -11,7 +11,7 @@ ghost use Rattle.dcc_engine.specs.Isolation.{IsRun, own, own_asks, answers, peer
 use dcc_model::{later_acts_change_no_outcome, leaving_out_changes_nothing};
 
 /// Two runs under one setting that agree on a subscriber's own events, with which of them were refused, and on the acts
-/// held for it before, agree on its answers, byte for byte, and on its own entries. All else may differ: other
+/// held for it before, agree on its answers, octet for octet, and on its own entries. All else may differ: other
 /// subscribers, peers, and the order between subscribers.
 pub fn isolation()
     ensures answers { (sub : Sub) (a b : Core) (xs ys : List Step) → IsRun a xs → IsRun b ys → a.setting ≡ b.setting

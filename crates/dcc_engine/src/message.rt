@@ -34,7 +34,7 @@ impl<'a> Model for Message<'a> {
     ghost invariant = { λ m. m.proxies ≡ proxies_of m.avps.items };
 }
 
-/// What the bytes of a message are.
+/// What the octets of a message are.
 pub(crate) enum Heard {
     /// They have no answer.
     Nothing,
@@ -44,16 +44,16 @@ pub(crate) enum Heard {
     Request(Header),
 }
 
-/// What the bytes of a peer are, who is heard only where it is open.
+/// What the octets of a peer are, who is heard only where it is open.
 #[tactic(auto, unfolding(crate::specs::Messages::met))]
-pub(crate) fn hear(is_heard: bool, bytes: &[u8]) -> Heard
-    ensures met { (peer : Option Peer) → is_open peer ≡ is_heard → met_on peer bytes.now ≡ met_heard result bytes.now }
-    ensures whole { IsWhole result bytes.now }
+pub(crate) fn hear(is_heard: bool, octets: &[u8]) -> Heard
+    ensures met { (peer : Option Peer) → is_open peer ≡ is_heard → met_on peer octets.now ≡ met_heard result octets.now }
+    ensures whole { IsWhole result octets.now }
 {
     if !is_heard {
         return Heard::Nothing;
     }
-    match read_header(bytes) {
+    match read_header(octets) {
         Err(_) => Heard::Break,
         Ok(header) if is_request(&header) => Heard::Request(header),
         Ok(_) => Heard::Nothing,
@@ -68,17 +68,17 @@ fn is_request(header: &Header) -> bool
 }
 
 impl<'a> Message<'a> {
-    /// Reads a request behind its header, from all bytes of the message.
+    /// Reads a request behind its header, from all octets of the message.
     pub(crate) fn read(
         alloc: Global,
         header: Header,
-        bytes: &'a [u8],
+        octets: &'a [u8],
     ) -> Result<Message<'a>, AllocError>
-        requires least { 20 ≤ length bytes.now }
-        requires most { length bytes.now ≤ 65_532 }
-        ensures { IfOk result (λ m. m ≡ brought header bytes.now) }
+        requires least { 20 ≤ length octets.now }
+        requires most { length octets.now ≤ 65_532 }
+        ensures { IfOk result (λ m. m ≡ brought header octets.now) }
     {
-        let avps = list_of(alloc, &bytes[20..])?;
+        let avps = list_of(alloc, &octets[20..])?;
         let proxies = Proxies::of(alloc, &avps)?;
         Ok(Message {
             header,

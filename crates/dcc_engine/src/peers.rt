@@ -4,14 +4,14 @@ ghost use Rattle.std.specs.Prelude.{◌≡◌, ◌==◌, ◌+◌, ◌<◌, ◌�
 ghost use Rattle.std.specs.Option.{option_map};
 ghost use Rattle.dcc_engine.specs.Core.{peer_in, is_open};
 
-use crate::bytes::Bytes;
+use crate::octet_string::OctetString;
 use std::alloc::{AllocError, Global};
 use std::marker::Model;
 
 /// A peer: open under a host's name, or closed.
 #[derive(Debug, Drop)]
 pub enum Peer {
-    Open { host: Bytes },
+    Open { host: OctetString },
     Closed,
 }
 

@@ -5,7 +5,7 @@ ghost use Rattle.dcc_act.specs.Services.{IsTopUp};
 ghost use Rattle.dcc_credit.specs.Requests.{RequestView};
 ghost use Rattle.dcc_engine.specs.Books.{AreBooks};
 ghost use Rattle.dcc_engine.specs.Core.{Setting};
-ghost use Rattle.dcc_credit.specs.Answers.{busy_bytes};
+ghost use Rattle.dcc_credit.specs.Answers.{busy_octets};
 ghost use Rattle.dcc_engine.specs.Asks.{is_amount};
 ghost use Rattle.dcc_engine.specs.Messages.{brought};
 ghost use Rattle.dcc_engine.specs.Served.{IsTaken, IsServed, IsToppedUp};
@@ -31,15 +31,15 @@ pub(crate) fn respond(
     identity: &Identity,
     moment: Moment,
     header: Header,
-    bytes: &[u8],
+    octets: &[u8],
 ) -> Vec<u8>
     requires books { AreBooks rows.old.items plan.now.terms }
-    requires least { 20 ≤ length bytes.now }
-    requires most { length bytes.now ≤ 65_532 }
+    requires least { 20 ≤ length octets.now }
+    requires most { length octets.now ≤ 65_532 }
     ensures { IsServed (record { plan = plan.now; identity = identity.now }) rows.old.items rows.new.items moment
-        (brought header bytes.now) result.items }
+        (brought header octets.now) result.items }
 {
-    match Message::read(alloc, header, bytes) {
+    match Message::read(alloc, header, octets) {
         Ok(message) => serve(rows, alloc, plan, identity, moment, &message),
         Err(_) => Vec::new(alloc),
     }
@@ -58,9 +58,9 @@ fn serve(
     ensures { IsServed (record { plan = plan.now; identity = identity.now }) rows.old.items rows.new.items moment message.now result.items }
 {
     match take(rows, alloc, plan, identity, moment, message) {
-        Ok(bytes) => bytes,
+        Ok(octets) => octets,
         Err(_) => match busy(alloc, identity, message) {
-            Ok(bytes) => bytes,
+            Ok(octets) => octets,
             Err(_) => Vec::new(alloc),
         },
     }
@@ -76,8 +76,8 @@ fn take(
     message: &Message<'_>,
 ) -> Result<Vec<u8>, CcrFault>
     requires { AreBooks rows.old.items plan.now.terms }
-    ensures ok { IfOk result (λ bytes. (request : RequestView) × IsTaken (record { plan = plan.now; identity = identity.now })
-        rows.old.items rows.new.items moment message.now bytes.items request) }
+    ensures ok { IfOk result (λ octets. (request : RequestView) × IsTaken (record { plan = plan.now; identity = identity.now })
+        rows.old.items rows.new.items moment message.now octets.items request) }
     ensures err { OnErr result (rows.new.items ≡ rows.old.items) }
 {
     let request = read_ccr(alloc, &message.header, &message.avps)?;
@@ -88,13 +88,13 @@ fn take(
         request: &message.header,
         proxies: &message.proxies,
     };
-    let bytes = answer(rows, alloc, &asked, subscriber(&request), act)?;
-    Ok(bytes)
+    let octets = answer(rows, alloc, &asked, subscriber(&request), act)?;
+    Ok(octets)
 }
 
 /// The busy answer to a request.
 fn busy(alloc: Global, identity: &Identity, message: &Message<'_>) -> Result<Vec<u8>, AllocError>
-    ensures { IfOk result (λ bytes. bytes.items ≡ busy_bytes identity.now message.now.session message.now.header message.now.proxies) }
+    ensures { IfOk result (λ octets. octets.items ≡ busy_octets identity.now message.now.session message.now.header message.now.proxies) }
 {
     write_busy(
         alloc,

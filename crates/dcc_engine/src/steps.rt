@@ -1,10 +1,10 @@
 //! One act of one subscriber. The others stay as they were, and so does everything where memory is refused.
 
 ghost use Rattle.std.specs.Prelude.{◌≡◌, ◌<◌, [], vec_len, vec_capacity, IfOk, OnOk, OnErr};
-ghost use Rattle.dcc_tariff.specs.Terms.{Conditions};
+ghost use Rattle.dcc_tariff.specs.Terms.{TermsView};
 ghost use Rattle.dcc_act.specs.declared.sub.Sub.{Sub};
 ghost use Rattle.dcc_account.specs.Prepared.{IsPrepared};
-ghost use Rattle.dcc_credit.specs.Answers.{answer_bytes};
+ghost use Rattle.dcc_credit.specs.Answers.{answer_octets};
 ghost use Rattle.dcc_engine.specs.Books.{held_in, next_outcome, AreBooks, IsAbsent, IsAdded, Steps, told};
 ghost use Rattle.dcc_engine.specs.Due.{step_of, Stands, HasTerms, HasRoom, IsDue};
 
@@ -37,13 +37,13 @@ pub(crate) fn answer(
     act: Act,
 ) -> Result<Vec<u8>, AllocError>
     requires { AreBooks rows.old.items asked.now.terms.now }
-    ensures answer { IfOk result (λ b. b.items ≡ answer_bytes asked.now.identity.now asked.now.terms.now asked.now.request.now
+    ensures answer { IfOk result (λ b. b.items ≡ answer_octets asked.now.identity.now asked.now.terms.now asked.now.request.now
         asked.now.proxies.now (next_outcome asked.now.terms.now (held_in rows.old.items sub) act)) }
     ensures steps { OnOk result (Steps rows.old.items rows.new.items asked.now.terms.now sub act) }
     ensures err { OnErr result (rows.new.items ≡ rows.old.items) }
 {
     let due = prepare(rows, alloc, asked.terms, &sub, act)?;
-    let bytes = write_cca(
+    let octets = write_cca(
         alloc,
         asked.identity,
         asked.terms,
@@ -52,7 +52,7 @@ pub(crate) fn answer(
         due.outcome(),
     )?;
     take(rows, sub, due);
-    Ok(bytes)
+    Ok(octets)
 }
 
 /// Makes a top-up of a subscriber.
@@ -137,7 +137,7 @@ fn prepare(
 fn take(rows: &mut Vec<Row>, sub: Sub, due: Due)
     requires stands { Stands rows.old.items sub due }
     requires room { HasRoom (vec_len rows.old) (vec_capacity rows.old) due }
-    ensures { (terms : Conditions) → AreBooks rows.old.items terms → HasTerms terms due
+    ensures { (terms : TermsView) → AreBooks rows.old.items terms → HasTerms terms due
         → Steps rows.old.items rows.new.items terms sub (step_of due).act }
 {
     leaving_out_changes_nothing();

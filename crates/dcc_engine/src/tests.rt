@@ -46,7 +46,7 @@ fn moment() -> Result<Moment, Fail> {
 fn connect(alloc: Global, peer: u32) -> Result<Event, Fail> {
     Ok(Event::Connect {
         peer,
-        host: Bytes::from_vec(b"gw1.example".to_vec(alloc)?),
+        host: OctetString::from_vec(b"gw1.example".to_vec(alloc)?),
     })
 }
 
@@ -63,7 +63,7 @@ fn message(alloc: Global, peer: u32, octets: &str) -> Result<Event, Fail> {
     Ok(Event::Message {
         peer,
         moment: moment()?,
-        bytes: Bytes::from_vec(hex::decode(alloc, octets)?),
+        octets: OctetString::from_vec(hex::decode(alloc, octets)?),
     })
 }
 
@@ -83,7 +83,7 @@ fn a_debit_is_answered(rt: HostRuntime) -> Result<(), Fail> {
     let outs = engine.run(alloc, &events(alloc)?)?;
     assert_eq!(rt; outs.len(), 3);
     assert_eq!(rt; outs[1].top_up, Some(TopUpAnswer::Done));
-    let answer = hex::encode(alloc, outs[2].bytes.as_slice())?;
+    let answer = hex::encode(alloc, outs[2].octets.as_slice())?;
     assert_eq!(rt; answer.as_str(), ANSWER);
     let account = engine.account(subscriber()?).ok_or("an account")?;
     assert_eq!(rt; account.funds(), 990);
@@ -127,7 +127,7 @@ fn peers_come_again(rt: HostRuntime) -> Result<(), Fail> {
     let outs = engine.run(alloc, &events_again(alloc)?)?;
     assert_eq!(rt; outs.len(), 11);
     for (out, (peer, _, told)) in outs.iter().skip(1).zip(AGAIN) {
-        let octets = hex::encode(alloc, out.bytes.as_slice())?;
+        let octets = hex::encode(alloc, out.octets.as_slice())?;
         let said = if out.close { "close" } else { octets.as_str() };
         assert_eq!(rt; (out.peer, said), (Some(peer), told));
     }
@@ -146,7 +146,7 @@ fn a_refusal_changes_no_answer(rt: HostRuntime) -> Result<(), Fail> {
     assert_eq!(rt; outs.len(), 3);
     let added = outs[1].top_up == Some(TopUpAnswer::Done);
     assert!(rt; added || outs[1].top_up == Some(TopUpAnswer::Refused));
-    let answer = outs[2].bytes.as_slice();
+    let answer = outs[2].octets.as_slice();
     let refused = answer.len() < 5 || answer[4] & 0x20 != 0;
     if added && !refused {
         assert_eq!(rt; hex::encode(alloc, answer)?.as_str(), ANSWER);

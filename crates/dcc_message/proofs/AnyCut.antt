@@ -34,7 +34,7 @@ same_from : (n : ℕ) (stream : List ℕ) → begins_whole stream ≡ false → 
 same_from zero stream h = refl
 same_from (suc n) stream h = rw h refl
 
--- as many as there are bytes are enough
+-- as many as there are octets are enough
 enough : (n m : ℕ) (stream : List ℕ) → length stream ≤ n → length stream ≤ m → messages_up_to n stream ≡ messages_up_to m stream
 enough zero m stream h k = sym (none_from m stream (none_in stream h))
 enough (suc n) zero stream h k = none_from (suc n) stream (none_in stream k)

@@ -13,24 +13,24 @@ use Rattle.dcc_message.specs.HeaderView.{HeaderView}
 use Rattle.dcc_message.specs.Streams.{length_field, length_fault}
 use Rattle.dcc_message.specs.Headers.{IsHeader, header, header_of, header_at, header_if}
 
-abbrev pub IsBytes : List ℕ → Type 0
-IsBytes bytes = (i : ℕ) → get_or bytes i 0 < 256
+abbrev pub IsOctets : List ℕ → Type 0
+IsOctets octets = (i : ℕ) → get_or octets i 0 < 256
 
--- ---- numbers of three and four bytes
+-- ---- numbers of three and four octets
 
 tail : List ℕ → List ℕ
-tail bytes = drop 1 bytes
+tail octets = drop 1 octets
 
-IsBytes-cons : (b : ℕ) (bytes : List ℕ) → b < 256 → IsBytes bytes → IsBytes (b ∷ bytes)
-IsBytes-cons b bytes lt fits zero = lt
-IsBytes-cons b bytes lt fits (suc i) = fits i
+IsOctets-cons : (b : ℕ) (octets : List ℕ) → b < 256 → IsOctets octets → IsOctets (b ∷ octets)
+IsOctets-cons b octets lt fits zero = lt
+IsOctets-cons b octets lt fits (suc i) = fits i
 
-IsBytes-nil : IsBytes []
-IsBytes-nil zero = omega arith
-IsBytes-nil (suc i) = omega arith
+IsOctets-nil : IsOctets []
+IsOctets-nil zero = omega arith
+IsOctets-nil (suc i) = omega arith
 
-four_cells : (w x y z : ℕ) → w < 256 → x < 256 → y < 256 → z < 256 → IsBytes (w ∷ x ∷ y ∷ z ∷ [])
-four_cells w x y z a b c d = IsBytes-cons w (x ∷ y ∷ z ∷ []) a (IsBytes-cons x (y ∷ z ∷ []) b (IsBytes-cons y (z ∷ []) c (IsBytes-cons z [] d IsBytes-nil)))
+four_cells : (w x y z : ℕ) → w < 256 → x < 256 → y < 256 → z < 256 → IsOctets (w ∷ x ∷ y ∷ z ∷ [])
+four_cells w x y z a b c d = IsOctets-cons w (x ∷ y ∷ z ∷ []) a (IsOctets-cons x (y ∷ z ∷ []) b (IsOctets-cons y (z ∷ []) c (IsOctets-cons z [] d IsOctets-nil)))
 
 four_back : (w x y z : ℕ) → w < 256 → x < 256 → y < 256 → z < 256 → to_be_bytes w32 (from_be_bytes w32 (w ∷ x ∷ y ∷ z ∷ [])) ≡ w ∷ x ∷ y ∷ z ∷ []
 four_back w x y z a b c d = be_bytes_4 (w ∷ x ∷ y ∷ z ∷ []) _ refl (four_cells w x y z a b c d) refl
@@ -45,22 +45,22 @@ no_fourth n lt = omega arith
 three_again : (n : ℕ) → n < 2 ^ 24 → from_be_bytes w32 (0 ∷ bytes_high_first 3 n) ≡ n
 three_again n lt = ap (λ (b : ℕ). from_be_bytes w32 (b ∷ bytes_high_first 3 n)) (sym (no_fourth n lt)) ∙ from_be_bytes-to_be_bytes_4 n (omega arith)
 
--- ---- the first twenty bytes, one by one
+-- ---- the first twenty octets, one by one
 
 cells : ℕ → ℕ → List ℕ → List ℕ
-cells zero i bytes = []
-cells (suc n) i bytes = get_or bytes i 0 ∷ cells n (i + 1) bytes
+cells zero i octets = []
+cells (suc n) i octets = get_or octets i 0 ∷ cells n (i + 1) octets
 
-in_cells : (n i : ℕ) (bytes : List ℕ) → i + n ≤ length bytes → drop i bytes ≡ cells n i bytes ++ drop (i + n) bytes
+in_cells : (n i : ℕ) (octets : List ℕ) → i + n ≤ length octets → drop i octets ≡ cells n i octets ++ drop (i + n) octets
 unfolding cells
-in_cells zero i bytes h = ap (λ (k : ℕ). drop k bytes) (let e : i ≡ i + 0 = omega arith in e)
-in_cells (suc n) i bytes h =
-    let within : i < length bytes = omega arith in
-    let step = in_cells n (i + 1) bytes (omega arith) in
+in_cells zero i octets h = ap (λ (k : ℕ). drop k octets) (let e : i ≡ i + 0 = omega arith in e)
+in_cells (suc n) i octets h =
+    let within : i < length octets = omega arith in
+    let step = in_cells n (i + 1) octets (omega arith) in
     let same : (i + 1) + n ≡ i + suc n = omega arith in
     let next : suc i ≡ i + 1 = omega arith in
-    drop-cons bytes i 0 within ∙ ap (λ (k : ℕ). get_or bytes i 0 ∷ drop k bytes) next ∙
-    ap (λ (b : List ℕ). get_or bytes i 0 ∷ b) step ∙ ap (λ (k : ℕ). get_or bytes i 0 ∷ (cells n (i + 1) bytes ++ drop k bytes)) same
+    drop-cons octets i 0 within ∙ ap (λ (k : ℕ). get_or octets i 0 ∷ drop k octets) next ∙
+    ap (λ (b : List ℕ). get_or octets i 0 ∷ b) step ∙ ap (λ (k : ℕ). get_or octets i 0 ∷ (cells n (i + 1) octets ++ drop k octets)) same
 
 made : ℕ → ℕ → ℕ → ℕ → ℕ → ℕ → HeaderView
 made long flags code app hop end = record { length = long; flags = flags; code = code; app = app; hop = hop; end_to_end = end }
@@ -75,27 +75,27 @@ joined : (flags : ℕ) (long long' code code' app app' hop hop' end end' : List 
     join flags long code app hop end ≡ join flags long' code' app' hop' end'
 joined flags long long' code code' app app' hop hop' end end' a b c d e = cc
 
-spelled_join : (bytes : List ℕ) → IsBytes bytes → header (header_at bytes) ≡
-    join (get_or bytes 4 0) (get_or bytes 1 0 ∷ get_or bytes 2 0 ∷ get_or bytes 3 0 ∷ []) (get_or bytes 5 0 ∷ get_or bytes 6 0 ∷ get_or bytes 7 0 ∷ [])
-    (get_or bytes 8 0 ∷ get_or bytes 9 0 ∷ get_or bytes 10 0 ∷ get_or bytes 11 0 ∷ []) (get_or bytes 12 0 ∷ get_or bytes 13 0 ∷ get_or bytes 14 0 ∷ get_or bytes 15 0 ∷ [])
-    (get_or bytes 16 0 ∷ get_or bytes 17 0 ∷ get_or bytes 18 0 ∷ get_or bytes 19 0 ∷ [])
-spelled_join bytes fits = (unfold header join in let here : header (header_at bytes) ≡
-    join (get_or bytes 4 0) (get_or bytes 1 0 ∷ get_or bytes 2 0 ∷ get_or bytes 3 0 ∷ []) (get_or bytes 5 0 ∷ get_or bytes 6 0 ∷ get_or bytes 7 0 ∷ [])
-    (get_or bytes 8 0 ∷ get_or bytes 9 0 ∷ get_or bytes 10 0 ∷ get_or bytes 11 0 ∷ []) (get_or bytes 12 0 ∷ get_or bytes 13 0 ∷ get_or bytes 14 0 ∷ get_or bytes 15 0 ∷ [])
-    (get_or bytes 16 0 ∷ get_or bytes 17 0 ∷ get_or bytes 18 0 ∷ get_or bytes 19 0 ∷ []) =
-    joined (get_or bytes 4 0) _ _ _ _ _ _ _ _ _ _
-    (three_back (get_or bytes 1 0) (get_or bytes 2 0) (get_or bytes 3 0) (fits 1) (fits 2) (fits 3))
-    (three_back (get_or bytes 5 0) (get_or bytes 6 0) (get_or bytes 7 0) (fits 5) (fits 6) (fits 7))
-    (four_back (get_or bytes 8 0) (get_or bytes 9 0) (get_or bytes 10 0) (get_or bytes 11 0) (fits 8) (fits 9) (fits 10) (fits 11))
-    (four_back (get_or bytes 12 0) (get_or bytes 13 0) (get_or bytes 14 0) (get_or bytes 15 0) (fits 12) (fits 13) (fits 14) (fits 15))
-    (four_back (get_or bytes 16 0) (get_or bytes 17 0) (get_or bytes 18 0) (get_or bytes 19 0) (fits 16) (fits 17) (fits 18) (fits 19)) in here)
+spelled_join : (octets : List ℕ) → IsOctets octets → header (header_at octets) ≡
+    join (get_or octets 4 0) (get_or octets 1 0 ∷ get_or octets 2 0 ∷ get_or octets 3 0 ∷ []) (get_or octets 5 0 ∷ get_or octets 6 0 ∷ get_or octets 7 0 ∷ [])
+    (get_or octets 8 0 ∷ get_or octets 9 0 ∷ get_or octets 10 0 ∷ get_or octets 11 0 ∷ []) (get_or octets 12 0 ∷ get_or octets 13 0 ∷ get_or octets 14 0 ∷ get_or octets 15 0 ∷ [])
+    (get_or octets 16 0 ∷ get_or octets 17 0 ∷ get_or octets 18 0 ∷ get_or octets 19 0 ∷ [])
+spelled_join octets fits = (unfold header join in let here : header (header_at octets) ≡
+    join (get_or octets 4 0) (get_or octets 1 0 ∷ get_or octets 2 0 ∷ get_or octets 3 0 ∷ []) (get_or octets 5 0 ∷ get_or octets 6 0 ∷ get_or octets 7 0 ∷ [])
+    (get_or octets 8 0 ∷ get_or octets 9 0 ∷ get_or octets 10 0 ∷ get_or octets 11 0 ∷ []) (get_or octets 12 0 ∷ get_or octets 13 0 ∷ get_or octets 14 0 ∷ get_or octets 15 0 ∷ [])
+    (get_or octets 16 0 ∷ get_or octets 17 0 ∷ get_or octets 18 0 ∷ get_or octets 19 0 ∷ []) =
+    joined (get_or octets 4 0) _ _ _ _ _ _ _ _ _ _
+    (three_back (get_or octets 1 0) (get_or octets 2 0) (get_or octets 3 0) (fits 1) (fits 2) (fits 3))
+    (three_back (get_or octets 5 0) (get_or octets 6 0) (get_or octets 7 0) (fits 5) (fits 6) (fits 7))
+    (four_back (get_or octets 8 0) (get_or octets 9 0) (get_or octets 10 0) (get_or octets 11 0) (fits 8) (fits 9) (fits 10) (fits 11))
+    (four_back (get_or octets 12 0) (get_or octets 13 0) (get_or octets 14 0) (get_or octets 15 0) (fits 12) (fits 13) (fits 14) (fits 15))
+    (four_back (get_or octets 16 0) (get_or octets 17 0) (get_or octets 18 0) (get_or octets 19 0) (fits 16) (fits 17) (fits 18) (fits 19)) in here)
 
--- the first twenty bytes are the spelling of what they say
-spelled_front : (bytes : List ℕ) → IsBytes bytes → get_or bytes 0 0 ≡ 1 → 20 ≤ length bytes → bytes ≡ header (header_at bytes) ++ drop 20 bytes
-spelled_front bytes fits version long =
-    let all = in_cells 20 0 bytes long in
-    let same : cells 20 0 bytes ≡ header (header_at bytes) = rw (spelled_join bytes fits) (unfold cells join in ap (λ (b : ℕ). b ∷ drop 1 (cells 20 0 bytes)) version) in
-    all ∙ ap (λ (front : List ℕ). front ++ drop 20 bytes) same
+-- the first twenty octets are the spelling of what they say
+spelled_front : (octets : List ℕ) → IsOctets octets → get_or octets 0 0 ≡ 1 → 20 ≤ length octets → octets ≡ header (header_at octets) ++ drop 20 octets
+spelled_front octets fits version long =
+    let all = in_cells 20 0 octets long in
+    let same : cells 20 0 octets ≡ header (header_at octets) = rw (spelled_join octets fits) (unfold cells join in ap (λ (b : ℕ). b ∷ drop 1 (cells 20 0 octets)) version) in
+    all ∙ ap (λ (front : List ℕ). front ++ drop 20 octets) same
 
 -- a length without a fault is that of a message
 record IsFine (n : ℕ) : Type 0 where
@@ -115,10 +115,10 @@ fine_again n h =
 
 -- what reading found
 abbrev pub IsFound : List ℕ → HeaderView → Type 0
-IsFound bytes h = IsHeader h × (bytes ≡ header h ++ drop 20 bytes) × (h.length ≡ length bytes)
+IsFound octets h = IsHeader h × (octets ≡ header h ++ drop 20 octets) × (h.length ≡ length octets)
 
-found_fine : (bytes : List ℕ) → IsBytes bytes → get_or bytes 0 0 ≡ 1 → IsFine (length_field bytes) → length_field bytes ≡ length bytes → IsFound bytes (header_at bytes)
-found_fine bytes fits version long exact = (
+found_fine : (octets : List ℕ) → IsOctets octets → get_or octets 0 0 ≡ 1 → IsFine (length_field octets) → length_field octets ≡ length octets → IsFound octets (header_at octets)
+found_fine octets fits version long exact = (
   record {
     flags = fits 4;
     code = omega (arith, fits 5, fits 6, fits 7);
@@ -129,27 +129,27 @@ found_fine bytes fits version long exact = (
     most = long.most;
     whole = long.whole;
   },
-  spelled_front bytes fits version (omega arith),
+  spelled_front octets fits version (omega arith),
   exact,
 )
 
-found_if : (bytes : List ℕ) (fault : Option FrameFault) → IsBytes bytes → get_or bytes 0 0 ≡ 1 → length_fault (length_field bytes) ≡ fault → IfOk (header_if fault bytes) (λ h. IsFound bytes h)
-found_if bytes (Some frame.TooLong) fits version h = tt
-found_if bytes (Some frame.BadLength) fits version h = tt
-found_if bytes None fits version h =
-    elim (cases_Bool (length_field bytes == length bytes)) [
-      | inl t ↦ rw t (found_fine bytes fits version (fine (length_field bytes) h) (eqb-true (length_field bytes) (length bytes) t))
+found_if : (octets : List ℕ) (fault : Option FrameFault) → IsOctets octets → get_or octets 0 0 ≡ 1 → length_fault (length_field octets) ≡ fault → IfOk (header_if fault octets) (λ h. IsFound octets h)
+found_if octets (Some frame.TooLong) fits version h = tt
+found_if octets (Some frame.BadLength) fits version h = tt
+found_if octets None fits version h =
+    elim (cases_Bool (length_field octets == length octets)) [
+      | inl t ↦ rw t (found_fine octets fits version (fine (length_field octets) h) (eqb-true (length_field octets) (length octets) t))
       | inr f ↦ rw f tt
     ]
 
--- a header that is read stands at the front of the bytes, and states their length
-pub found_of : (bytes : List ℕ) → IsBytes bytes → IfOk (header_of bytes) (λ h. IsFound bytes h)
+-- a header that is read stands at the front of the octets, and states their length
+pub found_of : (octets : List ℕ) → IsOctets octets → IfOk (header_of octets) (λ h. IsFound octets h)
 unfolding header_of
-found_of bytes fits =
-    elim (cases_Bool (ltb (length bytes) 4)) [
+found_of octets fits =
+    elim (cases_Bool (ltb (length octets) 4)) [
       | inl t ↦ rw t tt
-      | inr f ↦ elim (cases_Bool (get_or bytes 0 0 == 1)) [
-        | inl v ↦ rw (f, v) (found_if bytes (length_fault (length_field bytes)) fits (eqb-true (get_or bytes 0 0) 1 v) refl)
+      | inr f ↦ elim (cases_Bool (get_or octets 0 0 == 1)) [
+        | inl v ↦ rw (f, v) (found_if octets (length_fault (length_field octets)) fits (eqb-true (get_or octets 0 0) 1 v) refl)
         | inr v ↦ rw (f, v) tt
       ]
     ]
@@ -173,9 +173,9 @@ version_spelled : (h : HeaderView) (rest : List ℕ) → get_or (header h ++ res
 unfolding header
 version_spelled h rest = refl
 
-pub only_of : (bytes : List ℕ) (h : HeaderView) (rest : List ℕ) → IsHeader h → bytes ≡ header h ++ rest → h.length ≡ length bytes → header_of bytes ≡ Ok h
+pub only_of : (octets : List ℕ) (h : HeaderView) (rest : List ℕ) → IsHeader h → octets ≡ header h ++ rest → h.length ≡ length octets → header_of octets ≡ Ok h
 unfolding header_of
-only_of bytes h rest fits e exact =
+only_of octets h rest fits e exact =
     let all = header h ++ rest in
     let least = fits.least in
     let field : length_field all ≡ h.length = field_spelled h rest (omega (arith, fits.most)) in

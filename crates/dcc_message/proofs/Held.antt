@@ -46,7 +46,7 @@ messages_append : {Z : Type 0} (xs ys : List (Vec ℕ Z)) → AreMessages xs →
 messages_append [] ys h k = k
 messages_append (x ∷ xs) ys h k = (h.0, messages_append xs ys h.1 k)
 
--- the bytes that a piece completes are a message
+-- the octets that a piece completes are a message
 pub completed : (begun piece : List ℕ) (count : ℕ) → Completes begun piece count → IsMessage (begun ++ take count piece)
 completed begun piece count h =
     let all = begun ++ piece in

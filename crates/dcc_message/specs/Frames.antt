@@ -3,17 +3,17 @@ use Rattle.std.specs.Prelude.{◌≡◌, ℕ, ◌+◌, ◌≤◌, true, false, L
 use Rattle.std.specs.List.{flat_map, AllByRecursion}
 use Rattle.dcc_message.specs.Streams.{length_field, begins_whole}
 
-abbrev pub bytes_of : {Z : Type 0} → Vec ℕ Z → List ℕ
-bytes_of bytes = bytes.items
+abbrev pub octets_of : {Z : Type 0} → Vec ℕ Z → List ℕ
+octets_of octets = octets.items
 
--- the bytes of messages, one after another
+-- the octets of messages, one after another
 abbrev pub joined : {Z : Type 0} → List (Vec ℕ Z) → List ℕ
-joined messages = flat_map bytes_of messages
+joined messages = flat_map octets_of messages
 
 -- a whole message and nothing after it
-pub record IsMessage (bytes : List ℕ) : Type 0 where
-  pub whole : begins_whole bytes ≡ true
-  pub exact : length_field bytes ≡ length bytes
+pub record IsMessage (octets : List ℕ) : Type 0 where
+  pub whole : begins_whole octets ≡ true
+  pub exact : length_field octets ≡ length octets
 
 abbrev pub AreMessages : {Z : Type 0} → List (Vec ℕ Z) → Type 0
 AreMessages messages = AllByRecursion (λ message. IsMessage message.items) messages
@@ -23,12 +23,12 @@ pub record IsHeld {Z : Type 0} (ready : List (Vec ℕ Z)) (begun : List ℕ) : T
   pub messages : AreMessages ready
   pub less : begins_whole begun ≡ false
 
--- these bytes are so cut
-pub record IsCut {Z : Type 0} (bytes : List ℕ) (ready : List (Vec ℕ Z)) (begun : List ℕ) : Type 0 where
+-- these octets are so cut
+pub record IsCut {Z : Type 0} (octets : List ℕ) (ready : List (Vec ℕ Z)) (begun : List ℕ) : Type 0 where
   pub held : IsHeld ready begun
-  pub all : bytes ≡ joined ready ++ begun
+  pub all : octets ≡ joined ready ++ begun
 
--- so many bytes of a piece complete the message that the bytes before it begin
+-- so many octets of a piece complete the message that the octets before it begin
 pub record Completes (begun piece : List ℕ) (count : ℕ) : Type 0 where
   pub whole : begins_whole (begun ++ piece) ≡ true
   pub within : count ≤ length piece

@@ -20,42 +20,42 @@ pub record IsHeader (h : HeaderView) : Type 0 where
   pub most : h.length ≤ MAX_LENGTH
   pub whole : h.length % 4 ≡ 0
 
--- the bytes of a header: version 1, then each field, the highest byte first
+-- the octets of a header: version 1, then each field, the highest octet first
 unfoldable pub header : HeaderView → List ℕ
 header h =
     (1 ∷ bytes_high_first 3 h.length) ++ (h.flags ∷ bytes_high_first 3 h.code) ++
     to_be_bytes w32 h.app ++ to_be_bytes w32 h.hop ++ to_be_bytes w32 h.end_to_end
 
--- the bytes of a message: its header, which states the length of both, and the AVPs behind it
+-- the octets of a message: its header, which states the length of both, and the AVPs behind it
 unfoldable pub message : HeaderView → List ℕ → List ℕ
 message h avps = header (record h { length = HEADER_LENGTH + length avps }) ++ avps
 
--- the number in three bytes, or in four, from this one on
+-- the number in three octets, or in four, from this one on
 abbrev pub three_at : List ℕ → ℕ → ℕ
-three_at bytes i = from_be_bytes w32 (0 ∷ slice_index bytes i ∷ slice_index bytes (i + 1) ∷ slice_index bytes (i + 2) ∷ [])
+three_at octets i = from_be_bytes w32 (0 ∷ slice_index octets i ∷ slice_index octets (i + 1) ∷ slice_index octets (i + 2) ∷ [])
 
 abbrev pub four_at : List ℕ → ℕ → ℕ
-four_at bytes i = from_be_bytes w32 (slice_index bytes i ∷ slice_index bytes (i + 1) ∷ slice_index bytes (i + 2) ∷ slice_index bytes (i + 3) ∷ [])
+four_at octets i = from_be_bytes w32 (slice_index octets i ∷ slice_index octets (i + 1) ∷ slice_index octets (i + 2) ∷ slice_index octets (i + 3) ∷ [])
 
 -- the fields where they stand
 abbrev pub header_at : List ℕ → HeaderView
-header_at bytes = record {
-  length = three_at bytes 1;
-  flags = slice_index bytes 4;
-  code = three_at bytes 5;
-  app = four_at bytes 8;
-  hop = four_at bytes 12;
-  end_to_end = four_at bytes 16;
+header_at octets = record {
+  length = three_at octets 1;
+  flags = slice_index octets 4;
+  code = three_at octets 5;
+  app = four_at octets 8;
+  hop = four_at octets 12;
+  end_to_end = four_at octets 16;
 }
 
 abbrev pub header_if : Option FrameFault → List ℕ → Result HeaderView HeaderFault
-header_if (Some frame.TooLong) bytes = Err TooLong
-header_if (Some frame.BadLength) bytes = Err BadLength
-header_if None bytes = if length_field bytes == length bytes then Ok (header_at bytes) else Err BadLength
+header_if (Some frame.TooLong) octets = Err TooLong
+header_if (Some frame.BadLength) octets = Err BadLength
+header_if None octets = if length_field octets == length octets then Ok (header_at octets) else Err BadLength
 
--- the header of a message's bytes, or the first fault: version, too long, bad length
+-- the header of a message's octets, or the first fault: version, too long, bad length
 unfoldable pub header_of : List ℕ → Result HeaderView HeaderFault
-header_of bytes =
-    if nat_lt (length bytes) 4 then Err BadLength
-    else if not (slice_index bytes 0 == 1) then Err Version
-    else header_if (length_fault (length_field bytes)) bytes
+header_of octets =
+    if nat_lt (length octets) 4 then Err BadLength
+    else if not (slice_index octets 0 == 1) then Err Version
+    else header_if (length_fault (length_field octets)) octets

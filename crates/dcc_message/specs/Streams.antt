@@ -1,4 +1,4 @@
--- How a stream of bytes falls into messages: the length of each stands in its second to fourth bytes (RFC 6733, section 3).
+-- How a stream of octets falls into messages: the length of each stands in its second to fourth octets (RFC 6733, section 3).
 use Rattle.std.specs.Prelude.{ℕ, zero, suc, ◌%◌, Bool, not, ◌&&◌, ◌||◌, ◌==◌, nat_lt, nat_le, if◌then◌else◌, List, [], ◌∷◌, ◌++◌, length, take, drop, slice_index, Option, Some, None, is_none}
 use Rattle.std.specs.Int.{w32, from_be_bytes}
 use Rattle.dcc_message.specs.declared.length.FrameFault.{FrameFault}
@@ -7,7 +7,7 @@ use Rattle.dcc_message.specs.declared.length.TheConstants.{MAX_LENGTH, HEADER_LE
 
 -- the length that a message's header states
 abbrev pub length_field : List ℕ → ℕ
-length_field bytes = from_be_bytes w32 (0 ∷ slice_index bytes 1 ∷ slice_index bytes 2 ∷ slice_index bytes 3 ∷ [])
+length_field octets = from_be_bytes w32 (0 ∷ slice_index octets 1 ∷ slice_index octets 2 ∷ slice_index octets 3 ∷ [])
 
 -- what is wrong with a stated length: it is too great, or that of no message
 abbrev pub length_fault : ℕ → Option FrameFault
@@ -16,7 +16,7 @@ length_fault stated =
     else if nat_lt stated HEADER_LENGTH || not (stated % 4 == 0) then Some BadLength
     else None
 
--- what is wrong with the length at the front of a stream, once its bytes are there
+-- what is wrong with the length at the front of a stream, once its octets are there
 abbrev pub fault_at : List ℕ → Option FrameFault
 fault_at stream = if nat_lt (length stream) 4 then None else length_fault (length_field stream)
 

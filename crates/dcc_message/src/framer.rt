@@ -1,8 +1,8 @@
-//! Messages out of a stream of bytes.
+//! Messages out of a stream of octets.
 
 ghost use Rattle.std.specs.Prelude.{◌≡◌, ◌↔◌, ◌≤◌, ◌<◌, ◌+◌, ◌++◌, [], Some, Err, true, false, length, slice_index, IfOk, IfErr, IfSome, IfNone, OnOk, OnErr, option_map, List, ℕ};
 ghost use Rattle.dcc_message.specs.Streams.{length_field, fault_at, begins_whole, first_message, after_first, messages, rest, messages_by_pieces, rest_by_pieces};
-ghost use Rattle.dcc_message.specs.Frames.{bytes_of, joined, IsMessage, IsCut, Completes};
+ghost use Rattle.dcc_message.specs.Frames.{octets_of, joined, IsMessage, IsCut, Completes};
 
 use crate::length::{FrameFault, fault_in, fault_of_length, is_whole, length_of};
 use std::alloc::{AllocError, Global};
@@ -10,13 +10,13 @@ use std::collections::VecDeque;
 use std::marker::Model;
 use std::mem;
 
-/// A reader of messages from a stream that comes in pieces. It stands for the bytes fed and not yet given.
+/// A reader of messages from a stream that comes in pieces. It stands for the octets fed and not yet given.
 #[derive(Drop)]
 pub struct Framer {
     alloc: Global,
     /// Whole messages, in order.
     ready: VecDeque<Vec<u8>>,
-    /// The bytes after them, which are less than a message.
+    /// The octets after them, which are less than a message.
     begun: Vec<u8>,
 }
 
@@ -65,7 +65,7 @@ impl Framer {
     /// Takes the first whole message off, without memory. Without one it is the fault of a bad length field, which
     /// stays, or `None` where more has to come; then nothing changes.
     pub fn next(&mut self) -> Result<Option<Vec<u8>>, FrameFault>
-        ensures message { IfOk result (λ found. option_map bytes_of found ≡ first_message self.old) }
+        ensures message { IfOk result (λ found. option_map octets_of found ≡ first_message self.old) }
         ensures left { self.new ≡ after_first self.old }
         ensures fault { (f : FrameFault) → (result ≡ Err f) ↔ (fault_at self.old ≡ Some f) }
     {
@@ -79,7 +79,7 @@ impl Framer {
     }
 }
 
-/// How many bytes of the piece complete the message that is begun, where the piece has as many.
+/// How many octets of the piece complete the message that is begun, where the piece has as many.
 fn missing(begun: &[u8], piece: &[u8]) -> Option<usize>
     requires { begins_whole begun.now ≡ false }
     ensures some { IfSome result (λ count. Completes begun.now piece.now count) }
@@ -102,7 +102,7 @@ fn missing(begun: &[u8], piece: &[u8]) -> Option<usize>
     Some(stated - begun.len())
 }
 
-/// A byte of two pieces, one after the other.
+/// A octet of two pieces, one after the other.
 fn byte_at(front: &[u8], back: &[u8], index: usize) -> u8
     requires { index < length front.now + length back.now }
     ensures { result ≡ slice_index (front.now ++ back.now) index }
@@ -114,19 +114,19 @@ fn byte_at(front: &[u8], back: &[u8], index: usize) -> u8
     }
 }
 
-/// The messages of bytes, and what is left.
+/// The messages of octets, and what is left.
 #[derive(Drop)]
 struct Pieces {
     ready: VecDeque<Vec<u8>>,
     begun: Vec<u8>,
 }
 
-/// Cuts bytes into messages.
-fn cut_up(alloc: Global, bytes: &[u8]) -> Result<Pieces, AllocError>
-    ensures { IfOk result (λ c. IsCut bytes.now c.ready.items c.begun.items) }
+/// Cuts octets into messages.
+fn cut_up(alloc: Global, octets: &[u8]) -> Result<Pieces, AllocError>
+    ensures { IfOk result (λ c. IsCut octets.now c.ready.items c.begun.items) }
 {
     let mut ready = VecDeque::new(alloc);
-    let mut left = bytes;
+    let mut left = octets;
     while is_whole(left) {
         let (message, others) = left.split_at(length_of(left));
         ready.push_back(Vec::from_slice(alloc, message)?)?;

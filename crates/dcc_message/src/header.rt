@@ -39,82 +39,82 @@ impl Model for Header {
     ghost inverse = { λ v. record { length = v.length; flags = v.flags; code = v.code; app = v.app; hop = v.hop; end_to_end = v.end_to_end } };
 }
 
-/// Why bytes are no message, in the order in which it is looked for.
+/// Why octets are no message, in the order in which it is looked for.
 #[derive(Clone, Copy, Debug, PartialEq, Eq)]
 pub enum HeaderFault {
     /// The version isn't 1: fault 10.
     Version,
     /// The length field is above 65,532: fault 12.
     TooLong,
-    /// The length field is below 20, no multiple of 4 or not the number of bytes, or fewer than 4 bytes are there: fault 11.
+    /// The length field is below 20, no multiple of 4 or not the number of octets, or fewer than 4 octets are there: fault 11.
     BadLength,
 }
 
-/// Reads the header of a message from all bytes of the message. It takes no memory.
-pub fn read_header(bytes: &[u8]) -> Result<Header, HeaderFault>
-    ensures exact { result ≡ header_of bytes.now }
+/// Reads the header of a message from all octets of the message. It takes no memory.
+pub fn read_header(octets: &[u8]) -> Result<Header, HeaderFault>
+    ensures exact { result ≡ header_of octets.now }
 
-    // What is read stands at the front, and states the length of the bytes.
-    ensures found { IfOk result (λ h. IsHeader h × (bytes.now ≡ spelled h ++ drop 20 bytes.now) × (h.length ≡ length bytes.now)) }
+    // What is read stands at the front, and states the length of the octets.
+    ensures found { IfOk result (λ h. IsHeader h × (octets.now ≡ spelled h ++ drop 20 octets.now) × (h.length ≡ length octets.now)) }
 
-    // A header that states the length of the bytes is read.
+    // A header that states the length of the octets is read.
     ensures only { (h : HeaderView) (rest : List ℕ) →
-        IsHeader h → bytes.now ≡ spelled h ++ rest → h.length ≡ length bytes.now → result ≡ Ok h }
+        IsHeader h → octets.now ≡ spelled h ++ rest → h.length ≡ length octets.now → result ≡ Ok h }
 {
-    judged(bytes)
+    judged(octets)
 }
 
 /// The header, or the first fault.
 #[tactic(auto, unfolding(crate::specs::Headers::header_of))]
-fn judged(bytes: &[u8]) -> Result<Header, HeaderFault>
-    ensures { result ≡ header_of bytes.now }
+fn judged(octets: &[u8]) -> Result<Header, HeaderFault>
+    ensures { result ≡ header_of octets.now }
 {
-    if bytes.len() < 4 {
+    if octets.len() < 4 {
         return Err(HeaderFault::BadLength);
     }
-    if bytes[0] != 1 {
+    if octets[0] != 1 {
         return Err(HeaderFault::Version);
     }
-    let stated = length_of(bytes);
+    let stated = length_of(octets);
     match fault_of_length(stated) {
         Some(FrameFault::TooLong) => return Err(HeaderFault::TooLong),
         Some(FrameFault::BadLength) => return Err(HeaderFault::BadLength),
         None => {}
     }
-    if stated != bytes.len() {
+    if stated != octets.len() {
         return Err(HeaderFault::BadLength);
     }
-    Ok(header_in(bytes))
+    Ok(header_in(octets))
 }
 
 /// The fields where they stand.
-fn header_in(bytes: &[u8]) -> Header
-    requires { 20 ≤ length bytes.now }
-    ensures { result ≡ header_at bytes.now }
+fn header_in(octets: &[u8]) -> Header
+    requires { 20 ≤ length octets.now }
+    ensures { result ≡ header_at octets.now }
 {
     Header {
-        length: three_of(bytes, 1),
-        flags: bytes[4],
-        code: three_of(bytes, 5),
-        app: four_of(bytes, 8),
-        hop: four_of(bytes, 12),
-        end_to_end: four_of(bytes, 16),
+        length: three_of(octets, 1),
+        flags: octets[4],
+        code: three_of(octets, 5),
+        app: four_of(octets, 8),
+        hop: four_of(octets, 12),
+        end_to_end: four_of(octets, 16),
     }
 }
 
-fn three_of(bytes: &[u8], at: usize) -> u32
-    requires { at + 3 ≤ length bytes.now }
-    ensures value { result ≡ three_at bytes.now at }
+fn three_of(octets: &[u8], at: usize) -> u32
+    requires { at + 3 ≤ length octets.now }
+    ensures value { result ≡ three_at octets.now at }
     ensures below { result < 2 ^ 24 }
 {
-    u32::from_be_bytes([0, bytes[at], bytes[at + 1], bytes[at + 2]])
+    u32::from_be_bytes([0, octets[at], octets[at + 1], octets[at + 2]])
 }
 
-fn four_of(bytes: &[u8], at: usize) -> u32
-    requires { at + 4 ≤ length bytes.now }
-    ensures { result ≡ four_at bytes.now at }
+fn four_of(octets: &[u8], at: usize) -> u32
+    requires { at + 4 ≤ length octets.now }
+    ensures { result ≡ four_at octets.now at }
 {
-    u32::from_be_bytes([bytes[at], bytes[at + 1], bytes[at + 2], bytes[at + 3]])
+    u32::from_be_bytes([octets[at], octets[at + 1], octets[at + 2], octets[at + 3]])
 }
 
 /// Writes a message at the end of `out`: the header, with the length of both, and the AVPs, which are spelled already.
@@ -142,8 +142,8 @@ fn append_header(out: &mut Vec<u8>, header: &Header, len: u32)
     ensures len { vec_len out.new ≡ vec_len out.old + 20 }
     ensures capacity { vec_capacity out.old ≤ vec_capacity out.new }
 {
-    out.extend_from_slice(&front_bytes(header, len)).unwrap();
-    out.extend_from_slice(&identifier_bytes(header)).unwrap();
+    out.extend_from_slice(&front_octets(header, len)).unwrap();
+    out.extend_from_slice(&identifier_octets(header)).unwrap();
 }
 
 /// A message that is begun: room for its header, in a vector of this capacity. The AVPs are to be written behind it,
@@ -179,12 +179,12 @@ fn put_header(all: &mut [u8], header: &Header, len: u32)
     requires fits { len < 2 ^ 24 }
     ensures { all.new ≡ spelled (record header.now { length = len }) ++ drop 20 all.old }
 {
-    put_over(all, 0, &front_bytes(header, len));
-    put_over(all, 12, &identifier_bytes(header));
+    put_over(all, 0, &front_octets(header, len));
+    put_over(all, 12, &identifier_octets(header));
 }
 
-/// The first twelve bytes of a header that states this length: all up to the application.
-fn front_bytes(header: &Header, length: u32) -> [u8; 12]
+/// The first twelve octets of a header that states this length: all up to the application.
+fn front_octets(header: &Header, length: u32) -> [u8; 12]
     requires { length < 2 ^ 24 }
     ensures { result ≡ (1 ∷ bytes_high_first 3 length) ++ (header.now.flags ∷ bytes_high_first 3 header.now.code) ++ to_be_bytes w32 header.now.app }
 {
@@ -207,8 +207,8 @@ fn front_bytes(header: &Header, length: u32) -> [u8; 12]
     ]
 }
 
-/// The last eight bytes of a header: the identifiers.
-fn identifier_bytes(header: &Header) -> [u8; 8]
+/// The last eight octets of a header: the identifiers.
+fn identifier_octets(header: &Header) -> [u8; 8]
     ensures { result ≡ to_be_bytes w32 header.now.hop ++ to_be_bytes w32 header.now.end_to_end }
 {
     let h = header.hop.to_be_bytes();

@@ -6,10 +6,10 @@ ghost use Rattle.dcc_message.specs.Names.{is_name};
 
 use std::marker::Model;
 
-/// A DiameterIdentity (RFC 6733, section 4.3.1): the name of a host or a realm, 1 to 255 bytes of visible ASCII.
+/// A DiameterIdentity (RFC 6733, section 4.3.1): the name of a host or a realm, 1 to 255 octets of visible ASCII.
 #[derive(Debug, Drop)]
 pub struct DiameterIdentity {
-    bytes: Vec<u8>,
+    octets: Vec<u8>,
 }
 
 impl Model for DiameterIdentity {
@@ -18,51 +18,51 @@ impl Model for DiameterIdentity {
 
     ghost Value = { List ℕ };
 
-    ghost view = { λ n. n.bytes.items };
+    ghost view = { λ n. n.octets.items };
 
-    ghost invariant = { λ n. is_name n.bytes.items ≡ true };
+    ghost invariant = { λ n. is_name n.octets.items ≡ true };
 }
 
 impl DiameterIdentity {
-    /// The name of these bytes, or none where they are outside the limits. It takes no memory.
-    pub fn from_vec(bytes: Vec<u8>) -> Option<DiameterIdentity>
-        ensures { result ≡ (if is_name bytes.items then Some bytes.items else None) }
+    /// The name of these octets, or none where they are outside the limits. It takes no memory.
+    pub fn from_vec(octets: Vec<u8>) -> Option<DiameterIdentity>
+        ensures { result ≡ (if is_name octets.items then Some octets.items else None) }
     {
-        if !is_name(&bytes) {
+        if !is_name(&octets) {
             return None;
         }
-        Some(DiameterIdentity { bytes })
+        Some(DiameterIdentity { octets })
     }
 
-    /// The bytes of the name.
+    /// The octets of the name.
     pub fn as_slice(&self) -> &[u8]
         ensures value { result.now ≡ self.now }
         ensures limits { is_name self.now ≡ true }
     {
-        self.bytes.as_slice()
+        self.octets.as_slice()
     }
 
-    /// The bytes, moved out.
+    /// The octets, moved out.
     pub fn into_vec(self) -> Vec<u8>
         ensures value { result.items ≡ self }
         ensures limits { is_name self ≡ true }
     {
-        let DiameterIdentity { bytes } = self;
-        bytes
+        let DiameterIdentity { octets } = self;
+        octets
     }
 }
 
-/// Whether there are 1 to 255 bytes, each a visible character of ASCII.
-fn is_name(bytes: &[u8]) -> bool
-    ensures { result ≡ is_name bytes.now }
+/// Whether there are 1 to 255 octets, each a visible character of ASCII.
+fn is_name(octets: &[u8]) -> bool
+    ensures { result ≡ is_name octets.now }
 {
-    1 <= bytes.len() && bytes.len() <= 255 && are_visible(bytes)
+    1 <= octets.len() && octets.len() <= 255 && are_visible(octets)
 }
 
-fn are_visible(bytes: &[u8]) -> bool
-    ensures { result ≡ list_all (λ byte. nat_le 0x21 byte && nat_le byte 0x7E) bytes.now }
+fn are_visible(octets: &[u8]) -> bool
+    ensures { result ≡ list_all (λ octet. nat_le 0x21 octet && nat_le octet 0x7E) octets.now }
 {
-    bytes.iter().all(|byte| b'!' <= *byte && *byte <= b'~')
+    octets.iter().all(|octet| b'!' <= *octet && *octet <= b'~')
 }
 
 /// Who a server is: what stands in Origin-Host, Origin-Realm and Host-IP-Address of its answers.
@@ -70,6 +70,6 @@ fn are_visible(bytes: &[u8]) -> bool
 pub struct Identity {
     pub host: DiameterIdentity,
     pub realm: DiameterIdentity,
-    /// An IPv4 address, the highest byte first.
+    /// An IPv4 address, the highest octet first.
     pub address: [u8; 4],
 }

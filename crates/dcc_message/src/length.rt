@@ -19,21 +19,21 @@ pub enum FrameFault {
 }
 
 /// The length that the header's field states, in octets.
-pub fn length_of(bytes: &[u8]) -> usize
-    requires { 4 ≤ length bytes.now }
-    ensures { result ≡ length_field bytes.now }
+pub fn length_of(octets: &[u8]) -> usize
+    requires { 4 ≤ length octets.now }
+    ensures { result ≡ length_field octets.now }
 {
-    u32::from_be_bytes([0, bytes[1], bytes[2], bytes[3]]) as usize
+    u32::from_be_bytes([0, octets[1], octets[2], octets[3]]) as usize
 }
 
 /// What is wrong with the length field, once it is there.
-pub fn fault_in(bytes: &[u8]) -> Option<FrameFault>
-    ensures { result ≡ fault_at bytes.now }
+pub fn fault_in(octets: &[u8]) -> Option<FrameFault>
+    ensures { result ≡ fault_at octets.now }
 {
-    if bytes.len() < 4 {
+    if octets.len() < 4 {
         return None;
     }
-    fault_of_length(length_of(bytes))
+    fault_of_length(length_of(octets))
 }
 
 /// What is wrong with a stated length.
@@ -50,8 +50,8 @@ pub fn fault_of_length(stated: usize) -> Option<FrameFault>
 }
 
 /// Whether a whole message stands at the front.
-pub fn is_whole(bytes: &[u8]) -> bool
-    ensures { result ≡ begins_whole bytes.now }
+pub fn is_whole(octets: &[u8]) -> bool
+    ensures { result ≡ begins_whole octets.now }
 {
-    bytes.len() >= 4 && fault_in(bytes).is_none() && length_of(bytes) <= bytes.len()
+    octets.len() >= 4 && fault_in(octets).is_none() && length_of(octets) <= octets.len()
 }

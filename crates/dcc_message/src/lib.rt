@@ -1,7 +1,7 @@
-//! Diameter messages: the header, messages in a stream of bytes, and who answers them.
+//! Diameter messages: the header, messages in a stream of octets, and who answers them.
 //!
-//! Stands on `dcc_avp`. The contract that it gives: a header is read exactly where the bytes spell it, and a stream
-//! of bytes gives its messages, the same ones however it was cut into pieces (RFC 6733, section 3).
+//! Stands on `dcc_avp`. The contract that it gives: a header is read exactly where the octets spell it, and a stream
+//! of octets gives its messages, the same ones however it was cut into pieces (RFC 6733, section 3).
 #![tactic(auto)]
 
 mod framer;

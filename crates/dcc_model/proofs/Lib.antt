@@ -1,4 +1,4 @@
 pub mod Histories
 pub mod Requests
 pub mod Funds
-pub mod Laws
+pub mod LawProofs

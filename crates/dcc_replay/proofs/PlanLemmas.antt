@@ -1,4 +1,4 @@
--- What a file's bytes say of a plan.
+-- What a file's octets say of a plan.
 use Rattle.std.proofs.Common.{◌≡◌, ℕ, List, Result, Ok, Err, inl, inr, refl, IfErr}
 use Rattle.std.specs.Prelude.{IsErrAnd}
 use Rattle.std.specs.Str.{IsUtf8, is_utf8}
@@ -10,23 +10,23 @@ use Rattle.dcc_tariff.specs.declared.fault.PlanFault.{PlanFault}
 use Rattle.dcc_tariff.specs.declared.fault.PlanFault.TheVariants.{NotToml, MissingKey, Range, BadMoment, Memory}
 use Rattle.dcc_replay.specs.declared.failure.Failure.{Failure}
 use Rattle.dcc_replay.specs.Failures.{of_plan}
-use Rattle.dcc_replay.specs.Plans.{plan_of_bytes, IsRefusal}
+use Rattle.dcc_replay.specs.Plans.{plan_of_octets, IsRefusal}
 
-pub plan_of_bytes-text : (bytes : List ℕ) → IsUtf8 bytes → plan_of_bytes bytes ≡ plan_of_text bytes
-unfolding plan_of_bytes
-plan_of_bytes-text bytes text = rw (is_utf8-from_IsUtf8 bytes text) refl
+pub plan_of_octets-text : (octets : List ℕ) → IsUtf8 octets → plan_of_octets octets ≡ plan_of_text octets
+unfolding plan_of_octets
+plan_of_octets-text octets text = rw (is_utf8-from_IsUtf8 octets text) refl
 
-plan_of_bytes-none : (bytes : List ℕ) → (IsUtf8 bytes → ⊥) → plan_of_bytes bytes ≡ Err NotToml
-unfolding plan_of_bytes
-plan_of_bytes-none bytes none =
-    elim (cases_Bool (is_utf8 bytes)) [
-      | inl is ↦ absurd (none (IsUtf8-from_is_utf8 bytes is))
+plan_of_octets-none : (octets : List ℕ) → (IsUtf8 octets → ⊥) → plan_of_octets octets ≡ Err NotToml
+unfolding plan_of_octets
+plan_of_octets-none octets none =
+    elim (cases_Bool (is_utf8 octets)) [
+      | inl is ↦ absurd (none (IsUtf8-from_is_utf8 octets is))
       | inr fails ↦ rw fails refl
     ]
 
-pub no_text : (bytes : List ℕ) (failure : Failure) → (IsUtf8 bytes → ⊥) → failure ≡ of_plan NotToml
-    → IsRefusal (plan_of_bytes bytes) failure
-no_text bytes failure none says = inr (NotToml, plan_of_bytes-none bytes none, says)
+pub no_text : (octets : List ℕ) (failure : Failure) → (IsUtf8 octets → ⊥) → failure ≡ of_plan NotToml
+    → IsRefusal (plan_of_octets octets) failure
+no_text octets failure none says = inr (NotToml, plan_of_octets-none octets none, says)
 
 refused_by : (fault : PlanFault) (meant : Result PlanView PlanFault) (failure : Failure)
     → Gives (Err fault) meant → failure ≡ of_plan fault → IsRefusal meant failure
@@ -36,9 +36,9 @@ refused_by Range meant failure given says = inr (Range, given, says)
 refused_by BadMoment meant failure given says = inr (BadMoment, given, says)
 refused_by Memory meant failure given says = inl says
 
-pub refused : (bytes text : List ℕ) (fault : PlanFault) (r : Result PlanView Failure)
-    → text ≡ bytes → IsUtf8 bytes → Gives (Err fault) (plan_of_text text)
-    → IsErrAnd r (λ failure. failure ≡ of_plan fault) → IfErr r (IsRefusal (plan_of_bytes bytes))
-refused bytes text fault (Ok plan) same is given says = tt
-refused bytes text fault (Err failure) same is given says =
-    rw (plan_of_bytes-text bytes is) (rw (← same) (refused_by fault (plan_of_text text) failure given says))
+pub refused : (octets text : List ℕ) (fault : PlanFault) (r : Result PlanView Failure)
+    → text ≡ octets → IsUtf8 octets → Gives (Err fault) (plan_of_text text)
+    → IsErrAnd r (λ failure. failure ≡ of_plan fault) → IfErr r (IsRefusal (plan_of_octets octets))
+refused octets text fault (Ok plan) same is given says = tt
+refused octets text fault (Err failure) same is given says =
+    rw (plan_of_octets-text octets is) (rw (← same) (refused_by fault (plan_of_text text) failure given says))

@@ -17,7 +17,7 @@ word_of Refused = codes "refused"
 unfoldable pub answered : Out → List (List ℕ)
 answered out = elim out.peer [
   | None ↦ []
-  | Some peer ↦ if length out.bytes == 0 then [] else (codes "answer " ++ decimal peer ++ codes " " ++ encode_lower out.bytes) ∷ []
+  | Some peer ↦ if length out.octets == 0 then [] else (codes "answer " ++ decimal peer ++ codes " " ++ encode_lower out.octets) ∷ []
 ]
 
 -- that the peer is closed

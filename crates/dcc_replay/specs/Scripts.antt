@@ -6,7 +6,7 @@ use Rattle.dcc_engine.specs.declared.event.Event.{Event}
 use Rattle.dcc_engine.specs.declared.event.Event.TheVariants.{Connect, Message, TopUp}
 use Rattle.dcc_replay.specs.declared.script.ScriptFault.{ScriptFault}
 use Rattle.dcc_replay.specs.declared.script.ScriptFault.TheVariants.{Line, Memory}
-use Rattle.dcc_replay.specs.Words.{lines_of, words_of, peer, any_u64, moment, host, octets, sub}
+use Rattle.dcc_replay.specs.Words.{lines_of, words_of, peer, any_u64, moment, host, hex_octets, sub}
 
 -- `open P HOST`
 unfoldable pub opened : List (List ℕ) → Option Event
@@ -21,8 +21,8 @@ unfoldable pub arrived : List (List ℕ) → Option Event
 arrived (p ∷ m ∷ x ∷ []) = do
   id ← peer p
   when ← moment m
-  bytes ← octets x
-  Some (Message id when bytes)
+  octets ← hex_octets x
+  Some (Message id when octets)
 arrived _ = None
 
 -- `topup MOMENT SUB TICKET AMOUNT`
@@ -46,7 +46,7 @@ event_of (verb ∷ words) =
 -- a line without an event: it is empty, or begins with #
 abbrev pub is_remark : List ℕ → Bool
 is_remark [] = true
-is_remark (byte ∷ line) = byte == 35
+is_remark (octet ∷ line) = octet == 35
 
 -- the event of line n before those of the later lines; n is the fault of a line that has none of the forms
 abbrev pub then_later : ℕ → Option Event → Result (List Event) ℕ → Result (List Event) ℕ

@@ -12,11 +12,11 @@ use Rattle.dcc_credit.specs.Requests.{where_, ◌>>=◌}
 
 -- the lines of a text: what stands between its line feeds
 abbrev pub lines_of : List ℕ → List (List ℕ)
-lines_of text = slice_split (λ byte. byte == 10) text
+lines_of text = slice_split (λ octet. octet == 10) text
 
 -- the words of a line: what stands between its spaces
 abbrev pub words_of : List ℕ → List (List ℕ)
-words_of line = slice_split (λ byte. byte == 32) line
+words_of line = slice_split (λ octet. octet == 32) line
 
 -- a number up to a limit, in decimal digits
 unfoldable pub number : ℕ → List ℕ → Option ℕ
@@ -43,12 +43,12 @@ host word = where_ (is_identity word) word
 
 -- octets of a message: 1 to 65,536
 abbrev pub sized : Result (List ℕ) FromHexError → Option (List ℕ)
-sized (Ok bytes) = if nat_le 1 (length bytes) && nat_le (length bytes) 65_536 then Some bytes else None
+sized (Ok octets) = if nat_le 1 (length octets) && nat_le (length octets) 65_536 then Some octets else None
 sized (Err fault) = None
 
 -- octets in hex digits of either case
-unfoldable pub octets : List ℕ → Option (List ℕ)
-octets word = sized (decode_of word)
+unfoldable pub hex_octets : List ℕ → Option (List ℕ)
+hex_octets word = sized (decode_of word)
 
 -- the subscriber of a type and data: a known type, and 1 to 64 octets of visible ASCII
 unfoldable pub known_sub : List ℕ → ℕ → Option SubView
@@ -57,6 +57,6 @@ known_sub name kind = where_ (is_sub kind name) (record { kind = kind; name = na
 -- a subscriber: its type and its data, with a colon between, the word's first
 unfoldable pub sub : List ℕ → Option SubView
 sub word = do
-  colon ← position (λ byte. byte == 58) word
+  colon ← position (λ octet. octet == 58) word
   kind ← number 255 (take colon word)
   known_sub (drop (colon + 1) word) kind

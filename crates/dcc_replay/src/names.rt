@@ -23,6 +23,6 @@ fn name_of(alloc: Global, text: &[u8]) -> Result<DiameterIdentity, AllocError>
     requires { is_identity text.now ≡ true }
     ensures { IfOk result (λ name. name ≡ text.now) }
 {
-    let bytes = Vec::from_slice(alloc, text)?;
-    Ok(DiameterIdentity::from_vec(bytes).unwrap())
+    let octets = Vec::from_slice(alloc, text)?;
+    Ok(DiameterIdentity::from_vec(octets).unwrap())
 }

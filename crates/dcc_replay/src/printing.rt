@@ -41,10 +41,10 @@ fn put_answer(text: &mut String, alloc: Global, n: u64, out: &Out) -> Result<boo
     let Some(peer) = out.peer else {
         return Ok(false);
     };
-    if out.bytes.as_slice().is_empty() {
+    if out.octets.as_slice().is_empty() {
         return Ok(false);
     }
-    let octets = hex::encode(alloc, out.bytes.as_slice())?;
+    let octets = hex::encode(alloc, out.octets.as_slice())?;
     writeln!(text, "{n} answer {peer} {octets}")?;
     Ok(true)
 }

@@ -5,7 +5,7 @@ ghost use Rattle.dcc_replay.specs.Scripts.{opened, arrived, topped_up, event_of,
 ghost use Rattle.dcc_replay.specs.Words.{words_of};
 ghost use Rattle.dcc_replay.specs.declared.script.ScriptFault.TheVariants as fault;
 
-use crate::words::{any_u64, host, moment, octets, parts, peer, sub};
+use crate::words::{any_u64, host, moment, hex_octets, parts, peer, sub};
 use dcc_engine::Event;
 use std::alloc::{AllocError, AllocFailed, Global};
 
@@ -114,13 +114,13 @@ fn arrived(alloc: Global, words: &[&[u8]]) -> Result<Option<Event>, AllocError>
     let (Some(peer), Some(moment)) = (peer(first), moment(second)) else {
         return Ok(None);
     };
-    let Some(bytes) = octets(alloc, third)? else {
+    let Some(octets) = hex_octets(alloc, third)? else {
         return Ok(None);
     };
     Ok(Some(Event::Message {
         peer,
         moment,
-        bytes,
+        octets,
     }))
 }
 

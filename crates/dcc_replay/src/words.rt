@@ -3,10 +3,10 @@
 ghost use Rattle.std.specs.Prelude.{◌≡◌, ◌<◌, ◌==◌, ◌≤◌, length, position, map, IfOk, IfSome};
 ghost use Rattle.std.specs.List.{list_all, slice_split};
 ghost use Rattle.std.specs.Char.{is_ascii_digit};
-ghost use Rattle.dcc_replay.specs.Words.{number, peer, any_u64, moment, host, octets, known_sub, sub};
+ghost use Rattle.dcc_replay.specs.Words.{number, peer, any_u64, moment, host, hex_octets, known_sub, sub};
 
 use dcc_act::{Moment, Sub};
-use dcc_engine::Bytes;
+use dcc_engine::OctetString;
 use dcc_message::DiameterIdentity;
 use hex::FromHexError;
 use std::alloc::{AllocError, Global};
@@ -19,9 +19,9 @@ const MOST_OCTETS: usize = 65_536;
 
 /// The parts of a text, cut at each separator.
 pub(crate) fn parts(alloc: Global, text: &[u8], separator: u8) -> Result<Vec<&[u8]>, AllocError>
-    ensures { IfOk result (λ parts. map (λ part. part.now) parts.items ≡ slice_split (λ byte. byte == separator) text.now) }
+    ensures { IfOk result (λ parts. map (λ part. part.now) parts.items ≡ slice_split (λ octet. octet == separator) text.now) }
 {
-    text.split(|byte| *byte == separator).collect(alloc)
+    text.split(|octet| *octet == separator).collect(alloc)
 }
 
 /// A number in decimal digits, up to a limit.
@@ -44,7 +44,7 @@ fn number(word: &[u8], limit: u64) -> Option<u64>
 fn are_digits(word: &[u8]) -> bool
     ensures { result ≡ list_all is_ascii_digit word.now }
 {
-    word.iter().all(|byte| byte.is_ascii_digit())
+    word.iter().all(|octet| octet.is_ascii_digit())
 }
 
 /// The number of a peer.
@@ -70,23 +70,23 @@ pub(crate) fn moment(word: &[u8]) -> Option<Moment>
 }
 
 /// A host's name: a DiameterIdentity, 1 to 255 octets of visible ASCII (RFC 6733, section 4.3.1).
-pub(crate) fn host(alloc: Global, word: &[u8]) -> Result<Option<Bytes>, AllocError>
+pub(crate) fn host(alloc: Global, word: &[u8]) -> Result<Option<OctetString>, AllocError>
     ensures { IfOk result (λ name. name ≡ host word.now) }
 {
     let Some(name) = DiameterIdentity::from_vec(Vec::from_slice(alloc, word)?) else {
         return Ok(None);
     };
-    Ok(Some(Bytes::from_vec(name.into_vec())))
+    Ok(Some(OctetString::from_vec(name.into_vec())))
 }
 
 /// Octets in hex digits of either case, 1 to 65,536.
-#[tactic(auto, unfolding(crate::specs::Words::octets))]
-pub(crate) fn octets(alloc: Global, word: &[u8]) -> Result<Option<Bytes>, AllocError>
-    ensures { IfOk result (λ bytes. bytes ≡ octets word.now) }
+#[tactic(auto, unfolding(crate::specs::Words::hex_octets))]
+pub(crate) fn hex_octets(alloc: Global, word: &[u8]) -> Result<Option<OctetString>, AllocError>
+    ensures { IfOk result (λ octets. octets ≡ hex_octets word.now) }
 {
     match hex::decode(alloc, word) {
-        Ok(bytes) if !bytes.is_empty() && bytes.len() <= MOST_OCTETS => Ok(Some(Bytes::from_vec(
-            bytes,
+        Ok(octets) if !octets.is_empty() && octets.len() <= MOST_OCTETS => Ok(Some(OctetString::from_vec(
+            octets,
         ))),
         Err(FromHexError::OutOfMemory) => Err(AllocError),
         _ => Ok(None),
@@ -104,10 +104,10 @@ pub(crate) fn sub(word: &[u8]) -> Option<Sub>
 }
 
 fn first_colon(word: &[u8]) -> Option<usize>
-    ensures value { result ≡ position (λ byte. byte == 58) word.now }
+    ensures value { result ≡ position (λ octet. octet == 58) word.now }
     ensures within { IfSome result (λ colon. colon < length word.now) }
 {
-    word.iter().position(|byte| *byte == b':')
+    word.iter().position(|octet| *octet == b':')
 }
 
 /// The subscriber of a type and data.

@@ -50,8 +50,8 @@ numbers-dotted a b c d ha hb hc hd =
     ∙ ap (λ ns. a ∷ ns) (numbers-decimal b (46 ∷ (decimal c ++ (46 ∷ decimal d))) hb
     ∙ ap (λ ns. b ∷ ns) (numbers-decimal c (46 ∷ decimal d) hc ∙ ap (λ ns. c ∷ ns) last))
 
-same_bytes : (text : List ℕ) → bytes_eq text text ≡ true
-same_bytes text = (bytes_eq-Decides text text).1 refl
+same_octets : (text : List ℕ) → bytes_eq text text ≡ true
+same_octets text = (bytes_eq-Decides text text).1 refl
 
 if_spelled-dotted : (a b c d : ℕ) → a < 256 → b < 256 → c < 256 → d < 256
     → if_spelled (dotted_text a b c d) (a ∷ b ∷ c ∷ d ∷ []) ≡ Some (a ∷ b ∷ c ∷ d ∷ [])
@@ -60,7 +60,7 @@ if_spelled-dotted a b c d ha hb hc hd =
     and_from (nat_lt a 256) _ (lt-ltb a 256 ha) (and_from (nat_lt b 256) _ (lt-ltb b 256 hb)
     (and_from (nat_lt c 256) _ (lt-ltb c 256 hc) (and_from (nat_lt d 256) true (lt-ltb d 256 hd) refl))) in
     cond-true _ (Some (a ∷ b ∷ c ∷ d ∷ [])) None
-    (and_from (list_all (λ n. nat_lt n 256) (a ∷ b ∷ c ∷ d ∷ [])) _ low (same_bytes (dotted_text a b c d)))
+    (and_from (list_all (λ n. nat_lt n 256) (a ∷ b ∷ c ∷ d ∷ [])) _ low (same_octets (dotted_text a b c d)))
 
 pub address_of-dotted : (text octets : List ℕ) → IsDotted text octets → address_of text ≡ Some octets
 unfolding address_of

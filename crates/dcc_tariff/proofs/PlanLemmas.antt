@@ -1,7 +1,7 @@
 -- What a plan answers of a group, from the version that was found in it.
 use Rattle.std.proofs.Common.{◌≡◌, ℕ, true, List, filter, Option, Some, None, IsSome, option_map, option_copied, Bor, refl, sym, ap, ◌∙◌}
 use Rattle.std.specs.List.{find, list_any}
-use Rattle.dcc_tariff.specs.Terms.{Rate}
+use Rattle.dcc_tariff.specs.Terms.{TariffView}
 use Rattle.dcc_tariff.specs.Plans.{PlanView, is_of, has_begun, latest, all_agree, unit_of, tariff_at}
 use Rattle.dcc_tariff.specs.declared.tariff.UnitKind.{UnitKind}
 use Rattle.dcc_tariff.specs.declared.version.Version.{Version}
@@ -21,11 +21,11 @@ unit_of-found plan versions group read same found =
 pub tariff_at-found : (plan : PlanView) (versions : List Version) (group moment : ℕ) (read : Option (Bor Version))
     → versions ≡ plan.versions
     → option_copied read ≡ latest (filter (has_begun group moment) versions)
-    → option_map {U = UnitKind × Rate} (λ (v : Bor Version). (v.now.unit, v.now.tariff)) read ≡ tariff_at plan group moment
+    → option_map {U = UnitKind × TariffView} (λ (v : Bor Version). (v.now.unit, v.now.tariff)) read ≡ tariff_at plan group moment
 unfolding tariff_at
 tariff_at-found plan versions group moment read same found =
-    option_map-copied {Y = UnitKind × Rate} (λ (v : Version). (v.unit, v.tariff)) read
-    ∙ ap (option_map {U = UnitKind × Rate} (λ (v : Version). (v.unit, v.tariff)))
+    option_map-copied {Y = UnitKind × TariffView} (λ (v : Version). (v.unit, v.tariff)) read
+    ∙ ap (option_map {U = UnitKind × TariffView} (λ (v : Version). (v.unit, v.tariff)))
     (found ∙ ap (λ vs. latest (filter (has_begun group moment) vs)) same)
 
 pub unit_of-latest : (plan : PlanView) (versions : List Version) (group moment : ℕ) (read : Option (Bor Version))

@@ -7,7 +7,7 @@ use Rattle.std.proofs.lemmas.Bool.Decides.{nat_tests}
 use Rattle.std.proofs.lemmas.Nat.{mul-le}
 use Rattle.std.proofs.Math.Nat.{lt_of_mul-lt-mul_right, div-mul-le_self, lt-div-mul-add, mul-le-mul_right, le-mul_of_pos_right}
 use Rattle.std.proofs.Math.Nat.{mul-le-mul_left}
-use Rattle.dcc_tariff.specs.Terms.{Rate, IsRate}
+use Rattle.dcc_tariff.specs.Terms.{TariffView, IsTariff}
 use Rattle.dcc_tariff.specs.Prices.{least, greatest, blocks, price, covers, best}
 
 pub least_le : (passes : ℕ → Bool) (n : ℕ) → least passes n ≤ n
@@ -64,7 +64,7 @@ rounded_up_more units block count some short =
     lt_of_mul-lt-mul_right block beyond
 
 -- the blocks that cover the units, in one quotient
-blocks-is : (rate : Rate) (units : ℕ) → 1 ≤ rate.block → blocks rate units ≡ rounded_up units rate.block
+blocks-is : (rate : TariffView) (units : ℕ) → 1 ≤ rate.block → blocks rate units ≡ rounded_up units rate.block
 blocks-is rate units some =
     let (enough, close) = div_ceil_times units rate.block some in
     least-is (λ count. nat_le units (count * rate.block)) units (rounded_up units rate.block)
@@ -75,7 +75,7 @@ blocks-is rate units some =
       | inr covered ↦ let least = rounded_up_least units rate.block k some covered in absurd (omega arith)
     ])
 
-pub price-is : (rate : Rate) (units : ℕ) → 1 ≤ rate.block → price rate units ≡ rounded_up units rate.block * rate.price
+pub price-is : (rate : TariffView) (units : ℕ) → 1 ≤ rate.block → price rate units ≡ rounded_up units rate.block * rate.price
 unfolding price
 price-is rate units some = ap (λ count. count * rate.price) (blocks-is rate units some)
 
@@ -87,12 +87,12 @@ least-none passes (suc n) none =
     let up = least_le passes n in
     cond-false (passes (least passes n)) (least passes n) (suc n) (none (least passes n) (omega arith))
 
-blocks-empty : (rate : Rate) (units : ℕ) → rate.block ≡ 0 → blocks rate units ≡ units
+blocks-empty : (rate : TariffView) (units : ℕ) → rate.block ≡ 0 → blocks rate units ≡ units
 blocks-empty rate units none =
     least-none (λ count. nat_le units (count * rate.block)) units
     (λ k fewer. let nothing : k * rate.block ≡ 0 = rw none (omega arith) in rw nothing (grind (arith, nat_tests)))
 
-blocks_grow : (rate : Rate) (fewer more : ℕ) → fewer ≤ more → blocks rate fewer ≤ blocks rate more
+blocks_grow : (rate : TariffView) (fewer more : ℕ) → fewer ≤ more → blocks rate fewer ≤ blocks rate more
 blocks_grow rate fewer more h =
     elim (cases_lt 0 rate.block) [
       | inl some ↦
@@ -105,12 +105,12 @@ blocks_grow rate fewer more h =
     ]
 
 -- more units cost no less
-pub price_grows : (rate : Rate) (fewer more : ℕ) → fewer ≤ more → price rate fewer ≤ price rate more
+pub price_grows : (rate : TariffView) (fewer more : ℕ) → fewer ≤ more → price rate fewer ≤ price rate more
 unfolding price
 price_grows rate fewer more h = mul-le-mul_right rate.price (blocks_grow rate fewer more h)
 
 -- a limit on prices
-pub price_bound : (rate : Rate) (units : ℕ) → IsRate rate → units ≤ 10 ^ 12 → price rate units ≤ 10 ^ 18
+pub price_bound : (rate : TariffView) (units : ℕ) → IsTariff rate → units ≤ 10 ^ 12 → price rate units ≤ 10 ^ 18
 price_bound rate units fits h =
     let some = fits.block_begun in
     let few = rounded_up_least units rate.block units some (le-mul_of_pos_right units some) in
@@ -144,31 +144,31 @@ greatest_last passes (suc n) k over within =
           ]
     ]
 
-pub price-nothing : (rate : Rate) → price rate 0 ≡ 0
+pub price-nothing : (rate : TariffView) → price rate 0 ≡ 0
 unfolding price least
 price-nothing rate = omega arith
 
-pub best_up_to_asked : (rate : Rate) (asked : ℕ) (free : ℤ) → best rate asked free ≤ asked
+pub best_up_to_asked : (rate : TariffView) (asked : ℕ) (free : ℤ) → best rate asked free ≤ asked
 unfolding best
 best_up_to_asked rate asked free = greatest_le (λ units. covers free (price rate units)) asked
 
-pub best_affordable : (rate : Rate) (asked : ℕ) (free : ℤ) → covers free (price rate (best rate asked free)) ≡ true
+pub best_affordable : (rate : TariffView) (asked : ℕ) (free : ℤ) → covers free (price rate (best rate asked free)) ≡ true
 unfolding best
 best_affordable rate asked free = greatest_passes (λ units. covers free (price rate units)) asked (rw (price-nothing rate))
 
-pub best_greatest : (rate : Rate) (asked : ℕ) (free : ℤ) (more : ℕ) → best rate asked free < more → more ≤ asked
+pub best_greatest : (rate : TariffView) (asked : ℕ) (free : ℤ) (more : ℕ) → best rate asked free < more → more ≤ asked
     → covers free (price rate more) ≡ false
 unfolding best
 best_greatest rate asked free more over within = greatest_last (λ units. covers free (price rate units)) asked more over within
 
 -- what is covered, above which nothing up to the amount asked is, is the best grant
-pub best-is : (rate : Rate) (asked given : ℕ) (free : ℤ) → given ≤ asked → covers free (price rate given) ≡ true
+pub best-is : (rate : TariffView) (asked given : ℕ) (free : ℤ) → given ≤ asked → covers free (price rate given) ≡ true
     → ((more : ℕ) → given < more → more ≤ asked → covers free (price rate more) ≡ false) → best rate asked free ≡ given
 unfolding best
 best-is rate asked given free up here above = greatest-is (λ units. covers free (price rate units)) asked given up here above
 
 -- what costs something has a price of blocks
-pub price_some : (rate : Rate) (units : ℕ) → 1 ≤ rate.block → 0 < price rate units → 0 < rate.price
+pub price_some : (rate : TariffView) (units : ℕ) → 1 ≤ rate.block → 0 < price rate units → 0 < rate.price
 price_some rate units some costs =
     let costs' : 0 < rounded_up units rate.block * rate.price = rw (price-is rate units some) at costs in
     elim (cases_lt 0 rate.price) [
@@ -177,19 +177,19 @@ price_some rate units some costs =
     ]
 
 -- the whole blocks that the money pays, where it does not pay all
-pub record IsMost (rate : Rate) (asked : ℕ) (free : ℤ) (given : ℕ) : Type 0 where
+pub record IsMost (rate : TariffView) (asked : ℕ) (free : ℤ) (given : ℕ) : Type 0 where
   pub up_to_asked : given ≤ asked
   pub affordable : covers free (price rate given) ≡ true
   pub greatest : (more : ℕ) → given < more → more ≤ asked → covers free (price rate more) ≡ false
 
-pub all_of_it : (rate : Rate) (asked : ℕ) (free : ℤ) → covers free (price rate asked) ≡ true → IsMost rate asked free asked
+pub all_of_it : (rate : TariffView) (asked : ℕ) (free : ℤ) → covers free (price rate asked) ≡ true → IsMost rate asked free asked
 all_of_it rate asked free here = record {
   up_to_asked = omega arith;
   affordable = here;
   greatest = λ more after within. absurd (omega arith);
 }
 
-pub whole_blocks : (rate : Rate) (asked money : ℕ) (free : ℤ) → 1 ≤ rate.block → price rate asked ≤ 10 ^ 18 → money < price rate asked
+pub whole_blocks : (rate : TariffView) (asked money : ℕ) (free : ℤ) → 1 ≤ rate.block → price rate asked ≤ 10 ^ 18 → money < price rate asked
     → ((cost : ℕ) → cost ≤ 10 ^ 18 → covers free cost ≡ nat_le cost money)
     → IsMost rate asked free (money / rate.price * rate.block)
 whole_blocks rate asked money free some bound short purse =
@@ -219,5 +219,5 @@ whole_blocks rate asked money free some bound short purse =
           purse (price rate more) (omega arith) ∙ grind (arith, nat_tests);
     }
 
-pub best_from_most : (rate : Rate) (asked given : ℕ) (free : ℤ) → IsMost rate asked free given → given ≡ best rate asked free
+pub best_from_most : (rate : TariffView) (asked given : ℕ) (free : ℤ) → IsMost rate asked free given → given ≡ best rate asked free
 best_from_most rate asked given free most = sym (best-is rate asked given free most.up_to_asked most.affordable most.greatest)

@@ -9,7 +9,7 @@ use Rattle.std.specs.Net.Text.{ipv4_text}
 use Rattle.toml.specs.Data.{Data, Members, Items, no_items, item, get_member, as_str, as_integer, as_array, as_table}
 use Rattle.toml.specs.Parse.{parse_document}
 use Rattle.jiff.specs.Words.{parse_timestamp}
-use Rattle.dcc_tariff.specs.Terms.{Conditions}
+use Rattle.dcc_tariff.specs.Terms.{TermsView}
 use Rattle.dcc_tariff.specs.Plans.{PlanView, precedes, all_agree, is_identity, is_of}
 use Rattle.dcc_tariff.specs.declared.tariff.UnitKind.{UnitKind}
 use Rattle.dcc_tariff.specs.declared.tariff.UnitKind.TheVariants.{Octets, Time, Units}
@@ -140,7 +140,7 @@ unfoldable pub tables_at : List ℕ → Members → Result Items PlanFault
 tables_at key table = value_at as_array key table >>= λ tables.
     if are_tables tables then in_range (nat_le 1 (count tables) && nat_le (count tables) 1000) tables else Err MissingKey
 
-unfoldable pub terms_of : Members → Result Conditions PlanFault
+unfoldable pub terms_of : Members → Result TermsView PlanFault
 terms_of table = do
   validity ← number_at (codes "validity") 1 1_000_000 table
   hold ← number_at (codes "hold") 1 1_000_000 table

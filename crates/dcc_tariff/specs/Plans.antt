@@ -2,7 +2,7 @@
 use Rattle.std.specs.Prelude.{◌≡◌, ℕ, ◌≤◌, ◌^◌, Bool, true, not, ◌&&◌, ◌||◌, ◌==◌, nat_lt, nat_le, if◌then◌else◌, List, [], ◌∷◌, length}
 use Rattle.std.specs.Prelude.{filter, Option, Some, None, option_map}
 use Rattle.std.specs.List.{find, list_all, list_any}
-use Rattle.dcc_tariff.specs.Terms.{Rate, Conditions}
+use Rattle.dcc_tariff.specs.Terms.{TariffView, TermsView}
 use Rattle.dcc_tariff.specs.declared.tariff.UnitKind.{UnitKind}
 use Rattle.dcc_tariff.specs.declared.tariff.UnitKind.TheVariants.{Octets, Time, Units}
 use Rattle.dcc_tariff.specs.declared.version.Version.{Version}
@@ -15,7 +15,7 @@ pub record PlanView : Type 0 where
   pub shards : ℕ
   pub default_group : ℕ
   pub quantum : ℕ
-  pub terms : Conditions
+  pub terms : TermsView
   pub versions : List Version
 
 -- the version is one of the group
@@ -41,7 +41,7 @@ unfoldable pub unit_of : PlanView → ℕ → Option UnitKind
 unit_of plan group = option_map (λ version. version.unit) (find (is_of group) plan.versions)
 
 -- the tariff of a group at a moment: the version with the greatest from at or before the moment, if there is one
-unfoldable pub tariff_at : PlanView → ℕ → ℕ → Option (UnitKind × Rate)
+unfoldable pub tariff_at : PlanView → ℕ → ℕ → Option (UnitKind × TariffView)
 tariff_at plan group moment =
     option_map (λ version. (version.unit, version.tariff)) (latest (filter (has_begun group moment) plan.versions))
 

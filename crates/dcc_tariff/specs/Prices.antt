@@ -1,6 +1,6 @@
 -- What units cost, and how many of them an amount of money affords.
 use Rattle.std.specs.Prelude.{ℕ, zero, suc, ◌*◌, Bool, ◌||◌, ◌==◌, nat_le, if◌then◌else◌, ℤ, pos, int_le}
-use Rattle.dcc_tariff.specs.Terms.{Rate}
+use Rattle.dcc_tariff.specs.Terms.{TariffView}
 
 -- the least number up to n that passes, else n
 unfoldable pub least : (ℕ → Bool) → ℕ → ℕ
@@ -13,11 +13,11 @@ greatest passes zero = 0
 greatest passes (suc n) = if passes (suc n) then suc n else greatest passes n
 
 -- the least number of blocks that covers the units; as many blocks as there are units always do
-abbrev pub blocks : Rate → ℕ → ℕ
+abbrev pub blocks : TariffView → ℕ → ℕ
 blocks tariff units = least (λ count. nat_le units (count * tariff.block)) units
 
 -- a price is that of the blocks that are begun
-unfoldable pub price : Rate → ℕ → ℕ
+unfoldable pub price : TariffView → ℕ → ℕ
 price tariff units = blocks tariff units * tariff.price
 
 -- what costs nothing is always covered, and all else by as much money
@@ -25,5 +25,5 @@ abbrev pub covers : ℤ → ℕ → Bool
 covers money cost = (cost == 0) || int_le (pos cost) money
 
 -- the greatest amount up to the one asked whose price is nothing or within the free money
-unfoldable pub best : Rate → ℕ → ℤ → ℕ
+unfoldable pub best : TariffView → ℕ → ℤ → ℕ
 best tariff asked free = greatest (λ units. covers free (price tariff units)) asked

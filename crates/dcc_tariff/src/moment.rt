@@ -17,8 +17,8 @@ const LAST: i64 = 4_102_444_799;
 pub(crate) fn moment_of(text: &str) -> Option<u64>
     ensures { result ≡ moment_of text.now }
 {
-    let bytes = text.as_bytes();
-    if !has_form(FORM, bytes) || bytes[17] > b'5' {
+    let octets = text.as_bytes();
+    if !has_form(FORM, octets) || octets[17] > b'5' {
         return None;
     }
     let Ok(instant) = text.parse::<Timestamp>() else {

@@ -2,7 +2,7 @@
 
 ghost use Rattle.std.specs.Prelude.{◌≡◌, ℕ, ◌≤◌, ◌<◌, ◌^◌, ℤ, IsTrue, false, nat_le};
 ghost use Rattle.dcc_tariff.specs.Prices.{price, best, covers};
-ghost use Rattle.dcc_tariff.specs.Terms.{Rate};
+ghost use Rattle.dcc_tariff.specs.Terms.{TariffView};
 
 use crate::tariff::Tariff;
 
@@ -42,13 +42,13 @@ fn money_for_prices(free: i128) -> u64
 
 /// More units never cost less.
 pub fn prices_never_fall()
-    ensures { (rate : Rate) (fewer more : ℕ) → fewer ≤ more → price rate fewer ≤ price rate more }
+    ensures { (rate : TariffView) (fewer more : ℕ) → fewer ≤ more → price rate fewer ≤ price rate more }
 {}
 
 /// The best grant is at most what was asked, the money covers it, and it covers no greater amount up to what was asked.
 pub fn best_grant_is_the_greatest_covered()
-    ensures up_to_asked { (rate : Rate) (asked : ℕ) (free : ℤ) → best rate asked free ≤ asked }
-    ensures covered { (rate : Rate) (asked : ℕ) (free : ℤ) → IsTrue (covers free (price rate (best rate asked free))) }
-    ensures greatest { (rate : Rate) (asked : ℕ) (free : ℤ) (more : ℕ) →
+    ensures up_to_asked { (rate : TariffView) (asked : ℕ) (free : ℤ) → best rate asked free ≤ asked }
+    ensures covered { (rate : TariffView) (asked : ℕ) (free : ℤ) → IsTrue (covers free (price rate (best rate asked free))) }
+    ensures greatest { (rate : TariffView) (asked : ℕ) (free : ℤ) (more : ℕ) →
         best rate asked free < more → more ≤ asked → covers free (price rate more) ≡ false }
 {}

@@ -23,13 +23,13 @@ pub struct Tariff {
 }
 
 impl Model for Tariff {
-    ghost use Rattle.dcc_tariff.specs.Terms.{Rate, IsRate};
+    ghost use Rattle.dcc_tariff.specs.Terms.{TariffView, IsTariff};
 
-    ghost Value = { Rate };
+    ghost Value = { TariffView };
 
     ghost view = { λ t. record { price = t.price; block = t.block } };
 
-    ghost invariant = { λ t. IsRate (record { price = t.price; block = t.block }) };
+    ghost invariant = { λ t. IsTariff (record { price = t.price; block = t.block }) };
 
     ghost inverse = { λ v. record { price = v.price; block = v.block } };
 }

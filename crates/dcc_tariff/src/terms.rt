@@ -16,13 +16,13 @@ pub struct Terms {
 }
 
 impl Model for Terms {
-    ghost use Rattle.dcc_tariff.specs.Terms.{Conditions, AreConditions};
+    ghost use Rattle.dcc_tariff.specs.Terms.{TermsView, AreTerms};
 
-    ghost Value = { Conditions };
+    ghost Value = { TermsView };
 
     ghost view = { λ t. record { validity = t.validity; hold = t.hold; currency = t.currency; exponent = t.exponent } };
 
-    ghost invariant = { λ t. AreConditions (record { validity = t.validity; hold = t.hold; currency = t.currency; exponent = t.exponent }) };
+    ghost invariant = { λ t. AreTerms (record { validity = t.validity; hold = t.hold; currency = t.currency; exponent = t.exponent }) };
 
     ghost inverse = { λ v. record { validity = v.validity; hold = v.hold; currency = v.currency; exponent = v.exponent } };
 }

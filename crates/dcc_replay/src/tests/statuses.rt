@@ -49,14 +49,14 @@ fn plan_faults_have_their_numbers(rt: HostRuntime) -> Result<(), Fail> {
     let without_quantum = edited(alloc, "quantum = 100000", "")?;
     let empty_block = edited(alloc, "block = 1000", "block = 0")?;
     let no_day = edited(alloc, "2020-01-01", "2025-02-30")?;
-    for (bytes, number) in [
+    for (octets, number) in [
         (b"=".as_slice(), 20),
         (b"# \xff".as_slice(), 20),
         (without_quantum.as_bytes(), 21),
         (empty_block.as_bytes(), 22),
         (no_day.as_bytes(), 23),
     ] {
-        assert_eq!(&rt; plan_of(alloc, bytes).err(), Some(Failure::Plan(number)));
+        assert_eq!(&rt; plan_of(alloc, octets).err(), Some(Failure::Plan(number)));
     }
     assert_eq!(&rt; plan_of(alloc, MIDNIGHT.as_bytes())?.quantum(), 100_000);
     Ok(())

@@ -5,7 +5,7 @@ use Rattle.dcc_message.proofs.framer.cut_up.Given as goal
 abbrev pub invariant-loop-left : goal.invariant-loop-left
 invariant-loop-left l = record {
   messages : AreMessages l.ready.items;
-  all : l.bytes ≡ joined l.ready.items ++ l.left;
+  all : l.octets ≡ joined l.ready.items ++ l.left;
 }
 
 abbrev pub decreases-loop-left : goal.decreases-loop-left

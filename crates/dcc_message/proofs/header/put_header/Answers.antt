@@ -16,6 +16,6 @@ over old mid new front back f b first second =
 pub returns : goal.returns
 unfolding header
 returns c =
-    let both = over c.args.all.now c.put_over.new.all c.put_over-2.new.all c.front_bytes.result c.identifier_bytes.result
-    (ap length c.front_bytes.ensures) (ap length c.identifier_bytes.ensures) c.put_over.ensures c.put_over-2.ensures in
-    both ∙ rw (c.front_bytes.ensures, c.identifier_bytes.ensures) refl
+    let both = over c.args.all.now c.put_over.new.all c.put_over-2.new.all c.front_octets.result c.identifier_octets.result
+    (ap length c.front_octets.ensures) (ap length c.identifier_octets.ensures) c.put_over.ensures c.put_over-2.ensures in
+    both ∙ rw (c.front_octets.ensures, c.identifier_octets.ensures) refl

@@ -1,7 +1,7 @@
 use Rattle.std.proofs.Common.{◌≡◌, ◌*◌, ◌/◌, ◌<◌, ◌≤◌, ◌^◌, arith, le-leb, ap, ◌∙◌}
 use Rattle.std.proofs.lemmas.Int.{to_z-of_z}
 use Rattle.dcc_tariff.specs.Prices.{price}
-use Rattle.dcc_tariff.specs.Terms.{Rate}
+use Rattle.dcc_tariff.specs.Terms.{TariffView}
 use Rattle.dcc_tariff.proofs.PriceLemmas.{IsMost, all_of_it, whole_blocks, best_from_most, price_some}
 use Rattle.dcc_tariff.proofs.prices.most_units.Goals as goal
 
@@ -19,8 +19,8 @@ returns-then-price_of-money-clause-value c = best_from_most c.args.tariff c.args
 
 pub nonzero_div-result : goal.nonzero_div-result
 nonzero_div-result c =
-    let price_is : c.tariff.inside.price ≡ c.args.tariff.price = ap (λ (r : Rate). r.price) c.tariff.view_is in
-    let block_is : c.tariff.inside.block ≡ c.args.tariff.block = ap (λ (r : Rate). r.block) c.tariff.view_is in
+    let price_is : c.tariff.inside.price ≡ c.args.tariff.price = ap (λ (r : TariffView). r.price) c.tariff.view_is in
+    let block_is : c.tariff.inside.block ≡ c.args.tariff.block = ap (λ (r : TariffView). r.block) c.tariff.view_is in
     let some : 0 < price c.args.tariff c.args.asked = rw (← c.price_of.ensures.value) (omega arith) in
     let positive = price_some c.args.tariff c.args.asked (rw (← block_is) c.tariff.invariant.block_begun) some in
     omega (arith, c.from.ensures)
@@ -29,8 +29,8 @@ most : (c : goal.After-struct_known-1)
     → IsMost c.args.tariff c.args.asked c.args.free (c.money_for_prices-money.result / c.from.result * c.tariff.inside.block)
 most c =
     let fits = c.ranges.free in
-    let price_is : c.tariff.inside.price ≡ c.args.tariff.price = ap (λ (r : Rate). r.price) c.tariff.view_is in
-    let block_is : c.tariff.inside.block ≡ c.args.tariff.block = ap (λ (r : Rate). r.block) c.tariff.view_is in
+    let price_is : c.tariff.inside.price ≡ c.args.tariff.price = ap (λ (r : TariffView). r.price) c.tariff.view_is in
+    let block_is : c.tariff.inside.block ≡ c.args.tariff.block = ap (λ (r : TariffView). r.block) c.tariff.view_is in
     let bound : price c.args.tariff c.args.asked ≤ 10 ^ 18 = rw (← c.price_of.ensures.value) c.price_of.ensures.bound in
     let short : c.money_for_prices-money.result < price c.args.tariff c.args.asked =
     rw (← c.price_of.ensures.value) c.if-price_of-money.false in

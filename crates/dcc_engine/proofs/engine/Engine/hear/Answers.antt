@@ -15,10 +15,10 @@ returns-in-Request-clause-done c =
     let inside = c.self.inside in
     let setting : Setting = record { plan = inside.plan; identity = inside.identity } in
     let old = inside.rows.items in
-    let new = c.respond-bytes.new.rows.items in
+    let new = c.respond-octets.new.rows.items in
     let header = c.in-Request.header in
-    let bytes = c.args.bytes.now in
+    let octets = c.args.octets.now in
     let met = subst (λ (bs : List ℕ). met_on (peer_in inside.peers.rows c.args.peer) bs ≡ Asking (brought header bs)) c.as_slice.ensures (c.in-Request.ensures.met (peer_in inside.peers.rows c.args.peer) (sym c.is_open-is_heard.ensures)) in
-    let served = subst (λ (bs : List ℕ). IsServed setting old new c.args.moment (brought header bs) c.respond-bytes.result.items) c.as_slice-in-Request.ensures c.respond-bytes.ensures in
-    let done = served_done apart setting (peer_in inside.peers.rows) old new c.args.peer c.args.moment bytes (brought header bytes) c.respond-bytes.result.items c.self.invariant met served in
-    subst (λ (core : Core). IsDone core.setting (peer_of core) core.books new (Message c.args.peer c.args.moment bytes) c.sending.result) c.self.view_is (rw c.sending.ensures done)
+    let served = subst (λ (bs : List ℕ). IsServed setting old new c.args.moment (brought header bs) c.respond-octets.result.items) c.as_slice-in-Request.ensures c.respond-octets.ensures in
+    let done = served_done apart setting (peer_in inside.peers.rows) old new c.args.peer c.args.moment octets (brought header octets) c.respond-octets.result.items c.self.invariant met served in
+    subst (λ (core : Core). IsDone core.setting (peer_of core) core.books new (Message c.args.peer c.args.moment octets) c.sending.result) c.self.view_is (rw c.sending.ensures done)

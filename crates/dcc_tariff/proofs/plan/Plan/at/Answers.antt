@@ -1,5 +1,5 @@
 use Rattle.std.proofs.Common.{◌≡◌, true, option_map, Bor, sym, ap, ◌∙◌}
-use Rattle.dcc_tariff.specs.Terms.{Rate}
+use Rattle.dcc_tariff.specs.Terms.{TariffView}
 use Rattle.dcc_tariff.specs.Plans.{PlanView, all_agree}
 use Rattle.dcc_tariff.specs.declared.tariff.UnitKind.{UnitKind}
 use Rattle.dcc_tariff.specs.declared.version.Version.{Version}
@@ -10,13 +10,13 @@ pub returns-in_err-version-clause-value : goal.returns-in_err-version-clause-val
 returns-in_err-version-clause-value c =
     let same = c.as_slice.ensures.value ∙ ap (λ (p : PlanView). p.versions) c.self.view_is in
     c.from_residual.ensures
-    ∙ ap (option_map {U = UnitKind × Rate} (λ (v : Bor Version). (v.now.unit, v.now.tariff))) (sym c.in_err-version.was)
+    ∙ ap (option_map {U = UnitKind × TariffView} (λ (v : Bor Version). (v.now.unit, v.now.tariff))) (sym c.in_err-version.was)
     ∙ tariff_at-found c.args.self.now c.as_slice.result.now c.args.group c.args.moment c.version_at.result same c.version_at.ensures
 
 pub returns-clause-value : goal.returns-clause-value
 returns-clause-value c =
     let same = c.as_slice.ensures.value ∙ ap (λ (p : PlanView). p.versions) c.self.view_is in
-    ap (option_map {U = UnitKind × Rate} (λ (v : Bor Version). (v.now.unit, v.now.tariff))) (sym c.in_ok-version.was)
+    ap (option_map {U = UnitKind × TariffView} (λ (v : Bor Version). (v.now.unit, v.now.tariff))) (sym c.in_ok-version.was)
     ∙ tariff_at-found c.args.self.now c.as_slice.result.now c.args.group c.args.moment c.version_at.result same c.version_at.ensures
 
 pub returns-clause-unit : goal.returns-clause-unit

@@ -1,17 +1,17 @@
-//! A byte string that contracts see as a list.
+//! A octet string that contracts see as a list.
 
 ghost use Rattle.std.specs.Prelude.{◌≡◌, [], IfOk};
 
 use std::alloc::{AllocError, Global};
 use std::marker::Model;
 
-/// Bytes of a message or of a host's name.
+/// Octets of a message or of a host's name.
 #[derive(Debug, Drop)]
-pub struct Bytes {
+pub struct OctetString {
     items: Vec<u8>,
 }
 
-impl Model for Bytes {
+impl Model for OctetString {
     ghost use Rattle.std.specs.Prelude.{List, ℕ};
 
     ghost Value = { List ℕ };
@@ -19,43 +19,43 @@ impl Model for Bytes {
     ghost view = { λ b. b.items.items };
 }
 
-impl Bytes {
-    /// No bytes. It takes no memory.
+impl OctetString {
+    /// No octets. It takes no memory.
     pub fn new(alloc: Global) -> Self
         ensures { result ≡ [] }
     {
-        Bytes {
+        OctetString {
             items: Vec::new(alloc),
         }
     }
 
-    /// These bytes, without memory.
+    /// These octets, without memory.
     pub fn from_vec(items: Vec<u8>) -> Self
         ensures { result ≡ items.items }
     {
-        Bytes { items }
+        OctetString { items }
     }
 
-    /// The bytes.
+    /// The octets.
     pub fn as_slice(&self) -> &[u8]
         ensures { result.now ≡ self.now }
     {
         self.items.as_slice()
     }
 
-    /// The bytes, moved out.
+    /// The octets, moved out.
     pub fn into_vec(self) -> Vec<u8>
         ensures { result.items ≡ self }
     {
-        let Bytes { items } = self;
+        let OctetString { items } = self;
         items
     }
 
-    /// Equal bytes, where memory suffices.
-    pub fn copy(&self) -> Result<Bytes, AllocError>
+    /// Equal octets, where memory suffices.
+    pub fn copy(&self) -> Result<OctetString, AllocError>
         ensures { IfOk result (λ copy. copy ≡ self.now) }
     {
-        Ok(Bytes {
+        Ok(OctetString {
             items: self.items.clone()?,
         })
     }

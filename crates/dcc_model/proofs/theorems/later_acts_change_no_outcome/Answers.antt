@@ -1,5 +1,0 @@
-use Rattle.dcc_model.proofs.Laws.{later_changes_nothing}
-use Rattle.dcc_model.proofs.theorems.later_acts_change_no_outcome.Goals as goal
-
-pub returns : goal.returns
-returns c = later_changes_nothing

@@ -1,5 +1,0 @@
-use Rattle.dcc_model.proofs.Laws.{outcomes_stay, acts_stay, acts_are_acts, no_acts, kept_stay, account_stays}
-use Rattle.dcc_model.proofs.theorems.leaving_out_changes_nothing.Goals as goal
-
-pub returns : goal.returns
-returns c = record { outcomes = outcomes_stay; acts = acts_stay; whole = acts_are_acts; none = no_acts; kept = kept_stay; account = account_stays }
