@@ -1,6 +1,6 @@
 -- What an account holds, and what contracts see of it.
 use Rattle.std.specs.Prelude.{ℕ, ◌≡◌, List, [], ◌∷◌, length, reverse}
-use Rattle.dcc_tariff.specs.declared.terms.Terms.{Terms}
+use Rattle.dcc_tariff.specs.Terms.{TermsView}
 use Rattle.dcc_act.specs.declared.act.Act.{Act}
 use Rattle.dcc_act.specs.declared.entry.Entry.{Entry}
 use Rattle.dcc_act.specs.declared.outcome.Outcome.{Outcome}
@@ -30,7 +30,7 @@ abbrev pub past_of : List Act → List Outcome → List Done
 past_of acts outcomes = reverse (dones acts outcomes)
 
 -- the acts are those that their own list makes, and outcomes and entries are those of the definitions
-pub record IsKept (terms : Terms) (all : List Act) (outcomes : List Outcome) (posted : List Entry) : Type 0 where
+pub record IsKept (terms : TermsView) (all : List Act) (outcomes : List Outcome) (posted : List Entry) : Type 0 where
   pub as_many : length outcomes ≡ length all
   pub made : past_of all outcomes ≡ history terms (reverse all)
   pub entries_are : posted ≡ entries terms all

@@ -1,7 +1,7 @@
 //! What an act comes to after those that were made.
 
 ghost use Rattle.std.specs.Prelude.{◌≡◌, ◌+◌, ◌<◌, ◌^◌, [], length, if◌then◌else◌, IfOk};
-ghost use Rattle.dcc_tariff.specs.declared.terms.Terms.{Terms};
+ghost use Rattle.dcc_tariff.specs.Terms.{TermsView};
 ghost use Rattle.dcc_model.specs.Money.{funds_of};
 ghost use Rattle.dcc_model.specs.Outcomes.{counts, is_new, settled, judged, decided};
 ghost use Rattle.dcc_model.specs.Entries.{entries_of_kind, sum_of};
@@ -21,7 +21,7 @@ pub(crate) fn judge(
     act: &Act,
 ) -> Result<Outcome, AllocError>
     requires { length outcomes.now ≡ length acts.now }
-    ensures { IfOk result (λ outcome. (terms : Terms) → sum_of entries.now ≡ funds_of terms (past_of acts.now outcomes.now)
+    ensures { IfOk result (λ outcome. (terms : TermsView) → sum_of entries.now ≡ funds_of terms (past_of acts.now outcomes.now)
         → outcome ≡ judged terms (past_of acts.now outcomes.now) act.now) }
 {
     if has_top_up(acts) {
@@ -45,7 +45,7 @@ fn settle(
     kind: &Kind,
 ) -> Result<Outcome, AllocError>
     requires { length outcomes.now ≡ length acts.now }
-    ensures { IfOk result (λ outcome. (terms : Terms) → sum_of entries.now ≡ funds_of terms (past_of acts.now outcomes.now)
+    ensures { IfOk result (λ outcome. (terms : TermsView) → sum_of entries.now ≡ funds_of terms (past_of acts.now outcomes.now)
         → outcome ≡ settled terms (past_of acts.now outcomes.now) kind.now) }
 {
     match outcome_of(acts, outcomes, kind) {
@@ -78,7 +78,7 @@ fn decide(
     entries: &[Entry],
     kind: &Kind,
 ) -> Result<Outcome, AllocError>
-    ensures { IfOk result (λ outcome. (terms : Terms) → sum_of entries.now ≡ funds_of terms (past_of acts.now outcomes.now)
+    ensures { IfOk result (λ outcome. (terms : TermsView) → sum_of entries.now ≡ funds_of terms (past_of acts.now outcomes.now)
         → outcome ≡ decided terms (past_of acts.now outcomes.now) kind.now) }
 {
     nothing_is_reserved();

@@ -1,58 +1,61 @@
 -- Funds stay within their limits, what is free and overrun is never below nothing, and the entries add up to the funds.
-use Rattle.std.proofs.Common.{ap, ◌∙◌, ◌≡◌, ℕ, ◌+◌, ℤ, pos, ◌+ℤ◌, ◌-ℤ◌, ◌≤ℤ◌, true, ◌==◌, cond, List, [], ◌∷◌, ◌++◌, length, reverse, refl, arith, inl, inr, ◌⊎◌, Option, Some, None}
+use Rattle.std.proofs.Common.{ap, ◌∙◌, ◌≡◌, ℕ, ◌+◌, ℤ, pos, ◌+ℤ◌, ◌-ℤ◌, ◌≤ℤ◌, true, ◌==◌, cond, List, [], ◌∷◌, ◌++◌, length, filter, sum_by, reverse, refl, arith, inl, inr, ◌⊎◌, Option, Some, None}
 use Rattle.std.specs.Prelude.{int_le, int_lt}
 use Rattle.std.specs.Option.{option_map_or}
 use Rattle.std.proofs.lemmas.Bool.{cases_Bool}
 use Rattle.std.proofs.lemmas.Bool.Decides.{nat_tests}
 use Rattle.std.proofs.lemmas.Int.{ints}
 use Rattle.dcc_tariff.specs.Prices.{covers}
-use Rattle.dcc_tariff.specs.declared.terms.Terms.{Terms}
+use Rattle.dcc_tariff.specs.Terms.{TermsView}
 use Rattle.dcc_act.specs.declared.act.Act.{Act}
-use Rattle.dcc_act.specs.declared.act.Action.{Action}
-use Rattle.dcc_act.specs.declared.act.Action.TheVariants.{DirectDebiting}
-use Rattle.dcc_act.specs.declared.act.Event.{Event}
+use Rattle.dcc_act.specs.declared.one_time_event.Action.{Action}
+use Rattle.dcc_act.specs.declared.one_time_event.Action.TheVariants.{DirectDebiting}
+use Rattle.dcc_act.specs.declared.one_time_event.OneTimeEvent.{OneTimeEvent}
 use Rattle.dcc_act.specs.declared.act.Kind.{Kind}
 use Rattle.dcc_act.specs.declared.act.Kind.TheVariants as kind
-use Rattle.dcc_act.specs.declared.act.TopUp.{TopUp}
+use Rattle.dcc_act.specs.declared.top_up.TopUp.{TopUp}
 use Rattle.dcc_act.specs.declared.entry.Entry.{Entry}
-use Rattle.dcc_act.specs.declared.outcome.Grant.{Grant}
+use Rattle.dcc_act.specs.declared.grant.Grant.{Grant}
 use Rattle.dcc_act.specs.declared.outcome.Outcome.{Outcome}
 use Rattle.dcc_model.specs.declared.done.Done.{Done}
 use Rattle.dcc_model.specs.declared.decide.TheConstants.{CEILING}
-use Rattle.dcc_model.specs.Money.{is_added, succeeded, asked_units, charged_by, charged, grant_price, credit, debit, funds_of, overran, overrun_of, reserved_by, reserved_of, free_of}
+use Rattle.dcc_model.specs.Money.{is_added, succeeded, asked_units, charged_by, charged, grant_price, credit, debit, funds_of, overran, overrun_of, held_price, reserved_of, free_of}
+use Rattle.dcc_model.specs.Sessions.{Live, reserved_by, goes_on, live}
 use Rattle.dcc_model.specs.Outcomes.{is_made, top_up_outcome, debit_outcome, action_outcome, event_outcome, decided, history, funds, overrun, free}
 use Rattle.dcc_model.specs.Entries.{debit_entry, entries_of_kind, entries_by, entries_of, entries, sum_of}
 use Rattle.dcc_model.proofs.Histories.{judged_new}
 
-reserves_none : (k : Kind) (outcome : Outcome) → reserved_by k outcome ≡ 0
+reserves_none : (k : Kind) (outcome : Outcome) → reserved_by k outcome ≡ []
 reserves_none (kind.TopUp top_up) outcome = refl
 reserves_none (kind.Event event) outcome = refl
 
 -- neither a top-up nor an event reserves
-pub reserved_none : (terms : Terms) (past : List Done) → reserved_of terms past ≡ 0
-reserved_none terms [] = refl
-reserved_none terms (done ∷ past) =
-    let before = reserved_none terms past in
-    let here = reserves_none done.act.kind done.outcome in
-    omega arith
+live_none : (terms : TermsView) (past : List Done) → live terms past ≡ []
+live_none terms [] = refl
+live_none terms (done ∷ past) =
+    ap (λ (held : List Live). held ++ filter (goes_on terms past done.act.kind) (live terms past)) (reserves_none done.act.kind done.outcome)
+    ∙ ap (λ (held : List Live). filter (goes_on terms past done.act.kind) held) (live_none terms past)
 
-pub free_is_funds : (terms : Terms) (past : List Done) → free_of terms past ≡ funds_of terms past
+pub reserved_none : (terms : TermsView) (past : List Done) → reserved_of terms past ≡ 0
+reserved_none terms past = ap (λ (held : List Live). sum_by held_price held) (live_none terms past)
+
+pub free_is_funds : (terms : TermsView) (past : List Done) → free_of terms past ≡ funds_of terms past
 free_is_funds terms past = let none = reserved_none terms past in omega (arith, ints)
 
 -- what an event comes to where so much is free
-pub event_at : (event : Event) (a b : ℤ) (outcome : Outcome) → outcome ≡ event_outcome a event → a ≡ b → outcome ≡ event_outcome b event
+pub event_at : (event : OneTimeEvent) (a b : ℤ) (outcome : Outcome) → outcome ≡ event_outcome a event → a ≡ b → outcome ≡ event_outcome b event
 event_at event a b outcome is same = is ∙ ap (λ (f : ℤ). event_outcome f event) same
 
-overran_none : (k : Kind) (outcome : Outcome) → overran k outcome ≡ 0
-overran_none (kind.TopUp top_up) outcome = refl
-overran_none (kind.Event event) outcome = refl
+overran_none : (terms : TermsView) (past : List Done) (k : Kind) (outcome : Outcome) → overran terms past k outcome ≡ 0
+overran_none terms past (kind.TopUp top_up) outcome = refl
+overran_none terms past (kind.Event event) outcome = refl
 
 -- neither reports beyond what is reserved
-pub overrun_none : (terms : Terms) (past : List Done) → overrun_of terms past ≡ 0
+pub overrun_none : (terms : TermsView) (past : List Done) → overrun_of terms past ≡ 0
 overrun_none terms [] = refl
 overrun_none terms (done ∷ past) =
     let before = overrun_none terms past in
-    let here = overran_none done.act.kind done.outcome in
+    let here = overran_none terms past done.act.kind done.outcome in
     omega arith
 
 covers_parts : (money : ℤ) (cost : ℕ) → covers money cost ≡ true → (cost ≡ 0) ⊎ (pos cost ≤ℤ money)
@@ -88,7 +91,7 @@ paid funds cost are covered =
 unpaid : (funds : ℤ) → AreFunds funds → AreFunds ((funds +ℤ pos 0) -ℤ pos 0)
 unpaid funds are = let low = are.not_owed in let high = are.not_over in record { not_owed = omega (arith, ints); not_over = omega (arith, ints) }
 
-debited : (funds : ℤ) (event : Event) (grant : Option Grant) → AreFunds funds
+debited : (funds : ℤ) (event : OneTimeEvent) (grant : Option Grant) → AreFunds funds
     → AreFunds ((funds +ℤ pos 0) -ℤ pos (option_map_or grant_price (cond (succeeded (debit_outcome funds event grant)) grant None) 0))
 debited funds event None are = unpaid funds are
 debited funds event (Some grant) are =
@@ -97,16 +100,16 @@ debited funds event (Some grant) are =
       | inr f ↦ rw f (unpaid funds are)
     ]
 
-acted : (funds : ℤ) (event : Event) (action : Action) → AreFunds funds
+acted : (funds : ℤ) (event : OneTimeEvent) (action : Action) → AreFunds funds
     → AreFunds ((funds +ℤ pos 0) -ℤ pos (option_map_or grant_price (cond (succeeded (action_outcome funds event action)) (charged_by action event.service) None) 0))
 acted funds event DirectDebiting are = debited funds event (asked_units event.service) are
 
-decided_funds : (terms : Terms) (past : List Done) (k : Kind) → AreFunds (funds_of terms past)
-    → AreFunds ((funds_of terms past +ℤ pos (credit k (decided terms past k))) -ℤ pos (debit k (decided terms past k)))
+decided_funds : (terms : TermsView) (past : List Done) (k : Kind) → AreFunds (funds_of terms past)
+    → AreFunds ((funds_of terms past +ℤ pos (credit terms past k (decided terms past k))) -ℤ pos (debit terms past k (decided terms past k)))
 decided_funds terms past (kind.TopUp top_up) are = topped_up (funds_of terms past) top_up are
 decided_funds terms past (kind.Event event) are = rw (free_is_funds terms past) (acted (funds_of terms past) event event.action are)
 
-history_funds : (terms : Terms) (all : List Act) → AreFunds (funds_of terms (history terms all))
+history_funds : (terms : TermsView) (all : List Act) → AreFunds (funds_of terms (history terms all))
 history_funds terms [] = record { not_owed = omega (arith, ints); not_over = omega (arith, ints) }
 history_funds terms (act ∷ earlier) =
     let past = history terms earlier in
@@ -116,11 +119,11 @@ history_funds terms (act ∷ earlier) =
       | inr f ↦ rw f before
     ]
 
-pub funds_are : (terms : Terms) (all : List Act) → AreFunds (funds terms all)
+pub funds_are : (terms : TermsView) (all : List Act) → AreFunds (funds terms all)
 unfolding funds
 funds_are terms all = history_funds terms (reverse all)
 
-pub free_and_overrun : (terms : Terms) (all : List Act) → pos 0 ≤ℤ (free terms all +ℤ pos (overrun terms all))
+pub free_and_overrun : (terms : TermsView) (all : List Act) → pos 0 ≤ℤ (free terms all +ℤ pos (overrun terms all))
 unfolding free overrun
 free_and_overrun terms all =
     let past = history terms (reverse all) in
@@ -132,29 +135,30 @@ pub sum_of-append : (xs ys : List Entry) → sum_of (xs ++ ys) ≡ sum_of xs +�
 sum_of-append [] ys = omega (arith, ints)
 sum_of-append (x ∷ xs) ys = let rest = sum_of-append xs ys in omega (arith, ints)
 
-sum_of_option : (place moment : ℕ) (event : Event) (grant : Option Grant)
+sum_of_option : (place moment : ℕ) (event : OneTimeEvent) (grant : Option Grant)
     → sum_of (option_map_or (λ grant. debit_entry place moment event grant ∷ []) grant []) ≡ pos 0 -ℤ pos (option_map_or grant_price grant 0)
 sum_of_option place moment event None = omega (arith, ints)
 sum_of_option place moment event (Some grant) = omega (arith, ints)
 
-sum_of_kind : (place moment : ℕ) (k : Kind) (outcome : Outcome) → sum_of (entries_of_kind place moment k outcome) ≡ pos (credit k outcome) -ℤ pos (debit k outcome)
-sum_of_kind place moment (kind.TopUp top_up) outcome =
+sum_of_kind : (terms : TermsView) (past : List Done) (place moment : ℕ) (k : Kind) (outcome : Outcome)
+    → sum_of (entries_of_kind terms past place moment k outcome) ≡ pos (credit terms past k outcome) -ℤ pos (debit terms past k outcome)
+sum_of_kind terms past place moment (kind.TopUp top_up) outcome =
     elim (cases_Bool (is_added outcome)) [
       | inl t ↦ rw t (omega (arith, ints))
       | inr f ↦ rw f (omega (arith, ints))
     ]
-sum_of_kind place moment (kind.Event event) outcome =
-    let same = sum_of_option place moment event (charged (kind.Event event) outcome) in
+sum_of_kind terms past place moment (kind.Event event) outcome =
+    let same = sum_of_option place moment event (charged terms past (kind.Event event) outcome) in
     omega (arith, ints)
 
-pub sum_of_entries : (terms : Terms) (past : List Done) → sum_of (entries_of past) ≡ funds_of terms past
+pub sum_of_entries : (terms : TermsView) (past : List Done) → sum_of (entries_of terms past) ≡ funds_of terms past
 sum_of_entries terms [] = refl
 sum_of_entries terms (done ∷ past) =
     let before = sum_of_entries terms past in
-    let here = sum_of_kind (length past + 1) done.act.moment done.act.kind done.outcome in
-    let both = sum_of-append (entries_of past) (entries_by (length past + 1) done) in
+    let here = sum_of_kind terms past (length past + 1) done.act.moment done.act.kind done.outcome in
+    let both = sum_of-append (entries_of terms past) (entries_by terms past done) in
     omega (arith, ints)
 
-pub entries_add_up : (terms : Terms) (all : List Act) → sum_of (entries terms all) ≡ funds terms all
+pub entries_add_up : (terms : TermsView) (all : List Act) → sum_of (entries terms all) ≡ funds terms all
 unfolding entries funds
 entries_add_up terms all = sum_of_entries terms (history terms (reverse all))

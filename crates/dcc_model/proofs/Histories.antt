@@ -1,19 +1,18 @@
 -- Leaving out what was not made changes nothing.
-use Rattle.std.proofs.Common.{◌≡◌, ℕ, zero, suc, ◌+◌, ◌-◌, ◌≤◌, ◌<◌, Bool, true, false, ◌||◌, cond, List, [], ◌∷◌, ◌++◌, length, map, reverse, take, refl, sym, ap, ◌∙◌, arith, inl, inr, Option, Some, None, is_none, slice_get, append-nil}
+use Rattle.std.proofs.Common.{◌≡◌, ℕ, zero, suc, ◌+◌, ◌≤◌, ◌<◌, Bool, true, false, ◌||◌, cond, List, [], ◌∷◌, ◌++◌, length, map, reverse, take, refl, sym, ap, ◌∙◌, arith, inl, inr, Option, Some, None, is_none, option_map, slice_get, append-nil, add-one}
 use Rattle.std.specs.Prelude.{unwrap_or}
 use Rattle.std.specs.Option.{option_map_or}
 use Rattle.std.proofs.lemmas.Bool.{cases_Bool, and_parts}
 use Rattle.std.proofs.lemmas.List.{reverse-append, reverse-reverse, take-append-le}
 use Rattle.std.proofs.Math.Seq.{take-append-add}
-use Rattle.dcc_tariff.specs.declared.terms.Terms.{Terms}
+use Rattle.dcc_tariff.specs.Terms.{TermsView}
 use Rattle.dcc_act.specs.declared.act.Act.{Act}
 use Rattle.dcc_act.specs.declared.act.Kind.{Kind}
 use Rattle.dcc_act.specs.declared.act.Kind.TheVariants as kind
 use Rattle.dcc_act.specs.declared.outcome.Outcome.{Outcome}
-use Rattle.dcc_act.specs.declared.outcome.Outcome.TheVariants.{Ceiling}
 use Rattle.dcc_model.specs.declared.done.Done.{Done}
 use Rattle.dcc_model.specs.Keys.{request_key}
-use Rattle.dcc_model.specs.Outcomes.{counts, first_of, is_made, decided, unknown_of, settled, has_account, judged, history, act_of, after, outcome, acts}
+use Rattle.dcc_model.specs.Outcomes.{is_new, counts, first_of, is_made, decided, unknown_of, settled, has_account, judged, history, act_of, after, outcome, acts}
 
 settled_where : (account : Bool) (k : Kind) (outcome : Outcome) → (account || is_none (request_key k)) ≡ true → cond account outcome (unwrap_or (unknown_of k) outcome) ≡ outcome
 settled_where true k outcome h = refl
@@ -25,16 +24,16 @@ from_none None rest h = refl
 from_none (Some done) rest h = absurd cc
 
 -- where an act counts, it is settled
-pub judged_counted : (terms : Terms) (past : List Done) (act : Act) → counts past act.kind ≡ true → judged terms past act ≡ settled terms past act.kind
+pub judged_counted : (terms : TermsView) (past : List Done) (act : Act) → counts past act.kind ≡ true → judged terms past act ≡ settled terms past act.kind
 judged_counted terms past act counted = settled_where (has_account past) act.kind (settled terms past act.kind) counted
 
 -- what is made comes to what its kind decides
-pub judged_new : (terms : Terms) (past : List Done) (act : Act) → is_made terms past act ≡ true → judged terms past act ≡ decided terms past act.kind
+pub judged_new : (terms : TermsView) (past : List Done) (act : Act) → is_made terms past act ≡ true → judged terms past act ≡ decided terms past act.kind
 judged_new terms past act new =
     let parts = and_parts (counts past act.kind) (is_none (first_of past act.kind)) new in
     judged_counted terms past act parts.0 ∙ from_none (first_of past act.kind) (decided terms past act.kind) parts.1
 
-pub history_of_made : (terms : Terms) (all : List Act) → history terms (map act_of (history terms all)) ≡ history terms all
+pub history_of_made : (terms : TermsView) (all : List Act) → history terms (map act_of (history terms all)) ≡ history terms all
 history_of_made terms [] = refl
 history_of_made terms (act ∷ all) =
     elim (cases_Bool (is_made terms (history terms all) act)) [
@@ -43,45 +42,77 @@ history_of_made terms (act ∷ all) =
     ]
 
 -- whatever comes later
-pub history_after : (terms : Terms) (later all : List Act) → history terms (later ++ map act_of (history terms all)) ≡ history terms (later ++ all)
+pub history_after : (terms : TermsView) (later all : List Act) → history terms (later ++ map act_of (history terms all)) ≡ history terms (later ++ all)
 history_after terms [] all = history_of_made terms all
 history_after terms (act ∷ later) all = rw (history_after terms later all) refl
 
 -- the history of the acts of a list, and of more behind, is that of the list
-pub history-acts : (terms : Terms) (all more : List Act) → history terms (reverse (acts terms all ++ more)) ≡ history terms (reverse (all ++ more))
+pub history-acts : (terms : TermsView) (all more : List Act) → history terms (reverse (acts terms all ++ more)) ≡ history terms (reverse (all ++ more))
 unfolding acts
 history-acts terms all more =
     let made = map act_of (history terms (reverse all)) in
     let turned : reverse (reverse made ++ more) ≡ reverse more ++ made = reverse-append (reverse made) more ∙ ap (λ (zs : List Act). reverse more ++ zs) (reverse-reverse made) in
     ap (history terms) turned ∙ history_after terms (reverse more) (reverse all) ∙ ap (history terms) (sym (reverse-append all more))
 
-pub acts_by_history : (terms : Terms) (xs ys : List Act) → history terms (reverse xs) ≡ history terms (reverse ys) → acts terms xs ≡ acts terms ys
+pub acts_by_history : (terms : TermsView) (xs ys : List Act) → history terms (reverse xs) ≡ history terms (reverse ys) → acts terms xs ≡ acts terms ys
 unfolding acts
 acts_by_history terms xs ys same = ap (λ (past : List Done). reverse (map act_of past)) same
 
-slice_get-behind : (xs ys : List Act) (k : ℕ) → slice_get (xs ++ ys) (length xs + k) ≡ slice_get ys k
+pub slice_get-behind : (xs ys : List Act) (k : ℕ) → slice_get (xs ++ ys) (length xs + k) ≡ slice_get ys k
 slice_get-behind [] ys k = ap (slice_get ys) (omega arith)
 slice_get-behind (x ∷ xs) ys k =
     let next : suc (length xs) + k ≡ suc (length xs + k) = omega arith in
     ap (slice_get (x ∷ (xs ++ ys))) next ∙ slice_get-behind xs ys k
 
-slice_get-before : (xs ys : List Act) (k : ℕ) → k < length xs → slice_get (xs ++ ys) k ≡ slice_get xs k
+pub slice_get-before : (xs ys : List Act) (k : ℕ) → k < length xs → slice_get (xs ++ ys) k ≡ slice_get xs k
 slice_get-before [] ys k h = absurd (omega arith)
 slice_get-before (x ∷ xs) ys zero h = refl
 slice_get-before (x ∷ xs) ys (suc k) h = slice_get-before xs ys k (omega arith)
 
+-- what one more act comes to looks at the history alone
+pub after_by_history : (terms : TermsView) (xs ys : List Act) (act : Act) → history terms (reverse xs) ≡ history terms (reverse ys) → after terms xs act ≡ after terms ys act
+unfolding after
+after_by_history terms xs ys act same = ap (λ (past : List Done). judged terms past act) same
+
+pub outcome-suc : (terms : TermsView) (all : List Act) (n : ℕ) → outcome terms all (n + 1) ≡ option_map (after terms (take n all)) (slice_get all n)
+unfolding outcome
+outcome-suc terms all n = rw add-one refl
+
 -- what stands at a place behind a list comes to what it comes to after the list and what is between
-pub outcome_behind : (terms : Terms) (xs ys : List Act) (k : ℕ) → 1 ≤ k → outcome terms (xs ++ ys) (length xs + k) ≡ option_map_or (after terms (xs ++ take (k - 1) ys)) (slice_get ys (k - 1)) Ceiling
-unfolding outcome
-outcome_behind terms xs ys k one =
-    let place : length xs + k - 1 ≡ length xs + (k - 1) = omega arith in
-    rw (place, take-append-add xs ys (k - 1), slice_get-behind xs ys (k - 1)) refl
+pub outcome_behind : (terms : TermsView) (xs ys : List Act) (k : ℕ) → outcome terms (xs ++ ys) (length xs + (k + 1)) ≡ option_map (after terms (xs ++ take k ys)) (slice_get ys k)
+outcome_behind terms xs ys k =
+    let at : length xs + (k + 1) ≡ (length xs + k) + 1 = omega arith in
+    ap (outcome terms (xs ++ ys)) at ∙ outcome-suc terms (xs ++ ys) (length xs + k)
+    ∙ ap (λ (before : List Act). option_map (after terms before) (slice_get (xs ++ ys) (length xs + k))) (take-append-add xs ys k)
+    ∙ ap (λ (found : Option Act). option_map (after terms (xs ++ take k ys)) found) (slice_get-behind xs ys k)
 
-pub outcome_last : (terms : Terms) (xs : List Act) (act : Act) → outcome terms (xs ++ act ∷ []) (length xs + 1) ≡ after terms xs act
-outcome_last terms xs act = outcome_behind terms xs (act ∷ []) 1 (omega arith) ∙ ap (λ (zs : List Act). after terms zs act) (append-nil xs)
+pub outcome_last : (terms : TermsView) (xs : List Act) (act : Act) → outcome terms (xs ++ act ∷ []) (length xs + 1) ≡ Some (after terms xs act)
+outcome_last terms xs act = outcome_behind terms xs (act ∷ []) 0 ∙ ap (λ (before : List Act). Some (after terms before act)) (append-nil xs)
 
-pub outcome_before : (terms : Terms) (xs ys : List Act) (place : ℕ) → 1 ≤ place → place ≤ length xs → outcome terms (xs ++ ys) place ≡ outcome terms xs place
+pub outcome_before : (terms : TermsView) (xs ys : List Act) (k : ℕ) → k ≤ length xs → outcome terms (xs ++ ys) k ≡ outcome terms xs k
 unfolding outcome
-outcome_before terms xs ys place one within =
-    let le : place - 1 ≤ length xs = omega arith in
-    rw (take-append-le (place - 1) xs ys le, slice_get-before xs ys (place - 1) (omega arith)) refl
+outcome_before terms xs ys zero within = refl
+outcome_before terms xs ys (suc k) within =
+    let le : k ≤ length xs = omega arith in
+    rw (take-append-le k xs ys le, slice_get-before xs ys k (omega arith)) refl
+
+-- one more act stands behind the others where it is made
+one_more_made : (terms : TermsView) (before : List Act) (act : Act)
+    → reverse (map act_of (history terms (act ∷ before)))
+    ≡ cond (is_made terms (history terms before) act) (reverse (map act_of (history terms before)) ++ act ∷ []) (reverse (map act_of (history terms before)))
+one_more_made terms before act =
+    elim (cases_Bool (is_made terms (history terms before) act)) [
+      | inl t ↦ rw t (reverse-append (act ∷ []) (map act_of (history terms before)))
+      | inr f ↦ rw f refl
+    ]
+
+pub one_more : (terms : TermsView) (xs : List Act) (act : Act) → acts terms (xs ++ act ∷ []) ≡ cond (is_new terms xs act) (acts terms xs ++ act ∷ []) (acts terms xs)
+unfolding acts is_new
+one_more terms xs act =
+    let turned : reverse (xs ++ act ∷ []) ≡ act ∷ reverse xs = reverse-append xs (act ∷ []) in
+    ap (λ (all : List Act). reverse (map act_of (history terms all))) turned ∙ one_more_made terms (reverse xs) act
+
+-- the history of the acts is that of the list
+pub history_of_acts : (terms : TermsView) (xs : List Act) → history terms (reverse (acts terms xs)) ≡ history terms (reverse xs)
+history_of_acts terms xs =
+    ap (λ (zs : List Act). history terms (reverse zs)) (sym (append-nil (acts terms xs))) ∙ history-acts terms xs [] ∙ ap (λ (zs : List Act). history terms (reverse zs)) (append-nil xs)

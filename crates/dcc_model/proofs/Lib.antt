@@ -1,4 +1,5 @@
 pub mod Histories
 pub mod Requests
+pub mod Places
 pub mod Funds
 pub mod LawProofs

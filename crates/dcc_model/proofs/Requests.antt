@@ -5,33 +5,33 @@ use Rattle.std.specs.Option.{option_map_or}
 use Rattle.std.proofs.lemmas.Bool.{cases_Bool, cond_both, or_parts, or_from}
 use Rattle.std.proofs.lemmas.List.{reverse-append}
 use Rattle.std.proofs.lemmas.List.Folds.{list_any-append}
-use Rattle.dcc_tariff.specs.declared.terms.Terms.{Terms}
+use Rattle.dcc_tariff.specs.Terms.{TermsView}
 use Rattle.dcc_act.specs.declared.act.Act.{Act}
-use Rattle.dcc_act.specs.declared.act.Action.{Action}
-use Rattle.dcc_act.specs.declared.act.Action.TheVariants.{DirectDebiting}
-use Rattle.dcc_act.specs.declared.act.Event.{Event}
+use Rattle.dcc_act.specs.declared.one_time_event.Action.{Action}
+use Rattle.dcc_act.specs.declared.one_time_event.Action.TheVariants.{DirectDebiting}
+use Rattle.dcc_act.specs.declared.one_time_event.OneTimeEvent.{OneTimeEvent}
 use Rattle.dcc_act.specs.declared.act.Kind.{Kind}
 use Rattle.dcc_act.specs.declared.act.Kind.TheVariants as kind
-use Rattle.dcc_act.specs.declared.act.TopUp.{TopUp}
+use Rattle.dcc_act.specs.declared.top_up.TopUp.{TopUp}
 use Rattle.dcc_act.specs.declared.outcome.Outcome.{Outcome}
 use Rattle.dcc_act.specs.declared.outcome.Outcome.TheVariants.{Added, Ceiling}
 use Rattle.dcc_model.specs.declared.done.Done.{Done}
 use Rattle.dcc_model.specs.declared.decide.TheConstants.{CEILING}
 use Rattle.dcc_model.specs.Keys.{request_key, same_key}
 use Rattle.dcc_model.specs.Money.{funds_of, free_of}
-use Rattle.dcc_model.specs.Outcomes.{is_top_up, has_account, has_top_up, counts, first_of, is_made, action_outcome, top_up_outcome, decided, unknown_of, settled, judged, history, after, IsOfRequest, IsOfTopUp}
+use Rattle.dcc_model.specs.Outcomes.{is_top_up, has_account, has_top_up, counts, first_of, is_made, action_outcome, top_up_outcome, decided, unknown_of, settled, judged, history, after, is_new, IsOfRequest, IsOfTopUp}
 
 abbrev pub IsOf : Kind → Outcome → Type 0
 IsOf (kind.TopUp top_up) outcome = IsOfTopUp outcome
 IsOf (kind.Event event) outcome = IsOfRequest outcome
 
-action_of_request : (free : ℤ) (event : Event) (action : Action) → IsOfRequest (action_outcome free event action)
+action_of_request : (free : ℤ) (event : OneTimeEvent) (action : Action) → IsOfRequest (action_outcome free event action)
 action_of_request free event DirectDebiting = tt
 
 top_up_of_top_up : (funds : ℤ) (top_up : TopUp) → IsOfTopUp (top_up_outcome funds top_up)
 top_up_of_top_up funds top_up = cond_both (int_lt CEILING (funds +ℤ pos top_up.amount)) Ceiling Added IsOfTopUp (λ _. tt) (λ _. tt)
 
-decided_is_of : (terms : Terms) (past : List Done) (k : Kind) → IsOf k (decided terms past k)
+decided_is_of : (terms : TermsView) (past : List Done) (k : Kind) → IsOf k (decided terms past k)
 decided_is_of terms past (kind.TopUp top_up) = top_up_of_top_up (funds_of terms past) top_up
 decided_is_of terms past (kind.Event event) = action_of_request (free_of terms past) event event.action
 
@@ -59,7 +59,7 @@ unknown_is_of : (k : Kind) (rest : Outcome) → IsOf k rest → IsOf k (unwrap_o
 unknown_is_of (kind.TopUp top_up) rest is = is
 unknown_is_of (kind.Event event) rest is = tt
 
-judged_is_of : (terms : Terms) (past : List Done) (act : Act) → AllOf past → IsOf act.kind (judged terms past act)
+judged_is_of : (terms : TermsView) (past : List Done) (act : Act) → AllOf past → IsOf act.kind (judged terms past act)
 judged_is_of terms past act all =
     let is = first_is_of past act.kind (decided terms past act.kind) all (decided_is_of terms past act.kind) in
     elim (cases_Bool (has_account past)) [
@@ -67,7 +67,7 @@ judged_is_of terms past act all =
       | inr f ↦ rw f (unknown_is_of act.kind (settled terms past act.kind) is)
     ]
 
-history_all_of : (terms : Terms) (all : List Act) → AllOf (history terms all)
+history_all_of : (terms : TermsView) (all : List Act) → AllOf (history terms all)
 unfolding AllOf
 history_all_of terms [] = tt
 history_all_of terms (act ∷ earlier) =
@@ -77,11 +77,12 @@ history_all_of terms (act ∷ earlier) =
       | inr f ↦ rw f before
     ]
 
-pub after_is_of : (terms : Terms) (xs : List Act) (act : Act) → IsOf act.kind (after terms xs act)
+pub after_is_of : (terms : TermsView) (xs : List Act) (act : Act) → IsOf act.kind (after terms xs act)
+unfolding after
 after_is_of terms xs act = judged_is_of terms (history terms (reverse xs)) act (history_all_of terms (reverse xs))
 
 -- an account is there from the first top-up of the list
-no_account : (terms : Terms) (all : List Act) → has_top_up all ≡ false → has_account (history terms all) ≡ false
+no_account : (terms : TermsView) (all : List Act) → has_top_up all ≡ false → has_account (history terms all) ≡ false
 no_account terms [] h = refl
 no_account terms (act ∷ earlier) h =
     let parts = or_parts (is_top_up act.kind) (has_top_up earlier) h in
@@ -104,15 +105,17 @@ unknown_requests : (k : Kind) (unknown : Outcome) → unknown_of k ≡ Some unkn
 unknown_requests (kind.TopUp top_up) unknown h = absurd cc
 unknown_requests (kind.Event event) unknown h = refl
 
-no_account_of : (terms : Terms) (xs : List Act) → has_top_up xs ≡ false → has_account (history terms (reverse xs)) ≡ false
+no_account_of : (terms : TermsView) (xs : List Act) → has_top_up xs ≡ false → has_account (history terms (reverse xs)) ≡ false
 no_account_of terms xs none = no_account terms (reverse xs) (has_top_up-reverse xs none)
 
--- without a top-up before, a request is of an unknown user, and doesn't act
-pub after_no_top_up : (terms : Terms) (xs : List Act) (act : Act) (unknown : Outcome) → has_top_up xs ≡ false → unknown_of act.kind ≡ Some unknown → after terms xs act ≡ unknown
+-- without a top-up before, a request is of an unknown user, and isn't made
+pub after_no_top_up : (terms : TermsView) (xs : List Act) (act : Act) (unknown : Outcome) → has_top_up xs ≡ false → unknown_of act.kind ≡ Some unknown → after terms xs act ≡ unknown
+unfolding after
 after_no_top_up terms xs act unknown none is = let no_one = no_account_of terms xs none in rw (no_one, is) refl
 
-pub history_no_top_up : (terms : Terms) (xs : List Act) (act : Act) (unknown : Outcome) → has_top_up xs ≡ false → unknown_of act.kind ≡ Some unknown → history terms (act ∷ reverse xs) ≡ history terms (reverse xs)
-history_no_top_up terms xs act unknown none is =
+pub old_no_top_up : (terms : TermsView) (xs : List Act) (act : Act) (unknown : Outcome) → has_top_up xs ≡ false → unknown_of act.kind ≡ Some unknown → is_new terms xs act ≡ false
+unfolding is_new
+old_no_top_up terms xs act unknown none is =
     let uncounted : counts (history terms (reverse xs)) act.kind ≡ false =
     or_from (has_account (history terms (reverse xs))) (is_none (request_key act.kind)) (no_account_of terms xs none) (unknown_requests act.kind unknown is) in
     rw uncounted refl

@@ -1,16 +1,16 @@
 -- The entries that the acts of one subscriber leave in the books.
 use Rattle.std.specs.Prelude.{ℕ, ◌+◌, ℤ, pos, neg_ℤ, ◌+ℤ◌, if◌then◌else◌, List, [], ◌∷◌, ◌++◌, length, reverse, None}
 use Rattle.std.specs.Option.{option_map_or}
-use Rattle.dcc_tariff.specs.declared.terms.Terms.{Terms}
+use Rattle.dcc_tariff.specs.Terms.{TermsView}
 use Rattle.dcc_act.specs.declared.act.Act.{Act}
-use Rattle.dcc_act.specs.declared.act.Event.{Event}
+use Rattle.dcc_act.specs.declared.one_time_event.OneTimeEvent.{OneTimeEvent}
 use Rattle.dcc_act.specs.declared.act.Kind.{Kind}
 use Rattle.dcc_act.specs.declared.act.Kind.TheVariants as kind
-use Rattle.dcc_act.specs.declared.act.TopUp.{TopUp}
+use Rattle.dcc_act.specs.declared.top_up.TopUp.{TopUp}
 use Rattle.dcc_act.specs.declared.entry.Entry.{Entry}
 use Rattle.dcc_act.specs.declared.entry.EntryKind.TheVariants as entry
 use Rattle.dcc_act.specs.declared.entry.EntryName.TheVariants.{Ticket, Session}
-use Rattle.dcc_act.specs.declared.outcome.Grant.{Grant}
+use Rattle.dcc_act.specs.declared.grant.Grant.{Grant}
 use Rattle.dcc_act.specs.declared.outcome.Outcome.{Outcome}
 use Rattle.dcc_model.specs.declared.done.Done.{Done}
 use Rattle.dcc_model.specs.Money.{is_added, charged, grant_price}
@@ -30,7 +30,7 @@ top_up_entry place moment top_up =
     }
 
 -- a direct debit's entry, also where it cost nothing
-abbrev pub debit_entry : ℕ → ℕ → Event → Grant → Entry
+abbrev pub debit_entry : ℕ → ℕ → OneTimeEvent → Grant → Entry
 debit_entry place moment event grant =
     record {
       place = place;
@@ -42,23 +42,24 @@ debit_entry place moment event grant =
       name = Session event.key.sid;
     }
 
--- the entries of the act at this place
-abbrev pub entries_of_kind : ℕ → ℕ → Kind → Outcome → List Entry
-entries_of_kind place moment (kind.TopUp top_up) outcome = if is_added outcome then top_up_entry place moment top_up ∷ [] else []
-entries_of_kind place moment (kind.Event event) outcome =
-    option_map_or (λ grant. debit_entry place moment event grant ∷ []) (charged (kind.Event event) outcome) []
+-- the entries of an act at this place, after the acts that were made before it
+abbrev pub entries_of_kind : TermsView → List Done → ℕ → ℕ → Kind → Outcome → List Entry
+entries_of_kind terms past place moment (kind.TopUp top_up) outcome = if is_added outcome then top_up_entry place moment top_up ∷ [] else []
+entries_of_kind terms past place moment (kind.Event event) outcome =
+    option_map_or (λ grant. debit_entry place moment event grant ∷ []) (charged terms past (kind.Event event) outcome) []
 
-abbrev pub entries_by : ℕ → Done → List Entry
-entries_by place done = entries_of_kind place done.act.moment done.act.kind done.outcome
+-- places count from 1
+abbrev pub entries_by : TermsView → List Done → Done → List Entry
+entries_by terms past done = entries_of_kind terms past (length past + 1) done.act.moment done.act.kind done.outcome
 
--- the entries of all acts, in their order; places count from 1
-abbrev pub entries_of : List Done → List Entry
-entries_of [] = []
-entries_of (done ∷ past) = entries_of past ++ entries_by (length past + 1) done
+-- the entries of all acts, in their order
+abbrev pub entries_of : TermsView → List Done → List Entry
+entries_of terms [] = []
+entries_of terms (done ∷ past) = entries_of terms past ++ entries_by terms past done
 
 -- the entries of a list of acts in order
-unfoldable pub entries : Terms → List Act → List Entry
-entries terms all = entries_of (history terms (reverse all))
+unfoldable pub entries : TermsView → List Act → List Entry
+entries terms all = entries_of terms (history terms (reverse all))
 
 -- what the entries add up to
 abbrev pub sum_of : List Entry → ℤ

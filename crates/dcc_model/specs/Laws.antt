@@ -1,82 +1,114 @@
 -- What the layers above know of outcomes and acts without a look into them.
-use Rattle.std.specs.Prelude.{◌≡◌, ℕ, ◌+◌, ◌≤◌, pos, ◌+ℤ◌, neg_ℤ, ◌≤ℤ◌, true, false, List, [], ◌∷◌, ◌++◌, length, is_some, Some}
-use Rattle.dcc_tariff.specs.declared.terms.Terms.{Terms}
+use Rattle.std.specs.Prelude.{◌≡◌, ℕ, ◌+◌, ◌-◌, ◌≤◌, pos, ◌+ℤ◌, neg_ℤ, ◌≤ℤ◌, true, false, if◌then◌else◌, List, [], ◌∷◌, ◌++◌, length, slice_get, Some, is_some, is_none, IsSomeAnd}
+use Rattle.dcc_tariff.specs.Terms.{TermsView}
 use Rattle.dcc_act.specs.declared.act.Act.{Act}
 use Rattle.dcc_act.specs.declared.outcome.Outcome.{Outcome}
 use Rattle.dcc_act.specs.declared.request_key.RequestKey.{RequestKey}
 use Rattle.dcc_model.specs.declared.decide.TheConstants.{CEILING}
-use Rattle.dcc_model.specs.Keys.{request_key, ticket}
 use Rattle.dcc_model.specs.declared.done.Done.{Done}
 use Rattle.dcc_model.specs.Money.{funds_of, overrun_of, free_of}
-use Rattle.dcc_model.specs.Outcomes.{outcome, acts, funds, overrun, free, kept, has_top_up, unknown_of, after, IsOfRequest, IsOfTopUp}
+use Rattle.dcc_model.specs.Keys.{request_key, ticket, same_key}
+use Rattle.dcc_model.specs.Outcomes.{after, is_new, place, outcome, acts, funds, overrun, free, kept, has_top_up, unknown_of, is_unknown, IsOfRequest, IsOfTopUp}
 use Rattle.dcc_model.specs.Entries.{entries, sum_of}
 
 -- what comes later changes no outcome
 abbrev pub LaterChangesNothing : Type 0
-LaterChangesNothing = (terms : Terms) (xs ys : List Act) (place : ℕ) → 1 ≤ place → place ≤ length xs
-    → outcome terms (xs ++ ys) place ≡ outcome terms xs place
+LaterChangesNothing = (terms : TermsView) (xs ys : List Act) (k : ℕ) → k ≤ length xs
+    → outcome terms (xs ++ ys) k ≡ outcome terms xs k
 
--- leaving out what isn't made changes no outcome of what comes later
+-- the last act comes to what it does after those before it
+abbrev pub LastComesAfter : Type 0
+LastComesAfter = (terms : TermsView) (xs : List Act) (act : Act) → outcome terms (xs ++ act ∷ []) (length xs + 1) ≡ Some (after terms xs act)
+
+-- one more act stands behind the others where it is new, and else changes nothing
+abbrev pub OneMoreAct : Type 0
+OneMoreAct = (terms : TermsView) (xs : List Act) (act : Act)
+    → acts terms (xs ++ act ∷ []) ≡ (if is_new terms xs act then acts terms xs ++ act ∷ [] else acts terms xs)
+
+-- leaving out what isn't made changes nothing of what one more act comes to, of whether it is new, and of its place
+abbrev pub AfterStays : Type 0
+AfterStays = (terms : TermsView) (xs : List Act) (act : Act) → after terms (acts terms xs) act ≡ after terms xs act
+
+abbrev pub NewStays : Type 0
+NewStays = (terms : TermsView) (xs : List Act) (act : Act) → is_new terms (acts terms xs) act ≡ is_new terms xs act
+
+abbrev pub PlaceStays : Type 0
+PlaceStays = (terms : TermsView) (xs : List Act) (act : Act) → place terms (acts terms xs) act ≡ place terms xs act
+
+-- nor of the outcomes of what comes later
 abbrev pub OutcomesStay : Type 0
-OutcomesStay = (terms : Terms) (xs ys : List Act) (k : ℕ) → 1 ≤ k
+OutcomesStay = (terms : TermsView) (xs ys : List Act) (k : ℕ) → 1 ≤ k
     → outcome terms (acts terms xs ++ ys) (length (acts terms xs) + k) ≡ outcome terms (xs ++ ys) (length xs + k)
 
 -- nor which acts are made
 abbrev pub ActsStay : Type 0
-ActsStay = (terms : Terms) (xs ys : List Act) → acts terms (acts terms xs ++ ys) ≡ acts terms (xs ++ ys)
+ActsStay = (terms : TermsView) (xs ys : List Act) → acts terms (acts terms xs ++ ys) ≡ acts terms (xs ++ ys)
 
 abbrev pub ActsAreActs : Type 0
-ActsAreActs = (terms : Terms) (xs : List Act) → acts terms (acts terms xs) ≡ acts terms xs
+ActsAreActs = (terms : TermsView) (xs : List Act) → acts terms (acts terms xs) ≡ acts terms xs
 
 abbrev pub NoActs : Type 0
-NoActs = (terms : Terms) → acts terms [] ≡ []
+NoActs = (terms : TermsView) → acts terms [] ≡ []
 
 -- nor the outcomes that are kept
 abbrev pub KeptStay : Type 0
-KeptStay = (terms : Terms) (xs : List Act) (key : RequestKey) → kept terms (acts terms xs) key ≡ kept terms xs key
+KeptStay = (terms : TermsView) (xs : List Act) (key : RequestKey) → kept terms (acts terms xs) key ≡ kept terms xs key
 
 -- nor the funds, what is overrun, what is free and the entries
 abbrev pub AccountStays : Type 0
-AccountStays = (terms : Terms) (xs : List Act)
+AccountStays = (terms : TermsView) (xs : List Act)
     → (funds terms (acts terms xs) ≡ funds terms xs) × (overrun terms (acts terms xs) ≡ overrun terms xs)
     × (free terms (acts terms xs) ≡ free terms xs) × (entries terms (acts terms xs) ≡ entries terms xs)
 
--- the last act comes to what it does after those before it
-abbrev pub LastComesAfter : Type 0
-LastComesAfter = (terms : Terms) (xs : List Act) (act : Act) → outcome terms (xs ++ act ∷ []) (length xs + 1) ≡ after terms xs act
+-- a new act stands behind all others
+abbrev pub NewIsLast : Type 0
+NewIsLast = (terms : TermsView) (xs : List Act) (act : Act) → is_new terms xs act ≡ true
+    → place terms xs act ≡ Some (length (acts terms xs) + 1)
+
+-- at a place of a list, counted from 1, stands an act of the same key, and that is its outcome there
+pub record StandsAt (terms : TermsView) (all : List Act) (k : ℕ) (act : Act) (comes_to : Outcome) : Type 0 where
+  pub from_one : 1 ≤ k
+  pub same : IsSomeAnd (slice_get all (k - 1)) (λ there. same_key act.kind there.kind ≡ true)
+  pub outcome_is : outcome terms all k ≡ Some comes_to
+
+-- so it is at the place of one more act, among the acts then
+abbrev pub PlaceHolds : Type 0
+PlaceHolds = (terms : TermsView) (xs : List Act) (act : Act) (k : ℕ) → place terms xs act ≡ Some k
+    → StandsAt terms (acts terms (xs ++ act ∷ [])) k act (after terms xs act)
+
+-- and none has no place but a request of an unknown user
+abbrev pub UnknownHasNoPlace : Type 0
+UnknownHasNoPlace = (terms : TermsView) (xs : List Act) (act : Act) → is_none (place terms xs act) ≡ is_unknown (after terms xs act)
 
 -- without a top-up before, a request is of an unknown user, under its own type and key, and isn't made
 abbrev pub UnknownBefore : Type 0
-UnknownBefore = (terms : Terms) (xs : List Act) (act : Act) (unknown : Outcome) → has_top_up xs ≡ false
-    → unknown_of act.kind ≡ Some unknown
-    → (outcome terms (xs ++ act ∷ []) (length xs + 1) ≡ unknown) × (acts terms (xs ++ act ∷ []) ≡ acts terms xs)
+UnknownBefore = (terms : TermsView) (xs : List Act) (act : Act) (unknown : Outcome) → has_top_up xs ≡ false
+    → unknown_of act.kind ≡ Some unknown → (after terms xs act ≡ unknown) × (is_new terms xs act ≡ false)
 
 -- a request comes to what a request may come to
 abbrev pub RequestsAreAnswered : Type 0
-RequestsAreAnswered = (terms : Terms) (xs : List Act) (act : Act) → is_some (request_key act.kind) ≡ true
-    → IsOfRequest (outcome terms (xs ++ act ∷ []) (length xs + 1))
+RequestsAreAnswered = (terms : TermsView) (xs : List Act) (act : Act) → is_some (request_key act.kind) ≡ true → IsOfRequest (after terms xs act)
 
 -- a top-up is added, or passes the ceiling
 abbrev pub TopUpsAreAdded : Type 0
-TopUpsAreAdded = (terms : Terms) (xs : List Act) (act : Act) → is_some (ticket act.kind) ≡ true
-    → IsOfTopUp (outcome terms (xs ++ act ∷ []) (length xs + 1))
+TopUpsAreAdded = (terms : TermsView) (xs : List Act) (act : Act) → is_some (ticket act.kind) ≡ true → IsOfTopUp (after terms xs act)
 
 -- funds stay within 10^18 on either side
 abbrev pub FundsAreLimited : Type 0
-FundsAreLimited = (terms : Terms) (xs : List Act) → (neg_ℤ CEILING ≤ℤ funds terms xs) × (funds terms xs ≤ℤ CEILING)
+FundsAreLimited = (terms : TermsView) (xs : List Act) → (neg_ℤ CEILING ≤ℤ funds terms xs) × (funds terms xs ≤ℤ CEILING)
 
 -- only what is overrun takes what is free below nothing (O'Neil's escrow method)
 abbrev pub FreeIsCovered : Type 0
-FreeIsCovered = (terms : Terms) (xs : List Act) → pos 0 ≤ℤ (free terms xs +ℤ pos (overrun terms xs))
+FreeIsCovered = (terms : TermsView) (xs : List Act) → pos 0 ≤ℤ (free terms xs +ℤ pos (overrun terms xs))
 
 -- the entries add up to the funds
 abbrev pub EntriesAddUp : Type 0
-EntriesAddUp = (terms : Terms) (xs : List Act) → sum_of (entries terms xs) ≡ funds terms xs
+EntriesAddUp = (terms : TermsView) (xs : List Act) → sum_of (entries terms xs) ≡ funds terms xs
 
--- neither a top-up nor an event reserves
+-- neither a top-up nor a one-time event reserves
 abbrev pub FreeIsFunds : Type 0
-FreeIsFunds = (terms : Terms) (past : List Done) → free_of terms past ≡ funds_of terms past
+FreeIsFunds = (terms : TermsView) (past : List Done) → free_of terms past ≡ funds_of terms past
 
 -- nor reports beyond what is reserved
 abbrev pub NothingIsOverrun : Type 0
-NothingIsOverrun = (terms : Terms) (past : List Done) → overrun_of terms past ≡ 0
+NothingIsOverrun = (terms : TermsView) (past : List Done) → overrun_of terms past ≡ 0

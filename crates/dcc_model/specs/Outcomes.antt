@@ -1,17 +1,17 @@
 -- What each act of one subscriber's list comes to. `past` is the acts that were made, the latest first.
-use Rattle.std.specs.Prelude.{ℕ, ◌-◌, ⊤, ℤ, pos, ◌+ℤ◌, int_lt, Bool, true, false, ◌&&◌, ◌||◌, if◌then◌else◌, List, [], ◌∷◌, map, reverse, take, Option, Some, None, is_none, option_map, find, slice_get, unwrap_or}
+use Rattle.std.specs.Prelude.{ℕ, zero, suc, ◌+◌, ⊤, ℤ, pos, ◌+ℤ◌, int_lt, Bool, true, false, ◌&&◌, ◌||◌, if◌then◌else◌, List, [], ◌∷◌, length, map, reverse, take, Option, Some, None, is_none, option_map, find, slice_get, unwrap_or}
 use Rattle.std.specs.List.{list_any}
 use Rattle.std.specs.Option.{option_map_or}
 use Rattle.dcc_tariff.specs.Prices.{covers}
-use Rattle.dcc_tariff.specs.declared.terms.Terms.{Terms}
+use Rattle.dcc_tariff.specs.Terms.{TermsView}
 use Rattle.dcc_act.specs.declared.act.Act.{Act}
-use Rattle.dcc_act.specs.declared.act.Action.{Action}
-use Rattle.dcc_act.specs.declared.act.Action.TheVariants.{DirectDebiting}
-use Rattle.dcc_act.specs.declared.act.Event.{Event}
+use Rattle.dcc_act.specs.declared.one_time_event.Action.{Action}
+use Rattle.dcc_act.specs.declared.one_time_event.Action.TheVariants.{DirectDebiting}
+use Rattle.dcc_act.specs.declared.one_time_event.OneTimeEvent.{OneTimeEvent}
 use Rattle.dcc_act.specs.declared.act.Kind.{Kind}
 use Rattle.dcc_act.specs.declared.act.Kind.TheVariants as kind
-use Rattle.dcc_act.specs.declared.act.TopUp.{TopUp}
-use Rattle.dcc_act.specs.declared.outcome.Grant.{Grant}
+use Rattle.dcc_act.specs.declared.top_up.TopUp.{TopUp}
+use Rattle.dcc_act.specs.declared.grant.Grant.{Grant}
 use Rattle.dcc_act.specs.declared.outcome.Outcome.{Outcome}
 use Rattle.dcc_act.specs.declared.outcome.Outcome.TheVariants.{Unknown, Answered, Added, Ceiling}
 use Rattle.dcc_act.specs.declared.outcome.RequestType.TheVariants as request
@@ -49,7 +49,7 @@ abbrev pub answer_with : Service → ResultCode → Option Grant → ServiceAnsw
 answer_with service code grant = record { group = service.group; ids = service.ids; form = service.form; result = code; grant = grant }
 
 -- an event's answer has one service, whose result is the command's
-abbrev pub event_answer : Event → ResultCode → Option Grant → Outcome
+abbrev pub event_answer : OneTimeEvent → ResultCode → Option Grant → Outcome
 event_answer event code grant =
     Answered (record { request = request.Event; key = event.key; result = code; services = answer_with event.service code grant ∷ [] })
 
@@ -64,13 +64,13 @@ abbrev pub granted : ResultCode → Option Grant → Option Grant
 granted Success asked = asked
 granted _ asked = None
 
-abbrev pub debit_outcome : ℤ → Event → Option Grant → Outcome
+abbrev pub debit_outcome : ℤ → OneTimeEvent → Option Grant → Outcome
 debit_outcome free event asked = event_answer event (debit_result free asked) (granted (debit_result free asked) asked)
 
-abbrev pub action_outcome : ℤ → Event → Action → Outcome
+abbrev pub action_outcome : ℤ → OneTimeEvent → Action → Outcome
 action_outcome free event DirectDebiting = debit_outcome free event (asked_units event.service)
 
-abbrev pub event_outcome : ℤ → Event → Outcome
+abbrev pub event_outcome : ℤ → OneTimeEvent → Outcome
 event_outcome free event = action_outcome free event event.action
 
 -- a top-up is added unless it would lift the funds above the ceiling
@@ -78,7 +78,7 @@ abbrev pub top_up_outcome : ℤ → TopUp → Outcome
 top_up_outcome funds top_up = if int_lt CEILING (funds +ℤ pos top_up.amount) then Ceiling else Added
 
 -- what an act comes to that is made
-abbrev pub decided : Terms → List Done → Kind → Outcome
+abbrev pub decided : TermsView → List Done → Kind → Outcome
 decided terms past (kind.TopUp top_up) = top_up_outcome (funds_of terms past) top_up
 decided terms past (kind.Event event) = event_outcome (free_of terms past) event
 
@@ -88,23 +88,24 @@ unknown_of (kind.TopUp top_up) = None
 unknown_of (kind.Event event) = Some (Unknown request.Event event.key)
 
 -- a repeat comes to what the first came to
-abbrev pub settled : Terms → List Done → Kind → Outcome
+abbrev pub settled : TermsView → List Done → Kind → Outcome
 settled terms past kind = option_map_or (λ (done : Done). done.outcome) (first_of past kind) (decided terms past kind)
 
 -- without an account a request is of an unknown user
-abbrev pub judged : Terms → List Done → Act → Outcome
+abbrev pub judged : TermsView → List Done → Act → Outcome
 judged terms past act =
     if has_account past then settled terms past act.kind else unwrap_or (unknown_of act.kind) (settled terms past act.kind)
 
-abbrev pub is_new : List Done → Kind → Bool
-is_new past kind = counts past kind && is_none (first_of past kind)
+-- an act of this kind is the first of its key, and counts
+abbrev pub is_first : List Done → Kind → Bool
+is_first past kind = counts past kind && is_none (first_of past kind)
 
 -- what is made is each act that counts and whose key is new
-abbrev pub is_made : Terms → List Done → Act → Bool
-is_made terms past act = is_new past act.kind
+abbrev pub is_made : TermsView → List Done → Act → Bool
+is_made terms past act = is_first past act.kind
 
 -- the acts that were made, each with what it came to, the latest first; so is the list that it looks at
-abbrev pub history : Terms → List Act → List Done
+abbrev pub history : TermsView → List Act → List Done
 history terms [] = []
 history terms (act ∷ earlier) =
     let past = history terms earlier in
@@ -120,31 +121,54 @@ outcome_of done = done.outcome
 abbrev pub kept_of : List Done → RequestKey → Option Outcome
 kept_of past key = option_map outcome_of (find (λ done. same_request (Some key) (request_key done.act.kind)) past)
 
--- what an act comes to after a list of acts in order
-abbrev pub after : Terms → List Act → Act → Outcome
+-- the place among acts, the latest first and counted from the earliest, of the one of this key
+abbrev pub place_of_key : List Act → Kind → Option ℕ
+place_of_key [] kind = None
+place_of_key (act ∷ earlier) kind = if same_key kind act.kind then Some (length earlier + 1) else place_of_key earlier kind
+
+-- the place of one more act: a new one stands behind all others, and another where that of its key stands
+abbrev pub place_of : TermsView → List Done → Act → Option ℕ
+place_of terms past act = if is_made terms past act then Some (length past + 1) else place_of_key (map act_of past) act.kind
+
+-- what one more act comes to after a list of acts in order
+unfoldable pub after : TermsView → List Act → Act → Outcome
 after terms before act = judged terms (history terms (reverse before)) act
 
+-- whether it is made
+unfoldable pub is_new : TermsView → List Act → Act → Bool
+is_new terms before act = is_made terms (history terms (reverse before)) act
+
+-- its place among the acts then, counted from 1, or that of the act that was made with its key; a request that isn't made
+-- and whose key none has, of an unknown user, has no place
+unfoldable pub place : TermsView → List Act → Act → Option ℕ
+place terms before act = place_of terms (history terms (reverse before)) act
+
 -- the outcome of the act at a place of a list, counted from 1: what it comes to after those before; where no act stands
--- there is nothing to say, and Ceiling stands for it
-unfoldable pub outcome : Terms → List Act → ℕ → Outcome
-outcome terms all place = option_map_or (after terms (take (place - 1) all)) (slice_get all (place - 1)) Ceiling
+-- there is none
+unfoldable pub outcome : TermsView → List Act → ℕ → Option Outcome
+outcome terms all zero = None
+outcome terms all (suc before) = option_map (after terms (take before all)) (slice_get all before)
 
 -- the acts of a list, in order
-unfoldable pub acts : Terms → List Act → List Act
+unfoldable pub acts : TermsView → List Act → List Act
 acts terms all = reverse (map act_of (history terms (reverse all)))
 
 -- the account after the whole list
-unfoldable pub funds : Terms → List Act → ℤ
+unfoldable pub funds : TermsView → List Act → ℤ
 funds terms all = funds_of terms (history terms (reverse all))
 
-unfoldable pub overrun : Terms → List Act → ℕ
+unfoldable pub overrun : TermsView → List Act → ℕ
 overrun terms all = overrun_of terms (history terms (reverse all))
 
-unfoldable pub free : Terms → List Act → ℤ
+unfoldable pub free : TermsView → List Act → ℤ
 free terms all = free_of terms (history terms (reverse all))
 
-unfoldable pub kept : Terms → List Act → RequestKey → Option Outcome
+unfoldable pub kept : TermsView → List Act → RequestKey → Option Outcome
 kept terms all key = kept_of (history terms (reverse all)) key
+
+abbrev pub is_unknown : Outcome → Bool
+is_unknown (Unknown request key) = true
+is_unknown _ = false
 
 -- the outcomes that a request may have
 abbrev pub IsOfRequest : Outcome → Type 0

@@ -1,21 +1,19 @@
 //! What an act comes to that is made.
 
-ghost use Rattle.std.specs.Prelude.{◌≡◌, ◌≤◌, ◌^◌, IfOk};
-ghost use Rattle.std.specs.Option.{ForSome};
+ghost use Rattle.std.specs.Prelude.{◌≡◌, ◌≤◌, IfOk};
 ghost use Rattle.dcc_tariff.specs.Prices.{covers};
-ghost use Rattle.dcc_act.specs.Answers.{IsGrant};
 ghost use Rattle.dcc_model.specs.Money.{asked_units, grant_price};
 ghost use Rattle.dcc_model.specs.Outcomes.{top_up_outcome, event_outcome, debit_outcome, debit_result, event_answer};
 
 use dcc_act::{
-    Action, Answer, Event, Grant, Outcome, RequestType, ResultCode, Service, ServiceAnswer,
-    ServiceAnswers, TopUp,
+    Action, Answer, Grant, MAX_AMOUNT, OneTimeEvent, Outcome, RequestType, ResultCode, Service,
+    ServiceAnswer, ServiceAnswers, TopUp,
 };
-use dcc_tariff::price_of;
+use dcc_tariff::{MAX_PRICE, price_of};
 use std::alloc::{AllocError, Global};
 
 /// The most that funds may be, in minor units; the least is its negative.
-pub const CEILING: i128 = 1_000_000_000_000_000_000;
+pub const CEILING: i128 = MAX_AMOUNT as i128;
 
 /// What a new top-up comes to at these funds.
 pub fn decide_top_up(funds: i128, top_up: &TopUp) -> Outcome
@@ -29,7 +27,7 @@ pub fn decide_top_up(funds: i128, top_up: &TopUp) -> Outcome
 }
 
 /// What a new event comes to where so much is free.
-pub fn decide_event(alloc: Global, free: i128, event: &Event) -> Result<Outcome, AllocError>
+pub fn decide_event(alloc: Global, free: i128, event: &OneTimeEvent) -> Result<Outcome, AllocError>
     ensures { IfOk result (λ outcome. outcome ≡ event_outcome free event.now) }
 {
     match event.action {
@@ -38,7 +36,7 @@ pub fn decide_event(alloc: Global, free: i128, event: &Event) -> Result<Outcome,
 }
 
 /// What a new direct debit comes to.
-fn decide_debit(alloc: Global, free: i128, event: &Event) -> Result<Outcome, AllocError>
+fn decide_debit(alloc: Global, free: i128, event: &OneTimeEvent) -> Result<Outcome, AllocError>
     ensures { IfOk result (λ outcome. outcome ≡ debit_outcome free event.now (asked_units event.now.service)) }
 {
     let asked = units_asked(&event.service);
@@ -50,7 +48,6 @@ fn decide_debit(alloc: Global, free: i128, event: &Event) -> Result<Outcome, All
 
 /// The result of a direct debit of these units where so much is free.
 fn debit_result(free: i128, asked: &Option<Grant>) -> ResultCode
-    requires { ForSome asked.now (λ grant. grant.units ≤ 10 ^ 12) }
     ensures { result ≡ debit_result free asked.now }
 {
     match asked {
@@ -68,11 +65,10 @@ fn debit_result(free: i128, asked: &Option<Grant>) -> ResultCode
 /// The answer to an event, with its one service.
 fn answer(
     alloc: Global,
-    event: &Event,
+    event: &OneTimeEvent,
     code: ResultCode,
     grant: Option<Grant>,
 ) -> Result<Outcome, AllocError>
-    requires { ForSome grant IsGrant }
     ensures { IfOk result (λ outcome. outcome ≡ event_answer event.now code grant) }
 {
     let service = &event.service;
@@ -95,8 +91,7 @@ fn answer(
 
 /// The units that a service asks for, at the tariff of its moment, where there is one.
 pub(crate) fn units_asked(service: &Service) -> Option<Grant>
-    ensures value { result ≡ asked_units service.now }
-    ensures limits { ForSome result IsGrant }
+    ensures { result ≡ asked_units service.now }
 {
     Some(Grant {
         unit: service.unit?,
@@ -107,9 +102,8 @@ pub(crate) fn units_asked(service: &Service) -> Option<Grant>
 
 /// What is charged for granted units, in minor units.
 pub(crate) fn price(grant: &Grant) -> u64
-    requires { grant.now.units ≤ 10 ^ 12 }
     ensures value { result ≡ grant_price grant.now }
-    ensures bound { result ≤ 10 ^ 18 }
+    ensures bound { result ≤ MAX_PRICE }
 {
     price_of(grant.tariff, grant.units)
 }

@@ -1,17 +1,18 @@
 //! The plain program: the definitions, step by step.
 
-ghost use Rattle.std.specs.Prelude.{◌≡◌, ◌≤◌, ◌^◌, length, reverse, is_some, IfOk};
+ghost use Rattle.std.specs.Prelude.{◌≡◌, ◌≤◌, List, length, reverse, Some, IfOk};
 ghost use Rattle.std.specs.Option.{option_copied};
-ghost use Rattle.dcc_tariff.specs.declared.terms.Terms.{Terms};
+ghost use Rattle.dcc_tariff.specs.Terms.{TermsView};
+ghost use Rattle.dcc_model.specs.declared.done.Done.{Done};
 ghost use Rattle.dcc_model.specs.Money.{funds_of, free_of, credit, debit};
-ghost use Rattle.dcc_model.specs.Outcomes.{has_account, counts, first_of, decided, settled, judged, is_new, history, outcome};
+ghost use Rattle.dcc_model.specs.Outcomes.{has_account, counts, first_of, decided, settled, judged, is_first, history, outcome};
 
 use crate::decide::{decide_event, decide_top_up, price};
 use crate::done::Done;
 use crate::keys::{is_same_key, is_top_up};
 use crate::posting::charged_units;
-use dcc_act::{Act, Kind, Outcome, RequestType};
-use dcc_tariff::Terms;
+use dcc_act::{Act, Kind, MAX_AMOUNT, Outcome, RequestType};
+use dcc_tariff::{MAX_PRICE, Terms};
 use std::alloc::{AllocError, Global};
 
 /// What the act at this place of a subscriber's list comes to, counted from 1. It is slow: it goes through all acts
@@ -24,7 +25,7 @@ pub fn plain_answer(
 ) -> Result<Outcome, AllocError>
     requires from_one { 1 ≤ place }
     requires in_list { place ≤ length acts.now }
-    ensures { IfOk result (λ answer. answer ≡ outcome terms.now acts.now place) }
+    ensures { IfOk result (λ answer. outcome terms.now acts.now place ≡ Some answer) }
 {
     let past = made(alloc, &acts[..place - 1])?;
     judge(alloc, &past, &acts[place - 1])
@@ -32,11 +33,11 @@ pub fn plain_answer(
 
 /// The acts that are made, in order.
 fn made(alloc: Global, acts: &[Act]) -> Result<Vec<Done>, AllocError>
-    ensures { IfOk result (λ made. (terms : Terms) → reverse made.items ≡ history terms (reverse acts.now)) }
+    ensures { IfOk result (λ made. (terms : TermsView) → reverse made.items ≡ history terms (reverse acts.now)) }
 {
     let mut past = Vec::new(alloc);
     for act in acts {
-        if is_new(&past, &act.kind) {
+        if is_first(&past, &act.kind) {
             let outcome = judge(alloc, &past, act)?;
             let act = act.copy()?;
             past.push(Done { act, outcome })?;
@@ -47,7 +48,7 @@ fn made(alloc: Global, acts: &[Act]) -> Result<Vec<Done>, AllocError>
 
 /// What an act comes to after these.
 fn judge(alloc: Global, past: &[Done], act: &Act) -> Result<Outcome, AllocError>
-    ensures { IfOk result (λ outcome. (terms : Terms) → outcome ≡ judged terms (reverse past.now) act.now) }
+    ensures { IfOk result (λ outcome. (terms : TermsView) → outcome ≡ judged terms (reverse past.now) act.now) }
 {
     if has_account(past) {
         return settle(alloc, past, &act.kind);
@@ -63,7 +64,7 @@ fn judge(alloc: Global, past: &[Done], act: &Act) -> Result<Outcome, AllocError>
 
 /// What an act comes to that has an account or makes it.
 fn settle(alloc: Global, past: &[Done], kind: &Kind) -> Result<Outcome, AllocError>
-    ensures { IfOk result (λ outcome. (terms : Terms) → outcome ≡ settled terms (reverse past.now) kind.now) }
+    ensures { IfOk result (λ outcome. (terms : TermsView) → outcome ≡ settled terms (reverse past.now) kind.now) }
 {
     match first(past, kind) {
         Some(done) => done.outcome.copy(),
@@ -72,8 +73,8 @@ fn settle(alloc: Global, past: &[Done], kind: &Kind) -> Result<Outcome, AllocErr
 }
 
 /// Whether an act is made after these.
-fn is_new(past: &[Done], kind: &Kind) -> bool
-    ensures { result ≡ is_new (reverse past.now) kind.now }
+fn is_first(past: &[Done], kind: &Kind) -> bool
+    ensures { result ≡ is_first (reverse past.now) kind.now }
 {
     is_counted(past, kind) && first(past, kind).is_none()
 }
@@ -103,7 +104,7 @@ fn first<'a>(past: &'a [Done], kind: &Kind) -> Option<&'a Done>
 
 /// What an act comes to that is made.
 fn decide(alloc: Global, past: &[Done], kind: &Kind) -> Result<Outcome, AllocError>
-    ensures { IfOk result (λ outcome. (terms : Terms) → outcome ≡ decided terms (reverse past.now) kind.now) }
+    ensures { IfOk result (λ outcome. (terms : TermsView) → outcome ≡ decided terms (reverse past.now) kind.now) }
 {
     match kind {
         Kind::TopUp(top_up) => Ok(decide_top_up(funds(past), top_up)),
@@ -113,7 +114,7 @@ fn decide(alloc: Global, past: &[Done], kind: &Kind) -> Result<Outcome, AllocErr
 
 /// The funds after these acts, in minor units.
 fn funds(past: &[Done]) -> i128
-    ensures { (terms : Terms) → result ≡ funds_of terms (reverse past.now) }
+    ensures { (terms : TermsView) → result ≡ funds_of terms (reverse past.now) }
 {
     let mut funds = 0;
     for done in past {
@@ -124,15 +125,15 @@ fn funds(past: &[Done]) -> i128
 
 /// What is free of them: today's acts reserve nothing.
 fn free(past: &[Done]) -> i128
-    ensures { (terms : Terms) → result ≡ free_of terms (reverse past.now) }
+    ensures { (terms : TermsView) → result ≡ free_of terms (reverse past.now) }
 {
     funds(past)
 }
 
 /// What an act added to the funds, in minor units.
 fn credited(done: &Done) -> u64
-    ensures value { result ≡ credit done.now.act.kind done.now.outcome }
-    ensures bound { result ≤ 10 ^ 18 }
+    ensures value { (terms : TermsView) (before : List Done) → result ≡ credit terms before done.now.act.kind done.now.outcome }
+    ensures bound { result ≤ MAX_AMOUNT }
 {
     match (&done.act.kind, &done.outcome) {
         (Kind::TopUp(top_up), Outcome::Added) => top_up.amount,
@@ -142,8 +143,8 @@ fn credited(done: &Done) -> u64
 
 /// What an act took from the funds, in minor units.
 fn debited(done: &Done) -> u64
-    ensures value { result ≡ debit done.now.act.kind done.now.outcome }
-    ensures bound { result ≤ 10 ^ 18 }
+    ensures value { (terms : TermsView) (before : List Done) → result ≡ debit terms before done.now.act.kind done.now.outcome }
+    ensures bound { result ≤ MAX_PRICE }
 {
     match &done.act.kind {
         Kind::TopUp(_) => 0,

@@ -1,7 +1,8 @@
 //! Laws of the definitions: what the layers above need to know of outcomes and acts without a look into them. None of
 //! these functions does anything: each has a law as its contract.
 
-ghost use Rattle.dcc_model.specs.Laws.{LaterChangesNothing, OutcomesStay, ActsStay, ActsAreActs, NoActs, KeptStay, AccountStays};
+ghost use Rattle.dcc_model.specs.Laws.{LaterChangesNothing, OneMoreAct, AfterStays, NewStays, PlaceStays, OutcomesStay, ActsStay};
+ghost use Rattle.dcc_model.specs.Laws.{ActsAreActs, NoActs, KeptStay, AccountStays, NewIsLast, PlaceHolds, UnknownHasNoPlace};
 ghost use Rattle.dcc_model.specs.Laws.{LastComesAfter, UnknownBefore, RequestsAreAnswered, TopUpsAreAdded};
 ghost use Rattle.dcc_model.specs.Laws.{FundsAreLimited, FreeIsCovered, EntriesAddUp, FreeIsFunds, NothingIsOverrun};
 
@@ -10,15 +11,31 @@ pub fn later_acts_change_no_outcome()
     ensures { LaterChangesNothing }
 {}
 
-/// Leaving out what isn't made changes neither the outcomes of what comes later nor which acts are made, and the
-/// account stays as it is.
+/// One more act stands behind the acts before it where it is new, and else changes none.
+pub fn one_more_act()
+    ensures { OneMoreAct }
+{}
+
+/// Leaving out what isn't made changes neither what one more act comes to, nor whether it is new, nor its place, nor the
+/// outcomes of what comes later, nor which acts are made; and the account stays as it is.
 pub fn leaving_out_changes_nothing()
+    ensures after { AfterStays }
+    ensures is_new { NewStays }
+    ensures place { PlaceStays }
     ensures outcomes { OutcomesStay }
     ensures acts { ActsStay }
     ensures whole { ActsAreActs }
     ensures none { NoActs }
     ensures kept { KeptStay }
     ensures account { AccountStays }
+{}
+
+/// A new act's place is behind all others; at the place of an act stands one of its key, with the outcome that it comes
+/// to; and only a request of an unknown user has no place.
+pub fn places_hold()
+    ensures last { NewIsLast }
+    ensures stands { PlaceHolds }
+    ensures unknown { UnknownHasNoPlace }
 {}
 
 /// The last act comes to what it does after those before it. A request comes to what a request may come to, and before

@@ -19,7 +19,7 @@ pub use evaluator::plain_answer;
 pub use keys::{is_same_key, is_top_up};
 pub use laws::{
     acts_come_to_their_own, funds_are_accounted_for, later_acts_change_no_outcome,
-    leaving_out_changes_nothing, nothing_is_reserved,
+    leaving_out_changes_nothing, nothing_is_reserved, one_more_act, places_hold,
 };
 pub use posting::entries_by;
 

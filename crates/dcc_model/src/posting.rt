@@ -1,16 +1,16 @@
 //! What an act leaves in the books.
 
-ghost use Rattle.std.specs.Prelude.{◌≡◌, ◌≤◌, ◌^◌, IfOk};
-ghost use Rattle.std.specs.Option.{ForSome};
-ghost use Rattle.dcc_act.specs.Answers.{IsGrant};
+ghost use Rattle.std.specs.Prelude.{◌≡◌, List, IfOk};
+ghost use Rattle.dcc_tariff.specs.Terms.{TermsView};
 ghost use Rattle.dcc_model.specs.Money.{charged, charged_by, succeeded};
 ghost use Rattle.dcc_model.specs.Entries.{top_up_entry, debit_entry, entries_of_kind};
 ghost use Rattle.dcc_act.specs.declared.act.Kind.TheVariants.{Event as event_kind};
+ghost use Rattle.dcc_model.specs.declared.done.Done.{Done};
 
 use crate::decide::{price, units_asked};
 use dcc_act::{
-    Act, Action, Entry, EntryKind, EntryName, Event, Grant, Kind, Moment, Outcome, ResultCode,
-    TopUp,
+    Act, Action, Entry, EntryKind, EntryName, Grant, Kind, Moment, OneTimeEvent, Outcome,
+    ResultCode, TopUp,
 };
 use std::alloc::{AllocError, Global};
 
@@ -21,7 +21,8 @@ pub fn entries_by(
     act: &Act,
     outcome: &Outcome,
 ) -> Result<Vec<Entry>, AllocError>
-    ensures { IfOk result (λ entries. entries.items ≡ entries_of_kind place act.now.moment act.now.kind outcome.now) }
+    ensures { IfOk result (λ entries. (terms : TermsView) (past : List Done)
+        → entries.items ≡ entries_of_kind terms past place act.now.moment act.now.kind outcome.now) }
 {
     match &act.kind {
         Kind::TopUp(top_up) => {
@@ -53,8 +54,12 @@ fn credited(place: u64, moment: Moment, top_up: &TopUp) -> Entry
 }
 
 /// A direct debit's entry.
-fn debited(place: u64, moment: Moment, event: &Event, grant: &Grant) -> Result<Entry, AllocError>
-    requires { grant.now.units ≤ 10 ^ 12 }
+fn debited(
+    place: u64,
+    moment: Moment,
+    event: &OneTimeEvent,
+    grant: &Grant,
+) -> Result<Entry, AllocError>
     ensures { IfOk result (λ entry. entry ≡ debit_entry place moment event.now grant.now) }
 {
     Ok(Entry {
@@ -69,9 +74,8 @@ fn debited(place: u64, moment: Moment, event: &Event, grant: &Grant) -> Result<E
 }
 
 /// What an event charged that came to this outcome.
-pub(crate) fn charged_units(event: &Event, outcome: &Outcome) -> Option<Grant>
-    ensures value { result ≡ charged (event_kind event.now) outcome.now }
-    ensures limits { ForSome result IsGrant }
+pub(crate) fn charged_units(event: &OneTimeEvent, outcome: &Outcome) -> Option<Grant>
+    ensures { (terms : TermsView) (past : List Done) → result ≡ charged terms past (event_kind event.now) outcome.now }
 {
     if !has_succeeded(outcome) {
         return None;

@@ -1,13 +1,9 @@
 //! Worked examples, answered by the plain program.
 
-use crate::{
-    acts_come_to_their_own, decide_event, decide_top_up, entries_by, funds_are_accounted_for,
-    is_same_key, is_top_up, later_acts_change_no_outcome, leaving_out_changes_nothing,
-    nothing_is_reserved, plain_answer,
-};
+use crate::{decide_event, decide_top_up, entries_by, is_same_key, is_top_up, plain_answer};
 use dcc_act::{
-    Act, Action, Entry, EntryName, Event, Form, Kind, Moment, Outcome, RequestKey, Service,
-    ServiceIds, SessionId, TopUp,
+    Act, Action, Entry, EntryName, Form, Kind, MAX_AMOUNT, Moment, OneTimeEvent, Outcome,
+    RequestKey, Service, ServiceIds, SessionId, TopUp,
 };
 use dcc_tariff::{Tariff, Terms, UnitKind};
 use std::alloc::Global;
@@ -22,12 +18,9 @@ const TERMS: Terms = Terms {
 
 /// A top-up at 2025-06-01T00:00:00Z.
 fn top_up(ticket: u64, amount: u64) -> Result<Act, Fail> {
-    if amount == 0 || amount > 1_000_000_000_000_000_000 {
-        return Err("an amount past its limits".into());
-    }
     Ok(Act {
         moment: Moment::new(1_748_736_000).ok_or("a moment")?,
-        kind: Kind::TopUp(TopUp { ticket, amount }),
+        kind: Kind::TopUp(TopUp::new(ticket, amount).ok_or("an amount")?),
     })
 }
 
@@ -51,7 +44,7 @@ fn debit(alloc: Global, number: u32, octets: u64) -> Result<Act, Fail> {
     };
     Ok(Act {
         moment: Moment::new(1_748_736_000).ok_or("a moment")?,
-        kind: Kind::Event(Event {
+        kind: Kind::Event(OneTimeEvent {
             key: RequestKey { sid, number },
             action: Action::DirectDebiting,
             service,
@@ -106,45 +99,42 @@ fn codes(alloc: Global, asks: &[Ask]) -> Result<Vec<(u32, u64)>, Fail> {
     Ok(codes)
 }
 
-#[test]
-fn direct_debit_of_1001_octets(rt: HostRuntime) -> Result<(), Fail> {
-    let codes = codes(rt.alloc(), &[Ask::TopUp(1, 1000), Ask::Debit(0, 1001)])?;
-    assert_eq!(rt; codes.as_slice(), [(1, 0), (2001, 1001)].as_slice());
-    Ok(())
-}
+/// Lists of acts, each with what its acts come to.
+const ROWS: [(&[Ask], &[(u32, u64)]); 3] = [
+    // A direct debit of 1,001 octets.
+    (
+        &[Ask::TopUp(1, 1000), Ask::Debit(0, 1001)],
+        &[(1, 0), (2001, 1001)],
+    ),
+    // An unknown account, then the request again, and a request that isn't covered.
+    (
+        &[
+            Ask::Debit(0, 1001),
+            Ask::TopUp(1, 10),
+            Ask::Debit(0, 1001),
+            Ask::Debit(0, 7),
+            Ask::Debit(1, 1),
+        ],
+        &[(5030, 0), (1, 0), (2001, 1001), (2001, 1001), (4012, 0)],
+    ),
+    // The ceiling, and each ticket again.
+    (
+        &[
+            Ask::TopUp(1, MAX_AMOUNT),
+            Ask::TopUp(2, 1),
+            Ask::TopUp(2, 1),
+            Ask::TopUp(1, MAX_AMOUNT),
+        ],
+        &[(1, 0), (2, 0), (2, 0), (1, 0)],
+    ),
+];
 
 #[test]
-fn unknown_account_and_then_a_repeat(rt: HostRuntime) -> Result<(), Fail> {
-    let first = Ask::Debit(0, 1001);
-    let asks = [
-        first,
-        Ask::TopUp(1, 10),
-        first,
-        Ask::Debit(0, 7),
-        Ask::Debit(1, 1),
-    ];
-    let codes = codes(rt.alloc(), &asks)?;
-    assert_eq!(rt;
-        codes.as_slice(),
-        [(5030, 0), (1, 0), (2001, 1001), (2001, 1001), (4012, 0)].as_slice()
-    );
-    Ok(())
-}
-
-#[test]
-fn ceiling_and_ticket_again(rt: HostRuntime) -> Result<(), Fail> {
-    let most = 1_000_000_000_000_000_000;
-    let asks = [
-        Ask::TopUp(1, most),
-        Ask::TopUp(2, 1),
-        Ask::TopUp(2, 1),
-        Ask::TopUp(1, most),
-    ];
-    let codes = codes(rt.alloc(), &asks)?;
-    assert_eq!(rt;
-        codes.as_slice(),
-        [(1, 0), (2, 0), (2, 0), (1, 0)].as_slice()
-    );
+fn lists_of_acts(rt: HostRuntime) -> Result<(), Fail> {
+    for (asks, expected) in ROWS {
+        let codes = codes(rt.alloc(), asks)?;
+        assert_eq!(rt; codes.as_slice(), expected);
+    }
     Ok(())
 }
 
@@ -189,13 +179,4 @@ fn keys_and_ceiling(rt: HostRuntime) -> Result<(), Fail> {
     assert!(rt; matches!(decide_top_up(below, top_up), Outcome::Added));
     assert!(rt; matches!(decide_top_up(below + 1, top_up), Outcome::Ceiling));
     Ok(())
-}
-
-#[test]
-fn laws() {
-    later_acts_change_no_outcome();
-    leaving_out_changes_nothing();
-    acts_come_to_their_own();
-    funds_are_accounted_for();
-    nothing_is_reserved();
 }

@@ -2,7 +2,7 @@ use Rattle.std.proofs.Common.{◌≡◌, ℤ, to_z, of_z, ap, ◌∙◌, arith}
 use Rattle.std.proofs.lemmas.Int.{ints}
 use Rattle.std.proofs.lemmas.Result.{IfOk-weaker}
 use mir.Syntax.{w128}
-use Rattle.dcc_act.specs.declared.act.Event.{Event}
+use Rattle.dcc_act.specs.declared.one_time_event.OneTimeEvent.{OneTimeEvent}
 use Rattle.dcc_act.specs.declared.outcome.Outcome.{Outcome}
 use Rattle.dcc_model.specs.Money.{free_of}
 use Rattle.dcc_model.specs.Outcomes.{top_up_outcome, event_outcome}
@@ -10,7 +10,7 @@ use Rattle.dcc_account.specs.Kept.{past_of}
 use Rattle.dcc_account.proofs.judge.decide.Goals as goal
 
 -- an event comes to the same where as much is free
-event_at : (event : Event) (a b : ℤ) (outcome : Outcome) → outcome ≡ event_outcome a event → a ≡ b → outcome ≡ event_outcome b event
+event_at : (event : OneTimeEvent) (a b : ℤ) (outcome : Outcome) → outcome ≡ event_outcome a event → a ≡ b → outcome ≡ event_outcome b event
 event_at event a b outcome is same = is ∙ ap (λ (free : ℤ). event_outcome free event) same
 
 pub returns-in-TopUp : goal.returns-in-TopUp

@@ -1,6 +1,6 @@
 use Rattle.std.proofs.Common.{◌≡◌, true, false, sym, ap, ◌∙◌}
 use Rattle.std.proofs.lemmas.Result.{IfOk-weaker}
-use Rattle.dcc_act.specs.declared.act.Event.{Event}
+use Rattle.dcc_act.specs.declared.one_time_event.OneTimeEvent.{OneTimeEvent}
 use Rattle.dcc_act.specs.declared.outcome.Outcome.TheVariants.{Unknown}
 use Rattle.dcc_act.specs.declared.outcome.RequestType.TheVariants as request
 use Rattle.dcc_act.specs.declared.request_key.RequestKey.{RequestKey}
@@ -19,4 +19,4 @@ pub returns-in_ok-copy-in-Event : goal.returns-in_ok-copy-in-Event
 returns-in_ok-copy-in-Event c =
     let account : has_account (past_of c.args.acts.now c.args.outcomes.now) ≡ false =
     has_account_of c.args.acts.now c.args.outcomes.now c.requires ∙ sym c.if-has_top_up.ensures in
-    λ terms funds. rw (account, c.in-Event.is) (ap (λ (key : RequestKey). Unknown request.Event key) c.in_ok-copy-in-Event.ensures ∙ ap (λ (event : Event). Unknown request.Event event.key) c.event.view_is)
+    λ terms funds. rw (account, c.in-Event.is) (ap (λ (key : RequestKey). Unknown request.Event key) c.in_ok-copy-in-Event.ensures ∙ ap (λ (event : OneTimeEvent). Unknown request.Event event.key) c.event.view_is)

@@ -1,0 +1,259 @@
+-- Where one more act stands among the acts, and which has no place.
+use Rattle.std.proofs.Common.{◌≡◌, ℕ, ◌+◌, ◌-◌, ◌≤◌, true, false, ◌&&◌, ◌==◌, List, [], ◌∷◌, ◌++◌, length, map, reverse, refl, sym, ap, ◌∙◌, arith, inl, inr, Some, is_none, slice_get}
+use Rattle.std.specs.Prelude.{ℤ, int_lt, pos, ◌+ℤ◌, bytes_eq, unwrap_or, IsSomeAnd}
+use Rattle.std.specs.Option.{option_map_or}
+use Rattle.std.proofs.lemmas.Bool.{cases_Bool, cond_both, and_parts, and_from, or_parts, or_from, eq-eqb}
+use Rattle.std.proofs.lemmas.List.{reverse-append, reverse-reverse, length-reverse, length-map}
+use Rattle.std.proofs.lemmas.Slice.Eq.{bytes_eq-Decides}
+use Rattle.dcc_tariff.specs.Terms.{TermsView}
+use Rattle.dcc_act.specs.declared.act.Act.{Act}
+use Rattle.dcc_act.specs.declared.act.Kind.{Kind}
+use Rattle.dcc_act.specs.declared.act.Kind.TheVariants as kind
+use Rattle.dcc_act.specs.declared.one_time_event.Action.{Action}
+use Rattle.dcc_act.specs.declared.one_time_event.Action.TheVariants.{DirectDebiting}
+use Rattle.dcc_act.specs.declared.one_time_event.OneTimeEvent.{OneTimeEvent}
+use Rattle.dcc_act.specs.declared.outcome.Outcome.{Outcome}
+use Rattle.dcc_act.specs.declared.outcome.Outcome.TheVariants.{Added, Ceiling}
+use Rattle.dcc_model.specs.declared.done.Done.{Done}
+use Rattle.dcc_model.specs.declared.decide.TheConstants.{CEILING}
+use Rattle.dcc_model.specs.Keys.{request_key, same_key}
+use Rattle.dcc_model.specs.Money.{funds_of, free_of}
+use Rattle.dcc_model.specs.Outcomes.{is_top_up, has_account, counts, first_of, is_made, place_of_key, action_outcome, decided, unknown_of, is_unknown, settled, judged, history, act_of, after, is_new, place, outcome, acts}
+use Rattle.dcc_model.specs.Laws.{NewIsLast, StandsAt, PlaceHolds, UnknownHasNoPlace}
+use Rattle.dcc_model.proofs.Histories.{judged_new, history_of_made, history_of_acts, after_by_history, slice_get-behind, slice_get-before, outcome_last, outcome_before, one_more}
+
+-- an act has its own key
+same_key-self : (k : Kind) → same_key k k ≡ true
+same_key-self (kind.TopUp top_up) = eq-eqb top_up.ticket top_up.ticket refl
+same_key-self (kind.Event event) =
+    let sids = (bytes_eq-Decides event.key.sid event.key.sid).1 refl in
+    let numbers = eq-eqb event.key.number event.key.number refl in
+    let both = and_from (bytes_eq event.key.sid event.key.sid) (event.key.number == event.key.number) sids numbers in
+    rw both refl
+
+is_request : (k : Kind) → is_top_up k ≡ false → is_none (request_key k) ≡ false
+is_request (kind.TopUp top_up) h = absurd cc
+is_request (kind.Event event) h = refl
+
+-- without an account nothing was made
+nothing_made : (terms : TermsView) (all : List Act) → has_account (history terms all) ≡ false → history terms all ≡ []
+nothing_made terms [] h = refl
+nothing_made terms (act ∷ earlier) h =
+    let past = history terms earlier in
+    elim (cases_Bool (is_made terms past act)) [
+      | inl t ↦
+          let parts = or_parts (is_top_up act.kind) (has_account past) (rw t at h) in
+          let uncounted = or_from (has_account past) (is_none (request_key act.kind)) parts.1 (is_request act.kind parts.0) in
+          let counted = (and_parts (counts past act.kind) (is_none (first_of past act.kind)) t).0 in
+          absurd cc
+      | inr f ↦ rw f (nothing_made terms earlier (rw f at h))
+    ]
+
+-- an act of this key that was made: its place, and its outcome there
+pub record Found (terms : TermsView) (past : List Done) (k : Kind) (n : ℕ) : Type 0 where
+  pub done : Done
+  pub first : first_of past k ≡ Some done
+  pub from_one : 1 ≤ n
+  pub within : n ≤ length past
+  pub same : IsSomeAnd (slice_get (reverse (map act_of past)) (n - 1)) (λ there. same_key k there.kind ≡ true)
+  pub outcome_is : outcome terms (reverse (map act_of past)) n ≡ Some done.outcome
+
+-- what an act comes to after the acts of a history
+after_made : (terms : TermsView) (all : List Act) (act : Act) → after terms (reverse (map act_of (history terms all))) act ≡ judged terms (history terms all) act
+unfolding after
+after_made terms all act =
+    ap (λ (acts : List Act). judged terms (history terms acts) act) (reverse-reverse (map act_of (history terms all)))
+    ∙ ap (λ (past : List Done). judged terms past act) (history_of_made terms all)
+
+made_length : (past : List Done) → length (reverse (map act_of past)) ≡ length past
+made_length past = length-reverse (map act_of past) ∙ length-map past act_of
+
+-- the last of a list
+last_at : (made : List Act) (act : Act) (n : ℕ) → n ≡ length made → slice_get (made ++ act ∷ []) n ≡ Some act
+last_at made act n is =
+    let at : n ≡ length made + 0 = omega arith in
+    ap (slice_get (made ++ act ∷ [])) at ∙ slice_get-behind made (act ∷ []) 0
+
+found_here : (terms : TermsView) (earlier : List Act) (act : Act) (k : Kind) (n : ℕ) → same_key k act.kind ≡ true → length (map act_of (history terms earlier)) + 1 ≡ n
+    → Found terms (record { act = act; outcome = judged terms (history terms earlier) act } ∷ history terms earlier) k n
+found_here terms earlier act k n same at =
+    let past = history terms earlier in
+    let made = reverse (map act_of past) in
+    let turned : reverse (act ∷ map act_of past) ≡ made ++ act ∷ [] = reverse-append (act ∷ []) (map act_of past) in
+    let long : length made ≡ length past = made_length past in
+    let mapped : length (map act_of past) ≡ length past = length-map past act_of in
+    let place : n ≡ length made + 1 = omega arith in
+    let there : slice_get (reverse (act ∷ map act_of past)) (n - 1) ≡ Some act = ap (λ (zs : List Act). slice_get zs (n - 1)) turned ∙ last_at made act (n - 1) (omega arith) in
+    record {
+      done = record { act = act; outcome = judged terms past act };
+      first = rw same refl;
+      from_one = omega arith;
+      within = omega arith;
+      same = rw there same;
+      outcome_is =
+          ap (λ (zs : List Act). outcome terms zs n) turned ∙ ap (outcome terms (made ++ act ∷ [])) place ∙ outcome_last terms made act
+          ∙ ap (λ (o : Outcome). Some o) (after_made terms earlier act);
+    }
+
+found_there : (terms : TermsView) (past : List Done) (one : Done) (k : Kind) (n : ℕ) → same_key k one.act.kind ≡ false → Found terms past k n → Found terms (one ∷ past) k n
+found_there terms past one k n other found =
+    let made = reverse (map act_of past) in
+    let turned : reverse (one.act ∷ map act_of past) ≡ made ++ one.act ∷ [] = reverse-append (one.act ∷ []) (map act_of past) in
+    let long : length made ≡ length past = made_length past in
+    let some = found.from_one in
+    let few = found.within in
+    let there : slice_get (reverse (one.act ∷ map act_of past)) (n - 1) ≡ slice_get made (n - 1) =
+    ap (λ (zs : List Act). slice_get zs (n - 1)) turned ∙ slice_get-before made (one.act ∷ []) (n - 1) (omega arith) in
+    record {
+      done = found.done;
+      first = rw other found.first;
+      from_one = found.from_one;
+      within = omega arith;
+      same = rw there found.same;
+      outcome_is = ap (λ (zs : List Act). outcome terms zs n) turned ∙ outcome_before terms made (one.act ∷ []) n (omega arith) ∙ found.outcome_is;
+    }
+
+-- where a key has a place, there it is found
+pub found_at : (terms : TermsView) (all : List Act) (k : Kind) (n : ℕ) → place_of_key (map act_of (history terms all)) k ≡ Some n → Found terms (history terms all) k n
+found_at terms [] k n h = absurd cc
+found_at terms (act ∷ earlier) k n h =
+    let past = history terms earlier in
+    let one : Done = record { act = act; outcome = judged terms past act } in
+    elim (cases_Bool (is_made terms past act)) [
+      | inl t ↦
+          let pushed = rw t at h in
+          rw t (elim (cases_Bool (same_key k act.kind)) [
+            | inl same ↦ let here = rw same at pushed in found_here terms earlier act k n same cc
+            | inr other ↦ found_there terms past one k n other (found_at terms earlier k n (rw other at pushed))
+          ])
+      | inr f ↦ rw f (found_at terms earlier k n (rw f at h))
+    ]
+
+length_acts : (terms : TermsView) (xs : List Act) → length (acts terms xs) ≡ length (history terms (reverse xs))
+unfolding acts
+length_acts terms xs = made_length (history terms (reverse xs))
+
+pub new_is_last : NewIsLast
+unfolding place is_new
+new_is_last terms xs act new = let long = length_acts terms xs in rw new (ap (λ (n : ℕ). Some (n + 1)) (sym long))
+
+-- a new act stands behind the others
+stands_last : (terms : TermsView) (xs : List Act) (act : Act) (n : ℕ) → is_new terms xs act ≡ true → n ≡ length (acts terms xs) + 1
+    → StandsAt terms (acts terms (xs ++ act ∷ [])) n act (after terms xs act)
+stands_last terms xs act n new at =
+    let made = acts terms xs in
+    let more : acts terms (xs ++ act ∷ []) ≡ made ++ act ∷ [] = rw new at (one_more terms xs act) in
+    let there : slice_get (made ++ act ∷ []) (n - 1) ≡ Some act = last_at made act (n - 1) (omega arith) in
+    rw more
+    (record {
+      from_one = omega arith;
+      same = rw there (same_key-self act.kind);
+      outcome_is =
+          ap (outcome terms (made ++ act ∷ [])) at ∙ outcome_last terms made act
+          ∙ ap (λ (o : Outcome). Some o) (after_by_history terms made xs act (history_of_acts terms xs));
+    })
+
+-- an account is there where a key is found
+account_where_found : (terms : TermsView) (all : List Act) (k : Kind) (n : ℕ) → Found terms (history terms all) k n → has_account (history terms all) ≡ true
+account_where_found terms all k n found =
+    elim (cases_Bool (has_account (history terms all))) [
+      | inl t ↦ t
+      | inr f ↦
+          let none = nothing_made terms all f in
+          let some = found.from_one in
+          let few = found.within in
+          let short : length (history terms all) ≡ 0 = ap (λ (past : List Done). length past) none in
+          absurd (omega arith)
+    ]
+
+-- what isn't new comes to what the first of its key came to
+after_found : (terms : TermsView) (xs : List Act) (act : Act) (n : ℕ) (found : Found terms (history terms (reverse xs)) act.kind n) → after terms xs act ≡ found.done.outcome
+unfolding after
+after_found terms xs act n found =
+    let account = account_where_found terms (reverse xs) act.kind n found in
+    let first = found.first in
+    rw (account, first) refl
+
+same_in : (terms : TermsView) (xs : List Act) (act : Act) (n : ℕ) (found : Found terms (history terms (reverse xs)) act.kind n)
+    → IsSomeAnd (slice_get (acts terms xs) (n - 1)) (λ there. same_key act.kind there.kind ≡ true)
+unfolding acts
+same_in terms xs act n found = found.same
+
+outcome_in : (terms : TermsView) (xs : List Act) (act : Act) (n : ℕ) (found : Found terms (history terms (reverse xs)) act.kind n) → outcome terms (acts terms xs) n ≡ Some found.done.outcome
+unfolding acts
+outcome_in terms xs act n found = found.outcome_is
+
+stands_before : (terms : TermsView) (xs : List Act) (act : Act) (n : ℕ) → is_new terms xs act ≡ false → Found terms (history terms (reverse xs)) act.kind n
+    → StandsAt terms (acts terms (xs ++ act ∷ [])) n act (after terms xs act)
+stands_before terms xs act n old found =
+    let more : acts terms (xs ++ act ∷ []) ≡ acts terms xs = rw old at (one_more terms xs act) in
+    rw more
+    (record {
+      from_one = found.from_one;
+      same = same_in terms xs act n found;
+      outcome_is = outcome_in terms xs act n found ∙ ap (λ (o : Outcome). Some o) (sym (after_found terms xs act n found));
+    })
+
+pub place_holds : PlaceHolds
+unfolding place is_new
+place_holds terms xs act n h =
+    elim (cases_Bool (is_made terms (history terms (reverse xs)) act)) [
+      | inl t ↦ let long = length_acts terms xs in let here = rw t at h in let at : length (history terms (reverse xs)) + 1 ≡ n = cc in stands_last terms xs act n t (omega arith)
+      | inr f ↦ stands_before terms xs act n f (found_at terms (reverse xs) act.kind n (rw f at h))
+    ]
+
+-- what is made has an account, or makes one
+action_known : (free : ℤ) (event : OneTimeEvent) (action : Action) → is_unknown (action_outcome free event action) ≡ false
+action_known free event DirectDebiting = refl
+
+decided_known : (terms : TermsView) (past : List Done) (k : Kind) → is_unknown (decided terms past k) ≡ false
+decided_known terms past (kind.TopUp top_up) =
+    cond_both (int_lt CEILING (funds_of terms past +ℤ pos top_up.amount)) Ceiling Added (λ (o : Outcome). is_unknown o ≡ false) (λ _. refl) (λ _. refl)
+decided_known terms past (kind.Event event) = action_known (free_of terms past) event event.action
+
+AllKnown : List Done → Type 0
+AllKnown [] = Unit {0}
+AllKnown (done ∷ past) = (is_unknown done.outcome ≡ false) × AllKnown past
+
+all_known : (terms : TermsView) (all : List Act) → AllKnown (history terms all)
+unfolding AllKnown
+all_known terms [] = tt
+all_known terms (act ∷ earlier) =
+    let past = history terms earlier in
+    elim (cases_Bool (is_made terms past act)) [
+      | inl t ↦ rw t (ap is_unknown (judged_new terms past act t) ∙ decided_known terms past act.kind, all_known terms earlier)
+      | inr f ↦ rw f (all_known terms earlier)
+    ]
+
+-- one key, found both ways
+kept_known : (past : List Done) (k : Kind) (rest : Outcome) → AllKnown past → (true && is_none (first_of past k)) ≡ false
+    → is_none (place_of_key (map act_of past) k) ≡ is_unknown (option_map_or (λ (done : Done). done.outcome) (first_of past k) rest)
+unfolding AllKnown
+kept_known [] k rest known h = absurd cc
+kept_known (done ∷ past) k rest known h =
+    elim (cases_Bool (same_key k done.act.kind)) [
+      | inl t ↦ rw t (sym known.0)
+      | inr f ↦ rw f (kept_known past k rest known.1 (rw f at h))
+    ]
+
+unknown_kind : (k : Kind) (rest : Outcome) → (is_none (request_key k) && true) ≡ false → true ≡ is_unknown (unwrap_or (unknown_of k) rest)
+unknown_kind (kind.TopUp top_up) rest h = absurd cc
+unknown_kind (kind.Event event) rest h = refl
+
+-- a request before all others
+unknown_first : (terms : TermsView) (past : List Done) (act : Act) → past ≡ [] → is_made terms past act ≡ false → is_none (place_of_key (map act_of past) act.kind) ≡ is_unknown (judged terms past act)
+unknown_first terms [] act none old = unknown_kind act.kind (settled terms [] act.kind) old
+unknown_first terms (done ∷ past) act none old = absurd cc
+
+pub unknown_has_no_place : UnknownHasNoPlace
+unfolding place after
+unknown_has_no_place terms xs act =
+    let past = history terms (reverse xs) in
+    elim (cases_Bool (is_made terms past act)) [
+      | inl t ↦ rw (t, judged_new terms past act t) (sym (decided_known terms past act.kind))
+      | inr f ↦
+          elim (cases_Bool (has_account past)) [
+            | inl account ↦ (let known = kept_known past act.kind (decided terms past act.kind) (all_known terms (reverse xs)) (rw account at f) in rw (f, account) known)
+            | inr none ↦ (let first = unknown_first terms past act (nothing_made terms (reverse xs) none) f in rw f first)
+          ]
+    ]
