@@ -1,10 +1,7 @@
 -- Messages that were cut out of a stream.
 use Rattle.std.specs.Prelude.{◌≡◌, ℕ, ◌+◌, ◌≤◌, true, false, List, ◌++◌, length, Vec}
 use Rattle.std.specs.List.{flat_map, AllByRecursion}
-use Rattle.dcc_message.specs.Streams.{length_field, begins_whole}
-
-abbrev pub octets_of : {Z : Type 0} → Vec ℕ Z → List ℕ
-octets_of octets = octets.items
+use Rattle.dcc_message.specs.Streams.{octets_of, length_field, begins_whole}
 
 -- the octets of messages, one after another
 abbrev pub joined : {Z : Type 0} → List (Vec ℕ Z) → List ℕ
