@@ -1,5 +1,9 @@
 pub mod Answers
+pub mod Grants
 pub mod Limits
 pub mod Numbers
-pub mod Subs
+pub mod OneTimeEvents
 pub mod Services
+pub mod Subs
+pub mod TopUps
+pub mod inner

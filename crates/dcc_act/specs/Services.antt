@@ -1,11 +1,11 @@
--- What contracts see of services and acts, and their limits.
-use Rattle.std.specs.Prelude.{◌≡◌, ℕ, ◌≤◌, ◌<◌, ◌^◌, true, List, Option, Some, is_some, is_none}
+-- Services, as a contract sees them, and their limits.
+use Rattle.std.specs.Prelude.{◌≡◌, ℕ, ◌≤◌, true, List, Option, Some, is_some, is_none}
 use Rattle.std.specs.Option.{ForSome}
+use Rattle.dcc_tariff.specs.Terms.{TariffView}
+use Rattle.dcc_tariff.specs.declared.limits.TheConstants.{MAX_UNITS}
 use Rattle.dcc_tariff.specs.declared.tariff.UnitKind.{UnitKind}
 use Rattle.dcc_tariff.specs.declared.tariff.UnitKind.TheVariants.{Time}
-use Rattle.dcc_tariff.specs.Terms.{TariffView}
-use Rattle.dcc_act.specs.declared.act.Action.{Action}
-use Rattle.dcc_act.specs.declared.request_key.RequestKey.{RequestKey}
+use Rattle.dcc_act.specs.declared.limits.TheConstants.{MAX_SECONDS}
 use Rattle.dcc_act.specs.declared.service.Form.{Form}
 
 -- a service: its group and identifiers as sent, its form, the units asked and reported, what the plan counts and what it costs
@@ -18,31 +18,13 @@ pub record ServiceView : Type 0 where
   pub unit : Option UnitKind
   pub tariff : Option TariffView
 
--- amounts are at most 10^12; with a unit at least 1 is asked for, and in time less than 2^32; without one they are 0
+-- amounts are at most 10^12; with a unit at least 1 is asked for, and in time at most 2^32 - 1; without one they are 0
 -- and there is no tariff
 pub record IsService (asked used : Option ℕ) (unit : Option UnitKind) (tariff : Option TariffView) : Type 0 where
-  pub asked_in_range : ForSome asked (λ units. units ≤ 10 ^ 12)
+  pub asked_in_range : ForSome asked (λ units. units ≤ MAX_UNITS)
   pub asked_not_none : is_some unit ≡ true → ForSome asked (λ units. 1 ≤ units)
-  pub asked_time : unit ≡ Some Time → ForSome asked (λ units. units < 2 ^ 32)
-  pub used_in_range : ForSome used (λ units. units ≤ 10 ^ 12)
+  pub asked_time : unit ≡ Some Time → ForSome asked (λ units. units ≤ MAX_SECONDS)
+  pub used_in_range : ForSome used (λ units. units ≤ MAX_UNITS)
   pub unrated_asks_nothing : is_none unit ≡ true → ForSome asked (λ units. units ≡ 0)
   pub unrated_uses_nothing : is_none unit ≡ true → ForSome used (λ units. units ≡ 0)
   pub unrated_costs_nothing : is_none unit ≡ true → is_none tariff ≡ true
-
--- a ticket and an amount in minor units
-pub record TopUpView : Type 0 where
-  pub ticket : ℕ
-  pub amount : ℕ
-
-pub record IsTopUp (amount : ℕ) : Type 0 where
-  pub some : 1 ≤ amount
-  pub in_range : amount ≤ 10 ^ 18
-
--- a request's key, what it asks for, and its service, which asks for units
-pub record EventView : Type 0 where
-  pub key : RequestKey
-  pub action : Action
-  pub service : ServiceView
-
-abbrev pub Asks : ServiceView → Type 0
-Asks service = is_some service.asked ≡ true

@@ -2,12 +2,16 @@
 //! entries that they leave in the books.
 //!
 //! Stands on `dcc_tariff`. The contract that it gives: each type keeps its limits, so that whoever holds a value knows
-//! them, and a copy equals what was copied.
+//! them, a copy equals what was copied, and two subscribers are told apart by type and data alone.
 #![tactic(auto)]
 
 mod act;
 mod entry;
+mod grant;
+mod laws;
+mod limits;
 mod moment;
+mod one_time_event;
 mod outcome;
 mod request_key;
 mod service;
@@ -16,17 +20,23 @@ mod service_ids;
 mod session_id;
 mod sub;
 mod sub_order;
+mod top_up;
 
-pub use act::{Act, Action, Event, Kind, TopUp};
+pub use act::{Act, Kind};
 pub use entry::{Entry, EntryKind, EntryName};
+pub use grant::Grant;
+pub use laws::same_subscribers_are_equal;
+pub use limits::{MAX_AMOUNT, MAX_IDS, MAX_SECONDS, MAX_SERVICES};
 pub use moment::Moment;
-pub use outcome::{Answer, Grant, Outcome, RequestType, ResultCode, ServiceAnswer};
+pub use one_time_event::{Action, OneTimeEvent};
+pub use outcome::{Answer, Outcome, RequestType, ResultCode, ServiceAnswer};
 pub use request_key::RequestKey;
 pub use service::{Form, Service};
 pub use service_answers::ServiceAnswers;
 pub use service_ids::ServiceIds;
 pub use session_id::SessionId;
 pub use sub::Sub;
+pub use top_up::TopUp;
 
 #[cfg(test)]
 mod tests;

@@ -2,11 +2,11 @@
 
 ghost use Rattle.std.specs.Prelude.{◌≡◌, IfOk};
 
+use crate::grant::Grant;
 use crate::request_key::RequestKey;
 use crate::service::Form;
 use crate::service_answers::ServiceAnswers;
 use crate::service_ids::ServiceIds;
-use dcc_tariff::{Tariff, UnitKind};
 use std::alloc::AllocError;
 
 /// Which request is answered (CC-Request-Type, RFC 8506, section 8.3).
@@ -53,15 +53,6 @@ impl ResultCode {
             ResultCode::RatingFailed => 5031,
         }
     }
-}
-
-/// Units that were granted, and at what tariff (Granted-Service-Unit, RFC 8506, section 8.17).
-#[derive(Clone, Copy, Debug, PartialEq, Eq)]
-pub struct Grant {
-    pub unit: UnitKind,
-    /// How many; in an answer's services at most 10^12, and in time at most 2^32 - 1.
-    pub units: u64,
-    pub tariff: Tariff,
 }
 
 /// What one service of a request comes to.

@@ -1,16 +1,15 @@
 //! What the services of a request come to.
 
-ghost use Rattle.std.specs.Prelude.{◌≡◌, ◌≤◌, ◌↔◌, ◌*◌, List, length, sum_by, All, IsTrue, IsSome, IfSome, IfOk};
-ghost use Rattle.std.specs.Option.{ForSome};
-ghost use Rattle.dcc_act.specs.Answers.{AreAnswers, IsInRange, IsGrant};
+ghost use Rattle.std.specs.Prelude.{◌≡◌, ◌≤◌, ◌↔◌, List, length, sum_by, IsSome, IfSome, IfOk};
+ghost use Rattle.dcc_act.specs.Answers.{AreAnswers};
 
-use crate::outcome::{Grant, ServiceAnswer};
-use dcc_tariff::UnitKind;
+use crate::limits::{MAX_IDS, MAX_SERVICES};
+use crate::outcome::ServiceAnswer;
 use std::alloc::{AllocError, Global};
 use std::marker::Model;
 
-/// What the services of a request come to, in the order of the request: at most 16, with grants of at most 10^12
-/// units, in time at most 2^32 - 1, and at most 5,460 identifiers together.
+/// What the services of a request come to, in the order of the request: at most 16, with at most 5,460 identifiers
+/// together.
 #[derive(Debug, Drop)]
 pub struct ServiceAnswers {
     items: Vec<ServiceAnswer>,
@@ -34,7 +33,7 @@ impl ServiceAnswers {
         ensures limits { IsSome result ↔ AreAnswers items.items }
         ensures value { IfSome result (λ answers. answers ≡ items.items) }
     {
-        if items.len() > 16 || !are_in_range(&items) || count_ids(&items) > 5460 {
+        if items.len() > MAX_SERVICES || count_ids(&items) > MAX_IDS {
             return None;
         }
         Some(ServiceAnswers { items })
@@ -66,28 +65,9 @@ impl ServiceAnswers {
     }
 }
 
-/// Whether each grant is within its limits.
-fn are_in_range(items: &[ServiceAnswer]) -> bool
-    ensures { IsTrue result ↔ All IsInRange items.now }
-{
-    items.iter().all(|answer| is_in_range(&answer.grant))
-}
-
-fn is_in_range(grant: &Option<Grant>) -> bool
-    ensures { IsTrue result ↔ ForSome grant.now IsGrant }
-{
-    match grant {
-        None => true,
-        Some(grant) => {
-            grant.units <= 1_000_000_000_000
-                && (grant.unit != UnitKind::Time || grant.units <= 0xffff_ffff)
-        }
-    }
-}
-
 /// How many identifiers the answers have together.
 fn count_ids(items: &[ServiceAnswer]) -> usize
-    requires { length items.now ≤ 16 }
+    requires { length items.now ≤ MAX_SERVICES }
     ensures { result ≡ sum_by (λ answer. length answer.ids) items.now }
 {
     let mut count = 0;

@@ -4,6 +4,7 @@ ghost use Rattle.std.specs.Prelude.{◌≡◌, ◌≤◌, ◌↔◌, [], length,
 ghost use Rattle.std.specs.Cmp.{on_equiv, on_per, partial_equiv_from_equiv};
 ghost use Rattle.std.specs.Cmp.Lexicographic.{pointwise, nat_list_eq_equiv};
 
+use crate::limits::MAX_IDS;
 use std::alloc::{AllocError, Global};
 use std::marker::Model;
 
@@ -15,12 +16,13 @@ pub struct ServiceIds {
 
 impl Model for ServiceIds {
     ghost use Rattle.std.specs.Prelude.{List, ℕ, ◌≤◌, length};
+    ghost use Rattle.dcc_act.specs.declared.limits.TheConstants.{MAX_IDS};
 
     ghost Value = { List ℕ };
 
     ghost view = { λ s. s.items.items };
 
-    ghost invariant = { λ s. length s.items.items ≤ 5460 };
+    ghost invariant = { λ s. length s.items.items ≤ MAX_IDS };
 }
 
 impl ServiceIds {
@@ -35,10 +37,10 @@ impl ServiceIds {
 
     /// These identifiers, or none where they are more than 5,460.
     pub fn from_vec(items: Vec<u32>) -> Option<ServiceIds>
-        ensures limit { IsSome result ↔ (length items.items ≤ 5460) }
+        ensures limit { IsSome result ↔ (length items.items ≤ MAX_IDS) }
         ensures value { IfSome result (λ ids. ids ≡ items.items) }
     {
-        if items.len() > 5460 {
+        if items.len() > MAX_IDS {
             return None;
         }
         Some(ServiceIds { items })
@@ -47,7 +49,7 @@ impl ServiceIds {
     /// The identifiers, moved out.
     pub fn into_vec(self) -> Vec<u32>
         ensures value { result.items ≡ self }
-        ensures limit { length self ≤ 5460 }
+        ensures limit { length self ≤ MAX_IDS }
     {
         self.items
     }
@@ -55,7 +57,7 @@ impl ServiceIds {
     /// The identifiers.
     pub fn as_slice(&self) -> &[u32]
         ensures value { result.now ≡ self.now }
-        ensures limit { length self.now ≤ 5460 }
+        ensures limit { length self.now ≤ MAX_IDS }
     {
         &self.items
     }

@@ -2,7 +2,8 @@
 
 ghost use Rattle.std.specs.Prelude.{◌≡◌, ◌≤◌, ◌&&◌, nat_le, true, if◌then◌else◌, length, Some, None};
 ghost use Rattle.std.specs.List.{list_all};
-ghost use Rattle.dcc_act.specs.Subs.{is_sub, padded};
+ghost use Rattle.dcc_act.specs.Subs.{is_sub};
+ghost use Rattle.dcc_act.specs.inner.Stored.{padded};
 
 use std::marker::Model;
 
@@ -16,7 +17,8 @@ pub struct Sub {
 
 impl Model for Sub {
     ghost use Rattle.std.specs.Prelude.{◌≡◌, ◌≤◌, true, length, take};
-    ghost use Rattle.dcc_act.specs.Subs.{SubView, is_sub, padded, unpadded, length_kept};
+    ghost use Rattle.dcc_act.specs.Subs.{SubView, is_sub};
+    ghost use Rattle.dcc_act.specs.inner.Stored.{padded, unpadded, length_kept};
 
     ghost Value = { SubView };
 

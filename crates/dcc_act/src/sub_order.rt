@@ -1,11 +1,12 @@
 //! How subscribers compare: by type, and then by the data, octet by octet.
 
-ghost use Rattle.std.specs.Prelude.{◌==◌, ◌++◌};
+ghost use Rattle.std.specs.Prelude.{◌++◌};
 ghost use Rattle.std.proofs.Common.{rules};
-ghost use Rattle.std.specs.Cmp.{partial_order_from_own_ties};
+ghost use Rattle.std.specs.Cmp.{partial_order_from_own_ties, and_per, and_equiv, on_per, on_equiv, partial_equiv_from_equiv, nat_eq_equiv};
 ghost use Rattle.std.specs.Cmp.Rules.{comparing, hashing};
-ghost use Rattle.std.specs.Cmp.Lexicographic.{pointwise, slice_cmp};
-ghost use Rattle.std.specs.Ordering.{nat_cmp, on, eq_of_both, then_cmp, as_partial_cmp};
+ghost use Rattle.std.specs.Cmp.Lexicographic.{nat_list_eq_equiv, slice_cmp};
+ghost use Rattle.std.specs.Ordering.{nat_cmp, on, then_cmp, as_partial_cmp};
+ghost use Rattle.dcc_act.specs.Subs.{same_sub};
 ghost use Rattle.std.specs.Hash as fed;
 
 use crate::sub::Sub;
@@ -13,9 +14,9 @@ use std::cmp::Ordering;
 use std::hash::{Hash, Hasher};
 
 impl PartialEq for Sub {
-    ghost eq = { eq_of_both (on (λ s. s.kind) ◌==◌) (on (λ s. s.name) (pointwise ◌==◌)) };
+    ghost eq = { same_sub };
 
-    ghost laws = { Prim.search (comparing, rules) };
+    ghost laws = { and_per (on_per (λ s. s.kind) (partial_equiv_from_equiv nat_eq_equiv)) (on_per (λ s. s.name) (partial_equiv_from_equiv nat_list_eq_equiv)) };
 
     fn eq(&self, other: &Sub) -> bool {
         self.kind() == other.kind() && self.name() == other.name()
@@ -23,7 +24,7 @@ impl PartialEq for Sub {
 }
 
 impl Eq for Sub {
-    ghost laws = { Prim.search (comparing, rules) };
+    ghost laws = { and_equiv (on_equiv (λ s. s.kind) nat_eq_equiv) (on_equiv (λ s. s.name) nat_list_eq_equiv) };
 }
 
 impl Ord for Sub {

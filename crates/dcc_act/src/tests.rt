@@ -1,9 +1,9 @@
 //! Each public call once, on its happy path.
 
 use crate::{
-    Act, Action, Answer, Entry, EntryKind, EntryName, Event, Form, Grant, Kind, Moment, Outcome,
-    RequestKey, RequestType, ResultCode, Service, ServiceAnswer, ServiceAnswers, ServiceIds,
-    SessionId, Sub, TopUp,
+    Act, Action, Answer, Entry, EntryKind, EntryName, Form, Grant, Kind, MAX_AMOUNT, Moment,
+    OneTimeEvent, Outcome, RequestKey, RequestType, ResultCode, Service, ServiceAnswer,
+    ServiceAnswers, ServiceIds, SessionId, Sub, TopUp,
 };
 use dcc_tariff::{Tariff, UnitKind};
 use std::alloc::Global;
@@ -76,7 +76,7 @@ fn acts(rt: HostRuntime) -> Result<(), Fail> {
             block: 1000,
         }),
     };
-    let event = Event {
+    let event = OneTimeEvent {
         key: key(rt.alloc())?,
         action: Action::DirectDebiting,
         service,
@@ -87,10 +87,7 @@ fn acts(rt: HostRuntime) -> Result<(), Fail> {
     };
     let top_up = Act {
         moment,
-        kind: Kind::TopUp(TopUp {
-            ticket: 1,
-            amount: 1000,
-        }),
+        kind: Kind::TopUp(TopUp::new(1, 1000).ok_or("a top-up")?),
     };
     assert!(rt; debit.copy()? == debit && top_up.copy()? == top_up && debit != top_up);
     Ok(())
@@ -107,11 +104,7 @@ fn outcomes(rt: HostRuntime) -> Result<(), Fail> {
         ids: ids(rt.alloc())?,
         form: Form::Single,
         result: ResultCode::Success,
-        grant: Some(Grant {
-            unit: UnitKind::Octets,
-            units: 1001,
-            tariff,
-        }),
+        grant: Grant::new(UnitKind::Octets, 1001, tariff),
     };
     let services = ServiceAnswers::from_vec(vec![in rt.alloc(); answer]?).ok_or("within limits")?;
     let outcome = Outcome::Answered(Answer {

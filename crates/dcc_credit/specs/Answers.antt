@@ -15,7 +15,7 @@ use Rattle.dcc_message.specs.declared.identity.Identity.{Identity}
 use Rattle.dcc_tariff.specs.Terms.{TermsView}
 use Rattle.dcc_tariff.specs.declared.tariff.UnitKind.{UnitKind}
 use Rattle.dcc_tariff.specs.declared.tariff.UnitKind.TheVariants.{Octets, Time, Units}
-use Rattle.dcc_act.specs.declared.outcome.Grant.{Grant}
+use Rattle.dcc_act.specs.declared.grant.Grant.{Grant}
 use Rattle.dcc_act.specs.declared.outcome.Outcome.{Outcome}
 use Rattle.dcc_act.specs.declared.outcome.Outcome.TheVariants.{Unknown, Answered, Added, Ceiling}
 use Rattle.dcc_act.specs.declared.outcome.RequestType.{RequestType}

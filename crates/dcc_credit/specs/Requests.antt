@@ -14,7 +14,7 @@ use Rattle.dcc_tariff.specs.Plans.{PlanView, unit_of, tariff_at}
 use Rattle.dcc_tariff.specs.declared.tariff.UnitKind.{UnitKind}
 use Rattle.dcc_tariff.specs.declared.tariff.UnitKind.TheVariants.{Octets, Time, Units}
 use Rattle.dcc_act.specs.declared.act.Act.{Act}
-use Rattle.dcc_act.specs.declared.act.Action.TheVariants.{DirectDebiting}
+use Rattle.dcc_act.specs.declared.one_time_event.Action.TheVariants.{DirectDebiting}
 use Rattle.dcc_act.specs.declared.act.Kind.TheVariants.{Event}
 use Rattle.dcc_act.specs.declared.request_key.RequestKey.{RequestKey}
 use Rattle.dcc_act.specs.declared.service.Form.TheVariants.{Single}

@@ -5,7 +5,9 @@ ghost use Rattle.dcc_tariff.specs.declared.tariff.UnitKind.TheVariants.{Time as 
 ghost use Rattle.dcc_credit.specs.Requests.{RequestView, IsAmount, asked_in, service_of, act_of};
 
 use crate::request::Request;
-use dcc_act::{Act, Action, Event, Form, Kind, Moment, RequestKey, Service, ServiceIds, SessionId};
+use dcc_act::{
+    Act, Action, Form, Kind, Moment, OneTimeEvent, RequestKey, Service, ServiceIds, SessionId,
+};
 use dcc_tariff::{Plan, UnitKind};
 use std::alloc::{AllocError, Global};
 
@@ -24,7 +26,7 @@ pub fn to_act(
     let service = service_of(alloc, plan, request, moment);
     Ok(Act {
         moment,
-        kind: Kind::Event(Event {
+        kind: Kind::Event(OneTimeEvent {
             key,
             action: Action::DirectDebiting,
             service,

@@ -2,11 +2,10 @@
 
 ghost use Rattle.std.specs.Prelude.{◌≡◌, ◌≤◌, ◌+◌, ◌*◌, ◌<◌, ◌^◌, ◌++◌, Some, length, vec_len, map, option_map, OnOk};
 ghost use Rattle.std.specs.List.{flat_map};
-ghost use Rattle.std.specs.Option.{option_to_list, ForSome};
+ghost use Rattle.std.specs.Option.{option_to_list};
 ghost use Rattle.dcc_avp.specs.Spelling.{padded};
 ghost use Rattle.dcc_avp.specs.declared.codes.TheConstants.{SERVICE_IDENTIFIER, MULTIPLE_SERVICES_CREDIT_CONTROL};
 ghost use Rattle.dcc_tariff.specs.declared.tariff.UnitKind.TheVariants.{Time as Seconds};
-ghost use Rattle.dcc_act.specs.Answers.{IsGrant, IsInRange};
 ghost use Rattle.dcc_credit.specs.Answers.{amount_avp, granted, grouped, sent32, service_parts, service_avps};
 ghost use Rattle.dcc_credit.specs.Sizes.{Grows};
 
@@ -30,8 +29,7 @@ pub(crate) fn put_services(out: &mut Vec<u8>, services: &ServiceAnswers) -> Resu
 
 /// Appends one service: at the message's level its grant alone, else a group of its own.
 fn put_service(out: &mut Vec<u8>, service: &ServiceAnswer) -> Result<(), AllocError>
-    requires range { IsInRange service.now }
-    requires few { length service.now.ids ≤ 5460 }
+    requires { length service.now.ids ≤ 5460 }
     ensures ok { OnOk result (out.new.items ≡ out.old.items ++ flat_map padded (service_avps service.now.form service.now)) }
     ensures grows { OnOk result (Grows (vec_len out.old) (vec_len out.new) (100 + 15 * length service.now.ids)) }
 {
@@ -43,8 +41,7 @@ fn put_service(out: &mut Vec<u8>, service: &ServiceAnswer) -> Result<(), AllocEr
 
 /// Appends a service's group (RFC 8506, section 8.16).
 fn put_group(out: &mut Vec<u8>, service: &ServiceAnswer) -> Result<(), AllocError>
-    requires range { IsInRange service.now }
-    requires few { length service.now.ids ≤ 5460 }
+    requires { length service.now.ids ≤ 5460 }
     ensures ok { OnOk result (out.new.items
         ≡ out.old.items ++ padded (grouped MULTIPLE_SERVICES_CREDIT_CONTROL (service_parts service.now))) }
     ensures grows { OnOk result (Grows (vec_len out.old) (vec_len out.new) (100 + 15 * length service.now.ids)) }
@@ -62,7 +59,6 @@ fn put_group(out: &mut Vec<u8>, service: &ServiceAnswer) -> Result<(), AllocErro
 
 /// Appends what a service's group holds.
 fn put_parts(out: &mut Vec<u8>, service: &ServiceAnswer) -> Result<(), AllocError>
-    requires { IsInRange service.now }
     ensures ok { OnOk result (out.new.items ≡ out.old.items ++ flat_map padded (service_parts service.now)) }
     ensures grows { OnOk result (Grows (vec_len out.old) (vec_len out.new) (80 + 15 * length service.now.ids)) }
 {
@@ -87,7 +83,6 @@ fn put_identifiers(out: &mut Vec<u8>, ids: &[u32]) -> Result<(), AllocError>
 
 /// Appends a Granted-Service-Unit, where there is a grant (RFC 8506, section 8.17).
 fn put_grant(out: &mut Vec<u8>, grant: Option<Grant>) -> Result<(), AllocError>
-    requires { ForSome grant IsGrant }
     ensures ok { OnOk result (out.new.items ≡ out.old.items ++ flat_map padded (option_to_list (option_map granted grant))) }
     ensures grows { OnOk result (Grows (vec_len out.old) (vec_len out.new) 35) }
 {
@@ -102,7 +97,6 @@ fn put_grant(out: &mut Vec<u8>, grant: Option<Grant>) -> Result<(), AllocError>
 
 /// Appends a grant's amount, in the AVP of its unit.
 fn put_amount(out: &mut Vec<u8>, grant: Grant) -> Result<(), AllocError>
-    requires { IsGrant grant }
     ensures ok { OnOk result (out.new.items ≡ out.old.items ++ padded (amount_avp grant.unit grant.units)) }
     ensures grows { OnOk result (Grows (vec_len out.old) (vec_len out.new) 19) }
 {

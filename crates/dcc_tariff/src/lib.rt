@@ -14,6 +14,7 @@
 
 mod fault;
 mod keys;
+mod limits;
 mod moment;
 mod place;
 mod plan;
@@ -26,10 +27,9 @@ mod terms;
 mod version;
 
 pub use fault::PlanFault;
+pub use limits::{LAST_SECOND, MAX_BLOCK_PRICE, MAX_PRICE, MAX_UNITS};
 pub use plan::Plan;
-pub use prices::{
-    MAX_PRICE, best_grant_is_the_greatest_covered, most_units, price_of, prices_never_fall,
-};
+pub use prices::{best_grant_is_the_greatest_covered, most_units, price_of, prices_never_fall};
 pub use tariff::{Tariff, UnitKind};
 pub use terms::Terms;
 pub use version::Version;

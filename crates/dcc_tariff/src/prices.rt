@@ -1,17 +1,15 @@
 //! What units cost, and how many of them an amount of money affords.
 
-ghost use Rattle.std.specs.Prelude.{◌≡◌, ℕ, ◌≤◌, ◌<◌, ◌^◌, ℤ, IsTrue, false, nat_le};
+ghost use Rattle.std.specs.Prelude.{◌≡◌, ℕ, ◌≤◌, ◌<◌, ℤ, IsTrue, false, nat_le};
 ghost use Rattle.dcc_tariff.specs.Prices.{price, best, covers};
 ghost use Rattle.dcc_tariff.specs.Terms.{TariffView};
 
+use crate::limits::{MAX_PRICE, MAX_UNITS};
 use crate::tariff::Tariff;
-
-/// The most that units can cost, in minor units.
-pub const MAX_PRICE: u64 = 1_000_000_000_000_000_000;
 
 /// The price in minor units of that many units, at most 10^12: that of each block that they begin.
 pub fn price_of(tariff: Tariff, units: u64) -> u64
-    requires { units ≤ 10 ^ 12 }
+    requires { units ≤ MAX_UNITS }
     ensures value { result ≡ price tariff units }
     ensures bound { result ≤ MAX_PRICE }
 {
@@ -20,7 +18,7 @@ pub fn price_of(tariff: Tariff, units: u64) -> u64
 
 /// The greatest amount of units, up to the one asked (at most 10^12), whose price is nothing or within `free` minor units.
 pub fn most_units(tariff: Tariff, asked: u64, free: i128) -> u64
-    requires { asked ≤ 10 ^ 12 }
+    requires { asked ≤ MAX_UNITS }
     ensures value { result ≡ best tariff asked free }
     ensures up_to_asked { result ≤ asked }
     ensures affordable { IsTrue (covers free (price tariff result)) }

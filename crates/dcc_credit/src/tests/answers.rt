@@ -74,14 +74,11 @@ fn outcome(
 }
 
 fn grant(unit: UnitKind, units: u64) -> Option<Grant> {
-    Some(Grant {
-        unit,
-        units,
-        tariff: Tariff {
-            price: 5,
-            block: 1000,
-        },
-    })
+    let tariff = Tariff {
+        price: 5,
+        block: 1000,
+    };
+    Grant::new(unit, units, tariff)
 }
 
 /// Compares the answer of an outcome to a request with these flags and proxies.

@@ -1,0 +1,13 @@
+//! Limits of amounts, each once.
+
+/// The most that one top-up may add, and the farthest that funds may be from nothing, in minor units.
+pub const MAX_AMOUNT: u64 = 1_000_000_000_000_000_000;
+
+/// The most seconds that fit a CC-Time (RFC 8506, section 8.21).
+pub const MAX_SECONDS: u64 = 0xffff_ffff;
+
+/// The most services that a request may have.
+pub const MAX_SERVICES: usize = 16;
+
+/// The most identifiers that a service may have, and all services of a request together.
+pub const MAX_IDS: usize = 5_460;

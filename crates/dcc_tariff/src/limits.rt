@@ -1,0 +1,13 @@
+//! Limits, each once.
+
+/// The most units that a block, a quantum, an asked amount, a report or a grant may have.
+pub const MAX_UNITS: u64 = 1_000_000_000_000;
+
+/// The most that a block may cost, in minor units.
+pub const MAX_BLOCK_PRICE: u32 = 1_000_000;
+
+/// The most that units can cost, in minor units: those of 10^12 blocks.
+pub const MAX_PRICE: u64 = MAX_UNITS * MAX_BLOCK_PRICE as u64;
+
+/// The last second that a moment may be, counted from 1970-01-01T00:00:00Z: 2099-12-31T23:59:59Z.
+pub const LAST_SECOND: u64 = 4_102_444_799;
