@@ -4,7 +4,9 @@ use Rattle.dcc_avp.specs.Spelling.{AvpView}
 use Rattle.dcc_avp.specs.declared.codes.TheConstants.{SESSION_ID, ORIGIN_HOST, ORIGIN_REALM, DESTINATION_REALM, AUTH_APPLICATION_ID}
 use Rattle.dcc_avp.specs.declared.codes.TheConstants.{SERVICE_CONTEXT_ID, CC_REQUEST_TYPE, CC_REQUEST_NUMBER, REQUESTED_ACTION}
 use Rattle.dcc_avp.specs.declared.codes.TheConstants.{SUBSCRIPTION_ID, REQUESTED_SERVICE_UNIT}
-use Rattle.dcc_credit.specs.Requests.{the, number32, ◌>>=◌}
+use Rattle.std.specs.Int.{w32}
+use Rattle.dcc_octets.specs.Numbers.{number_in}
+use Rattle.dcc_credit.specs.Requests.{the, ◌>>=◌}
 use Rattle.dcc_credit.specs.declared.slots.Slot.{Slot}
 use Rattle.dcc_credit.specs.declared.slots.Slot.TheVariants.{Empty, Once, Several}
 
@@ -33,7 +35,7 @@ alone Many = None
 
 -- the number, where there is just one and it has four octets
 abbrev pub number_alone : Found → Option ℕ
-number_alone found = alone found >>= number32
+number_alone found = alone found >>= number_in w32
 
 -- what was found of each code
 pub record SlotsView : Type 0 where
