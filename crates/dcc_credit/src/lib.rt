@@ -23,7 +23,7 @@ mod slots;
 pub use act::to_act;
 pub use answer::write_cca;
 pub use busy::write_busy;
-pub use laws::{read_back, told_apart};
+pub use laws::{proxies_are_spelled, read_back, told_apart};
 pub use proxies::Proxies;
 pub use read::{CcrFault, read_ccr};
 pub use request::{Request, subscriber};
