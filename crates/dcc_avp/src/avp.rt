@@ -1,12 +1,13 @@
 //! One AVP, lent from the octets that it stands in.
 
-ghost use Rattle.std.specs.Prelude.{◌≡◌, ◌+◌, ◌^◌, ◌<◌, ◌≤◌, length, Some, None, bit_and, bit_or};
+ghost use Rattle.std.specs.Prelude.{◌≡◌, ◌+◌, ◌^◌, ◌<◌, ◌≤◌, length, Some, None, is_some, bit_and, bit_or};
 ghost use Rattle.std.specs.Int.{w32, w64};
-ghost use Rattle.dcc_avp.specs.Spelling.{AvpView, IsAvp, header_len, avp_len, padded_len, vendor_octets, is_mandatory};
+ghost use Rattle.dcc_avp.specs.Spelling.{AvpView, IsAvp, header_len, avp_len, padded_len, vendor_octets, has_vendor, is_mandatory, has_code};
 ghost use Rattle.dcc_avp.specs.Reading.{avp_of};
 ghost use Rattle.dcc_avp.specs.Numbers.{unsigned_of, signed_of};
 
 use crate::fault::AvpFault;
+use dcc_octets::{u32_at, u32_in, u64_in};
 use std::marker::Model;
 
 /// The bits of an AVP's flags that this server looks at (RFC 6733, section 4.1). Values of the others are ignored.
@@ -86,7 +87,7 @@ impl<'a> Avp<'a> {
         Avp {
             code,
             flags,
-            vendor: Some(u32::from_be_bytes([vendor[0], vendor[1], vendor[2], vendor[3]])),
+            vendor: Some(u32_at(vendor, 0)),
             value,
         }
     }
@@ -129,6 +130,21 @@ impl<'a> Avp<'a> {
         self.flags() & flags::MANDATORY != 0
     }
 
+    /// Whether a vendor defines it: the flags have V. Its code is then one of the vendor's own.
+    pub fn is_vendor(&self) -> bool
+        ensures value { result ≡ is_some self.now.vendor }
+        ensures flag { result ≡ has_vendor self.now.flags }
+    {
+        self.vendor.is_some()
+    }
+
+    /// Whether it has this code and is no vendor's.
+    pub fn has_code(&self, code: u32) -> bool
+        ensures { result ≡ has_code code self.now }
+    {
+        self.code() == code && !self.is_vendor()
+    }
+
     /// The Vendor-ID, which is there exactly where the flags have V.
     pub fn vendor(&self) -> Option<u32>
         ensures { result ≡ self.now.vendor }
@@ -147,20 +163,14 @@ impl<'a> Avp<'a> {
     pub fn as_u32(&self) -> Result<u32, AvpFault>
         ensures { result ≡ unsigned_of w32 self.now.value }
     {
-        match self.value {
-            [a, b, c, d] => Ok(u32::from_be_bytes([*a, *b, *c, *d])),
-            _ => Err(AvpFault::WrongSize),
-        }
+        u32_in(self.value).ok_or(AvpFault::WrongSize)
     }
 
     /// The data as an Unsigned64; fault 4 where it isn't of eight octets.
     pub fn as_u64(&self) -> Result<u64, AvpFault>
         ensures { result ≡ unsigned_of w64 self.now.value }
     {
-        match self.value {
-            [a, b, c, d, e, f, g, h] => { Ok(u64::from_be_bytes([*a, *b, *c, *d, *e, *f, *g, *h])) }
-            _ => Err(AvpFault::WrongSize),
-        }
+        u64_in(self.value).ok_or(AvpFault::WrongSize)
     }
 
     /// The data as an Integer32; fault 4 where it isn't of four octets.

@@ -6,7 +6,7 @@ use Rattle.dcc_avp.specs.declared.codes.TheConstants.{SESSION_ID, ORIGIN_HOST, O
 use Rattle.dcc_avp.specs.declared.codes.TheConstants.{SERVICE_CONTEXT_ID, CC_REQUEST_TYPE, CC_REQUEST_NUMBER, REQUESTED_ACTION}
 use Rattle.dcc_avp.specs.declared.codes.TheConstants.{SUBSCRIPTION_ID, REQUESTED_SERVICE_UNIT}
 use Rattle.dcc_credit.specs.Requests.{only, data_of, the}
-use Rattle.dcc_credit.specs.Slots.{Found, Nothing, Many, with_more, alone, SlotsView, no_slots, met, slots_with, AreSlots}
+use Rattle.dcc_credit.specs.inner.Slots.{Found, Nothing, Many, with_more, alone, SlotsView, no_slots, met, slots_with, AreSlots}
 
 -- the slots after a list of AVPs
 abbrev pub slots_after : SlotsView → List AvpView → SlotsView

@@ -10,7 +10,10 @@ use Rattle.std.proofs.lemmas.List.Sums.{sum_by-cons}
 use Rattle.std.proofs.lemmas.Bool.Decides.{nat_tests}
 use Rattle.dcc_avp.specs.Spelling.{AvpView, avp_len, padded_len, padded, HasSpelling}
 use Rattle.dcc_avp.specs.declared.codes.TheConstants.{SESSION_ID, RESULT_CODE, ORIGIN_HOST, ORIGIN_REALM, AUTH_APPLICATION_ID, CC_REQUEST_TYPE, CC_REQUEST_NUMBER, GRANTED_SERVICE_UNIT, CC_TOTAL_OCTETS, CC_TIME, CC_SERVICE_SPECIFIC_UNITS, MULTIPLE_SERVICES_CREDIT_CONTROL, SERVICE_IDENTIFIER, RATING_GROUP}
-use Rattle.dcc_message.specs.Names.{is_name}
+use Rattle.dcc_octets.specs.Names.{is_name, is_short}
+use Rattle.dcc_message.specs.declared.applications.TheConstants.{CREDIT_CONTROL}
+use Rattle.dcc_credit.specs.declared.result_codes.TheConstants.{TOO_BUSY, USER_UNKNOWN}
+use Rattle.dcc_credit.specs.inner.Limits.{IsAnswerable}
 use Rattle.dcc_message.specs.declared.identity.Identity.{Identity}
 use Rattle.dcc_tariff.specs.Terms.{TermsView}
 use Rattle.dcc_tariff.specs.declared.tariff.UnitKind.{UnitKind}
@@ -165,6 +168,9 @@ services_spelled sizes (service ∷ services) few =
 
 -- ---- answers
 
+few_octets : (octets : List ℕ) → is_short octets ≡ true → length octets ≤ 255
+few_octets octets h = grind (arith, nat_tests)
+
 few_of : (name : List ℕ) → is_name name ≡ true → length name ≤ 255
 few_of name h = grind (arith, nat_tests)
 
@@ -180,7 +186,7 @@ head_spelled identity type key code server few =
           (
             sent_spelled ORIGIN_REALM identity.realm (lit< tt) (omega arith),
             (
-              sent32_spelled AUTH_APPLICATION_ID 4 (lit< tt),
+              sent32_spelled AUTH_APPLICATION_ID CREDIT_CONTROL (lit< tt),
               (sent32_spelled CC_REQUEST_TYPE (request_type_number type) (lit< tt), (sent32_spelled CC_REQUEST_NUMBER key.number (lit< tt), tt)),
             ),
           ),
@@ -188,26 +194,32 @@ head_spelled identity type key code server few =
       ),
     )
 
-pub answer_spelled : AreSizes → (identity : Identity) (terms : TermsView) (outcome : Outcome) → IsServer identity → HasLimits outcome → AllSpelled (answer_avps identity terms outcome)
+pub answer_spelled : AreSizes → (identity : Identity) (terms : TermsView) (outcome : Outcome) → IsAnswerable identity outcome → AllSpelled (answer_avps identity terms outcome)
 unfolding answer_avps
-answer_spelled sizes identity terms (Unknown type key) server limits = head_spelled identity type key 5030 server limits.not_long
-answer_spelled sizes identity terms (Answered answer) server limits =
+answer_spelled sizes identity terms (Unknown type key) limits = head_spelled identity type key USER_UNKNOWN limits.0 limits.1.not_long
+answer_spelled sizes identity terms (Answered answer) limits =
     append_spelled (head_avps identity answer.request answer.key (result_number answer.result)) (flat_map (λ service. service_avps service.form service) answer.services)
-    (head_spelled identity answer.request answer.key (result_number answer.result) server limits.0.not_long)
-    (services_spelled sizes answer.services limits.1.few_ids)
-answer_spelled sizes identity terms Added server limits = tt
-answer_spelled sizes identity terms Ceiling server limits = tt
+    (head_spelled identity answer.request answer.key (result_number answer.result) limits.0 limits.1.not_long)
+    (services_spelled sizes answer.services limits.2.few_ids)
+answer_spelled sizes identity terms Added limits = tt
+answer_spelled sizes identity terms Ceiling limits = tt
 
-rest_spelled : (identity : Identity) → IsServer identity → AllSpelled (sent32 RESULT_CODE 3004 ∷ sent ORIGIN_HOST identity.host ∷ sent ORIGIN_REALM identity.realm ∷ [])
+pub answerable : (identity : Identity) (outcome : Outcome) → IsServer identity → HasLimits outcome → IsAnswerable identity outcome
+answerable identity (Unknown type key) server limits = (server, limits)
+answerable identity (Answered answer) server limits = (server, limits.0, limits.1)
+answerable identity Added server limits = tt
+answerable identity Ceiling server limits = tt
+
+rest_spelled : (identity : Identity) → IsServer identity → AllSpelled (sent32 RESULT_CODE TOO_BUSY ∷ sent ORIGIN_HOST identity.host ∷ sent ORIGIN_REALM identity.realm ∷ [])
 rest_spelled identity server =
     let host = few_of identity.host server.host in
     let realm = few_of identity.realm server.realm in (
-      sent32_spelled RESULT_CODE 3004 (lit< tt),
+      sent32_spelled RESULT_CODE TOO_BUSY (lit< tt),
       (sent_spelled ORIGIN_HOST identity.host (lit< tt) (omega arith), (sent_spelled ORIGIN_REALM identity.realm (lit< tt) (omega arith), tt)),
     )
 
-pub busy_spelled : (identity : Identity) (session : Option (List ℕ)) → IsServer identity → ForSome session (λ octets. length octets ≤ 255) → AllSpelled (busy_avps identity session)
+pub busy_spelled : (identity : Identity) (session : Option (List ℕ)) → IsServer identity → ForSome session (λ octets. is_short octets ≡ true) → AllSpelled (busy_avps identity session)
 busy_spelled identity None server few = rest_spelled identity server
 busy_spelled identity (Some octets) server few =
-    let short : length octets ≤ 255 = few octets refl in
+    let short = few_octets octets (few octets refl) in
     (sent_spelled SESSION_ID octets (lit< tt) (omega arith), rest_spelled identity server)

@@ -1,4 +1,3 @@
 pub mod Requests
 pub mod Answers
-pub mod Sizes
-pub mod Slots
+pub mod inner

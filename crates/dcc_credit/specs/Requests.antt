@@ -1,15 +1,24 @@
 -- The request for a direct debit that a message holds, and the act that it asks for (RFC 8506, sections 3.1 and 6.3).
-use Rattle.std.specs.Prelude.{ℕ, ◌≤◌, ◌^◌, Bool, not, ◌&&◌, ◌==◌, nat_le, bit_and, if◌then◌else◌, List, [], ◌∷◌, length, map, filter}
+use Rattle.std.specs.Prelude.{ℕ, Bool, not, ◌&&◌, ◌==◌, nat_le, if◌then◌else◌, List, [], ◌∷◌, map, filter}
 use Rattle.std.specs.Prelude.{Option, Some, None, is_none, option_map, Result, Ok, Err}
-use Rattle.std.specs.Int.{w32, w64, from_be_bytes}
+use Rattle.std.specs.Int.{w32, w64}
 use Rattle.std.specs.List.{list_all, list_any}
+use Rattle.dcc_octets.specs.Numbers.{number_in}
+use Rattle.dcc_octets.specs.Names.{is_short}
 use Rattle.dcc_avp.specs.Spelling.{AvpView}
 use Rattle.dcc_avp.specs.Reading.{FaultView, avps_of}
 use Rattle.dcc_avp.specs.declared.codes.TheConstants.{SESSION_ID, ORIGIN_HOST, ORIGIN_REALM, DESTINATION_REALM, AUTH_APPLICATION_ID}
 use Rattle.dcc_avp.specs.declared.codes.TheConstants.{SERVICE_CONTEXT_ID, CC_REQUEST_TYPE, CC_REQUEST_NUMBER, REQUESTED_ACTION}
 use Rattle.dcc_avp.specs.declared.codes.TheConstants.{SUBSCRIPTION_ID, SUBSCRIPTION_ID_TYPE, SUBSCRIPTION_ID_DATA, REQUESTED_SERVICE_UNIT}
 use Rattle.dcc_avp.specs.declared.codes.TheConstants.{CC_TOTAL_OCTETS, PROXY_INFO}
+use Rattle.dcc_message.specs.declared.commands.TheConstants as command
+use Rattle.dcc_message.specs.declared.applications.TheConstants as application
 use Rattle.dcc_message.specs.HeaderView.{HeaderView}
+use Rattle.dcc_message.specs.Headers.{is_request, is_error, is_command}
+use Rattle.dcc_tariff.specs.declared.limits.TheConstants.{MAX_UNITS}
+use Rattle.dcc_act.specs.Numbers.{request_type_number}
+use Rattle.dcc_act.specs.declared.outcome.RequestType.TheVariants as type
+use Rattle.dcc_credit.specs.declared.read.TheConstants.{DIRECT_DEBITING}
 use Rattle.dcc_tariff.specs.Plans.{PlanView, unit_of, tariff_at}
 use Rattle.dcc_tariff.specs.declared.tariff.UnitKind.{UnitKind}
 use Rattle.dcc_tariff.specs.declared.tariff.UnitKind.TheVariants.{Octets, Time, Units}
@@ -58,16 +67,9 @@ None >>= f = None
 abbrev pub where_ : {A : Type 0} → Bool → A → Option A
 where_ holds x = if holds then Some x else None
 
--- a number in four octets, and one in eight
-abbrev pub number32 : List ℕ → Option ℕ
-number32 octets = where_ (length octets == 4) (from_be_bytes w32 octets)
-
-abbrev pub number64 : List ℕ → Option ℕ
-number64 octets = where_ (length octets == 8) (from_be_bytes w64 octets)
-
 -- the number of the AVP of a code
 abbrev pub the32 : ℕ → List AvpView → Option ℕ
-the32 code avps = the code avps >>= number32
+the32 code avps = the code avps >>= number_in w32
 
 -- the AVPs of a group that has these codes alone
 abbrev pub read_as : List ℕ → Result (List AvpView) FaultView → Option (List AvpView)
@@ -85,17 +87,21 @@ subscriber_of octets = do
   name ← the SUBSCRIPTION_ID_DATA avps
   where_ (is_sub kind name) (record { kind = kind; name = name })
 
+-- an amount that may be asked for: 1 to 10^12
+abbrev pub is_askable : ℕ → Bool
+is_askable amount = nat_le 1 amount && nat_le amount MAX_UNITS
+
 -- the octets that a Requested-Service-Unit asks for, 1 to 10^12 (RFC 8506, section 8.18)
 unfoldable pub requested_of : List ℕ → Option ℕ
 requested_of octets = do
   avps ← group_of (CC_TOTAL_OCTETS ∷ []) octets
-  amount ← the CC_TOTAL_OCTETS avps >>= number64
-  where_ (nat_le 1 amount && nat_le amount (10 ^ 12)) amount
+  amount ← the CC_TOTAL_OCTETS avps >>= number_in w64
+  where_ (is_askable amount) amount
 
 -- R is set and E is clear, and the command is Credit-Control in its application (RFC 8506, sections 1.3 and 3.1)
 abbrev pub is_credit_control : HeaderView → Bool
 is_credit_control header =
-    not (bit_and header.flags 0x80 == 0) && (bit_and header.flags 0x20 == 0) && (header.code == 272) && (header.app == 4)
+    is_request header && not (is_error header) && is_command command.CREDIT_CONTROL application.CREDIT_CONTROL header
 
 -- what may stand in the message: each once, and any number of Proxy-Info
 abbrev pub served : List ℕ
@@ -106,9 +112,6 @@ served =
 -- the value has to be this one
 abbrev pub is_number : ℕ → ℕ → Option ℕ
 is_number wanted n = where_ (n == wanted) n
-
-abbrev pub is_session : List ℕ → Bool
-is_session octets = nat_le 1 (length octets) && nat_le (length octets) 255
 
 -- what the message says outside its groups, and the groups' data
 pub record Plain : Type 0 where
@@ -121,15 +124,15 @@ unfoldable pub plain_of : HeaderView → List AvpView → Option Plain
 plain_of header avps = do
   all ← where_ (is_credit_control header && are_of served avps) avps
   sid ← the SESSION_ID all
-  session ← where_ (is_session sid) sid
+  session ← where_ (is_short sid) sid
   host ← the ORIGIN_HOST all
   realm ← the ORIGIN_REALM all
   destination ← the DESTINATION_REALM all
-  application ← the32 AUTH_APPLICATION_ID all >>= is_number 4
+  application ← the32 AUTH_APPLICATION_ID all >>= is_number application.CREDIT_CONTROL
   context ← the SERVICE_CONTEXT_ID all
-  type ← the32 CC_REQUEST_TYPE all >>= is_number 4
+  event ← the32 CC_REQUEST_TYPE all >>= is_number (request_type_number type.Event)
   number ← the32 CC_REQUEST_NUMBER all
-  action ← the32 REQUESTED_ACTION all >>= is_number 0
+  action ← the32 REQUESTED_ACTION all >>= is_number DIRECT_DEBITING
   subscription ← the SUBSCRIPTION_ID all
   requested ← the REQUESTED_SERVICE_UNIT all
   Some (record { session = session; number = number; subscription = subscription; requested = requested })
@@ -170,18 +173,3 @@ act_of plan request moment =
       moment = moment;
       kind = Event (record { key = request.key; action = DirectDebiting; service = service_of plan request moment });
     }
-
--- an amount that may be asked for
-pub record IsAmount (amount : ℕ) : Type 0 where
-  pub some : 1 ≤ amount
-  pub in_range : amount ≤ 10 ^ 12
-
--- 1 to 255 octets
-pub record IsSession (octets : List ℕ) : Type 0 where
-  pub some : 1 ≤ length octets
-  pub short : length octets ≤ 255
-
--- what holds of every request
-pub record IsRequest (session : List ℕ) (octets : ℕ) : Type 0 where
-  pub is_session : IsSession session
-  pub is_amount : IsAmount octets

@@ -2,7 +2,7 @@
 
 ghost use Rattle.std.specs.Prelude.{◌≡◌, ◌≤◌, ◌<◌, ◌^◌, true, Some, is_some, is_none, IfOk};
 ghost use Rattle.dcc_tariff.specs.declared.tariff.UnitKind.TheVariants.{Time as Seconds};
-ghost use Rattle.dcc_credit.specs.Requests.{RequestView, IsAmount, asked_in, service_of, act_of};
+ghost use Rattle.dcc_credit.specs.Requests.{RequestView, is_askable, asked_in, service_of, act_of};
 
 use crate::request::Request;
 use dcc_act::{
@@ -65,7 +65,7 @@ fn service_of(alloc: Global, plan: &Plan, request: &Request<'_>, moment: Moment)
 
 /// The amount that a request of octets asks for in a group's unit: in time or units it has none, and that stands for 1.
 fn asked_in(unit: Option<UnitKind>, octets: u64) -> u64
-    requires { IsAmount octets }
+    requires { is_askable octets ≡ true }
     ensures value { result ≡ asked_in unit octets }
     ensures in_range { result ≤ 10 ^ 12 }
     ensures some { is_some unit ≡ true → 1 ≤ result }

@@ -1,30 +1,31 @@
 //! The answer to a request.
 
-ghost use Rattle.std.specs.Prelude.{◌≡◌, ◌≤◌, ◌+◌, ◌*◌, ◌<◌, ◌%◌, ◌^◌, ◌++◌, length, drop, vec_len, IfOk, OnOk};
+ghost use Rattle.std.specs.Prelude.{◌≡◌, ◌≤◌, ◌+◌, ◌*◌, ◌<◌, ◌%◌, ◌^◌, ◌++◌, false, length, drop, vec_len, IfOk, OnOk};
 ghost use Rattle.std.specs.List.{flat_map};
 ghost use Rattle.dcc_avp.specs.Spelling.{padded};
 ghost use Rattle.dcc_message.specs.Headers.{message};
-ghost use Rattle.dcc_credit.specs.Answers.{head_avps, answer_avps, answer_header as header_of_answer, answer_octets};
-ghost use Rattle.dcc_credit.specs.Sizes.{Grows};
+ghost use Rattle.dcc_credit.specs.Answers.{head_avps, answer_avps, answer_header as header_of_answer, answer_octets, is_busy, IsServer, SpellProxies};
+ghost use Rattle.dcc_act.specs.Limits.{IsSessionId};
+ghost use Rattle.dcc_credit.specs.inner.Limits.{IsAnswerable};
+ghost use Rattle.dcc_credit.specs.inner.Sizes.{Grows};
 
 use crate::proxies::Proxies;
 use crate::put::{put, put_u32};
+use crate::result_codes::USER_UNKNOWN;
 use crate::services::put_services;
 use dcc_act::{Outcome, RequestKey, RequestType};
 use dcc_avp::codes;
-use dcc_message::{Header, Identity, begin_message, finish_message};
+use dcc_message::{
+    HEADER_LENGTH, Header, Identity, applications, begin_message, command_flags, finish_message,
+};
 use dcc_tariff::Terms;
 use std::alloc::{AllocError, Global};
-
-/// DIAMETER_USER_UNKNOWN (RFC 8506, section 9.2): there is no account.
-const USER_UNKNOWN: u32 = 5030;
 
 /// The octets that are taken for an answer at first, which most answers fit.
 pub(crate) const ROOM: usize = 256;
 
 /// Writes the answer of an outcome to a request, under the request's identifiers and P bit, with its Proxy-Info at the
-/// end. At want of memory there is no message.
-#[tactic(auto, unfolding(crate::specs::Answers::answer_octets))]
+/// end. It is no busy answer. At want of memory there is no message.
 pub fn write_cca(
     alloc: Global,
     identity: &Identity,
@@ -33,7 +34,27 @@ pub fn write_cca(
     proxies: &Proxies,
     outcome: &Outcome,
 ) -> Result<Vec<u8>, AllocError>
-    ensures { IfOk result (λ answer. answer.items ≡ answer_octets identity.now terms.now request.now proxies.now outcome.now) }
+    ensures exact { IfOk result (λ answer. answer.items ≡ answer_octets identity.now terms.now request.now proxies.now outcome.now) }
+    ensures not_busy { IfOk result (λ answer. is_busy answer.items ≡ false) }
+    ensures some { IfOk result (λ answer. HEADER_LENGTH ≤ length answer.items) }
+{
+    dcc_avp::read_back();
+    answer_within(alloc, identity, terms, request, proxies, outcome)
+}
+
+/// The answer of an outcome, and what is known of all that it holds.
+#[tactic(auto, unfolding(crate::specs::Answers::answer_octets))]
+fn answer_within(
+    alloc: Global,
+    identity: &Identity,
+    terms: &Terms,
+    request: &Header,
+    proxies: &Proxies,
+    outcome: &Outcome,
+) -> Result<Vec<u8>, AllocError>
+    ensures exact { IfOk result (λ answer. answer.items ≡ answer_octets identity.now terms.now request.now proxies.now outcome.now) }
+    ensures limits { OnOk result (IsAnswerable identity.now outcome.now) }
+    ensures spelled { OnOk result (SpellProxies proxies.now) }
 {
     let mut answer = begin_message(alloc, ROOM)?;
     put_answer(&mut answer, identity, terms, outcome)?;
@@ -50,8 +71,9 @@ pub(crate) fn finished(
     proxies: &Proxies,
 ) -> Result<Vec<u8>, AllocError>
     requires { Grows 20 (vec_len begun) 100_000 }
-    ensures { IfOk result (λ answer. answer.items
+    ensures octets { IfOk result (λ answer. answer.items
         ≡ message (header_of_answer request.now bits) (drop 20 begun.items ++ proxies.now)) }
+    ensures spelled { SpellProxies proxies.now }
 {
     begun.extend_from_slice(proxies.as_slice())?;
     finish_message(&mut begun, &answer_header(request, bits));
@@ -64,7 +86,7 @@ fn answer_header(request: &Header, bits: u8) -> Header
 {
     Header {
         length: request.length,
-        flags: request.flags & 0x40 | bits,
+        flags: request.flags & command_flags::PROXIABLE | bits,
         code: request.code,
         app: request.app,
         hop: request.hop,
@@ -81,6 +103,7 @@ fn put_answer(
     outcome: &Outcome,
 ) -> Result<(), AllocError>
     ensures ok { OnOk result (out.new.items ≡ out.old.items ++ flat_map padded (answer_avps identity.now _terms.now outcome.now)) }
+    ensures limits { OnOk result (IsAnswerable identity.now outcome.now) }
     ensures grows { OnOk result (Grows (vec_len out.old) (vec_len out.new) 100_000) }
 {
     match outcome {
@@ -108,13 +131,19 @@ fn put_head(
     code: u32,
 ) -> Result<(), AllocError>
     ensures ok { OnOk result (out.new.items ≡ out.old.items ++ flat_map padded (head_avps identity.now request key.now code)) }
+    ensures server { OnOk result (IsServer identity.now) }
+    ensures session { OnOk result (IsSessionId key.now.sid) }
     ensures grows { OnOk result (Grows (vec_len out.old) (vec_len out.new) 900) }
 {
     put(out, codes::SESSION_ID, key.sid.as_slice())?;
     put_u32(out, codes::RESULT_CODE, code)?;
     put(out, codes::ORIGIN_HOST, identity.host.as_slice())?;
     put(out, codes::ORIGIN_REALM, identity.realm.as_slice())?;
-    put_u32(out, codes::AUTH_APPLICATION_ID, 4)?;
+    put_u32(
+        out,
+        codes::AUTH_APPLICATION_ID,
+        applications::CREDIT_CONTROL,
+    )?;
     put_u32(out, codes::CC_REQUEST_TYPE, request.number())?;
     put_u32(out, codes::CC_REQUEST_NUMBER, key.number)
 }

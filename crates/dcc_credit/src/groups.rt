@@ -1,12 +1,14 @@
 //! The groups of a request.
 
-ghost use Rattle.std.specs.Prelude.{◌≡◌, ◌^◌, ◌&&◌, nat_le, option_map, IfOk, IfSome};
+ghost use Rattle.std.specs.Prelude.{◌≡◌, true, option_map, IfOk, IfSome};
 ghost use Rattle.dcc_act.specs.Subs.{is_sub};
-ghost use Rattle.dcc_credit.specs.Requests.{where_, group_of, subscriber_of, requested_of, IsAmount};
+ghost use Rattle.dcc_credit.specs.Requests.{where_, group_of, subscriber_of, requested_of, is_askable};
 
 use crate::lookup::{are_of, only_number, only_value};
 use dcc_act::Sub;
 use dcc_avp::{Avp, AvpFault, codes, read_list};
+use dcc_octets::u64_in;
+use dcc_tariff::MAX_UNITS;
 use std::alloc::{AllocError, Global};
 
 /// The AVPs of a group that has these codes alone.
@@ -62,26 +64,24 @@ fn subscriber_with(kind: u32, name: &[u8]) -> Option<Sub>
 #[tactic(auto, unfolding(crate::specs::Requests::requested_of))]
 pub(crate) fn requested(alloc: Global, octets: &[u8]) -> Result<Option<u64>, AllocError>
     ensures value { IfOk result (λ amount. amount ≡ requested_of octets.now) }
-    ensures limits { IfOk result (λ amount. IfSome amount (λ n. IsAmount n)) }
+    ensures limits { IfOk result (λ amount. IfSome amount (λ n. is_askable n ≡ true)) }
 {
     let Some(avps) = group_of(alloc, &[codes::CC_TOTAL_OCTETS], octets)? else {
         return Ok(None);
     };
-    match only_value(&avps, codes::CC_TOTAL_OCTETS) {
-        Some([a, b, c, d, e, f, g, h]) => {
-            let amount = u64::from_be_bytes([*a, *b, *c, *d, *e, *f, *g, *h]);
-            Ok(in_range(amount))
-        }
-        _ => Ok(None),
-    }
+    let Some(amount) = only_value(&avps, codes::CC_TOTAL_OCTETS).and_then(|octets| u64_in(octets))
+    else {
+        return Ok(None);
+    };
+    Ok(askable(amount))
 }
 
-/// An amount of 1 to 10^12.
-fn in_range(amount: u64) -> Option<u64>
-    ensures value { result ≡ where_ (nat_le 1 amount && nat_le amount (10 ^ 12)) amount }
-    ensures limits { IfSome result (λ n. IsAmount n) }
+/// An amount that may be asked for, 1 to 10^12.
+fn askable(amount: u64) -> Option<u64>
+    ensures value { result ≡ where_ (is_askable amount) amount }
+    ensures limits { IfSome result (λ n. is_askable n ≡ true) }
 {
-    if (1..=1_000_000_000_000).contains(&amount) {
+    if 1 <= amount && amount <= MAX_UNITS {
         Some(amount)
     } else {
         None

@@ -1,9 +1,10 @@
 //! AVPs of a list by their code.
 
-ghost use Rattle.std.specs.Prelude.{◌≡◌, option_map, length};
-ghost use Rattle.dcc_credit.specs.Requests.{the, the32, number32, is_of, are_of};
+ghost use Rattle.std.specs.Prelude.{◌≡◌, option_map};
+ghost use Rattle.dcc_credit.specs.Requests.{the, the32, is_of, are_of};
 
 use dcc_avp::Avp;
+use dcc_octets::u32_in;
 
 /// The data of the AVP of a code, where just one has it.
 pub(crate) fn only_value<'a>(avps: &[Avp<'a>], code: u32) -> Option<&'a [u8]>
@@ -25,17 +26,7 @@ pub(crate) fn only_value<'a>(avps: &[Avp<'a>], code: u32) -> Option<&'a [u8]>
 pub(crate) fn only_number(avps: &[Avp<'_>], code: u32) -> Option<u32>
     ensures { result ≡ the32 code avps.now }
 {
-    number_in(only_value(avps, code)?)
-}
-
-/// The number in data of four octets.
-pub(crate) fn number_in(octets: &[u8]) -> Option<u32>
-    ensures { result ≡ number32 octets.now }
-{
-    match octets {
-        [a, b, c, d] => Some(u32::from_be_bytes([*a, *b, *c, *d])),
-        _ => None,
-    }
+    u32_in(only_value(avps, code)?)
 }
 
 /// Whether each AVP has one of these codes and no vendor.
@@ -53,5 +44,5 @@ pub(crate) fn are_of(avps: &[Avp<'_>], codes: &[u32]) -> bool
 fn is_of(avp: &Avp<'_>, codes: &[u32]) -> bool
     ensures { result ≡ is_of codes.now avp.now }
 {
-    avp.vendor().is_none() && codes.contains(&avp.code())
+    !avp.is_vendor() && codes.contains(&avp.code())
 }

@@ -1,18 +1,19 @@
-//! What an answer takes over from its request: proxies, and the Session-Id.
+//! The proxies that an answer takes over from its request.
 
-ghost use Rattle.std.specs.Prelude.{◌≡◌, ◌≤◌, ◌++◌, [], length, vec_len, IfOk, OnOk, option_map};
+ghost use Rattle.std.specs.Prelude.{◌≡◌, ◌≤◌, ◌++◌, [], filter, length, vec_len, IfOk, OnOk};
 ghost use Rattle.std.specs.List.{sum_by};
-ghost use Rattle.std.specs.Option.{ForSome};
-ghost use Rattle.dcc_avp.specs.Spelling.{padded_len};
-ghost use Rattle.dcc_credit.specs.Sizes.{Grows};
-ghost use Rattle.dcc_credit.specs.Answers.{is_avp, proxies_of, session_of};
+ghost use Rattle.dcc_avp.specs.Spelling.{padded_len, has_code};
+ghost use Rattle.dcc_avp.specs.declared.codes.TheConstants.{PROXY_INFO};
+ghost use Rattle.dcc_credit.specs.Answers.{proxies_of, AreProxies, SpellProxies};
+ghost use Rattle.dcc_credit.specs.inner.Sizes.{Grows};
 
 use dcc_avp::{Avp, codes, write_avp};
+use dcc_message::MAX_LENGTH;
 use std::alloc::{AllocError, Global};
 use std::marker::Model;
 
-/// The Proxy-Info of a request (RFC 6733, section 6.2.1), as an answer copies it: in order, with zero padding. At most
-/// 65,532 octets.
+/// The Proxy-Info of a request (RFC 6733, section 6.7.2), as an answer copies it: in order, with zero padding. At most
+/// 65,532 octets, which spell Proxy-Info AVPs and nothing else.
 #[derive(Debug, Drop)]
 pub struct Proxies {
     octets: Vec<u8>,
@@ -20,13 +21,15 @@ pub struct Proxies {
 
 impl Model for Proxies {
     ghost use Rattle.std.specs.Prelude.{List, ℕ, length};
-    ghost use Rattle.dcc_credit.specs.Sizes.{Grows};
+    ghost use Rattle.dcc_message.specs.declared.length.TheConstants.{MAX_LENGTH};
+    ghost use Rattle.dcc_credit.specs.Answers.{SpellProxies};
+    ghost use Rattle.dcc_credit.specs.inner.Sizes.{Grows};
 
     ghost Value = { List ℕ };
 
     ghost view = { λ p. p.octets.items };
 
-    ghost invariant = { λ p. Grows 0 (length p.octets.items) 65_532 };
+    ghost invariant = { λ p. Grows 0 (length p.octets.items) MAX_LENGTH × SpellProxies p.octets.items };
 }
 
 impl Proxies {
@@ -41,7 +44,7 @@ impl Proxies {
 
     /// The Proxy-Info of a message's list.
     pub fn of(alloc: Global, avps: &[Avp<'_>]) -> Result<Self, AllocError>
-        requires { sum_by padded_len avps.now ≤ 65_532 }
+        requires { sum_by padded_len avps.now ≤ MAX_LENGTH }
         ensures { IfOk result (λ proxies. proxies ≡ proxies_of avps.now) }
     {
         let mut octets = Vec::new(alloc);
@@ -52,45 +55,23 @@ impl Proxies {
     /// Their octets.
     pub fn as_slice(&self) -> &[u8]
         ensures value { result.now ≡ self.now }
-        ensures limits { Grows 0 (length self.now) 65_532 }
+        ensures spelled { SpellProxies self.now }
+        ensures limits { Grows 0 (length self.now) MAX_LENGTH }
     {
         self.octets.as_slice()
     }
 }
 
-/// The data of the first Session-Id, where it has 1 to 255 octets.
-#[tactic(auto, unfolding(crate::specs::Answers::session_of))]
-pub fn session_id<'a>(avps: &[Avp<'a>]) -> Option<&'a [u8]>
-    ensures value { option_map (λ octets. octets.now) result ≡ session_of avps.now }
-    ensures short { ForSome result (λ octets. length octets.now ≤ 255) }
-{
-    for avp in avps {
-        if is_avp(avp, codes::SESSION_ID) {
-            let octets = avp.value();
-            if octets.is_empty() || octets.len() > 255 {
-                return None;
-            }
-            return Some(octets);
-        }
-    }
-    None
-}
-
-fn is_avp(avp: &Avp<'_>, code: u32) -> bool
-    ensures { result ≡ is_avp code avp.now }
-{
-    avp.code() == code && avp.vendor().is_none()
-}
-
 /// Appends each Proxy-Info.
 #[tactic(auto, unfolding(crate::specs::Answers::proxies_of))]
 fn put_proxies(out: &mut Vec<u8>, avps: &[Avp<'_>]) -> Result<(), AllocError>
-    requires small { sum_by padded_len avps.now ≤ 65_532 }
+    requires small { sum_by padded_len avps.now ≤ MAX_LENGTH }
     ensures ok { OnOk result (out.new.items ≡ out.old.items ++ proxies_of avps.now) }
+    ensures proxies { OnOk result (AreProxies (filter (has_code PROXY_INFO) avps.now)) }
     ensures grows { OnOk result (Grows (vec_len out.old) (vec_len out.new) (sum_by padded_len avps.now)) }
 {
     for avp in avps {
-        if is_avp(avp, codes::PROXY_INFO) {
+        if avp.has_code(codes::PROXY_INFO) {
             write_avp(out, avp)?;
         }
     }

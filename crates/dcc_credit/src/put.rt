@@ -3,7 +3,7 @@
 ghost use Rattle.std.specs.Prelude.{◌≡◌, ◌≤◌, ◌+◌, ◌<◌, ◌^◌, ◌++◌, length, vec_len, OnOk};
 ghost use Rattle.dcc_avp.specs.Spelling.{padded};
 ghost use Rattle.dcc_credit.specs.Answers.{sent, sent32, sent64};
-ghost use Rattle.dcc_credit.specs.Sizes.{Grows};
+ghost use Rattle.dcc_credit.specs.inner.Sizes.{Grows};
 
 use dcc_avp::{Avp, flags, write_avp, write_u32, write_u64};
 use std::alloc::AllocError;

@@ -1,17 +1,22 @@
 //! Reading a request: checks over the whole message, one after another, and then its groups.
 
 ghost use Rattle.std.specs.Prelude.{◌≡◌, ◌↔◌, Some, None, Err, option_map, IfOk, IfErr};
-ghost use Rattle.dcc_credit.specs.Requests.{Plain, plain_of, is_credit_control, is_session, request_of};
+ghost use Rattle.dcc_credit.specs.Requests.{Plain, plain_of, is_credit_control, request_of};
 ghost use Rattle.dcc_credit.specs.declared.read.CcrFault.TheVariants.{Later, Memory};
 
 use crate::groups::{requested, subscription};
 use crate::request::Request;
 use crate::slots::Slots;
+use dcc_act::RequestType;
 use dcc_avp::Avp;
-use dcc_message::Header;
+use dcc_message::{Header, applications, commands};
+use dcc_octets::is_short;
 use std::alloc::{AllocError, Global};
 use std::marker::Model;
 use thiserror::Error;
+
+/// The Requested-Action of a direct debit (RFC 8506, section 8.41).
+const DIRECT_DEBITING: u32 = 0;
 
 /// Why a message has no request.
 #[derive(Clone, Copy, Debug, PartialEq, Eq, Error)]
@@ -42,7 +47,9 @@ struct Outline<'a> {
 }
 
 impl<'a> Model for Outline<'a> {
-    ghost use Rattle.dcc_credit.specs.Requests.{Plain, IsSession};
+    ghost use Rattle.std.specs.Prelude.{◌≡◌, true};
+    ghost use Rattle.dcc_octets.specs.Names.{is_short};
+    ghost use Rattle.dcc_credit.specs.Requests.{Plain};
 
     ghost Value = { Plain };
 
@@ -53,7 +60,7 @@ impl<'a> Model for Outline<'a> {
       requested = o.requested.now;
     } };
 
-    ghost invariant = { λ o. IsSession o.session.now };
+    ghost invariant = { λ o. is_short o.session.now ≡ true };
 }
 
 /// Reads the request of a message, in the shape that is served today (a direct debit of octets, in docs/PROFILE.md).
@@ -93,21 +100,21 @@ fn outline_of<'a>(header: &Header, avps: &[Avp<'a>]) -> Option<Outline<'a>>
     }
     let slots = Slots::of(avps)?;
     let session = slots.session.value()?;
-    if session.is_empty() || session.len() > 255 {
+    if !is_short(session) {
         return None;
     }
     slots.origin_host.value()?;
     slots.origin_realm.value()?;
     slots.destination_realm.value()?;
-    if slots.application.number()? != 4 {
+    if slots.application.number()? != applications::CREDIT_CONTROL {
         return None;
     }
     slots.context.value()?;
-    if slots.request_type.number()? != 4 {
+    if slots.request_type.number()? != RequestType::Event.number() {
         return None;
     }
     let number = slots.request_number.number()?;
-    if slots.requested_action.number()? != 0 {
+    if slots.requested_action.number()? != DIRECT_DEBITING {
         return None;
     }
     let subscription = slots.subscription.value()?;
@@ -124,5 +131,7 @@ fn outline_of<'a>(header: &Header, avps: &[Avp<'a>]) -> Option<Outline<'a>>
 fn is_credit_control(header: &Header) -> bool
     ensures { result ≡ is_credit_control header.now }
 {
-    header.flags & 0x80 != 0 && header.flags & 0x20 == 0 && header.code == 272 && header.app == 4
+    header.is_request()
+        && !header.is_error()
+        && header.is_command(commands::CREDIT_CONTROL, applications::CREDIT_CONTROL)
 }

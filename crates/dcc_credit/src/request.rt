@@ -16,7 +16,8 @@ pub struct Request<'a> {
 }
 
 impl<'a> Model for Request<'a> {
-    ghost use Rattle.dcc_credit.specs.Requests.{RequestView, IsRequest};
+    ghost use Rattle.dcc_credit.specs.Requests.{RequestView};
+    ghost use Rattle.dcc_credit.specs.inner.Limits.{IsRequest};
 
     ghost Value = { RequestView };
 

@@ -6,8 +6,9 @@ ghost use Rattle.std.specs.Option.{option_to_list};
 ghost use Rattle.dcc_avp.specs.Spelling.{padded};
 ghost use Rattle.dcc_avp.specs.declared.codes.TheConstants.{SERVICE_IDENTIFIER, MULTIPLE_SERVICES_CREDIT_CONTROL};
 ghost use Rattle.dcc_tariff.specs.declared.tariff.UnitKind.TheVariants.{Time as Seconds};
+ghost use Rattle.dcc_act.specs.Answers.{AreAnswers};
 ghost use Rattle.dcc_credit.specs.Answers.{amount_avp, granted, grouped, sent32, service_parts, service_avps};
-ghost use Rattle.dcc_credit.specs.Sizes.{Grows};
+ghost use Rattle.dcc_credit.specs.inner.Sizes.{Grows};
 
 use crate::put::{put_u32, put_u64};
 use dcc_act::{Form, Grant, ServiceAnswer, ServiceAnswers};
@@ -19,6 +20,7 @@ use std::alloc::AllocError;
 pub(crate) fn put_services(out: &mut Vec<u8>, services: &ServiceAnswers) -> Result<(), AllocError>
     ensures ok { OnOk result (out.new.items
         ≡ out.old.items ++ flat_map padded (flat_map (λ service. service_avps service.form service) services.now)) }
+    ensures limits { AreAnswers services.now }
     ensures grows { OnOk result (Grows (vec_len out.old) (vec_len out.new) 99_000) }
 {
     for service in services.as_slice() {

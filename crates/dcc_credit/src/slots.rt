@@ -2,10 +2,10 @@
 
 ghost use Rattle.std.specs.Prelude.{◌≡◌, true, is_some, option_map, IfSome};
 ghost use Rattle.dcc_credit.specs.Requests.{served, is_of, are_of};
-ghost use Rattle.dcc_credit.specs.Slots.{found_in, with_more, alone, number_alone, no_slots, slots_with, AreSlots};
+ghost use Rattle.dcc_credit.specs.inner.Slots.{found_in, with_more, alone, number_alone, no_slots, slots_with, AreSlots};
 
-use crate::lookup::number_in;
 use dcc_avp::{Avp, codes};
+use dcc_octets::u32_in;
 use std::marker::Model;
 
 /// The AVPs of one code, as far as the pass has come.
@@ -44,7 +44,7 @@ impl<'a> Slot<'a> {
     pub(crate) fn number(self) -> Option<u32>
         ensures { result ≡ number_alone (found_in self.entry) }
     {
-        number_in(self.value()?)
+        u32_in(self.value()?)
     }
 }
 
@@ -65,7 +65,7 @@ pub(crate) struct Slots<'a> {
 }
 
 impl<'a> Model for Slots<'a> {
-    ghost use Rattle.dcc_credit.specs.Slots.{SlotsView, found_in};
+    ghost use Rattle.dcc_credit.specs.inner.Slots.{SlotsView, found_in};
 
     ghost Value = { SlotsView };
 
@@ -123,7 +123,7 @@ impl<'a> Slots<'a> {
         ensures is_served { result ≡ is_of served avp.now }
         ensures slots { result ≡ true → self.new ≡ slots_with avp.now self.old }
     {
-        if avp.vendor().is_some() {
+        if avp.is_vendor() {
             return false;
         }
         let value = avp.value();

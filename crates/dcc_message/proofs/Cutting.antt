@@ -4,7 +4,7 @@ use Rattle.std.proofs.lemmas.Bool.Decides.{nat_tests}
 use Rattle.std.proofs.lemmas.List.{get_or_append_left, length-append}
 use Rattle.std.proofs.Math.Seq.{take-append_seam, drop-append_seam}
 use Rattle.dcc_message.specs.Streams.{length_field, length_fault, fault_at, begins_whole, first_message, after_first}
-use Rattle.dcc_message.specs.Frames.{IsMessage}
+use Rattle.dcc_message.specs.inner.Frames.{IsMessage}
 
 -- what makes a message stand whole at the front
 pub record Stands (stream : List ℕ) : Type 0 where

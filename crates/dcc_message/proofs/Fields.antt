@@ -6,8 +6,7 @@ use Rattle.std.specs.Result.{IfOk}
 use Rattle.std.proofs.lemmas.Bool.{cases_Bool, eqb-true, eq-eqb, le-ltb}
 use Rattle.std.proofs.lemmas.Bool.Decides.{nat_tests}
 use Rattle.std.proofs.lemmas.Nat.{be_bytes_4, from_be_bytes-to_be_bytes_4}
-use Rattle.dcc_message.specs.declared.length.FrameFault.{FrameFault}
-use Rattle.dcc_message.specs.declared.length.FrameFault.TheVariants as frame
+use Rattle.dcc_message.specs.declared.length.LengthFault.{LengthFault}
 use Rattle.dcc_message.specs.declared.length.TheConstants.{MAX_LENGTH}
 use Rattle.dcc_message.specs.HeaderView.{HeaderView}
 use Rattle.dcc_message.specs.Streams.{length_field, length_fault}
@@ -133,9 +132,8 @@ found_fine octets fits version long exact = (
   exact,
 )
 
-found_if : (octets : List ℕ) (fault : Option FrameFault) → IsOctets octets → get_or octets 0 0 ≡ 1 → length_fault (length_field octets) ≡ fault → IfOk (header_if fault octets) (λ h. IsFound octets h)
-found_if octets (Some frame.TooLong) fits version h = tt
-found_if octets (Some frame.BadLength) fits version h = tt
+found_if : (octets : List ℕ) (fault : Option LengthFault) → IsOctets octets → get_or octets 0 0 ≡ 1 → length_fault (length_field octets) ≡ fault → IfOk (header_if fault octets) (λ h. IsFound octets h)
+found_if octets (Some fault) fits version h = tt
 found_if octets None fits version h =
     elim (cases_Bool (length_field octets == length octets)) [
       | inl t ↦ rw t (found_fine octets fits version (fine (length_field octets) h) (eqb-true (length_field octets) (length octets) t))

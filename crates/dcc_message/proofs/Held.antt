@@ -3,7 +3,7 @@ use Rattle.std.proofs.Common.{◌≡◌, ℕ, ◌≤◌, List, [], ◌∷◌, �
 use Rattle.std.proofs.lemmas.List.{length-take-le, take-append-drop}
 use Rattle.std.proofs.Math.Seq.{take-append-add}
 use Rattle.dcc_message.specs.Streams.{length_field, fault_at, first_message, after_first}
-use Rattle.dcc_message.specs.Frames.{joined, IsMessage, AreMessages, IsHeld, Completes}
+use Rattle.dcc_message.specs.inner.Frames.{joined, IsMessage, AreMessages, IsHeld, Completes}
 use Rattle.dcc_message.proofs.Cutting.{Stands, stands, begins, begins_append, field_append, least_length, first_of, after_of, none_first, none_after, fault_of_whole}
 
 -- the message in front, what stays after it, and that no fault is in its place

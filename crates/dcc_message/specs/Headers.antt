@@ -1,11 +1,13 @@
 -- Headers of messages, and messages (RFC 6733, section 3).
-use Rattle.std.specs.Prelude.{◌≡◌, ℕ, ◌+◌, ◌%◌, ◌<◌, ◌≤◌, ◌^◌, not, ◌==◌, nat_lt, if◌then◌else◌, List, [], ◌∷◌, ◌++◌, length, slice_index, Result, Ok, Err, Option, Some, None}
-use Rattle.std.specs.Int.{w32, to_be_bytes, from_be_bytes, bytes_high_first}
-use Rattle.dcc_message.specs.declared.length.FrameFault.{FrameFault}
-use Rattle.dcc_message.specs.declared.length.FrameFault.TheVariants as frame
+use Rattle.std.specs.Prelude.{◌≡◌, ℕ, ◌+◌, ◌%◌, ◌<◌, ◌≤◌, ◌^◌, Bool, not, ◌&&◌, ◌==◌, bit_and, nat_lt, if◌then◌else◌, List, ◌∷◌, ◌++◌, length, slice_index, Result, Ok, Err, Option, Some, None}
+use Rattle.std.specs.Int.{w32, to_be_bytes, bytes_high_first}
+use Rattle.dcc_octets.specs.Numbers.{u24_at, u32_at}
+use Rattle.dcc_message.specs.declared.length.LengthFault.{LengthFault}
+use Rattle.dcc_message.specs.declared.length.LengthFault.TheVariants.{BadLength}
 use Rattle.dcc_message.specs.declared.header.HeaderFault.{HeaderFault}
-use Rattle.dcc_message.specs.declared.header.HeaderFault.TheVariants.{Version, TooLong, BadLength}
+use Rattle.dcc_message.specs.declared.header.HeaderFault.TheVariants.{Version, Length}
 use Rattle.dcc_message.specs.declared.length.TheConstants.{MAX_LENGTH, HEADER_LENGTH}
+use Rattle.dcc_message.specs.declared.command_flags.TheConstants.{REQUEST, ERROR}
 use Rattle.dcc_message.specs.HeaderView.{HeaderView}
 use Rattle.dcc_message.specs.Streams.{length_field, length_fault}
 
@@ -20,6 +22,18 @@ pub record IsHeader (h : HeaderView) : Type 0 where
   pub most : h.length ≤ MAX_LENGTH
   pub whole : h.length % 4 ≡ 0
 
+-- the R bit: the message is a request
+abbrev pub is_request : HeaderView → Bool
+is_request header = not (bit_and header.flags REQUEST == 0)
+
+-- the E bit: the answer reports a protocol error (RFC 6733, section 7.2)
+abbrev pub is_error : HeaderView → Bool
+is_error header = not (bit_and header.flags ERROR == 0)
+
+-- the message is of this command in this application
+abbrev pub is_command : (code app : ℕ) → HeaderView → Bool
+is_command code app header = (header.code == code) && (header.app == app)
+
 -- the octets of a header: version 1, then each field, the highest octet first
 unfoldable pub header : HeaderView → List ℕ
 header h =
@@ -30,32 +44,24 @@ header h =
 unfoldable pub message : HeaderView → List ℕ → List ℕ
 message h avps = header (record h { length = HEADER_LENGTH + length avps }) ++ avps
 
--- the number in three octets, or in four, from this one on
-abbrev pub three_at : List ℕ → ℕ → ℕ
-three_at octets i = from_be_bytes w32 (0 ∷ slice_index octets i ∷ slice_index octets (i + 1) ∷ slice_index octets (i + 2) ∷ [])
-
-abbrev pub four_at : List ℕ → ℕ → ℕ
-four_at octets i = from_be_bytes w32 (slice_index octets i ∷ slice_index octets (i + 1) ∷ slice_index octets (i + 2) ∷ slice_index octets (i + 3) ∷ [])
-
 -- the fields where they stand
 abbrev pub header_at : List ℕ → HeaderView
 header_at octets = record {
-  length = three_at octets 1;
+  length = u24_at octets 1;
   flags = slice_index octets 4;
-  code = three_at octets 5;
-  app = four_at octets 8;
-  hop = four_at octets 12;
-  end_to_end = four_at octets 16;
+  code = u24_at octets 5;
+  app = u32_at octets 8;
+  hop = u32_at octets 12;
+  end_to_end = u32_at octets 16;
 }
 
-abbrev pub header_if : Option FrameFault → List ℕ → Result HeaderView HeaderFault
-header_if (Some frame.TooLong) octets = Err TooLong
-header_if (Some frame.BadLength) octets = Err BadLength
-header_if None octets = if length_field octets == length octets then Ok (header_at octets) else Err BadLength
+abbrev pub header_if : Option LengthFault → List ℕ → Result HeaderView HeaderFault
+header_if (Some fault) octets = Err (Length fault)
+header_if None octets = if length_field octets == length octets then Ok (header_at octets) else Err (Length BadLength)
 
 -- the header of a message's octets, or the first fault: version, too long, bad length
 unfoldable pub header_of : List ℕ → Result HeaderView HeaderFault
 header_of octets =
-    if nat_lt (length octets) 4 then Err BadLength
+    if nat_lt (length octets) 4 then Err (Length BadLength)
     else if not (slice_index octets 0 == 1) then Err Version
     else header_if (length_fault (length_field octets)) octets

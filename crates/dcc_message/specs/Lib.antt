@@ -1,5 +1,5 @@
 pub mod Streams
-pub mod Frames
 pub mod HeaderView
 pub mod Headers
-pub mod Names
+pub mod Faults
+pub mod inner

@@ -1,28 +1,32 @@
 -- How a stream of octets falls into messages: the length of each stands in its second to fourth octets (RFC 6733, section 3).
-use Rattle.std.specs.Prelude.{ℕ, zero, suc, ◌%◌, Bool, not, ◌&&◌, ◌||◌, ◌==◌, nat_lt, nat_le, if◌then◌else◌, List, [], ◌∷◌, ◌++◌, length, take, drop, slice_index, Option, Some, None, is_none}
-use Rattle.std.specs.Int.{w32, from_be_bytes}
-use Rattle.dcc_message.specs.declared.length.FrameFault.{FrameFault}
-use Rattle.dcc_message.specs.declared.length.FrameFault.TheVariants.{BadLength, TooLong}
+use Rattle.std.specs.Prelude.{ℕ, zero, suc, ◌%◌, Bool, not, ◌&&◌, ◌||◌, ◌==◌, nat_lt, nat_le, if◌then◌else◌, List, [], ◌∷◌, ◌++◌, length, take, drop, Option, Some, None, is_none, Vec}
+use Rattle.dcc_octets.specs.Numbers.{u24_at}
+use Rattle.dcc_message.specs.declared.length.LengthFault.{LengthFault}
+use Rattle.dcc_message.specs.declared.length.LengthFault.TheVariants.{BadLength, TooLong}
 use Rattle.dcc_message.specs.declared.length.TheConstants.{MAX_LENGTH, HEADER_LENGTH}
 
 -- the length that a message's header states
 abbrev pub length_field : List ℕ → ℕ
-length_field octets = from_be_bytes w32 (0 ∷ slice_index octets 1 ∷ slice_index octets 2 ∷ slice_index octets 3 ∷ [])
+length_field octets = u24_at octets 1
 
 -- what is wrong with a stated length: it is too great, or that of no message
-abbrev pub length_fault : ℕ → Option FrameFault
+abbrev pub length_fault : ℕ → Option LengthFault
 length_fault stated =
     if nat_lt MAX_LENGTH stated then Some TooLong
     else if nat_lt stated HEADER_LENGTH || not (stated % 4 == 0) then Some BadLength
     else None
 
 -- what is wrong with the length at the front of a stream, once its octets are there
-abbrev pub fault_at : List ℕ → Option FrameFault
+abbrev pub fault_at : List ℕ → Option LengthFault
 fault_at stream = if nat_lt (length stream) 4 then None else length_fault (length_field stream)
 
 -- a whole message stands at the front of a stream
 abbrev pub begins_whole : List ℕ → Bool
 begins_whole stream = nat_le 4 (length stream) && is_none (fault_at stream) && nat_le (length_field stream) (length stream)
+
+-- the octets of a message
+abbrev pub octets_of : {Z : Type 0} → Vec ℕ Z → List ℕ
+octets_of octets = octets.items
 
 -- the whole message at the front, and what stands after it
 abbrev pub first_message : List ℕ → Option (List ℕ)

@@ -1,10 +1,10 @@
 //! Messages out of a stream of octets.
 
 ghost use Rattle.std.specs.Prelude.{◌≡◌, ◌↔◌, ◌≤◌, ◌<◌, ◌+◌, ◌++◌, [], Some, Err, true, false, length, slice_index, IfOk, IfErr, IfSome, IfNone, OnOk, OnErr, option_map, List, ℕ};
-ghost use Rattle.dcc_message.specs.Streams.{length_field, fault_at, begins_whole, first_message, after_first, messages, rest, messages_by_pieces, rest_by_pieces};
-ghost use Rattle.dcc_message.specs.Frames.{octets_of, joined, IsMessage, IsCut, Completes};
+ghost use Rattle.dcc_message.specs.Streams.{length_field, fault_at, begins_whole, first_message, after_first, octets_of};
+ghost use Rattle.dcc_message.specs.inner.Frames.{joined, IsMessage, IsCut, Completes};
 
-use crate::length::{FrameFault, fault_in, fault_of_length, is_whole, length_of};
+use crate::length::{LengthFault, fault_in, fault_of_length, is_whole, length_of};
 use std::alloc::{AllocError, Global};
 use std::collections::VecDeque;
 use std::marker::Model;
@@ -23,7 +23,7 @@ pub struct Framer {
 impl Model for Framer {
     ghost use Rattle.std.specs.Prelude.{List, ℕ, ◌++◌, ◌≡◌, false};
     ghost use Rattle.dcc_message.specs.Streams.{begins_whole};
-    ghost use Rattle.dcc_message.specs.Frames.{joined, AreMessages, IsHeld};
+    ghost use Rattle.dcc_message.specs.inner.Frames.{joined, AreMessages, IsHeld};
 
     ghost Value = { List ℕ };
 
@@ -64,10 +64,10 @@ impl Framer {
 
     /// Takes the first whole message off, without memory. Without one it is the fault of a bad length field, which
     /// stays, or `None` where more has to come; then nothing changes.
-    pub fn next(&mut self) -> Result<Option<Vec<u8>>, FrameFault>
+    pub fn next(&mut self) -> Result<Option<Vec<u8>>, LengthFault>
         ensures message { IfOk result (λ found. option_map octets_of found ≡ first_message self.old) }
         ensures left { self.new ≡ after_first self.old }
-        ensures fault { (f : FrameFault) → (result ≡ Err f) ↔ (fault_at self.old ≡ Some f) }
+        ensures fault { (f : LengthFault) → (result ≡ Err f) ↔ (fault_at self.old ≡ Some f) }
     {
         if let Some(message) = self.ready.pop_front() {
             return Ok(Some(message));

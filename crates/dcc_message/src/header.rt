@@ -3,9 +3,11 @@
 ghost use Rattle.std.specs.Int.{w32, to_be_bytes, bytes_high_first};
 ghost use Rattle.std.specs.Prelude.{◌≡◌, ◌+◌, ◌*◌, ◌%◌, ◌<◌, ◌≤◌, ◌^◌, ◌∷◌, ◌++◌, Ok, List, ℕ, length, take, drop, replicate, vec_len, vec_capacity, IfOk, OnOk, OnErr};
 ghost use Rattle.dcc_message.specs.HeaderView.{HeaderView};
-ghost use Rattle.dcc_message.specs.Headers.{header as spelled, header_of, header_at, three_at, four_at, message, IsHeader};
+ghost use Rattle.dcc_message.specs.Headers.{header as spelled, header_of, header_at, message, is_request, is_error, is_command, IsHeader};
 
-use crate::length::{FrameFault, HEADER_LENGTH, fault_of_length, length_of};
+use crate::command_flags;
+use crate::length::{HEADER_LENGTH, LENGTH_END, LengthFault, fault_of_length, length_of};
+use dcc_octets::{put_over, u24_at, u32_at};
 use std::alloc::{AllocError, Global};
 use std::marker::Model;
 
@@ -14,7 +16,7 @@ use std::marker::Model;
 pub struct Header {
     /// The octets of the message with its header, as read. A message that is written has its own length.
     pub length: u32,
-    /// R 0x80, P 0x40, E 0x20, T 0x10; the other bits are reserved, and are kept as read.
+    /// The Command Flags (`command_flags`), with the reserved bits as they were read.
     pub flags: u8,
     /// The Command Code, below 2^24.
     pub code: u32,
@@ -39,16 +41,69 @@ impl Model for Header {
     ghost inverse = { λ v. record { length = v.length; flags = v.flags; code = v.code; app = v.app; hop = v.hop; end_to_end = v.end_to_end } };
 }
 
-/// Why octets are no message, in the order in which it is looked for.
+impl Header {
+    /// Whether the message is a request: the R bit.
+    pub fn is_request(&self) -> bool
+        ensures { result ≡ is_request self.now }
+    {
+        self.flags & command_flags::REQUEST != 0
+    }
+
+    /// Whether the message is an answer that reports a protocol error: the E bit.
+    pub fn is_error(&self) -> bool
+        ensures { result ≡ is_error self.now }
+    {
+        self.flags & command_flags::ERROR != 0
+    }
+
+    /// Whether the message is of this command in this application.
+    pub fn is_command(&self, code: u32, app: u32) -> bool
+        ensures { result ≡ is_command code app self.now }
+    {
+        self.code == code && self.app == app
+    }
+}
+
+/// Why octets are no message, in the order in which it is looked for: fault 10, then 12, then 11.
 #[derive(Clone, Copy, Debug, PartialEq, Eq)]
 pub enum HeaderFault {
-    /// The version isn't 1: fault 10.
+    /// Fault 10: the version isn't 1.
     Version,
-    /// The length field is above 65,532: fault 12.
-    TooLong,
-    /// The length field is below 20, no multiple of 4 or not the number of octets, or fewer than 4 octets are there: fault 11.
-    BadLength,
+    /// Fault 12 or 11: the length field is that of no message, or isn't the number of the octets.
+    Length(LengthFault),
 }
+
+impl HeaderFault {
+    ghost use Rattle.dcc_message.specs.Faults.{header_fault_number};
+
+    /// The number of the fault: 10, 11 or 12.
+    pub fn number(self) -> u8
+        ensures { result ≡ header_fault_number self }
+    {
+        match self {
+            HeaderFault::Version => 10,
+            HeaderFault::Length(fault) => fault.number(),
+        }
+    }
+}
+
+//   0                   1                   2                   3
+//   0 1 2 3 4 5 6 7 8 9 0 1 2 3 4 5 6 7 8 9 0 1 2 3 4 5 6 7 8 9 0 1
+//  +-+-+-+-+-+-+-+-+-+-+-+-+-+-+-+-+-+-+-+-+-+-+-+-+-+-+-+-+-+-+-+-+
+//  |    Version    |                 Message Length                |
+//  +-+-+-+-+-+-+-+-+-+-+-+-+-+-+-+-+-+-+-+-+-+-+-+-+-+-+-+-+-+-+-+-+
+//  | Command Flags |                  Command Code                 |
+//  +-+-+-+-+-+-+-+-+-+-+-+-+-+-+-+-+-+-+-+-+-+-+-+-+-+-+-+-+-+-+-+-+
+//  |                         Application-ID                        |
+//  +-+-+-+-+-+-+-+-+-+-+-+-+-+-+-+-+-+-+-+-+-+-+-+-+-+-+-+-+-+-+-+-+
+//  |                      Hop-by-Hop Identifier                    |
+//  +-+-+-+-+-+-+-+-+-+-+-+-+-+-+-+-+-+-+-+-+-+-+-+-+-+-+-+-+-+-+-+-+
+//  |                      End-to-End Identifier                    |
+//  +-+-+-+-+-+-+-+-+-+-+-+-+-+-+-+-+-+-+-+-+-+-+-+-+-+-+-+-+-+-+-+-+
+//  |  AVPs ...
+//  +-+-+-+-+-+-+-+-+-+-+-+-+-
+//
+// The header of a message (RFC 6733, section 3). The flags begin with R, P, E and T.
 
 /// Reads the header of a message from all octets of the message. It takes no memory.
 pub fn read_header(octets: &[u8]) -> Result<Header, HeaderFault>
@@ -69,52 +124,35 @@ pub fn read_header(octets: &[u8]) -> Result<Header, HeaderFault>
 fn judged(octets: &[u8]) -> Result<Header, HeaderFault>
     ensures { result ≡ header_of octets.now }
 {
-    if octets.len() < 4 {
-        return Err(HeaderFault::BadLength);
+    if octets.len() < LENGTH_END {
+        return Err(HeaderFault::Length(LengthFault::BadLength));
     }
     if octets[0] != 1 {
         return Err(HeaderFault::Version);
     }
     let stated = length_of(octets);
-    match fault_of_length(stated) {
-        Some(FrameFault::TooLong) => return Err(HeaderFault::TooLong),
-        Some(FrameFault::BadLength) => return Err(HeaderFault::BadLength),
-        None => {}
+    if let Some(fault) = fault_of_length(stated) {
+        return Err(HeaderFault::Length(fault));
     }
     if stated != octets.len() {
-        return Err(HeaderFault::BadLength);
+        return Err(HeaderFault::Length(LengthFault::BadLength));
     }
     Ok(header_in(octets))
 }
 
 /// The fields where they stand.
 fn header_in(octets: &[u8]) -> Header
-    requires { 20 ≤ length octets.now }
+    requires { HEADER_LENGTH ≤ length octets.now }
     ensures { result ≡ header_at octets.now }
 {
     Header {
-        length: three_of(octets, 1),
+        length: u24_at(octets, 1),
         flags: octets[4],
-        code: three_of(octets, 5),
-        app: four_of(octets, 8),
-        hop: four_of(octets, 12),
-        end_to_end: four_of(octets, 16),
+        code: u24_at(octets, 5),
+        app: u32_at(octets, 8),
+        hop: u32_at(octets, 12),
+        end_to_end: u32_at(octets, 16),
     }
-}
-
-fn three_of(octets: &[u8], at: usize) -> u32
-    requires { at + 3 ≤ length octets.now }
-    ensures value { result ≡ three_at octets.now at }
-    ensures below { result < 2 ^ 24 }
-{
-    u32::from_be_bytes([0, octets[at], octets[at + 1], octets[at + 2]])
-}
-
-fn four_of(octets: &[u8], at: usize) -> u32
-    requires { at + 4 ≤ length octets.now }
-    ensures { result ≡ four_at octets.now at }
-{
-    u32::from_be_bytes([octets[at], octets[at + 1], octets[at + 2], octets[at + 3]])
 }
 
 /// Writes a message at the end of `out`: the header, with the length of both, and the AVPs, which are spelled already.
@@ -214,12 +252,4 @@ fn identifier_octets(header: &Header) -> [u8; 8]
     let h = header.hop.to_be_bytes();
     let e = header.end_to_end.to_be_bytes();
     [h[0], h[1], h[2], h[3], e[0], e[1], e[2], e[3]]
-}
-
-/// Writes octets over those from `at` on.
-fn put_over(all: &mut [u8], at: usize, octets: &[u8])
-    requires { at + length octets.now ≤ length all.old }
-    ensures { all.new ≡ take at all.old ++ (octets.now ++ drop (at + length octets.now) all.old) }
-{
-    all[at..at + octets.len()].copy_from_slice(octets);
 }

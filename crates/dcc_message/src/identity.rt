@@ -1,9 +1,9 @@
 //! Who answers: the names and the address that a server gives itself.
 
-ghost use Rattle.std.specs.Prelude.{◌≡◌, ◌≤◌, ◌&&◌, nat_le, true, if◌then◌else◌, length, Some, None};
-ghost use Rattle.std.specs.List.{list_all};
-ghost use Rattle.dcc_message.specs.Names.{is_name};
+ghost use Rattle.std.specs.Prelude.{◌≡◌, true, if◌then◌else◌, Some, None};
+ghost use Rattle.dcc_octets.specs.Names.{is_name};
 
+use dcc_octets::is_name;
 use std::marker::Model;
 
 /// A DiameterIdentity (RFC 6733, section 4.3.1): the name of a host or a realm, 1 to 255 octets of visible ASCII.
@@ -14,7 +14,7 @@ pub struct DiameterIdentity {
 
 impl Model for DiameterIdentity {
     ghost use Rattle.std.specs.Prelude.{◌≡◌, List, ℕ, true};
-    ghost use Rattle.dcc_message.specs.Names.{is_name};
+    ghost use Rattle.dcc_octets.specs.Names.{is_name};
 
     ghost Value = { List ℕ };
 
@@ -50,19 +50,6 @@ impl DiameterIdentity {
         let DiameterIdentity { octets } = self;
         octets
     }
-}
-
-/// Whether there are 1 to 255 octets, each a visible character of ASCII.
-fn is_name(octets: &[u8]) -> bool
-    ensures { result ≡ is_name octets.now }
-{
-    1 <= octets.len() && octets.len() <= 255 && are_visible(octets)
-}
-
-fn are_visible(octets: &[u8]) -> bool
-    ensures { result ≡ list_all (λ octet. nat_le 0x21 octet && nat_le octet 0x7E) octets.now }
-{
-    octets.iter().all(|octet| b'!' <= *octet && *octet <= b'~')
 }
 
 /// Who a server is: what stands in Origin-Host, Origin-Realm and Host-IP-Address of its answers.

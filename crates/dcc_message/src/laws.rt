@@ -1,8 +1,10 @@
-//! The law of headers.
+//! The laws of headers and of streams. Each is the contract of a function that does nothing.
 
-ghost use Rattle.std.specs.Prelude.{◌≡◌, ◌+◌, ℕ, List, length, Ok};
+ghost use Rattle.std.specs.Prelude.{◌≡◌, ◌+◌, ◌++◌, ◌∷◌, [], true, false, ℕ, List, length, take, drop, Ok};
 ghost use Rattle.dcc_message.specs.HeaderView.{HeaderView};
 ghost use Rattle.dcc_message.specs.Headers.{header_of, message, IsHeader};
+ghost use Rattle.std.specs.List.{concat};
+ghost use Rattle.dcc_message.specs.Streams.{length_field, begins_whole, messages, rest, messages_by_pieces, rest_by_pieces};
 
 use crate::length::HEADER_LENGTH;
 
@@ -11,4 +13,16 @@ use crate::length::HEADER_LENGTH;
 pub fn header_read_back()
     ensures { (h : HeaderView) (avps : List ℕ) → let written = record h { length = HEADER_LENGTH + length avps } in
         IsHeader written → header_of (message h avps) ≡ Ok written }
+{}
+
+/// However a stream is cut, its messages are the same: whether the whole messages are taken once at the end or after each piece, and wherever the
+/// pieces begin and end, the messages are those of the whole stream, and so is what is left.
+pub fn any_pieces()
+    ensures messages { (pieces : List (List ℕ)) → messages_by_pieces [] pieces ≡ messages (concat pieces) }
+    ensures left { (pieces : List (List ℕ)) → rest_by_pieces [] pieces ≡ rest (concat pieces) }
+
+    // Taking the first message leaves the others.
+    ensures first { (stream : List ℕ) → begins_whole stream ≡ true →
+        messages stream ≡ take (length_field stream) stream ∷ messages (drop (length_field stream) stream) }
+    ensures none { (stream : List ℕ) → begins_whole stream ≡ false → messages stream ≡ [] }
 {}

@@ -1,10 +1,12 @@
 //! Messages and streams from outside.
 
 use crate::{
-    DiameterIdentity, FrameFault, Framer, Header, HeaderFault, Identity, any_pieces, begin_message,
-    finish_message, read_header, write_message,
+    DiameterIdentity, Framer, Header, HeaderFault, Identity, LengthFault, MAX_LENGTH, any_pieces,
+    applications, begin_message, command_flags, commands, finish_message, read_header,
+    write_message,
 };
 use dcc_avp::{read_list, write_avp};
+use dcc_samples::{ANSWER, BUSY, DEBIT};
 use std::alloc::Global;
 use std::test::Fail;
 
@@ -12,37 +14,18 @@ use std::test::Fail;
 const WATCHDOG: &str =
     "010000388000011800000000000000010000000200000108400000136777312e6578616d706c6500000001284000000f6578616d706c6500";
 
-/// A request for a direct debit.
-const DEBIT: &str = "010000e4c00001100000000400000011000000210000010740000017\
-6777312e6578616d706c653b313b310000000108400000136777312e6578616d706c6500000001284000000f6578616d706c6500\
-0000011b4000000f6578616d706c6500000001024000000c00000004000001cd4000001464617461406578616d706c65\
-000001a04000000c000000040000019f4000000c00000000000001b44000000c00000000000001bb40000028\
-000001c24000000c00000000000001bc40000014343931373030303030303031000001b540000018000001a54000001000000000000003e9";
-
 /// The answer to a watchdog request.
 const WATCHDOG_ANSWER: &str =
     "01000044000001180000000000000001000000020000010c4000000c000007d100000108400000136f63732e6578616d706c\
 6500000001284000000f6578616d706c6500";
 
-/// The answer to the direct debit.
-const DEBIT_ANSWER: &str =
-    "010000984000011000000004000000110000002100000107400000176777312e6578616d706c653b313b31000000010c4000\
-000c000007d100000108400000136f63732e6578616d706c6500000001284000000f6578616d706c6500000001024000000c\
-00000004000001a04000000c000000040000019f4000000c00000000000001af40000018000001a540000010000000000000\
-03e9";
-
-/// The busy answer to it.
-const BUSY_ANSWER: &str =
-    "0100005c6000011000000004000000110000002100000107400000176777312e6578616d706c653b313b31000000010c4000\
-000c00000bbc00000108400000136f63732e6578616d706c6500000001284000000f6578616d706c6500";
-
-/// The answer to it without its Service-Context-Id.
+/// The answer to a debit without its Service-Context-Id.
 const MISSING_ANSWER: &str =
     "010000904000011000000004000000110000002100000107400000176777312e6578616d706c653b313b31000000010c4000\
 000c0000138d00000108400000136f63732e6578616d706c6500000001284000000f6578616d706c6500000001024000000c\
 00000004000001a04000000c000000040000019f4000000c000000000000011740000010000001cd40000008";
 
-/// The answer to it with a short AVP.
+/// The answer to a debit with a short AVP.
 const SHORT_ANSWER: &str =
     "01000064400001100000000400000011000000210000010c4000000c0000139600000108400000136f63732e6578616d706c\
 6500000001284000000f6578616d706c6500000001024000000c0000000400000117400000140000019f4000000c00000000";
@@ -70,13 +53,14 @@ fn header_of_a_request(rt: HostRuntime) -> Result<(), Fail> {
     let header = read_header(&message).ok().ok_or("a header")?;
     let want = Header {
         length: 228,
-        flags: 0xc0,
-        code: 272,
-        app: 4,
+        flags: command_flags::REQUEST | command_flags::PROXIABLE,
+        code: commands::CREDIT_CONTROL,
+        app: applications::CREDIT_CONTROL,
         hop: 0x11,
         end_to_end: 0x21,
     };
     assert_eq!(rt; header, want);
+    assert!(rt; header.is_request() && !header.is_error() && header.is_command(272, 4));
     let mut out = Vec::new(rt.alloc());
     write_message(&mut out, &header, &message[20..228])?;
     assert!(rt; out == message);
@@ -110,8 +94,8 @@ fn messages_read_and_written_back(rt: HostRuntime) -> Result<(), Fail> {
         WATCHDOG,
         WATCHDOG_ANSWER,
         DEBIT,
-        DEBIT_ANSWER,
-        BUSY_ANSWER,
+        ANSWER,
+        BUSY,
         MISSING_ANSWER,
         SHORT_ANSWER,
         CAPABILITIES,
@@ -127,27 +111,54 @@ fn messages_read_and_written_back(rt: HostRuntime) -> Result<(), Fail> {
 #[test]
 fn faults_in_their_order(rt: HostRuntime) -> Result<(), Fail> {
     let cases = [
-        ("", HeaderFault::BadLength),
-        ("020000", HeaderFault::BadLength),
+        ("", HeaderFault::Length(LengthFault::BadLength)),
+        ("020000", HeaderFault::Length(LengthFault::BadLength)),
         ("02010000", HeaderFault::Version),
-        ("01010000", HeaderFault::TooLong),
-        ("01fffffc", HeaderFault::TooLong),
-        ("0100fffd", HeaderFault::TooLong),
-        ("0100fffc", HeaderFault::BadLength),
-        ("01000016", HeaderFault::BadLength),
-        ("01000010", HeaderFault::BadLength),
+        ("01010000", HeaderFault::Length(LengthFault::TooLong)),
+        ("01fffffc", HeaderFault::Length(LengthFault::TooLong)),
+        ("0100fffd", HeaderFault::Length(LengthFault::TooLong)),
+        ("0100fffc", HeaderFault::Length(LengthFault::BadLength)),
+        ("01000016", HeaderFault::Length(LengthFault::BadLength)),
+        ("01000010", HeaderFault::Length(LengthFault::BadLength)),
         (
             "0100001480000118000000000000000100000002ff",
-            HeaderFault::BadLength,
+            HeaderFault::Length(LengthFault::BadLength),
         ),
         (
             "01000018800001180000000000000001000000",
-            HeaderFault::BadLength,
+            HeaderFault::Length(LengthFault::BadLength),
         ),
     ];
     for (text, fault) in cases {
         let message = octets(rt.alloc(), text)?;
         assert_eq!(rt; read_header(&message), Err(fault), "{text}");
+    }
+    let long = HeaderFault::Length(LengthFault::TooLong);
+    let bad = HeaderFault::Length(LengthFault::BadLength);
+    assert_eq!(rt;
+        [HeaderFault::Version.number(), bad.number(), long.number()],
+        [10, 11, 12]
+    );
+    Ok(())
+}
+
+/// The longest message, in one piece with another behind it, and in two.
+#[test]
+fn longest_message(rt: HostRuntime) -> Result<(), Fail> {
+    let first = octets(rt.alloc(), DEBIT)?;
+    let header = read_header(&first).ok().ok_or("a header")?;
+    let avps = vec![in rt.alloc(); 0x61; MAX_LENGTH - 20]?;
+    let mut stream = Vec::new(rt.alloc());
+    write_message(&mut stream, &header, &avps)?;
+    assert_eq!(rt; stream.len(), MAX_LENGTH);
+    let read = read_header(&stream).ok().ok_or("a header")?;
+    assert_eq!(rt; read.length, 65_532);
+    stream.extend_from_slice(&first)?;
+    for size in [65_760, 40_000] {
+        let given = fed(rt.alloc(), &stream, size)?;
+        assert_eq!(rt; given.len(), 2);
+        assert_eq!(rt; given[0].len(), MAX_LENGTH);
+        assert!(rt; given[1] == first);
     }
     Ok(())
 }
@@ -206,9 +217,9 @@ fn cut_into_two(rt: HostRuntime) -> Result<(), Fail> {
 #[test]
 fn bad_length_fields(rt: HostRuntime) -> Result<(), Fail> {
     let cases = [
-        ("01000016", FrameFault::BadLength),
-        ("0100fffe", FrameFault::TooLong),
-        ("01010000", FrameFault::TooLong),
+        ("01000016", LengthFault::BadLength),
+        ("0100fffe", LengthFault::TooLong),
+        ("01010000", LengthFault::TooLong),
     ];
     for (text, fault) in cases {
         let first = octets(rt.alloc(), WATCHDOG)?;

@@ -1,5 +1,5 @@
 use Rattle.std.proofs.Common.{◌≡◌, ◌++◌, length}
-use Rattle.dcc_message.specs.Frames.{joined, AreMessages}
+use Rattle.dcc_message.specs.inner.Frames.{joined, AreMessages}
 use Rattle.dcc_message.proofs.framer.cut_up.Given as goal
 
 abbrev pub invariant-loop-left : goal.invariant-loop-left

@@ -1,6 +1,6 @@
 use Rattle.std.proofs.Common.{sym, subst, ◌∙◌, arith}
 use Rattle.std.proofs.lemmas.List.{at_drop_all}
-use Rattle.dcc_credit.specs.Slots.{SlotsView, AreSlots}
+use Rattle.dcc_credit.specs.inner.Slots.{SlotsView, AreSlots}
 use Rattle.dcc_credit.proofs.SlotLemmas.{slots_after, are_slots}
 use Rattle.dcc_credit.proofs.slots.Slots.of.Goals as goal
 

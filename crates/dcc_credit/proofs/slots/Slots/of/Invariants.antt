@@ -1,6 +1,6 @@
 use Rattle.std.proofs.Common.{◌≡◌, drop}
 use Rattle.dcc_credit.specs.Requests.{served, are_of}
-use Rattle.dcc_credit.specs.Slots.{no_slots}
+use Rattle.dcc_credit.specs.inner.Slots.{no_slots}
 use Rattle.dcc_credit.proofs.SlotLemmas.{slots_after}
 use Rattle.dcc_credit.proofs.slots.Slots.of.Given as goal
 

@@ -1,5 +1,5 @@
 use Rattle.std.proofs.Common.{◌≡◌, ◌++◌, ◌∷◌, [], ap, subst, ◌∙◌, arith, List, ℕ, take, Vec, Global, is_ok, true}
-use Rattle.dcc_message.specs.Frames.{IsMessage, Completes}
+use Rattle.dcc_message.specs.inner.Frames.{IsMessage, Completes}
 use Rattle.dcc_message.proofs.Held.{completed, held_more}
 use Rattle.dcc_message.proofs.framer.Framer.feed.Goals as goal
 
