@@ -1,5 +1,5 @@
 -- Acts and outcomes as the definitions look back at them.
-use Rattle.std.proofs.Common.{◌≡◌, ℕ, ◌+◌, ◌<◌, Bool, true, false, ◌||◌, List, [], ◌∷◌, ◌++◌, length, map, reverse, take, get_or, refl, sym, ap, ◌∙◌, arith, ◌+ℤ◌, Some, option_map}
+use Rattle.std.proofs.Common.{◌≡◌, ℕ, ◌+◌, ◌≤◌, ◌<◌, Bool, true, false, ◌||◌, List, [], ◌∷◌, ◌++◌, length, map, reverse, take, get_or, refl, sym, ap, ◌∙◌, arith, ◌+ℤ◌, Some, option_map}
 use Rattle.std.specs.List.{list_any}
 use Rattle.std.proofs.lemmas.Int.{ints}
 use Rattle.std.proofs.lemmas.List.{take_more, length-take-le, reverse-append, length-reverse, map-append}
@@ -11,9 +11,9 @@ use Rattle.dcc_act.specs.declared.outcome.Outcome.{Outcome}
 use Rattle.dcc_act.specs.declared.request_key.RequestKey.{RequestKey}
 use Rattle.dcc_model.specs.Keys.{request_key, same_request, same_key}
 use Rattle.dcc_model.specs.declared.done.Done.{Done}
-use Rattle.dcc_model.specs.Outcomes.{is_top_up, has_account, counts, first_of, kept_of, act_of, outcome_of}
+use Rattle.dcc_model.specs.Outcomes.{is_top_up, has_account, counts, first_of, kept_of, act_of, outcome_of, place_of_key}
 use Rattle.dcc_model.specs.Entries.{sum_of}
-use Rattle.dcc_account.specs.Kept.{dones, past_of}
+use Rattle.dcc_account.specs.inner.Kept.{dones, past_of}
 
 dones_push : (acts : List Act) (outcomes : List Outcome) (act : Act) (outcome : Outcome) → length outcomes ≡ length acts
     → dones (acts ++ act ∷ []) (outcomes ++ outcome ∷ []) ≡ dones acts outcomes ++ record { act = act; outcome = outcome } ∷ []
@@ -117,3 +117,18 @@ first_here past k act outcome is = let here = sym is in rw here refl
 pub first_there : (past : List Done) (k : Kind) (act : Act) (outcome : Outcome) → false ≡ same_key k act.kind
     → option_map outcome_of (first_of (record { act = act; outcome = outcome } ∷ past) k) ≡ option_map outcome_of (first_of past k)
 first_there past k act outcome is = let there = sym is in rw there refl
+
+-- one more act, looked at from the end
+pub acts_more : (acts : List Act) (i : ℕ) (act : Act) → i < length acts → act ≡ get_or acts i act → reverse (take (i + 1) acts) ≡ act ∷ reverse (take i acts)
+acts_more acts i act within is =
+    ap reverse (take_more acts i act within) ∙ reverse-append (take i acts) (get_or acts i act ∷ []) ∙ ap (λ (a : Act). a ∷ reverse (take i acts)) (sym is)
+
+-- a walk finds the place at hand, or the one that it found before
+pub place_here : (acts : List Act) (i : ℕ) (k : Kind) (act : Act) → i ≤ length acts → true ≡ same_key k act.kind → place_of_key (act ∷ reverse (take i acts)) k ≡ Some (i + 1)
+place_here acts i k act within is =
+    let here = sym is in
+    let long : length (reverse (take i acts)) ≡ i = length-reverse (take i acts) ∙ length-take-le i acts within in
+    rw here (ap (λ (n : ℕ). Some (n + 1)) long)
+
+pub place_there : (acts : List Act) (k : Kind) (act : Act) → false ≡ same_key k act.kind → place_of_key (act ∷ acts) k ≡ place_of_key acts k
+place_there acts k act is = let there = sym is in rw there refl

@@ -1,11 +1,11 @@
 -- A step that is prepared and not yet installed.
-use Rattle.std.specs.Prelude.{ℕ, ◌≡◌, ◌+◌, ◌≤◌, Bool, true, if◌then◌else◌, List, [], length, reverse, Option, MatchOption}
+use Rattle.std.specs.Prelude.{ℕ, ◌≡◌, ◌+◌, ◌≤◌, Bool, true, List, [], ◌∷◌, ◌++◌, length, Option, MatchOption}
 use Rattle.dcc_act.specs.declared.act.Act.{Act}
 use Rattle.dcc_act.specs.declared.entry.Entry.{Entry}
 use Rattle.dcc_act.specs.declared.outcome.Outcome.{Outcome}
-use Rattle.dcc_model.specs.Outcomes.{after, history, is_made}
-use Rattle.dcc_model.specs.Entries.{entries_by, entries}
-use Rattle.dcc_account.specs.Kept.{AccountView}
+use Rattle.dcc_model.specs.Outcomes.{after, is_new, place}
+use Rattle.dcc_model.specs.Entries.{entries}
+use Rattle.dcc_account.specs.Accounts.{AccountView}
 
 -- the sizes of the larger vectors that a step brings
 pub record Space : Type 0 where
@@ -13,11 +13,12 @@ pub record Space : Type 0 where
   pub outcomes : Option ℕ
   pub entries : Option ℕ
 
--- an act, what it comes to, whether it is made, the entries that it adds, and the memory for all that
+-- an act, what it comes to, whether it is made, its place, the entries that it adds, and the memory for all that
 pub record StepView : Type 0 where
   pub act : Act
   pub outcome : Outcome
   pub is_new : Bool
+  pub place : Option ℕ
   pub entries : List Entry
   pub space : Space
 
@@ -25,12 +26,12 @@ pub record StepView : Type 0 where
 abbrev pub Fits : ℕ → ℕ → ℕ → Option ℕ → Type 0
 Fits count more room larger = MatchOption larger (more ≤ room) (λ capacity. count + more ≤ capacity)
 
--- the step is that of its act after this account
+-- the step is that of its act after the acts of this account, with memory for it
 pub record IsPrepared (account : AccountView) (step : StepView) : Type 0 where
   pub outcome_is : step.outcome ≡ after account.terms account.acts step.act
-  pub new_is : step.is_new ≡ is_made account.terms (history account.terms (reverse account.acts)) step.act
-  pub entries_are : step.entries ≡
-      (if step.is_new then entries_by (length account.acts + 1) (record { act = step.act; outcome = step.outcome }) else [])
+  pub new_is : step.is_new ≡ is_new account.terms account.acts step.act
+  pub place_is : step.place ≡ place account.terms account.acts step.act
+  pub entries_are : entries account.terms (account.acts ++ step.act ∷ []) ≡ entries account.terms account.acts ++ step.entries
   pub acts_fit : step.is_new ≡ true → Fits (length account.acts) 1 account.room.acts step.space.acts
   pub outcomes_fit : step.is_new ≡ true → Fits (length account.acts) 1 account.room.outcomes step.space.outcomes
   pub entries_fit : step.is_new ≡ true

@@ -1,16 +1,16 @@
 //! Accounts.
 
-ghost use Rattle.std.specs.Prelude.{◌≡◌, ◌+◌, [], ◌∷◌, ◌++◌, length, pos, if◌then◌else◌, IfOk};
+ghost use Rattle.std.specs.Prelude.{◌≡◌, [], ◌∷◌, ◌++◌, pos, if◌then◌else◌, IfOk};
 ghost use Rattle.std.specs.Option.{option_copied};
-ghost use Rattle.dcc_model.specs.Outcomes.{outcome, acts, funds, overrun, free, kept};
+ghost use Rattle.dcc_model.specs.Outcomes.{after, is_new, place, acts, funds, overrun, free, kept};
 ghost use Rattle.dcc_model.specs.Entries.{entries};
 
 use crate::growth::{append, grow, larger};
-use crate::judge::{is_made, judge, post};
+use crate::judge::{is_made, judge, place, post};
 use crate::step::Step;
 use crate::walk::{outcome_of_request, sum};
 use dcc_act::{Act, Entry, Outcome, RequestKey};
-use dcc_model::{acts_come_to_their_own, funds_are_accounted_for, nothing_is_reserved};
+use dcc_model::{funds_are_accounted_for, nothing_is_reserved, one_more_act};
 use dcc_tariff::Terms;
 use std::alloc::{AllocError, Global};
 use std::marker::Model;
@@ -26,7 +26,8 @@ pub struct Account {
 
 impl Model for Account {
     ghost use Rattle.std.specs.Prelude.{◌-◌, vec_len, vec_capacity};
-    ghost use Rattle.dcc_account.specs.Kept.{AccountView, IsKept};
+    ghost use Rattle.dcc_account.specs.Accounts.{AccountView};
+    ghost use Rattle.dcc_account.specs.inner.Kept.{IsKept};
 
     ghost Value = { AccountView };
 
@@ -115,20 +116,22 @@ impl Account {
     /// What the act comes to after those that were made, with all the memory that it takes to install it.
     pub fn prepare(&self, act: Act) -> Result<Step, AllocError>
         ensures act { IfOk result (λ step. step.act ≡ act) }
-        ensures outcome { IfOk result (λ step. step.outcome
-            ≡ outcome self.now.terms (self.now.acts ++ act ∷ []) (length self.now.acts + 1)) }
+        ensures outcome { IfOk result (λ step. step.outcome ≡ after self.now.terms self.now.acts act) }
+        ensures is_new { IfOk result (λ step. step.is_new ≡ is_new self.now.terms self.now.acts act) }
+        ensures place { IfOk result (λ step. step.place ≡ place self.now.terms self.now.acts act) }
         ensures acts { IfOk result (λ step. acts self.now.terms (self.now.acts ++ act ∷ [])
             ≡ (if step.is_new then self.now.acts ++ act ∷ [] else self.now.acts)) }
         ensures entries { IfOk result (λ step. entries self.now.terms (self.now.acts ++ act ∷ [])
             ≡ entries self.now.terms self.now.acts ++ step.entries) }
         ensures prepared { IfOk result (λ step. IsPrepared self.now step) }
     {
-        acts_come_to_their_own();
+        one_more_act();
         funds_are_accounted_for();
         let alloc = *self.acts.allocator();
         let is_new = is_made(&self.acts, &self.outcomes, &act.kind);
         let outcome = judge(alloc, &self.acts, &self.outcomes, &self.entries, &act)?;
         let entries = post(alloc, is_new, self.acts.len(), &act, &outcome)?;
+        let place = place(&self.acts, is_new, &act.kind);
         let more = usize::from(is_new);
         Ok(Step {
             larger_acts: larger(alloc, &self.acts, more)?,
@@ -137,6 +140,7 @@ impl Account {
             act,
             outcome,
             is_new,
+            place,
             entries,
         })
     }
@@ -147,6 +151,7 @@ impl Account {
         ensures terms { self.new.terms ≡ self.old.terms }
         ensures acts { self.new.acts ≡ acts self.old.terms (self.old.acts ++ step.act ∷ []) }
     {
+        one_more_act();
         if step.is_new {
             grow(&mut self.acts, step.larger_acts);
             grow(&mut self.outcomes, step.larger_outcomes);

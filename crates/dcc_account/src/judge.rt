@@ -1,13 +1,14 @@
 //! What an act comes to after those that were made.
 
-ghost use Rattle.std.specs.Prelude.{◌≡◌, ◌+◌, ◌<◌, ◌^◌, [], length, if◌then◌else◌, IfOk};
+ghost use Rattle.std.specs.Prelude.{◌≡◌, ◌+◌, ◌<◌, ◌^◌, List, [], length, reverse, if◌then◌else◌, Some, IfOk};
 ghost use Rattle.dcc_tariff.specs.Terms.{TermsView};
+ghost use Rattle.dcc_model.specs.declared.done.Done.{Done};
 ghost use Rattle.dcc_model.specs.Money.{funds_of};
-ghost use Rattle.dcc_model.specs.Outcomes.{counts, is_new, settled, judged, decided};
+ghost use Rattle.dcc_model.specs.Outcomes.{counts, is_first, settled, judged, decided, place_of_key};
 ghost use Rattle.dcc_model.specs.Entries.{entries_of_kind, sum_of};
-ghost use Rattle.dcc_account.specs.Kept.{past_of};
+ghost use Rattle.dcc_account.specs.inner.Kept.{past_of};
 
-use crate::walk::{has_top_up, outcome_of, sum};
+use crate::walk::{has_top_up, outcome_of, place_of_key, sum};
 use dcc_act::{Act, Entry, Kind, Outcome, RequestType};
 use dcc_model::{decide_event, decide_top_up, entries_by, is_top_up, nothing_is_reserved};
 use std::alloc::{AllocError, Global};
@@ -57,7 +58,7 @@ fn settle(
 /// Whether an act of this kind is made after these.
 pub(crate) fn is_made(acts: &[Act], outcomes: &[Outcome], kind: &Kind) -> bool
     requires { length outcomes.now ≡ length acts.now }
-    ensures { result ≡ is_new (past_of acts.now outcomes.now) kind.now }
+    ensures { result ≡ is_first (past_of acts.now outcomes.now) kind.now }
 {
     is_counted(acts, outcomes, kind) && outcome_of(acts, outcomes, kind).is_none()
 }
@@ -88,6 +89,18 @@ fn decide(
     }
 }
 
+/// The place of an act after these, or that of the one that was made with its key.
+pub(crate) fn place(acts: &[Act], is_new: bool, kind: &Kind) -> Option<u64>
+    requires { length acts.now + 1 < 2 ^ 64 }
+    ensures { result ≡ (if is_new then Some (length acts.now + 1) else place_of_key (reverse acts.now) kind.now) }
+{
+    if is_new {
+        Some(acts.len() as u64 + 1)
+    } else {
+        place_of_key(acts, kind)
+    }
+}
+
 /// The entries of an act after so many: none where it isn't made.
 pub(crate) fn post(
     alloc: Global,
@@ -97,8 +110,8 @@ pub(crate) fn post(
     outcome: &Outcome,
 ) -> Result<Vec<Entry>, AllocError>
     requires { count + 1 < 2 ^ 64 }
-    ensures { IfOk result (λ entries. entries.items
-        ≡ (if is_new then entries_of_kind (count + 1) act.now.moment act.now.kind outcome.now else [])) }
+    ensures { IfOk result (λ entries. (terms : TermsView) (past : List Done) → entries.items
+        ≡ (if is_new then entries_of_kind terms past (count + 1) act.now.moment act.now.kind outcome.now else [])) }
 {
     if is_new {
         entries_by(alloc, count as u64 + 1, act, outcome)

@@ -12,6 +12,7 @@ pub struct Step {
     pub(crate) act: Act,
     pub(crate) outcome: Outcome,
     pub(crate) is_new: bool,
+    pub(crate) place: Option<u64>,
     pub(crate) entries: Vec<Entry>,
     pub(crate) larger_acts: Option<Vec<Act>>,
     pub(crate) larger_outcomes: Option<Vec<Outcome>>,
@@ -29,6 +30,7 @@ impl Model for Step {
       act = s.act;
       outcome = s.outcome;
       is_new = s.is_new;
+      place = s.place;
       entries = s.entries.items;
       space = record {
         acts = option_map (λ v. vec_capacity v) s.larger_acts;
@@ -69,5 +71,13 @@ impl Step {
         ensures { result ≡ self.now.is_new }
     {
         self.is_new
+    }
+
+    /// The act's place among the acts of its subscriber once it is made, from 1, or that of the act that was made with its
+    /// key; none for a request without an account.
+    pub fn place(&self) -> Option<u64>
+        ensures { result ≡ self.now.place }
+    {
+        self.place
     }
 }

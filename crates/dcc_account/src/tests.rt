@@ -4,17 +4,14 @@ ghost use Rattle.std.specs.Prelude.{◌<◌};
 
 use crate::Account;
 use dcc_act::{
-    Act, Action, Event, Form, Kind, Moment, Outcome, RequestKey, Service, ServiceIds, SessionId,
-    TopUp,
+    Act, Action, Form, Kind, MAX_AMOUNT, Moment, OneTimeEvent, Outcome, RequestKey, Service,
+    ServiceIds, SessionId, TopUp,
 };
 use dcc_model::plain_answer;
 use dcc_tariff::{Tariff, Terms, UnitKind};
 use std::alloc::Global;
 use std::process::Abort;
 use std::test::Fail;
-
-/// The greatest top-up, in minor units.
-const MOST: u64 = 1_000_000_000_000_000_000;
 
 const TERMS: Terms = Terms {
     validity: 600,
@@ -24,12 +21,9 @@ const TERMS: Terms = Terms {
 };
 
 fn top_up(seconds: u64, ticket: u64, amount: u64) -> Result<Act, Fail> {
-    if amount == 0 || amount > MOST {
-        return Err("an amount past its limits".into());
-    }
     Ok(Act {
         moment: Moment::new(seconds).ok_or("a moment")?,
-        kind: Kind::TopUp(TopUp { ticket, amount }),
+        kind: Kind::TopUp(TopUp::new(ticket, amount).ok_or("an amount")?),
     })
 }
 
@@ -61,7 +55,7 @@ fn debit(
     };
     Ok(Act {
         moment: Moment::new(seconds).ok_or("a moment")?,
-        kind: Kind::Event(Event {
+        kind: Kind::Event(OneTimeEvent {
             key,
             action: Action::DirectDebiting,
             service,
@@ -107,7 +101,7 @@ fn discarded_step(rt: HostRuntime) -> Result<(), Fail> {
     let account = opened(rt.alloc())?;
     let act = octets(rt.alloc(), 0)?;
     let step = account.prepare(act.copy()?)?;
-    assert!(rt; step.is_new() && *step.act() == act);
+    assert!(rt; step.is_new() && *step.act() == act && step.place() == Some(2));
     assert!(rt; matches!(step.outcome(), Outcome::Answered(_)));
     assert_eq!(rt; step.entries().len(), 1);
     Account::discard(step);
@@ -126,30 +120,6 @@ fn installed_step(rt: HostRuntime) -> Result<(), Fail> {
     assert_eq!(rt; (account.acts().len(), account.entries().len()), (2, 2));
     assert!(rt; account.kept(&key(rt.alloc(), b'x', 0)?).is_some());
     assert!(rt; account.kept(&key(rt.alloc(), b'x', 1)?).is_none());
-    Ok(())
-}
-
-#[test]
-fn ceiling_and_ticket_again(rt: HostRuntime) -> Result<(), Fail> {
-    let mut beside = Beside::new(rt.alloc());
-    for (ticket, amount) in [(1, MOST), (2, 1), (2, 1), (1, MOST)] {
-        beside.make(&rt, rt.alloc(), top_up(9, ticket, amount)?)?;
-    }
-    assert_eq!(rt;
-        (beside.account.funds(), beside.account.acts().len()),
-        (1_000_000_000_000_000_000, 2)
-    );
-    Ok(())
-}
-
-#[test]
-fn unknown_account_and_then_a_repeat(rt: HostRuntime) -> Result<(), Fail> {
-    let mut beside = Beside::new(rt.alloc());
-    beside.make(&rt, rt.alloc(), octets(rt.alloc(), 0)?)?;
-    beside.make(&rt, rt.alloc(), top_up(9, 1, 1000)?)?;
-    beside.make(&rt, rt.alloc(), octets(rt.alloc(), 0)?)?;
-    beside.make(&rt, rt.alloc(), octets(rt.alloc(), 0)?)?;
-    assert_eq!(rt; beside.account.funds(), 990);
     Ok(())
 }
 
@@ -211,7 +181,7 @@ fn any_act(alloc: Global, dice: &mut Dice, free: i128) -> Result<Act, Fail> {
 
 fn any_amount(dice: &mut Dice) -> u64 {
     match dice.roll(4) {
-        0 => MOST,
+        0 => MAX_AMOUNT,
         1 => 1000,
         2 => 7,
         _ => 1,

@@ -4,9 +4,9 @@ ghost use Rattle.std.specs.Prelude.{◌≡◌, length, reverse, option_map, Some
 ghost use Rattle.std.specs.Option.{option_copied};
 ghost use Rattle.std.specs.List.{list_any};
 ghost use Rattle.dcc_model.specs.Keys.{request_key, same_request};
-ghost use Rattle.dcc_model.specs.Outcomes.{is_top_up, first_of, kept_of, outcome_of};
+ghost use Rattle.dcc_model.specs.Outcomes.{is_top_up, first_of, kept_of, outcome_of, place_of_key};
 ghost use Rattle.dcc_model.specs.Entries.{sum_of};
-ghost use Rattle.dcc_account.specs.Kept.{past_of};
+ghost use Rattle.dcc_account.specs.inner.Kept.{past_of};
 
 use dcc_act::{Act, Entry, Kind, Outcome, RequestKey};
 use dcc_model::{is_same_key, is_top_up};
@@ -25,6 +25,19 @@ pub(crate) fn outcome_of<'a>(
         let outcome = &outcomes[i];
         if is_same_key(kind, &act.kind) {
             found = Some(outcome);
+        }
+    }
+    found
+}
+
+/// The place of the act of this key, from 1.
+pub(crate) fn place_of_key(acts: &[Act], kind: &Kind) -> Option<u64>
+    ensures { result ≡ place_of_key (reverse acts.now) kind.now }
+{
+    let mut found = None;
+    for (i, act) in acts.iter().enumerate() {
+        if is_same_key(kind, &act.kind) {
+            found = Some(i as u64 + 1);
         }
     }
     found

@@ -1,12 +1,13 @@
 -- What the octets of answers tell by themselves.
-use Rattle.std.proofs.Common.{◌≡◌, ℕ, ◌≤◌, true, false, ◌==◌, ◌&&◌, List, [], ◌∷◌, ◌++◌, length, Option, Some, None, Result, Ok, Err, Vec, Global, refl, sym, ap, ◌∙◌, rules, arith, subst}
-use Rattle.std.specs.Prelude.{is_none, IfOk, OnOk}
+use Rattle.std.proofs.Common.{◌≡◌, ℕ, ◌≤◌, true, false, List, [], ◌∷◌, ◌++◌, length, Option, Some, None, Result, Ok, Err, Vec, Global, filter, refl, ap, ◌∙◌, arith, inl, inr}
+use Rattle.std.specs.Prelude.{IfOk, OnOk}
 use Rattle.std.specs.List.{flat_map, find, AllByRecursion}
 use Rattle.std.specs.Option.{ForSome}
+use Rattle.std.proofs.lemmas.Bool.{cases_Bool}
 use Rattle.std.proofs.lemmas.Bool.Decides.{nat_tests}
 use Rattle.std.specs.declared.alloc.AllocError.{AllocError}
 use Rattle.dcc_octets.specs.Names.{is_short}
-use Rattle.dcc_avp.specs.Spelling.{AvpView, padded, has_code, HasSpelling}
+use Rattle.dcc_avp.specs.Spelling.{AvpView, padded, has_code, HasSpelling, Spells}
 use Rattle.dcc_avp.specs.Reading.{avps_of}
 use Rattle.dcc_avp.specs.declared.codes.TheConstants.{RESULT_CODE, PROXY_INFO}
 use Rattle.dcc_message.specs.HeaderView.{HeaderView}
@@ -20,7 +21,7 @@ use Rattle.dcc_act.specs.declared.outcome.ResultCode.{ResultCode}
 use Rattle.dcc_act.specs.declared.outcome.ResultCode.TheVariants.{Success, CreditLimitReached, RatingFailed}
 use Rattle.dcc_act.specs.Numbers.{result_number}
 use Rattle.dcc_credit.specs.declared.result_codes.TheConstants.{TOO_BUSY}
-use Rattle.dcc_credit.specs.Answers.{sent32, answer_avps, answer_octets, answer_header, busy_avps, busy_octets, result_in, is_just, says_busy, is_busy, IsProxy, AreProxies, SpellProxies, IsServer}
+use Rattle.dcc_credit.specs.Answers.{sent32, answer_avps, answer_octets, answer_header, busy_avps, busy_octets, result_in, is_just, says_busy, is_busy, proxies_of, AreProxies, SpellProxies, IsServer}
 use Rattle.dcc_credit.specs.inner.Limits.{IsAnswerable}
 use Rattle.dcc_credit.proofs.Spelled.{AllSpelled, AreSizes, append_spelled, answer_spelled, busy_spelled}
 use Rattle.dcc_credit.proofs.ReadBack.{avps_back}
@@ -78,7 +79,7 @@ answer_result identity terms (Answered answer) proxies h = result_number_apart a
 answer_result identity terms Added proxies h = no_result proxies h
 answer_result identity terms Ceiling proxies h = no_result proxies h
 
-pub answer_not_busy : AreReadBack → AreSizes → (identity : Identity) (terms : TermsView) (request : HeaderView) (proxies : List AvpView) (outcome : Outcome) →
+answer_not_busy : AreReadBack → AreSizes → (identity : Identity) (terms : TermsView) (request : HeaderView) (proxies : List AvpView) (outcome : Outcome) →
     IsAnswerable identity outcome → AreProxies proxies → is_busy (answer_octets identity terms request (flat_map padded proxies) outcome) ≡ false
 unfolding answer_octets is_busy
 answer_not_busy back sizes identity terms request proxies outcome limits h =
@@ -90,7 +91,7 @@ busy_result : (identity : Identity) (session : Option (List ℕ)) (proxies : Lis
 busy_result identity None proxies = refl
 busy_result identity (Some octets) proxies = refl
 
-pub busy_is_busy : AreReadBack → (identity : Identity) (session : Option (List ℕ)) (request : HeaderView) (proxies : List AvpView) →
+busy_is_busy : AreReadBack → (identity : Identity) (session : Option (List ℕ)) (request : HeaderView) (proxies : List AvpView) →
     IsServer identity → ForSome session (λ octets. is_short octets ≡ true) → AreProxies proxies →
     is_busy (busy_octets identity session request (flat_map padded proxies)) ≡ true
 unfolding busy_octets is_busy
@@ -99,14 +100,44 @@ busy_is_busy back identity session request proxies server short h =
     (append_spelled (busy_avps identity session) proxies (busy_spelled identity session server short) (proxies_spelled proxies h)))
     ∙ busy_result identity session proxies
 
+-- ---- with proxies as their octets
+
+pub told_not_busy : AreReadBack → AreSizes → (identity : Identity) (terms : TermsView) (request : HeaderView) (proxies : List ℕ) (outcome : Outcome) →
+    IsAnswerable identity outcome → SpellProxies proxies → is_busy (answer_octets identity terms request proxies outcome) ≡ false
+told_not_busy back sizes identity terms request proxies outcome limits p =
+    ap (λ (octets : List ℕ). is_busy (answer_octets identity terms request octets outcome)) p.2
+    ∙ answer_not_busy back sizes identity terms request p.0 outcome limits p.1
+
+pub told_busy : AreReadBack → (identity : Identity) (session : Option (List ℕ)) (request : HeaderView) (proxies : List ℕ) →
+    IsServer identity → ForSome session (λ octets. is_short octets ≡ true) → SpellProxies proxies →
+    is_busy (busy_octets identity session request proxies) ≡ true
+told_busy back identity session request proxies server short p =
+    ap (λ (octets : List ℕ). is_busy (busy_octets identity session request octets)) p.2
+    ∙ busy_is_busy back identity session request p.0 server short p.1
+
+some_proxies : (avp : AvpView) (others : List AvpView) → HasSpelling avp → AreProxies (filter (has_code PROXY_INFO) others) →
+    AreProxies (filter (has_code PROXY_INFO) (avp ∷ others))
+some_proxies avp others h rest =
+    elim (cases_Bool (has_code PROXY_INFO avp)) [
+      | inl here ↦ rw here (record { spelled = h; is_proxy = here }, rest)
+      | inr other ↦ rw other rest
+    ]
+
+filtered : (octets : List ℕ) (avps : List AvpView) → Spells octets avps → AreProxies (filter (has_code PROXY_INFO) avps)
+filtered octets [] s = tt
+filtered octets (avp ∷ others) s = some_proxies avp others s.0 (filtered s.2 others s.5)
+
+pub proxies_of_read : (octets : List ℕ) (avps : List AvpView) → Spells octets avps → SpellProxies (proxies_of avps)
+unfolding proxies_of
+proxies_of_read octets avps s = (filter (has_code PROXY_INFO) avps, filtered octets avps s, refl)
+
 -- ---- what a call wrote
 
 pub written_not_busy : AreReadBack → AreSizes → (r : Result (Vec ℕ Global) AllocError) (identity : Identity) (terms : TermsView) (request : HeaderView)
     (proxies : List ℕ) (outcome : Outcome) → IfOk r (λ answer. answer.items ≡ answer_octets identity terms request proxies outcome) →
     OnOk r (IsAnswerable identity outcome) → OnOk r (SpellProxies proxies) → IfOk r (λ answer. is_busy answer.items ≡ false)
 written_not_busy back sizes (Ok answer) identity terms request proxies outcome is limits p =
-    ap is_busy (is ∙ ap (λ (octets : List ℕ). answer_octets identity terms request octets outcome) p.2)
-    ∙ answer_not_busy back sizes identity terms request p.0 outcome limits p.1
+    ap is_busy is ∙ told_not_busy back sizes identity terms request proxies outcome limits p
 written_not_busy back sizes (Err e) identity terms request proxies outcome is limits p = tt
 
 pub written_some : (r : Result (Vec ℕ Global) AllocError) (identity : Identity) (terms : TermsView) (request : HeaderView)
@@ -120,8 +151,7 @@ pub written_busy : AreReadBack → (r : Result (Vec ℕ Global) AllocError) (ide
     OnOk r (IsServer identity) → OnOk r (ForSome session (λ octets. is_short octets ≡ true)) → OnOk r (SpellProxies proxies) →
     IfOk r (λ busy. is_busy busy.items ≡ true)
 written_busy back (Ok busy) identity session request proxies is server short p =
-    ap is_busy (is ∙ ap (busy_octets identity session request) p.2)
-    ∙ busy_is_busy back identity session request p.0 server short p.1
+    ap is_busy is ∙ told_busy back identity session request proxies server short p
 written_busy back (Err e) identity session request proxies is server short p = tt
 
 pub busy_written_some : (r : Result (Vec ℕ Global) AllocError) (identity : Identity) (session : Option (List ℕ)) (request : HeaderView)

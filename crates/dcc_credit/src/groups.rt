@@ -69,7 +69,8 @@ pub(crate) fn requested(alloc: Global, octets: &[u8]) -> Result<Option<u64>, All
     let Some(avps) = group_of(alloc, &[codes::CC_TOTAL_OCTETS], octets)? else {
         return Ok(None);
     };
-    let Some(amount) = only_value(&avps, codes::CC_TOTAL_OCTETS).and_then(|octets| u64_in(octets)) else {
+    let Some(amount) = only_value(&avps, codes::CC_TOTAL_OCTETS).and_then(|octets| u64_in(octets))
+    else {
         return Ok(None);
     };
     Ok(askable(amount))

@@ -1,26 +1,15 @@
-use super::octets::{COPIED, DEBIT, PROXIES, decoded, header, identity};
-use crate::{Proxies, session_id, write_busy, write_cca};
+use super::octets::{COPIED, PROXIES, decoded, edited, header, identity, list_in};
+use crate::{Proxies, Session, read_ccr, session_id, write_busy, write_cca};
 use dcc_act::{
     Answer, Form, Grant, Outcome, RequestKey, RequestType, ResultCode, ServiceAnswer,
     ServiceAnswers, ServiceIds, SessionId,
 };
 use dcc_avp::read_list;
+use dcc_samples::{ANSWER, BUSY, DEBIT, PROXY_INFO};
 use dcc_tariff::{Tariff, Terms, UnitKind};
 use std::alloc::Global;
 use std::process::Abort;
 use std::test::Fail;
-
-/// The answer that grants 1,001 octets, P set.
-const GRANTED: &str =
-    "010000984000011000000004000000110000002100000107400000176777312e6578616d706c653b313b3100\
-0000010c4000000c000007d100000108400000136f63732e6578616d706c6500000001284000000f6578616d706c6500\
-000001024000000c00000004000001a04000000c000000040000019f4000000c00000000\
-000001af40000018000001a54000001000000000000003e9";
-
-/// The busy answer, P set.
-const BUSY: &str =
-    "0100005c6000011000000004000000110000002100000107400000176777312e6578616d706c653b313b3100\
-0000010c4000000c00000bbc00000108400000136f63732e6578616d706c6500000001284000000f6578616d706c6500";
 
 /// Identifiers, and the Session-Id.
 const SESSION: &str = "000110000000040000001100000021\
@@ -108,7 +97,7 @@ fn check(
 fn granted(rt: HostRuntime) -> Result<(), Fail> {
     let octets = grant(UnitKind::Octets, 1001);
     let outcome = outcome(rt.alloc(), Form::Single, ResultCode::Success, octets)?;
-    check(&rt, 0xc0, "", &outcome, GRANTED)
+    check(&rt, 0xc0, "", &outcome, ANSWER)
 }
 
 #[test]
@@ -162,7 +151,7 @@ fn granted_in_a_group(rt: HostRuntime) -> Result<(), Fail> {
     check(&rt, 0xc0, "", &service, want.as_str())
 }
 
-/// Compares the busy answer to a request with these flags and these AVPs.
+/// Compares the busy answer to a request with these flags.
 fn check_busy(
     rt: &(impl Abort + AllocGlobal),
     flags: u8,
@@ -170,7 +159,7 @@ fn check_busy(
     want: &str,
 ) -> Result<(), Fail> {
     let identity = identity(rt.alloc())?;
-    let octets = decoded(rt.alloc(), request)?;
+    let octets = list_in(rt.alloc(), request)?;
     assert!(rt; octets.len() <= 65_512);
     let avps = read_list(rt.alloc(), &octets)?;
     let copied = Proxies::of(rt.alloc(), &avps)?;
@@ -197,7 +186,55 @@ fn busy(rt: HostRuntime) -> Result<(), Fail> {
     check_busy(&rt, 0x80, request.as_str(), want.as_str())?;
     let nameless = "0100004460000110000000040000001100000021\
 0000010c4000000c00000bbc00000108400000136f63732e6578616d706c6500000001284000000f6578616d706c6500";
-    check_busy(&rt, 0xd0, "0000010740000008", nameless)
+    let empty = edited(
+        alloc,
+        DEBIT,
+        "00000107400000176777312e6578616d706c653b313b3100",
+        "0000010740000008",
+    )?;
+    check_busy(&rt, 0xd0, empty.as_str(), nameless)
+}
+
+/// The longest name of a session is read and answered, and so is a message that is filled with proxies.
+#[test]
+fn greatest_requests(rt: HostRuntime) -> Result<(), Fail> {
+    let alloc = rt.alloc();
+    let name = vec![in alloc; 0x61; 255]?;
+    let sid = SessionId::from_vec(name).ok_or("a session's name")?;
+    let digits = hex::encode(alloc, sid.as_slice())?;
+    let long = format!(in alloc; "0000010740000107{digits}00")?;
+    let request = edited(
+        alloc,
+        DEBIT,
+        "00000107400000176777312e6578616d706c653b313b3100",
+        long.as_str(),
+    )?;
+    let mut octets = list_in(alloc, request.as_str())?;
+    let one = decoded(alloc, PROXY_INFO)?;
+    for _ in 0..1807 {
+        octets.extend_from_slice(&one)?;
+    }
+    assert_eq!(rt; octets.len(), 65_500);
+    let avps = read_list(alloc, &octets)?;
+    assert_eq!(rt; avps.len(), 1818);
+    assert!(rt; read_ccr(alloc, &header(0xc0), &avps).is_ok());
+    let session = session_id(&avps).ok_or("a session")?;
+    assert_eq!(rt; session.as_slice(), sid.as_slice());
+    let copied = Proxies::of(alloc, &avps)?;
+    let identity = identity(alloc)?;
+    let of_name = Some(Session::of(&sid));
+    let busy = write_busy(alloc, &identity, of_name, &header(0xc0), &copied)?;
+    assert_eq!(rt; busy.len(), 332 + 65_052);
+    let outcome = Outcome::Unknown {
+        request: RequestType::Event,
+        key: RequestKey { sid, number: 0 },
+    };
+    let answer = write_cca(alloc, &identity, &TERMS, &header(0xc0), &copied, &outcome)?;
+    assert_eq!(rt; answer.len(), 368 + 65_052);
+    assert_eq!(rt; answer.get(20..284), octets.get(..264));
+    assert_eq!(rt; answer.get(368..), octets.get(448..));
+    assert_eq!(rt; busy.get(332..), octets.get(448..));
+    Ok(())
 }
 
 #[test]

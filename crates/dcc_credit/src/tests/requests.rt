@@ -1,43 +1,13 @@
-use super::octets::{DEBIT, PROXIES, decoded, edited, header};
+use super::octets::{PROXIES, edited, header, list_in};
 use crate::{CcrFault, read_ccr, subscriber, to_act};
 use dcc_act::{Act, Action, Form, Kind, Moment};
 use dcc_avp::read_list;
-use dcc_message::Header;
+use dcc_message::{Header, applications, commands};
+use dcc_samples::{DEBIT, PLAN};
 use dcc_tariff::{Plan, Tariff, UnitKind};
 use std::alloc::Global;
 use std::process::Abort;
 use std::test::Fail;
-
-/// A plan whose default group can be replaced.
-const PLAN: &str = "host = \"ocs.example\"
-realm = \"example\"
-address = \"127.0.0.1\"
-shards = 2
-default_group = 10
-quantum = 100000
-validity = 600
-hold = 1200
-currency = 978
-exponent = -2
-[[tariff]]
-group = 10
-unit = \"octets\"
-from = \"2020-01-01T00:00:00Z\"
-price = 5
-block = 1000
-[[tariff]]
-group = 20
-unit = \"time\"
-from = \"2020-01-01T00:00:00Z\"
-price = 2
-block = 60
-[[tariff]]
-group = 30
-unit = \"units\"
-from = \"2020-01-01T00:00:00Z\"
-price = 0
-block = 1
-";
 
 fn check_act(rt: &impl Abort, act: &Act, asked: u64, unit: UnitKind, tariff: Option<Tariff>) {
     let Kind::Event(event) = &act.kind else {
@@ -59,7 +29,7 @@ fn check_act(rt: &impl Abort, act: &Act, asked: u64, unit: UnitKind, tariff: Opt
 fn act_under(alloc: Global, group: &str, seconds: u64) -> Result<Act, Fail> {
     let text = edited(alloc, PLAN, "default_group = 10", group)?;
     let plan = Plan::read(alloc, text.as_str())?;
-    let octets = decoded(alloc, DEBIT)?;
+    let octets = list_in(alloc, DEBIT)?;
     let avps = read_list(alloc, &octets)?;
     let request = read_ccr(alloc, &header(0xc0), &avps)?;
     let moment = Moment::new(seconds).ok_or("a moment")?;
@@ -68,7 +38,7 @@ fn act_under(alloc: Global, group: &str, seconds: u64) -> Result<Act, Fail> {
 
 #[test]
 fn subscriber_of_the_debit(rt: HostRuntime) -> Result<(), Fail> {
-    let octets = decoded(rt.alloc(), DEBIT)?;
+    let octets = list_in(rt.alloc(), DEBIT)?;
     let avps = read_list(rt.alloc(), &octets)?;
     let request = read_ccr(rt.alloc(), &header(0x80), &avps)?;
     let sub = subscriber(&request);
@@ -103,7 +73,7 @@ fn acts_under_default_groups(rt: HostRuntime) -> Result<(), Fail> {
 
 /// Whether a message has a request, in whatever state memory is.
 fn is_read(alloc: Global, header: &Header, text: &str) -> Result<bool, Fail> {
-    let octets = decoded(alloc, text)?;
+    let octets = list_in(alloc, text)?;
     let avps = read_list(alloc, &octets)?;
     match read_ccr(alloc, header, &avps) {
         Ok(_) => Ok(true),
@@ -122,10 +92,10 @@ fn other_headers(rt: HostRuntime) -> Result<(), Fail> {
         );
     }
     let mut other = header(0x80);
-    other.code = 280;
+    other.code = commands::DEVICE_WATCHDOG;
     assert!(rt; !is_read(rt.alloc(), &other, DEBIT)?);
     let mut other = header(0x80);
-    other.app = 0;
+    other.app = applications::BASE;
     assert!(rt; !is_read(rt.alloc(), &other, DEBIT)?);
     Ok(())
 }

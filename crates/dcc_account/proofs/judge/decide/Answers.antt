@@ -6,7 +6,7 @@ use Rattle.dcc_act.specs.declared.one_time_event.OneTimeEvent.{OneTimeEvent}
 use Rattle.dcc_act.specs.declared.outcome.Outcome.{Outcome}
 use Rattle.dcc_model.specs.Money.{free_of}
 use Rattle.dcc_model.specs.Outcomes.{top_up_outcome, event_outcome}
-use Rattle.dcc_account.specs.Kept.{past_of}
+use Rattle.dcc_account.specs.inner.Kept.{past_of}
 use Rattle.dcc_account.proofs.judge.decide.Goals as goal
 
 -- an event comes to the same where as much is free

@@ -1,5 +1,5 @@
 use Rattle.std.proofs.Common.{sym, ◌∙◌}
-use Rattle.dcc_account.specs.Kept.{past_of}
+use Rattle.dcc_account.specs.inner.Kept.{past_of}
 use Rattle.dcc_account.proofs.Pasts.{has_account_of, counts_request}
 use Rattle.dcc_account.proofs.judge.is_counted.Goals as goal
 

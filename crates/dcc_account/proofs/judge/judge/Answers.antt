@@ -5,7 +5,7 @@ use Rattle.dcc_act.specs.declared.outcome.Outcome.TheVariants.{Unknown}
 use Rattle.dcc_act.specs.declared.outcome.RequestType.TheVariants as request
 use Rattle.dcc_act.specs.declared.request_key.RequestKey.{RequestKey}
 use Rattle.dcc_model.specs.Outcomes.{has_account}
-use Rattle.dcc_account.specs.Kept.{past_of}
+use Rattle.dcc_account.specs.inner.Kept.{past_of}
 use Rattle.dcc_account.proofs.Pasts.{has_account_of}
 use Rattle.dcc_account.proofs.judge.judge.Goals as goal
 

@@ -2,7 +2,7 @@ use Rattle.std.proofs.Common.{List, option_map, take, sym, ap, ◌∙◌, arith}
 use Rattle.std.specs.Option.{option_copied}
 use Rattle.dcc_model.specs.declared.done.Done.{Done}
 use Rattle.dcc_model.specs.Outcomes.{outcome_of, first_of}
-use Rattle.dcc_account.specs.Kept.{past_of}
+use Rattle.dcc_account.specs.inner.Kept.{past_of}
 use Rattle.dcc_account.proofs.Pasts.{past_more, first_here, first_there}
 use Rattle.dcc_account.proofs.walk.outcome_of.Goals as goal
 use Rattle.dcc_account.proofs.walk.outcome_of.Goals.{then-is_same_key, else-is_same_key}

@@ -2,7 +2,7 @@ use Rattle.std.proofs.Common.{List, take, sym, ap, ◌∙◌, arith}
 use Rattle.std.specs.Option.{option_copied}
 use Rattle.dcc_model.specs.declared.done.Done.{Done}
 use Rattle.dcc_model.specs.Outcomes.{kept_of}
-use Rattle.dcc_account.specs.Kept.{past_of}
+use Rattle.dcc_account.specs.inner.Kept.{past_of}
 use Rattle.dcc_account.proofs.Pasts.{past_more, kept_here, kept_there}
 use Rattle.dcc_account.proofs.walk.outcome_of_request.Goals as goal
 use Rattle.dcc_account.proofs.walk.outcome_of_request.Goals.{then-has_key, else-has_key}

@@ -1,10 +1,9 @@
-use Rattle.std.proofs.Common.{Bool, List, [], ◌∷◌, ◌++◌, cond, length, ◌+◌, sym, ap, ◌∙◌}
+use Rattle.std.proofs.Common.{Bool, List, [], ◌∷◌, ◌++◌, cond, sym, ap, ◌∙◌}
 use Rattle.dcc_act.specs.declared.act.Act.{Act}
 use Rattle.dcc_act.specs.declared.entry.Entry.{Entry}
 use Rattle.dcc_act.specs.declared.outcome.Outcome.{Outcome}
 use Rattle.dcc_model.specs.Outcomes.{acts}
-use Rattle.dcc_model.specs.Entries.{entries_by}
-use Rattle.dcc_account.specs.Kept.{AccountView}
+use Rattle.dcc_account.specs.Accounts.{AccountView}
 use Rattle.dcc_account.specs.Prepared.{StepView}
 use Rattle.dcc_account.proofs.Steps.{kept_with, kept_at, acts_with, prepared_at}
 use Rattle.dcc_account.proofs.account.Account.install.Goals as goal
@@ -14,19 +13,18 @@ invariant_of-self c =
     let own = c.self.inside in
     let step = c.step.inside in
     let is = prepared_at _ _ _ _ c.requires c.self.view_is c.step.view_is in
-    let added = is.entries_are ∙ ap (λ (b : Bool). cond b (entries_by (length own.acts.items + 1) (record { act = step.act; outcome = step.outcome })) []) c.if-step.true in
     kept_at own.terms _ _ _ _ _ _
-    (kept_with own.terms own.acts.items own.outcomes.items own.entries.items step.act step.outcome c.self.invariant is.outcome_is (sym is.new_is ∙ c.if-step.true))
+    (kept_with own.terms own.acts.items own.outcomes.items own.entries.items step.entries.items step.act step.outcome c.self.invariant is.outcome_is (sym is.new_is ∙ c.if-step.true) is.entries_are)
     (c.push_reserved.ensures.items ∙ ap (λ (xs : List Act). xs ++ step.act ∷ []) c.grow.ensures.items)
     (c.push_reserved-then-step.ensures.items ∙ ap (λ (xs : List Outcome). xs ++ step.outcome ∷ []) c.grow-then-step.ensures.items)
-    (c.append.ensures ∙ ap (λ (es : List Entry). es ++ step.entries.items) c.grow-then-step-2.ensures.items ∙ ap (λ (es : List Entry). own.entries.items ++ es) added)
+    (c.append.ensures ∙ ap (λ (es : List Entry). es ++ step.entries.items) c.grow-then-step-2.ensures.items)
 
 pub returns-then-step-clause-acts : goal.returns-then-step-clause-acts
 returns-then-step-clause-acts c =
     let own = c.self.inside in
     let step = c.step.inside in
     let is = prepared_at _ _ _ _ c.requires c.self.view_is c.step.view_is in
-    let made = acts_with own.terms own.acts.items own.outcomes.items own.entries.items step.act step.outcome step.is_new c.self.invariant is.outcome_is is.new_is in
+    let made = acts_with c.one_more_act.ensures own.terms own.acts.items own.outcomes.items own.entries.items step.act step.is_new c.self.invariant is.new_is in
     c.push_reserved.ensures.items
     ∙ ap (λ (xs : List Act). xs ++ step.act ∷ []) c.grow.ensures.items
     ∙ sym (made ∙ ap (λ (b : Bool). cond b (own.acts.items ++ step.act ∷ []) own.acts.items) c.if-step.true)
@@ -38,7 +36,7 @@ returns-else-step-clause-acts c =
     let own = c.self.inside in
     let step = c.step.inside in
     let is = prepared_at _ _ _ _ c.requires c.self.view_is c.step.view_is in
-    let made = acts_with own.terms own.acts.items own.outcomes.items own.entries.items step.act step.outcome step.is_new c.self.invariant is.outcome_is is.new_is in
+    let made = acts_with c.one_more_act.ensures own.terms own.acts.items own.outcomes.items own.entries.items step.act step.is_new c.self.invariant is.new_is in
     sym (ap (λ (a : AccountView). a.acts) c.self.view_is)
     ∙ sym (made ∙ ap (λ (b : Bool). cond b (own.acts.items ++ step.act ∷ []) own.acts.items) c.if-step.false)
     ∙ ap (λ (a : AccountView). acts a.terms (a.acts ++ step.act ∷ [])) c.self.view_is

@@ -3,7 +3,7 @@ use Rattle.dcc_act.specs.declared.act.Act.{Act}
 use Rattle.dcc_act.specs.declared.outcome.Outcome.{Outcome}
 use Rattle.dcc_model.specs.declared.done.Done.{Done}
 use Rattle.dcc_model.specs.Outcomes.{kept_of, kept}
-use Rattle.dcc_account.specs.Kept.{past_of}
+use Rattle.dcc_account.specs.inner.Kept.{past_of}
 use Rattle.dcc_account.proofs.account.Account.kept.Goals as goal
 
 pub returns : goal.returns

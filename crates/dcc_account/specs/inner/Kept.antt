@@ -1,5 +1,5 @@
--- What an account holds, and what contracts see of it.
-use Rattle.std.specs.Prelude.{ℕ, ◌≡◌, List, [], ◌∷◌, length, reverse}
+-- What an account keeps.
+use Rattle.std.specs.Prelude.{◌≡◌, List, [], ◌∷◌, length, reverse}
 use Rattle.dcc_tariff.specs.Terms.{TermsView}
 use Rattle.dcc_act.specs.declared.act.Act.{Act}
 use Rattle.dcc_act.specs.declared.entry.Entry.{Entry}
@@ -7,18 +7,6 @@ use Rattle.dcc_act.specs.declared.outcome.Outcome.{Outcome}
 use Rattle.dcc_model.specs.declared.done.Done.{Done}
 use Rattle.dcc_model.specs.Outcomes.{history}
 use Rattle.dcc_model.specs.Entries.{entries}
-
--- for how many more acts, outcomes and entries an account has memory
-pub record Room : Type 0 where
-  pub acts : ℕ
-  pub outcomes : ℕ
-  pub entries : ℕ
-
--- an account is the acts that were made, under the terms by which they are judged
-pub record AccountView : Type 0 where
-  pub terms : Terms
-  pub acts : List Act
-  pub room : Room
 
 -- each act with its outcome
 abbrev pub dones : List Act → List Outcome → List Done
