@@ -1,9 +1,10 @@
 //! Who answers: the names and the address that a server gives itself.
 
-ghost use Rattle.std.specs.Prelude.{◌≡◌, true, if◌then◌else◌, Some, None};
+ghost use Rattle.std.specs.Prelude.{◌≡◌, true, if◌then◌else◌, Some, None, IfOk};
 ghost use Rattle.dcc_octets.specs.Names.{is_name};
 
 use dcc_octets::is_name;
+use std::alloc::AllocError;
 use std::marker::Model;
 
 /// A DiameterIdentity (RFC 6733, section 4.3.1): the name of a host or a realm, 1 to 255 octets of visible ASCII.
@@ -50,6 +51,15 @@ impl DiameterIdentity {
         let DiameterIdentity { octets } = self;
         octets
     }
+
+    /// An equal name, where memory suffices.
+    pub fn copy(&self) -> Result<DiameterIdentity, AllocError>
+        ensures { IfOk result (λ copy. copy ≡ self.now) }
+    {
+        Ok(DiameterIdentity {
+            octets: self.octets.clone()?,
+        })
+    }
 }
 
 /// Who a server is: what stands in Origin-Host, Origin-Realm and Host-IP-Address of its answers.
@@ -59,4 +69,17 @@ pub struct Identity {
     pub realm: DiameterIdentity,
     /// An IPv4 address, the highest octet first.
     pub address: [u8; 4],
+}
+
+impl Identity {
+    /// The same names and address, where memory suffices.
+    pub fn copy(&self) -> Result<Identity, AllocError>
+        ensures { IfOk result (λ copy. copy ≡ self.now) }
+    {
+        Ok(Identity {
+            host: self.host.copy()?,
+            realm: self.realm.copy()?,
+            address: self.address,
+        })
+    }
 }

@@ -1,0 +1,97 @@
+-- The books after one act of one subscriber.
+use Rattle.std.proofs.Common.{◌≡◌, ◌≢◌, ℕ, ◌+◌, Bool, true, false, if◌then◌else◌, List, [], ◌∷◌, ◌++◌, length, get_or, set, Some, sym, ap, subst, ◌∙◌, inl, inr}
+use Rattle.dcc_tariff.specs.Terms.{TermsView}
+use Rattle.dcc_act.specs.declared.act.Act.{Act}
+use Rattle.dcc_act.specs.declared.sub.Sub.{Sub}
+use Rattle.dcc_act.specs.Subs.{SameAreEqual}
+use Rattle.dcc_account.specs.declared.account.Account.{Account}
+use Rattle.dcc_model.specs.Outcomes.{acts}
+use Rattle.dcc_model.specs.Laws.{ActsAreActs}
+use Rattle.dcc_shard.specs.Shards.{account_in, held_in}
+use Rattle.dcc_shard.specs.inner.Books.{are_once, IsAt, IsAbsent, IsInstalled, IsAdded, AreBooks, Steps}
+use Rattle.dcc_shard.specs.inner.Pending.{step_of, HasTerms, IsPending}
+use Rattle.dcc_shard.specs.declared.pending.Pending.{Pending}
+use Rattle.dcc_shard.specs.declared.row.Row.{Row}
+use Rattle.dcc_shard.proofs.Subs.{one_or_other}
+use Rattle.dcc_shard.proofs.BookRows.{acts_held, Moves, held_own, held_others, books_moved}
+
+-- the account that was found has the terms, and the acts that are held
+pub record Found (rows : List Row) (terms : TermsView) (sub : Sub) (account : Account) : Type 0 where
+  pub terms_are : account.terms ≡ terms
+  pub acts_are : account.acts ≡ held_in rows sub
+
+pub found_at : (rows : List Row) (terms : TermsView) (sub : Sub) (i : ℕ) (row : Row) → AreBooks rows terms → IsAt rows sub i → row ≡ get_or rows i row → Found rows terms sub row.account
+found_at rows terms sub i row books at is =
+    let here : account_in rows sub ≡ Some row.account = at.here row ∙ ap (λ (r : Row). Some r.account) (sym is) in
+    record { terms_are = books.terms_are sub row.account here; acts_are = sym (ap acts_held here) }
+
+-- what an account found says of one more act is what is said of what is held
+pub next_found : {X : Type 0} (f : TermsView → List Act → X) (rows : List Row) (terms : TermsView) (sub : Sub) (account : Account) → Found rows terms sub account
+    → f account.terms account.acts ≡ f terms (held_in rows sub)
+next_found f rows terms sub account found = ap (λ (t : TermsView). f t account.acts) found.terms_are ∙ ap (λ (xs : List Act). f terms xs) found.acts_are
+
+-- with acts there are acts after one more
+still_some : (is_new : Bool) (xs : List Act) (act : Act) → xs ≢ [] → (if is_new then xs ++ act ∷ [] else xs) ≢ []
+still_some true [] act some none = cc
+still_some true (x ∷ xs) act some none = cc
+still_some false xs act some none = some none
+
+pub installed_steps : SameAreEqual → (old new : List Row) (terms : TermsView) (sub : Sub) (i : ℕ) (row : Row) (act : Act) (is_new : Bool) → ActsAreActs → AreBooks old terms → IsAt old sub i
+    → row ≡ get_or old i row → acts row.account.terms (row.account.acts ++ act ∷ []) ≡ (if is_new then row.account.acts ++ act ∷ [] else row.account.acts) → IsInstalled old new i row act
+    → Steps old new terms sub act
+installed_steps same old new terms sub i row act is_new law books at is adds installed =
+    let account = installed.0 in
+    let found = found_at old terms sub i row books at is in
+    let named : row.sub ≡ sub = ap (λ (r : Row). r.sub) is ∙ at.named row in
+    let new_is : new ≡ set old i (record { sub = sub; account = account }) = installed.1 ∙ ap (λ (s : Sub). set old i (record { sub = s; account = account })) named in
+    let moves : Moves old new sub account = record {
+      own = ap (λ (rows : List Row). account_in rows sub) new_is ∙ at.own account;
+      others = λ other apart. ap (λ (rows : List Row). account_in rows other) new_is ∙ at.others account other apart;
+    } in
+    let terms_are : account.terms ≡ terms = installed.2 ∙ found.terms_are in
+    let here : account_in old sub ≡ Some row.account = at.here row ∙ ap (λ (r : Row). Some r.account) (sym is) in
+    let begun : account.acts ≢ [] = λ none. still_some is_new row.account.acts act (books.begun sub row.account here) (sym adds ∙ sym installed.3 ∙ none) in
+    let acts_are : account.acts ≡ acts terms (held_in old sub ++ act ∷ []) =
+    installed.3 ∙ next_found (λ (t : TermsView) (xs : List Act). acts t (xs ++ act ∷ [])) old terms sub row.account found in
+    record {
+      own = held_own old new sub account moves ∙ acts_are;
+      others = held_others old new sub account moves;
+      books = books_moved same old new terms sub account (held_in old sub ++ act ∷ []) law books moves terms_are begun acts_are (ap are_once new_is ∙ at.once account books.once);
+    }
+
+-- of a subscriber without an account nothing is held
+pub absent_found : (rows : List Row) (terms : TermsView) (sub : Sub) (account : Account) → IsAbsent rows sub → account.terms ≡ terms → account.acts ≡ [] → Found rows terms sub account
+absent_found rows terms sub account absent terms_are none = record { terms_are = terms_are; acts_are = none ∙ sym (ap acts_held absent.nothing) }
+
+pub added_steps : SameAreEqual → (old new : List Row) (terms : TermsView) (sub : Sub) (account : Account) (act : Act) → ActsAreActs → AreBooks old terms → Found old terms sub account
+    → IsAdded old new sub account act → Steps old new terms sub act
+added_steps same old new terms sub account act law books found added =
+    let own : held_in new sub ≡ acts terms (held_in old sub ++ act ∷ []) =
+    added.0 ∙ next_found (λ (t : TermsView) (xs : List Act). acts t (xs ++ act ∷ [])) old terms sub account found in
+    let others : (other : Sub) → other ≢ sub → held_in new other ≡ held_in old other = λ other apart. ap acts_held (added.1 other apart) in
+    record {
+      own = own;
+      others = others;
+      books = record {
+        terms_are = λ s account' is. elim (one_or_other same s sub) [
+          | inl e ↦ (added.2 account' (sym (ap (account_in new) e) ∙ is)).0 ∙ found.terms_are
+          | inr apart ↦ books.terms_are s account' (sym (added.1 s apart) ∙ is)
+        ];
+        begun = λ s account' is. elim (one_or_other same s sub) [
+          | inl e ↦ (added.2 account' (sym (ap (account_in new) e) ∙ is)).1
+          | inr apart ↦ books.begun s account' (sym (added.1 s apart) ∙ is)
+        ];
+        own = λ s. elim (one_or_other same s sub) [
+          | inl e ↦ (let here : held_in new s ≡ acts terms (held_in old sub ++ act ∷ []) = ap (held_in new) e ∙ own in rw here (law terms (held_in old sub ++ act ∷ [])))
+          | inr apart ↦ (let stays = others s apart in rw stays (books.own s))
+        ];
+        once = added.3 books.once;
+      };
+    }
+
+-- a step that was pending of the rows as they were, and is installed in the same rows
+pub pending_steps : (old now new : List Row) (terms : TermsView) (sub : Sub) (act : Act) (pending : Pending) → now ≡ old → AreBooks old terms → IsPending old terms sub act pending
+    → ((t : TermsView) → AreBooks now t → HasTerms t pending → Steps now new t sub (step_of pending).act) → Steps old new terms sub act
+pending_steps old now new terms sub act pending stays books is taken =
+    let steps = taken terms (subst (λ (rows : List Row). AreBooks rows terms) (sym stays) books) is.has_terms in
+    subst (λ (rows : List Row). Steps rows new terms sub act) stays (subst (λ (a : Act). Steps now new terms sub a) is.act_is steps)

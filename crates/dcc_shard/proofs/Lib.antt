@@ -1,0 +1,3 @@
+pub mod Subs
+pub mod BookRows
+pub mod BookSteps

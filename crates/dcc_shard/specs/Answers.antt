@@ -1,0 +1,99 @@
+-- What a step of a subscriber is answered.
+use Rattle.std.specs.Prelude.{◌≡◌, ℕ, ◌≤◌, Bool, true, false, List, [], length, Option, Some, None, option_map, MatchBool, ◌⊎◌}
+use Rattle.dcc_tariff.specs.Terms.{TermsView}
+use Rattle.dcc_message.specs.HeaderView.{HeaderView}
+use Rattle.dcc_message.specs.declared.identity.Identity.{Identity}
+use Rattle.dcc_message.specs.declared.length.TheConstants.{HEADER_LENGTH}
+use Rattle.dcc_act.specs.declared.act.Act.{Act}
+use Rattle.dcc_act.specs.declared.act.Kind.TheVariants as kind
+use Rattle.dcc_act.specs.declared.outcome.Outcome.{Outcome}
+use Rattle.dcc_act.specs.declared.outcome.Outcome.TheVariants as outcomes
+use Rattle.dcc_act.specs.declared.request_key.RequestKey.{RequestKey}
+use Rattle.dcc_act.specs.declared.sub.Sub.{Sub}
+use Rattle.dcc_act.specs.TopUps.{is_amount}
+use Rattle.dcc_model.specs.Keys.{request_key}
+use Rattle.dcc_model.specs.Outcomes.{after, place, is_new}
+use Rattle.dcc_credit.specs.Answers.{answer_octets, busy_octets, is_busy}
+use Rattle.dcc_shard.specs.Shards.{ShardView, held}
+use Rattle.dcc_shard.specs.declared.answers.Answer.{Answer}
+use Rattle.dcc_shard.specs.declared.answers.Answer.TheVariants as answers
+use Rattle.dcc_shard.specs.declared.answers.TopUpAnswer.{TopUpAnswer}
+use Rattle.dcc_shard.specs.declared.answers.TopUpAnswer.TheVariants.{Done, Ceiling, BadAmount, Refused}
+
+-- these octets, with the act's place if it has one; without, the subscriber is unknown
+abbrev pub answer_at : List ℕ → Option ℕ → Bool → Answer
+answer_at octets (Some at) fresh = answers.Done octets at fresh
+answer_at octets None fresh = answers.Unknown octets
+
+-- the answer to a request that comes after these acts: the octets of what its act comes to, and its place
+abbrev pub answer_after : Identity → TermsView → HeaderView → List ℕ → List Act → Act → Answer
+answer_after identity terms header proxies before act =
+    answer_at (answer_octets identity terms header proxies (after terms before act)) (place terms before act) (is_new terms before act)
+
+-- the busy answer to a request, with its session
+abbrev pub session_of_act : Act → Option (List ℕ)
+session_of_act act = option_map (λ (key : RequestKey). key.sid) (request_key act.kind)
+
+abbrev pub busy_answer : Identity → HeaderView → List ℕ → Option (List ℕ) → Answer
+busy_answer identity header proxies session = answers.Busy (busy_octets identity session header proxies)
+
+-- a request is refused by the busy answer, or by none
+abbrev pub IsRefusedBy : Identity → HeaderView → List ℕ → Option (List ℕ) → Answer → Type 0
+IsRefusedBy identity header proxies session answer =
+    (answer ≡ busy_answer identity header proxies session) ⊎ (answer ≡ answers.Silent)
+
+-- what a request may be answered
+abbrev pub IsAnswer : ShardView → Sub → Act → HeaderView → List ℕ → Answer → Type 0
+IsAnswer shard sub act header proxies answer =
+    (answer ≡ answer_after shard.identity shard.terms header proxies (held shard sub) act)
+    ⊎ IsRefusedBy shard.identity header proxies (session_of_act act) answer
+
+-- whether the request's act was judged, and so may have been made
+abbrev pub is_judged : Answer → Bool
+is_judged (answers.Done octets at fresh) = true
+is_judged (answers.Unknown octets) = true
+is_judged (answers.Busy octets) = false
+is_judged answers.Silent = false
+
+abbrev pub top_up_act : ℕ → ℕ → ℕ → Act
+top_up_act moment ticket amount = record { moment = moment; kind = kind.TopUp (record { ticket = ticket; amount = amount }) }
+
+-- what a top-up is told of what it comes to, and where; it comes to nothing else, and always has a place
+abbrev pub told : Outcome → Option ℕ → Bool → Option TopUpAnswer
+told outcome None fresh = None
+told outcomes.Added (Some at) fresh = Some (Done at fresh)
+told outcomes.Ceiling (Some at) fresh = Some (Ceiling at fresh)
+told (outcomes.Unknown request key) (Some at) fresh = None
+told (outcomes.Answered answer) (Some at) fresh = None
+
+-- what a top-up is told that comes after these acts
+abbrev pub told_after : TermsView → List Act → Act → Option TopUpAnswer
+told_after terms before act = told (after terms before act) (place terms before act) (is_new terms before act)
+
+-- a top-up of an amount that may not be is told so; any other is told what it comes to, or that it's refused
+abbrev pub IsTold : ShardView → Sub → ℕ → ℕ → ℕ → TopUpAnswer → Type 0
+IsTold shard sub moment ticket amount answer =
+    MatchBool (is_amount amount)
+    ((Some answer ≡ told_after shard.terms (held shard sub) (top_up_act moment ticket amount)) ⊎ (answer ≡ Refused))
+    (answer ≡ BadAmount)
+
+-- whether the top-up was judged, and so may have been made
+abbrev pub is_taken : TopUpAnswer → Bool
+is_taken (Done at fresh) = true
+is_taken (Ceiling at fresh) = true
+is_taken BadAmount = false
+is_taken Refused = false
+
+-- the octets of an answer
+abbrev pub octets_of : Answer → List ℕ
+octets_of (answers.Done octets at fresh) = octets
+octets_of (answers.Unknown octets) = octets
+octets_of (answers.Busy octets) = octets
+octets_of answers.Silent = []
+
+-- an answer to what was judged is there and not busy, and the busy answer is
+abbrev pub IsToldApart : Answer → Type 0
+IsToldApart (answers.Done octets at fresh) = (is_busy octets ≡ false) × (HEADER_LENGTH ≤ length octets)
+IsToldApart (answers.Unknown octets) = (is_busy octets ≡ false) × (HEADER_LENGTH ≤ length octets)
+IsToldApart (answers.Busy octets) = (is_busy octets ≡ true) × (HEADER_LENGTH ≤ length octets)
+IsToldApart answers.Silent = Unit {0}

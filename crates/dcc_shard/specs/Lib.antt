@@ -1,0 +1,3 @@
+pub mod Shards
+pub mod Answers
+pub mod inner

@@ -1,0 +1,47 @@
+-- What a shard holds, and for whom.
+use Rattle.std.specs.Prelude.{◌≡◌, ◌≢◌, Bool, if◌then◌else◌, List, [], ◌∷◌, ◌++◌, Option, Some, None}
+use Rattle.std.specs.Option.{option_map_or}
+use Rattle.dcc_tariff.specs.Terms.{TermsView}
+use Rattle.dcc_message.specs.declared.identity.Identity.{Identity}
+use Rattle.dcc_act.specs.declared.act.Act.{Act}
+use Rattle.dcc_act.specs.declared.sub.Sub.{Sub}
+use Rattle.dcc_act.specs.Subs.{same_sub}
+use Rattle.dcc_account.specs.declared.account.Account.{Account}
+use Rattle.dcc_model.specs.Outcomes.{acts}
+use Rattle.dcc_shard.specs.declared.row.Row.{Row}
+
+-- by what terms accounts are judged, who answers, and the accounts
+pub record ShardView : Type 0 where
+  pub terms : TermsView
+  pub identity : Identity
+  pub rows : List Row
+
+-- the account of a subscriber, where there is one
+abbrev pub account_in : List Row → Sub → Option Account
+account_in [] sub = None
+account_in (row ∷ rows) sub = if same_sub row.sub sub then Some row.account else account_in rows sub
+
+abbrev pub account_of : ShardView → Sub → Option Account
+account_of shard sub = account_in shard.rows sub
+
+-- the acts that are held for a subscriber, in order
+abbrev pub held_in : List Row → Sub → List Act
+held_in rows sub = option_map_or (λ (account : Account). account.acts) (account_in rows sub) []
+
+abbrev pub held : ShardView → Sub → List Act
+held shard sub = held_in shard.rows sub
+
+-- the acts that are held after one more act, where that was judged, else as before
+abbrev pub held_after : TermsView → Bool → List Act → Act → List Act
+held_after terms is_judged before act = if is_judged then acts terms (before ++ act ∷ []) else before
+
+-- One act of one subscriber was judged, or nothing changed. What is held for the others, the terms and who answers stay.
+pub record IsStep (old new : ShardView) (is_judged : Bool) (sub : Sub) (act : Act) : Type 0 where
+  pub own : held new sub ≡ held_after old.terms is_judged (held old sub) act
+  pub others : (other : Sub) → other ≢ sub → held new other ≡ held old other
+  pub terms : new.terms ≡ old.terms
+  pub identity : new.identity ≡ old.identity
+
+-- what is held for each subscriber is what its own list makes
+abbrev pub AreOwn : ShardView → Type 0
+AreOwn shard = (sub : Sub) → acts shard.terms (held shard sub) ≡ held shard sub

@@ -1,0 +1,39 @@
+//! What a shard answers.
+
+use dcc_octets::OctetString;
+
+/// What a request is answered.
+#[derive(Debug, Drop)]
+pub enum Answer {
+    /// Its act comes to this answer. Its place counts from 1 in the subscriber's list of acts: its own where it is fresh,
+    /// else that of the act which came first with its key.
+    Done {
+        octets: OctetString,
+        place: u64,
+        fresh: bool,
+    },
+    /// The subscriber has no account: DIAMETER_USER_UNKNOWN (5030), and nothing is kept of it.
+    Unknown {
+        octets: OctetString,
+    },
+    /// Memory was short, and nothing changed: DIAMETER_TOO_BUSY (3004).
+    Busy {
+        octets: OctetString,
+    },
+    /// Memory was short for that answer too, and nothing changed.
+    Silent,
+}
+
+/// What a top-up is told.
+#[derive(Clone, Copy, Debug, PartialEq, Eq)]
+pub enum TopUpAnswer {
+    /// It was added, now where it is fresh, else when its ticket came first. Its place counts from 1 in the subscriber's
+    /// list of acts.
+    Done { place: u64, fresh: bool },
+    /// It would have lifted the funds above 10^18 minor units, and wasn't added; so too where its ticket comes again.
+    Ceiling { place: u64, fresh: bool },
+    /// Its amount isn't 1 to 10^18 minor units; nothing is kept of it.
+    BadAmount,
+    /// Memory was short, and nothing changed.
+    Refused,
+}

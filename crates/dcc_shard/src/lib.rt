@@ -1,0 +1,18 @@
+//! A shard: the accounts of its subscribers, and one step of one of them.
+//!
+//! Stands on `dcc_account` for what an act comes to and on `dcc_credit` for the octets of its answer. The contract that it
+//! gives: a step answers its subscriber by what the definitions say of one more act after those that are held for it, and
+//! leaves what is held for every other subscriber as it was; a step that memory refuses answers so and leaves everything
+//! as it was. In each step what can be refused comes before what changes.
+#![tactic(auto)]
+
+mod accounts;
+mod answers;
+mod pending;
+mod row;
+mod serve;
+mod shard;
+
+pub use answers::{Answer, TopUpAnswer};
+pub use row::Row;
+pub use shard::Shard;

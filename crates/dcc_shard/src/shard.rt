@@ -1,0 +1,127 @@
+//! The shard.
+
+ghost use Rattle.std.specs.Prelude.{◌≡◌, ◌≢◌, [], true, IfOk, IfSome, IfNone, is_some};
+ghost use Rattle.dcc_act.specs.declared.sub.Sub.{Sub};
+ghost use Rattle.dcc_model.specs.Keys.{request_key};
+ghost use Rattle.dcc_shard.specs.Shards.{held, AreOwn, IsStep};
+ghost use Rattle.dcc_shard.specs.Answers.{IsAnswer, IsToldApart, IsTold, is_judged, is_taken, top_up_act};
+
+use crate::accounts::find;
+use crate::answers::{Answer, TopUpAnswer};
+use crate::row::Row;
+use crate::serve::{Asked, add, answer, busy, copied, session_in};
+use dcc_account::Account;
+use dcc_act::{Act, Kind, Moment, Sub, TopUp};
+use dcc_credit::Proxies;
+use dcc_message::{Header, Identity};
+use dcc_model::leaving_out_changes_nothing;
+use dcc_tariff::Terms;
+use std::alloc::{AllocError, Global};
+use std::marker::Model;
+
+/// The accounts of the subscribers that are kept here, under one plan's terms.
+#[derive(Drop)]
+pub struct Shard {
+    terms: Terms,
+    identity: Identity,
+    rows: Vec<Row>,
+}
+
+impl Model for Shard {
+    ghost use Rattle.dcc_shard.specs.Shards.{ShardView};
+    ghost use Rattle.dcc_shard.specs.inner.Books.{AreBooks};
+
+    ghost Value = { ShardView };
+
+    ghost view = { λ s. record { terms = s.terms; identity = s.identity; rows = s.rows.items } };
+
+    ghost invariant = { λ s. AreBooks s.rows.items s.terms };
+}
+
+impl Shard {
+    /// A shard without accounts, under these terms, that answers as this server.
+    pub fn new(alloc: Global, terms: &Terms, identity: &Identity) -> Result<Shard, AllocError>
+        ensures terms { IfOk result (λ shard. shard.terms ≡ terms.now) }
+        ensures identity { IfOk result (λ shard. shard.identity ≡ identity.now) }
+        ensures nothing { IfOk result (λ shard. (sub : Sub) → held shard sub ≡ []) }
+        ensures own { IfOk result AreOwn }
+    {
+        leaving_out_changes_nothing();
+        Ok(Shard {
+            terms: *terms,
+            identity: identity.copy()?,
+            rows: Vec::new(alloc),
+        })
+    }
+
+    /// The account of a subscriber, where there is one: where an act of it was made.
+    pub fn account(&self, sub: Sub) -> Option<&Account>
+        ensures terms { IfSome result (λ account. account.now.terms ≡ self.now.terms) }
+        ensures acts { IfSome result (λ account. account.now.acts ≡ held self.now sub) }
+        ensures some { IfSome result (λ account. account.now.acts ≢ []) }
+        ensures none { IfNone result (held self.now sub ≡ []) }
+    {
+        let i = find(&self.rows, &sub)?;
+        Some(&self.rows[i].account)
+    }
+
+    /// Makes a request's act, and answers it under the request's header and with its proxies: with what the act comes to, or
+    /// busy, or with nothing where memory was short for the busy answer too.
+    pub fn step(
+        &mut self,
+        alloc: Global,
+        sub: Sub,
+        act: Act,
+        request: &Header,
+        proxies: &Proxies,
+    ) -> Answer
+        requires { is_some (request_key act.kind) ≡ true }
+        ensures answer { IsAnswer self.old sub act request.now proxies.now result }
+        ensures step { IsStep self.old self.new (is_judged result) sub act }
+        ensures own { AreOwn self.new }
+        ensures apart { IsToldApart result }
+    {
+        let asked = Asked {
+            identity: &self.identity,
+            terms: &self.terms,
+            request,
+            proxies,
+        };
+        // The act is gone once it is prepared, and a busy answer needs its session.
+        let Ok(session) = copied(session_in(&act)) else {
+            return busy(alloc, &asked, session_in(&act));
+        };
+        match answer(&mut self.rows, alloc, &asked, sub, act) {
+            Ok(answer) => answer,
+            Err(_) => busy(alloc, &asked, session.as_ref()),
+        }
+    }
+
+    /// Puts money into a subscriber's account, in minor units. An amount that isn't 1 to 10^18 is told so; a ticket that
+    /// comes again is told what it was told first.
+    pub fn top_up(
+        &mut self,
+        alloc: Global,
+        sub: Sub,
+        moment: Moment,
+        ticket: u64,
+        amount: u64,
+    ) -> TopUpAnswer
+        ensures answer { IsTold self.old sub moment ticket amount result }
+        ensures step { IsStep self.old self.new (is_taken result) sub (top_up_act moment ticket amount) }
+        ensures own { AreOwn self.new }
+    {
+        let terms = &self.terms;
+        let Some(top_up) = TopUp::new(ticket, amount) else {
+            return TopUpAnswer::BadAmount;
+        };
+        let act = Act {
+            moment,
+            kind: Kind::TopUp(top_up),
+        };
+        match add(&mut self.rows, alloc, terms, sub, act) {
+            Ok(answer) => answer,
+            Err(_) => TopUpAnswer::Refused,
+        }
+    }
+}
