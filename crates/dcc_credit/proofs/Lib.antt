@@ -4,3 +4,4 @@ pub mod Messages
 pub mod Spelled
 pub mod ReadBack
 pub mod SlotLemmas
+pub mod Sessions

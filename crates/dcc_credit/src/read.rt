@@ -1,6 +1,7 @@
 //! Reading a request: checks over the whole message, one after another, and then its groups.
 
-ghost use Rattle.std.specs.Prelude.{◌≡◌, ◌↔◌, Some, None, Err, option_map, IfOk, IfErr};
+ghost use Rattle.std.specs.Prelude.{◌≡◌, ◌↔◌, Some, None, Err, option_map, IfOk, IfErr, IfSome};
+ghost use Rattle.dcc_credit.specs.Answers.{session_of};
 ghost use Rattle.dcc_credit.specs.Requests.{Plain, plain_of, is_credit_control, request_of};
 ghost use Rattle.dcc_credit.specs.declared.read.CcrFault.TheVariants.{Later, Memory};
 
@@ -71,6 +72,8 @@ pub fn read_ccr<'a>(
     avps: &[Avp<'a>],
 ) -> Result<Request<'a>, CcrFault>
     ensures found { IfOk result (λ request. request_of header.now avps.now ≡ Some request) }
+    // The session that a busy answer would take over is the request's.
+    ensures session { IfOk result (λ request. session_of avps.now ≡ Some request.key.sid) }
     ensures later { result ≡ Err Later → request_of header.now avps.now ≡ None }
 {
     let Some(outline) = outline_of(header, avps) else {
@@ -93,7 +96,8 @@ pub fn read_ccr<'a>(
 /// What has to be there once, and the numbers that have one value.
 #[tactic(auto, unfolding(crate::specs::Requests::plain_of))]
 fn outline_of<'a>(header: &Header, avps: &[Avp<'a>]) -> Option<Outline<'a>>
-    ensures { result ≡ plain_of header.now avps.now }
+    ensures value { result ≡ plain_of header.now avps.now }
+    ensures session { IfSome result (λ outline. session_of avps.now ≡ Some outline.session) }
 {
     if !is_credit_control(header) {
         return None;

@@ -1,67 +1,100 @@
 -- Two runs in turn.
-use Rattle.std.proofs.Common.{◌≡◌, ℕ, List, [], ◌∷◌, ◌++◌, map, reverse, Option, refl, sym, ap, subst, ◌∙◌}
+use Rattle.std.proofs.Common.{◌≡◌, ℕ, List, [], ◌∷◌, ◌++◌, map, reverse, Option, Some, None, refl, sym, ap, subst, ◌∙◌, inl, inr}
+use Rattle.std.proofs.lemmas.Bool.{cases_Bool}
 use Rattle.std.proofs.lemmas.List.{append-nil, reverse-append}
 use Rattle.dcc_act.specs.declared.act.Act.{Act}
 use Rattle.dcc_act.specs.declared.sub.Sub.{Sub}
-use Rattle.dcc_model.specs.Laws.{LaterChangesNothing}
+use Rattle.dcc_model.specs.Laws.{LaterChangesNothing, LastComesAfter}
 use Rattle.dcc_model.specs.Outcomes.{acts}
-use Rattle.dcc_engine.specs.Asks.{Step, Ask, ask_for, own_with, moved_by}
-use Rattle.dcc_engine.specs.Books.{next_outcome}
-use Rattle.dcc_engine.specs.Core.{Core, Setting, held_of, peer_of}
-use Rattle.dcc_engine.specs.Isolation.{peers_after, own_after, asked, own, peers, IsRun, asks_after, own_asks}
-use Rattle.dcc_engine.specs.Served.{IsNext}
-use Rattle.dcc_engine.specs.declared.peers.Peer.{Peer}
-use Rattle.dcc_engine.proofs.Pasts.{IsPast, AreStable, next_stays_behind}
-use Rattle.dcc_engine.proofs.Runs.{next_moved, run_from_past}
+use Rattle.dcc_engine.specs.Asks.{Turn, Ask, Said, ask_for, is_refused_for, own_with, moved_by, said_by}
+use Rattle.dcc_engine.specs.Engines.{EngineView, Setting}
+use Rattle.dcc_engine.specs.Isolation.{before_of, asked, own, peers, IsRun, Follows, with_own, asks_after, answers_after, own_asks, answers}
+use Rattle.dcc_engine.specs.inner.Done.{IsNext}
+use Rattle.dcc_engine.specs.declared.event.Out.{Out}
+use Rattle.dcc_engine.proofs.Moves.{AreStable, ask_moved, next_moved}
+use Rattle.dcc_engine.proofs.Pasts.{IsPast}
+use Rattle.dcc_engine.proofs.Runs.{run_from_past}
 use Rattle.dcc_engine.proofs.OwnAnswers.{acts_of, own_more, own_is, map-reverse, past_from}
 
-funext : {A B : Type 0} (f g : A → B) → ((x : A) → f x ≡ g x) → f ≡ g
-funext f g h = λ i x. h x i
+peers_joined : (a b : EngineView) (xs past : List Turn) → Follows a b xs → (id : ℕ) → (before_of b past).peers id ≡ (before_of a (past ++ reverse xs)).peers id
+peers_joined a b xs [] follows id = follows.peers_are id
+peers_joined a b xs (turn ∷ past) follows id = ap (moved_by id turn) (peers_joined a b xs past follows id)
 
--- the second core stands where the first past has led
-record IsLeft (a b : Core) (first : List Step) : Type 0 where
-  setting : b.setting ≡ a.setting
-  peers_are : (id : ℕ) → peer_of b id ≡ peers_after a first id
+asked_joined : (a b : EngineView) (xs past : List Turn) (turn : Turn) (sub : Sub) → Follows a b xs → asked b past turn.event sub ≡ asked a (past ++ reverse xs) turn.event sub
+asked_joined a b xs past turn sub follows =
+    ap (λ (s : Setting). ask_for s (before_of b past) turn.event sub) follows.setting
+    ∙ ask_moved a.setting (before_of b past) (before_of a (past ++ reverse xs)) sub (peers_joined a b xs past follows) turn.event
 
-peers_joined : (a b : Core) (first past : List Step) → IsLeft a b first → (id : ℕ) → peers_after b past id ≡ peers_after a (past ++ first) id
-peers_joined a b first [] left id = left.peers_are id
-peers_joined a b first (step ∷ past) left id = ap (moved_by id step.event) (peers_joined a b first past left id)
+own_joined : (a b : EngineView) (xs past : List Turn) (sub : Sub) → Follows a b xs → (before_of a (past ++ reverse xs)).own sub ≡ own a xs sub ++ acts_of (asks_after b past sub)
+own_joined a b xs [] sub follows = sym (append-nil (own a xs sub))
+own_joined a b xs (turn ∷ past) sub follows =
+    ap (λ (o : Option Ask). own_with o turn.out sub ((before_of a (past ++ reverse xs)).own sub)) (sym (asked_joined a b xs past turn sub follows))
+    ∙ own_more (own a xs sub) (asked b past turn.event sub) turn.out sub ((before_of a (past ++ reverse xs)).own sub) (asks_after b past sub) (own_joined a b xs past sub follows)
 
-asked_joined : (a b : Core) (first past : List Step) (step : Step) (sub : Sub) → IsLeft a b first → asked b past step.event sub ≡ asked a (past ++ first) step.event sub
-asked_joined a b first past step sub left =
-    ap (λ (s : Setting). ask_for s (peers_after b past) step.event sub) left.setting
-    ∙ ap (λ (p : ℕ → Option Peer). ask_for a.setting p step.event sub) (funext (peers_after b past) (peers_after a (past ++ first)) (peers_joined a b first past left))
-
-own_joined : (a b : Core) (first past : List Step) (sub : Sub) → IsLeft a b first → own_after a (past ++ first) sub ≡ own_after a first sub ++ acts_of (asks_after b past sub)
-own_joined a b first [] sub left = sym (append-nil (own_after a first sub))
-own_joined a b first (step ∷ past) sub left =
-    ap (λ (o : Option Ask). own_with o step.out (own_after a (past ++ first) sub)) (sym (asked_joined a b first past step sub left))
-    ∙ own_more (own_after a first sub) (asked b past step.event sub) step.out (own_after a (past ++ first) sub) (asks_after b past sub) (own_joined a b first past sub left)
-
-past_joined : AreStable → (a b : Core) (first past : List Step) → IsLeft a b first → ((sub : Sub) → held_of b sub ≡ acts a.setting.plan.terms (own_after a first sub))
-    → IsPast a first → IsPast b past → IsPast a (past ++ first)
-past_joined stable a b first [] left held before second = before
-past_joined stable a b first (step ∷ past) left held before second =
+-- the entries of both runs make the acts that those of the second make
+acts_joined : AreStable → (a b : EngineView) (xs past : List Turn) (sub : Sub) → Follows a b xs
+    → acts a.setting.plan.terms ((before_of b past).own sub) ≡ acts a.setting.plan.terms ((before_of a (past ++ reverse xs)).own sub)
+acts_joined stable a b xs past sub follows =
     let terms = a.setting.plan.terms in
-    let next = subst (λ (s : Setting). IsNext s (peers_after b past) (own_after b past) step.event step.out) left.setting second.0 in (
-      next_moved a.setting (peers_after b past) (peers_after a (past ++ first)) (own_after b past) (own_after a (past ++ first)) step.event step.out (peers_joined a b first past left)
-          (λ sub act. ap (λ (xs : List Act). next_outcome terms xs act) (own_is b past sub ∙ ap (λ (xs : List Act). xs ++ acts_of (asks_after b past sub)) (held sub))
-          ∙ next_stays_behind stable terms (own_after a first sub) (acts_of (asks_after b past sub)) act
-          ∙ sym (ap (λ (xs : List Act). next_outcome terms xs act) (own_joined a b first past sub left)))
-          next,
-      past_joined stable a b first past left held before second.1,
-    )
+    ap (acts terms) (own_is b past sub ∙ ap (λ (h : List Act). h ++ acts_of (asks_after b past sub)) (follows.held sub))
+    ∙ stable.acts_stay terms (own a xs sub) (acts_of (asks_after b past sub))
+    ∙ ap (acts terms) (sym (own_joined a b xs past sub follows))
 
-pub runs_joined : AreStable → LaterChangesNothing → (a b : Core) (xs ys : List Step) → IsRun a xs → IsRun b ys → b.setting ≡ a.setting
-    → ((sub : Sub) → held_of b sub ≡ acts a.setting.plan.terms (own a xs sub)) → ((id : ℕ) → peer_of b id ≡ peers a xs id) → IsRun a (xs ++ ys)
-runs_joined stable law a b xs ys first second setting held peers_are =
-    let left : IsLeft a b (reverse xs) = record { setting = setting; peers_are = peers_are } in
-    let joined = past_joined stable a b (reverse xs) (reverse ys) left held (past_from law a xs first [] (reverse xs) refl) (past_from law b ys second [] (reverse ys) refl) in
-    run_from_past law a (xs ++ ys) (subst (IsPast a) (sym (reverse-append xs ys)) joined)
+past_joined : AreStable → (a b : EngineView) (xs past : List Turn) → Follows a b xs → IsPast a (reverse xs) → IsPast b past → IsPast a (past ++ reverse xs)
+past_joined stable a b xs [] follows before second = before
+past_joined stable a b xs (turn ∷ past) follows before second = (
+  next_moved stable a.setting (before_of b past) (before_of a (past ++ reverse xs)) turn (peers_joined a b xs past follows) (λ sub. acts_joined stable a b xs past sub follows)
+      (subst (λ (s : Setting). IsNext s (before_of b past) turn) follows.setting second.0),
+  past_joined stable a b xs past follows before second.1,
+)
 
-pub own_in_turn : (a b : Core) (xs ys : List Step) → b.setting ≡ a.setting → ((id : ℕ) → peer_of b id ≡ peers a xs id)
-    → (sub : Sub) → own a (xs ++ ys) sub ≡ own a xs sub ++ map (λ (ask : Ask). ask.act) (own_asks b ys sub)
-own_in_turn a b xs ys setting peers_are sub =
-    let left : IsLeft a b (reverse xs) = record { setting = setting; peers_are = peers_are } in
-    ap (λ (past : List Step). own_after a past sub) (reverse-append xs ys) ∙ own_joined a b (reverse xs) (reverse ys) sub left
+pub runs_joined : AreStable → LaterChangesNothing → LastComesAfter → (a b : EngineView) (xs ys : List Turn) → IsRun a xs → IsRun b ys → Follows a b xs → IsRun a (xs ++ ys)
+runs_joined stable law last a b xs ys first second follows =
+    let joined = past_joined stable a b xs (reverse ys) follows (past_from law last a xs first [] (reverse xs) refl) (past_from law last b ys second [] (reverse ys) refl) in
+    run_from_past law last a (xs ++ ys) (subst (IsPast a) (sym (reverse-append xs ys)) joined)
+
+pub held_in_turn : AreStable → (a b : EngineView) (xs ys : List Turn) → Follows a b xs → (sub : Sub) → acts b.setting.plan.terms (own b ys sub) ≡ acts a.setting.plan.terms (own a (xs ++ ys) sub)
+held_in_turn stable a b xs ys follows sub =
+    ap (λ (s : Setting). acts s.plan.terms (own b ys sub)) follows.setting ∙ acts_joined stable a b xs (reverse ys) sub follows
+    ∙ ap (λ (past : List Turn). acts a.setting.plan.terms ((before_of a past).own sub)) (sym (reverse-append xs ys))
+
+pub peers_in_turn : (a b : EngineView) (xs ys : List Turn) → Follows a b xs → (id : ℕ) → peers b ys id ≡ peers a (xs ++ ys) id
+peers_in_turn a b xs ys follows id = peers_joined a b xs (reverse ys) follows id ∙ ap (λ (past : List Turn). (before_of a past).peers id) (sym (reverse-append xs ys))
+
+with_own_behind : {X : Type 0} (o : Option Ask) (out : Out) (sub : Sub) (x : Ask → X) (before more : List X) → with_own o out sub x (before ++ more) ≡ with_own o out sub x before ++ more
+with_own_behind None out sub x before more = refl
+with_own_behind (Some ask) out sub x before more =
+    elim (cases_Bool (is_refused_for ask out sub)) [
+      | inl t ↦ rw t refl
+      | inr f ↦ rw f refl
+    ]
+
+asks_joined : (a b : EngineView) (xs past : List Turn) (sub : Sub) → Follows a b xs → asks_after a (past ++ reverse xs) sub ≡ asks_after b past sub ++ asks_after a (reverse xs) sub
+asks_joined a b xs [] sub follows = refl
+asks_joined a b xs (turn ∷ past) sub follows =
+    ap (λ (o : Option Ask). with_own o turn.out sub (λ ask. ask) (asks_after a (past ++ reverse xs) sub)) (sym (asked_joined a b xs past turn sub follows))
+    ∙ ap (with_own (asked b past turn.event sub) turn.out sub (λ ask. ask)) (asks_joined a b xs past sub follows)
+    ∙ with_own_behind (asked b past turn.event sub) turn.out sub (λ ask. ask) (asks_after b past sub) (asks_after a (reverse xs) sub)
+
+answers_joined : (a b : EngineView) (xs past : List Turn) (sub : Sub) → Follows a b xs → answers_after a (past ++ reverse xs) sub ≡ answers_after b past sub ++ answers_after a (reverse xs) sub
+answers_joined a b xs [] sub follows = refl
+answers_joined a b xs (turn ∷ past) sub follows =
+    let x : Ask → Said = λ ask. said_by ask.source turn.out in
+    ap (λ (o : Option Ask). with_own o turn.out sub x (answers_after a (past ++ reverse xs) sub)) (sym (asked_joined a b xs past turn sub follows))
+    ∙ ap (with_own (asked b past turn.event sub) turn.out sub x) (answers_joined a b xs past sub follows)
+    ∙ with_own_behind (asked b past turn.event sub) turn.out sub x (answers_after b past sub) (answers_after a (reverse xs) sub)
+
+pub asks_in_turn : (a b : EngineView) (xs ys : List Turn) → Follows a b xs → (sub : Sub) → own_asks a (xs ++ ys) sub ≡ own_asks a xs sub ++ own_asks b ys sub
+asks_in_turn a b xs ys follows sub =
+    ap (λ (past : List Turn). reverse (asks_after a past sub)) (reverse-append xs ys) ∙ ap reverse (asks_joined a b xs (reverse ys) sub follows)
+    ∙ reverse-append (asks_after b (reverse ys) sub) (asks_after a (reverse xs) sub)
+
+pub answers_in_turn : (a b : EngineView) (xs ys : List Turn) → Follows a b xs → (sub : Sub) → answers a (xs ++ ys) sub ≡ answers a xs sub ++ answers b ys sub
+answers_in_turn a b xs ys follows sub =
+    ap (λ (past : List Turn). reverse (answers_after a past sub)) (reverse-append xs ys) ∙ ap reverse (answers_joined a b xs (reverse ys) sub follows)
+    ∙ reverse-append (answers_after b (reverse ys) sub) (answers_after a (reverse xs) sub)
+
+pub own_in_turn : (a b : EngineView) (xs ys : List Turn) → Follows a b xs → (sub : Sub) → own a (xs ++ ys) sub ≡ own a xs sub ++ map (λ (ask : Ask). ask.act) (own_asks b ys sub)
+own_in_turn a b xs ys follows sub =
+    ap (λ (past : List Turn). (before_of a past).own sub) (reverse-append xs ys) ∙ own_joined a b xs (reverse ys) sub follows
     ∙ ap (λ (more : List Act). own a xs sub ++ more) (sym (map-reverse (asks_after b (reverse ys) sub)))

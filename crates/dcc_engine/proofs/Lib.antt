@@ -1,11 +1,10 @@
 pub mod Tables
-pub mod Subs
-pub mod BookRows
-pub mod BookSteps
-pub mod Refusals
-pub mod Told
-pub mod ToppedUp
+pub mod Moves
 pub mod Pasts
 pub mod Runs
 pub mod OwnAnswers
 pub mod InTurn
+pub mod Refusals
+pub mod Lists
+pub mod Requests
+pub mod TopUps

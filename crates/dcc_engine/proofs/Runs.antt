@@ -1,6 +1,6 @@
 -- One event more, and from looking back to places.
 use Rattle.std.proofs.Common.{◌≡◌, ℕ, ◌+◌, ◌<◌, false, List, [], ◌∷◌, ◌++◌, length, get_or, take, drop, reverse, Option, Some, None, refl, sym, ap, subst, ◌∙◌, arith, inl, inr}
-use Rattle.std.specs.Prelude.{slice_get}
+use Rattle.std.specs.Prelude.{slice_get, option_map}
 use Rattle.std.proofs.lemmas.Bool.{cases_Bool}
 use Rattle.std.proofs.lemmas.List.{append_assoc, append-nil, take_more, drop_more, length-append, length-take-le, reverse-append, take-append-drop}
 use Rattle.std.proofs.lemmas.Option.{slice_get_within, get_or_from_slice_get}
@@ -8,132 +8,135 @@ use Rattle.dcc_act.specs.declared.act.Act.{Act}
 use Rattle.dcc_act.specs.declared.outcome.Outcome.{Outcome}
 use Rattle.dcc_act.specs.declared.sub.Sub.{Sub}
 use Rattle.dcc_tariff.specs.Terms.{TermsView}
-use Rattle.dcc_model.specs.Laws.{LaterChangesNothing}
-use Rattle.dcc_model.specs.Outcomes.{acts, outcome}
-use Rattle.dcc_engine.specs.Asks.{Step, Ask, ask_for, is_refused, IsAsked, answer_by, own_with}
-use Rattle.dcc_engine.specs.Books.{next_outcome, held_in}
-use Rattle.dcc_engine.specs.Core.{Core, Setting, held_of, peer_of}
-use Rattle.dcc_engine.specs.Isolation.{steps, peers_after, own_after, asked, own, place, IsRun}
-use Rattle.dcc_engine.specs.Served.{IsNext, IsDone}
+use Rattle.dcc_model.specs.Laws.{LaterChangesNothing, LastComesAfter}
+use Rattle.dcc_model.specs.Outcomes.{acts, outcome, after}
+use Rattle.dcc_engine.specs.Asks.{Turn, Ask, ask_for, is_refused_for, IsAnsweredFor, said_of, own_with, moved_by}
+use Rattle.dcc_engine.specs.Engines.{EngineView, Setting, held_of, peer_of}
+use Rattle.dcc_engine.specs.Isolation.{turns, before_of, asked, own, entry_place, IsRun}
+use Rattle.dcc_engine.specs.inner.Done.{IsNext, IsDone, now_of}
 use Rattle.dcc_engine.specs.declared.event.Event.{Event}
 use Rattle.dcc_engine.specs.declared.event.Out.{Out}
-use Rattle.dcc_engine.specs.declared.peers.Peer.{Peer}
-use Rattle.dcc_engine.proofs.Pasts.{IsPast, AreStable, next_stays}
-
-funext : {A B : Type 0} (f g : A → B) → ((x : A) → f x ≡ g x) → f ≡ g
-funext f g h = λ i x. h x i
+use Rattle.dcc_engine.proofs.Moves.{AreStable, ask_moved, next_moved}
+use Rattle.dcc_engine.proofs.Pasts.{IsPast}
 
 pub reverse_cons : {X : Type 0} (x : X) (xs : List X) → reverse (x ∷ xs) ≡ reverse xs ++ x ∷ []
 reverse_cons x xs = reverse-append (x ∷ []) xs
 
--- the steps with one more
-steps_push : (events : List Event) (outs : List Out) (event : Event) (out : Out) → length outs ≡ length events → steps (events ++ event ∷ []) (outs ++ out ∷ []) ≡ steps events outs ++ record { event = event; out = out } ∷ []
-steps_push [] [] event out same = refl
-steps_push [] (o ∷ outs) event out same = absurd (omega arith)
-steps_push (e ∷ events) [] event out same = absurd (omega arith)
-steps_push (e ∷ events) (o ∷ outs) event out same = ap (λ (rest : List Step). record { event = e; out = o } ∷ rest) (steps_push events outs event out (omega arith))
+-- the turns with one more
+turns_push : (events : List Event) (outs : List Out) (event : Event) (out : Out) → length outs ≡ length events → turns (events ++ event ∷ []) (outs ++ out ∷ []) ≡ turns events outs ++ record { event = event; out = out } ∷ []
+turns_push [] [] event out same = refl
+turns_push [] (o ∷ outs) event out same = absurd (omega arith)
+turns_push (e ∷ events) [] event out same = absurd (omega arith)
+turns_push (e ∷ events) (o ∷ outs) event out same = ap (λ (rest : List Turn). record { event = e; out = o } ∷ rest) (turns_push events outs event out (omega arith))
 
 pub past_push : (events : List Event) (outs : List Out) (i : ℕ) (event : Event) (out : Out) → i < length events → event ≡ get_or events i event → length outs ≡ i
-    → reverse (steps (take (i + 1) events) (outs ++ out ∷ [])) ≡ record { event = event; out = out } ∷ reverse (steps (take i events) outs)
+    → reverse (turns (take (i + 1) events) (outs ++ out ∷ [])) ≡ record { event = event; out = out } ∷ reverse (turns (take i events) outs)
 past_push events outs i event out lt is same =
     let more : take (i + 1) events ≡ take i events ++ event ∷ [] = take_more events i event lt ∙ ap (λ (e : Event). take i events ++ e ∷ []) (sym is) in
     let len : length outs ≡ length (take i events) = same ∙ sym (length-take-le i events (omega arith)) in
-    ap (λ (es : List Event). reverse (steps es (outs ++ out ∷ []))) more ∙ ap reverse (steps_push (take i events) outs event out len) ∙ reverse-append (steps (take i events) outs) (record { event = event; out = out } ∷ [])
+    ap (λ (es : List Event). reverse (turns es (outs ++ out ∷ []))) more ∙ ap reverse (turns_push (take i events) outs event out len) ∙ reverse-append (turns (take i events) outs) (record { event = event; out = out } ∷ [])
 
-pub asked_at : (setting : Setting) (event : Event) (ask : Ask) (out : Out) (o p : Outcome) → (is_refused ask out ≡ false → o ≡ p) → IsAsked setting event ask out o → IsAsked setting event ask out p
-asked_at setting event ask out o p same told =
-    elim (cases_Bool (is_refused ask out)) [
-      | inl t ↦ let refusal = rw t at told in rw t refusal
-      | inr f ↦ let answered = rw f at told in rw f (answered ∙ ap (answer_by setting event ask.message) (same f))
+pub answered_at : (setting : Setting) (before : List Act) (ask : Ask) (sub : Sub) (out : Out) (o p : Option Outcome) → (is_refused_for ask out sub ≡ false → o ≡ p)
+    → IsAnsweredFor setting before ask sub out o → IsAnsweredFor setting before ask sub out p
+answered_at setting before ask sub out o p same answered =
+    elim (cases_Bool (is_refused_for ask out sub)) [
+      | inl t ↦ let refusal = rw t at answered in rw t refusal
+      | inr f ↦ let said = rw f at answered in rw f (said ∙ ap (λ (x : Option Outcome). option_map (said_of setting before ask) x) (same f))
     ]
 
--- the same step, from what comes to the same
-pub next_moved : (setting : Setting) (peers others : ℕ → Option Peer) (held now : Sub → List Act) (event : Event) (out : Out) → ((id : ℕ) → peers id ≡ others id)
-    → ((sub : Sub) (act : Act) → next_outcome setting.plan.terms (held sub) act ≡ next_outcome setting.plan.terms (now sub) act) → IsNext setting peers held event out → IsNext setting others now event out
-next_moved setting peers others held now event out same alike next =
-    let moved : IsNext setting others held event out = subst (λ (p : ℕ → Option Peer). IsNext setting p held event out) (funext peers others same) next in
-    record {
-      asked_of = λ sub ask is. subst (λ (o : Outcome). IsAsked setting event ask out o) (alike sub ask.act) (moved.asked_of sub ask is);
-      plain = moved.plain;
-    }
-
-own_acts : AreStable → (terms : TermsView) (o : Option Ask) (out : Out) (before : List Act) → acts terms (own_with o out (acts terms before)) ≡ acts terms (own_with o out before)
-own_acts stable terms None out before = stable.whole terms before
-own_acts stable terms (Some ask) out before =
-    elim (cases_Bool (is_refused ask out)) [
+own_acts : AreStable → (terms : TermsView) (o : Option Ask) (out : Out) (sub : Sub) (before : List Act) → acts terms (own_with o out sub (acts terms before)) ≡ acts terms (own_with o out sub before)
+own_acts stable terms None out sub before = stable.whole terms before
+own_acts stable terms (Some ask) out sub before =
+    elim (cases_Bool (is_refused_for ask out sub)) [
       | inl t ↦ rw t (stable.whole terms before)
       | inr f ↦ rw f (stable.acts_stay terms before (ask.act ∷ []))
     ]
 
--- one step from where a past has led
-pub step_told : AreStable → (core now new : Core) (past : List Step) (event : Event) (out : Out) → now.setting ≡ core.setting
-    → ((s : Sub) → held_of now s ≡ acts core.setting.plan.terms (own_after core past s)) → ((id : ℕ) → peer_of now id ≡ peers_after core past id)
-    → IsDone now.setting (peer_of now) now.books new.books event out → IsNext core.setting (peers_after core past) (own_after core past) event out
-step_told stable core now new past event out setting held_is peers_are done =
-    let told = subst (λ (s : Setting). IsNext s (peer_of now) (held_in now.books) event out) setting done.told in
-    let terms = core.setting.plan.terms in
-    next_moved core.setting (peer_of now) (peers_after core past) (held_in now.books) (own_after core past) event out peers_are
-    (λ s act. ap (λ (xs : List Act). next_outcome terms xs act) (held_is s) ∙ next_stays stable terms (own_after core past s) act) told
+-- an engine stands where a past has led
+pub record StandsAt (engine now : EngineView) (past : List Turn) : Type 0 where
+  pub setting : now.setting ≡ engine.setting
+  pub held : (sub : Sub) → held_of now sub ≡ acts engine.setting.plan.terms ((before_of engine past).own sub)
+  pub peers_are : (id : ℕ) → peer_of now id ≡ (before_of engine past).peers id
 
-pub step_own : AreStable → (core now new : Core) (past : List Step) (event : Event) (out : Out) → now.setting ≡ core.setting
-    → ((s : Sub) → held_of now s ≡ acts core.setting.plan.terms (own_after core past s)) → ((id : ℕ) → peer_of now id ≡ peers_after core past id)
-    → IsDone now.setting (peer_of now) now.books new.books event out → (s : Sub) → held_of new s ≡ acts core.setting.plan.terms (own_after core (record { event = event; out = out } ∷ past) s)
-step_own stable core now new past event out setting held_is peers_are done s =
-    let terms = core.setting.plan.terms in
-    done.acts_are s ∙ ap (λ (t : Setting). acts t.plan.terms (own_with (ask_for t (peer_of now) event s) out (held_of now s))) setting
-    ∙ ap (λ (p : ℕ → Option Peer). acts terms (own_with (ask_for core.setting p event s) out (held_of now s))) (funext (peer_of now) (peers_after core past) peers_are)
-    ∙ ap (λ (xs : List Act). acts terms (own_with (asked core past event s) out xs)) (held_is s) ∙ own_acts stable terms (asked core past event s) out (own_after core past s)
+-- one turn from where a past has led
+pub turn_next : AreStable → (engine now new : EngineView) (past : List Turn) (turn : Turn) → StandsAt engine now past → IsDone now new turn → IsNext engine.setting (before_of engine past) turn
+turn_next stable engine now new past turn stands done =
+    let terms = engine.setting.plan.terms in
+    let before = before_of engine past in
+    next_moved stable engine.setting (now_of now) before turn stands.peers_are
+    (λ sub. ap (acts terms) (stands.held sub) ∙ stable.whole terms (before.own sub))
+    (subst (λ (s : Setting). IsNext s (now_of now) turn) stands.setting done.judged.next)
 
--- later events only add to a subscriber's acts
-more_acts : (o : Option Ask) (out : Out) (before : List Act) → (rest : List Act) × (own_with o out before ≡ before ++ rest)
-more_acts None out before = ([], sym (append-nil before))
-more_acts (Some ask) out before =
-    elim (cases_Bool (is_refused ask out)) [
+pub turn_stands : AreStable → (engine now new : EngineView) (past : List Turn) (turn : Turn) → StandsAt engine now past → IsDone now new turn → StandsAt engine new (turn ∷ past)
+turn_stands stable engine now new past turn stands done =
+    let terms = engine.setting.plan.terms in
+    let before = before_of engine past in
+    record {
+      setting = done.setting ∙ stands.setting;
+      held = λ sub. done.judged.held sub
+          ∙ ap (λ (s : Setting). acts s.plan.terms (own_with (ask_for s (now_of now) turn.event sub) turn.out sub (held_of now sub))) stands.setting
+          ∙ ap (λ (o : Option Ask). acts terms (own_with o turn.out sub (held_of now sub))) (ask_moved engine.setting (now_of now) before sub stands.peers_are turn.event)
+          ∙ ap (λ (xs : List Act). acts terms (own_with (asked engine past turn.event sub) turn.out sub xs)) (stands.held sub)
+          ∙ own_acts stable terms (asked engine past turn.event sub) turn.out sub (before.own sub);
+      peers_are = λ id. done.peers id ∙ ap (moved_by id turn) (stands.peers_are id);
+    }
+
+-- later events only add to a subscriber's entries
+more_acts : (o : Option Ask) (out : Out) (sub : Sub) (before : List Act) → (rest : List Act) × (own_with o out sub before ≡ before ++ rest)
+more_acts None out sub before = ([], sym (append-nil before))
+more_acts (Some ask) out sub before =
+    elim (cases_Bool (is_refused_for ask out sub)) [
       | inl t ↦ ([], rw t (sym (append-nil before)))
       | inr f ↦ (ask.act ∷ [], rw f refl)
     ]
 
-own_grows : (core : Core) (later past : List Step) (s : Sub) → (rest : List Act) × (own_after core (later ++ past) s ≡ own_after core past s ++ rest)
-own_grows core [] past s = ([], sym (append-nil (own_after core past s)))
-own_grows core (step ∷ later) past s =
-    let before = own_grows core later past s in
-    let here = more_acts (asked core (later ++ past) step.event s) step.out (own_after core (later ++ past) s) in
-    (before.0 ++ here.0, here.1 ∙ ap (λ (xs : List Act). xs ++ here.0) before.1 ∙ append_assoc (own_after core past s) before.0 here.0)
+own_grows : (engine : EngineView) (later past : List Turn) (s : Sub) → (rest : List Act) × ((before_of engine (later ++ past)).own s ≡ (before_of engine past).own s ++ rest)
+own_grows engine [] past s = ([], sym (append-nil ((before_of engine past).own s)))
+own_grows engine (turn ∷ later) past s =
+    let before = own_grows engine later past s in
+    let here = more_acts (asked engine (later ++ past) turn.event s) turn.out s ((before_of engine (later ++ past)).own s) in
+    (before.0 ++ here.0, here.1 ∙ ap (λ (xs : List Act). xs ++ here.0) before.1 ∙ append_assoc ((before_of engine past).own s) before.0 here.0)
 
 -- a moment within a past
-past_at : (core : Core) (later : List Step) (step : Step) (past : List Step) → IsPast core (later ++ step ∷ past) → IsNext core.setting (peers_after core past) (own_after core past) step.event step.out
-past_at core [] step past h = h.0
-past_at core (last ∷ later) step past h = past_at core later step past h.1
+past_at : (engine : EngineView) (later : List Turn) (turn : Turn) (past : List Turn) → IsPast engine (later ++ turn ∷ past) → IsNext engine.setting (before_of engine past) turn
+past_at engine [] turn past h = h.0
+past_at engine (last ∷ later) turn past h = past_at engine later turn past h.1
 
--- the outcome at a place is the outcome that was next at its moment
-pub place_is : LaterChangesNothing → (core : Core) (later past : List Step) (step : Step) (sub : Sub) (ask : Ask) → asked core past step.event sub ≡ Some ask → is_refused ask step.out ≡ false
-    → next_outcome core.setting.plan.terms (own_after core past sub) ask.act ≡ outcome core.setting.plan.terms (own_after core (later ++ step ∷ past) sub) (length (own_after core past sub) + 1)
-place_is law core later past step sub ask is counted =
-    let terms = core.setting.plan.terms in
-    let before = own_after core past sub in
-    let here : own_after core (step ∷ past) sub ≡ before ++ ask.act ∷ [] = rw (is, counted) refl in
-    let more = own_grows core later (step ∷ past) sub in
-    let all : own_after core (later ++ step ∷ past) sub ≡ (before ++ ask.act ∷ []) ++ more.0 = more.1 ∙ ap (λ (xs : List Act). xs ++ more.0) here in
-    sym (ap (λ (xs : List Act). outcome terms xs (length before + 1)) all ∙ law terms (before ++ ask.act ∷ []) more.0 (length before + 1) (omega arith) (omega (arith, length-append before (ask.act ∷ []))))
+-- the outcome at a place is what the act came to at its moment
+pub place_is : LaterChangesNothing → LastComesAfter → (engine : EngineView) (later past : List Turn) (turn : Turn) (sub : Sub) (ask : Ask) → asked engine past turn.event sub ≡ Some ask
+    → is_refused_for ask turn.out sub ≡ false
+    → Some (after engine.setting.plan.terms ((before_of engine past).own sub) ask.act)
+    ≡ outcome engine.setting.plan.terms ((before_of engine (later ++ turn ∷ past)).own sub) (length ((before_of engine past).own sub) + 1)
+place_is law last engine later past turn sub ask is counted =
+    let terms = engine.setting.plan.terms in
+    let before = (before_of engine past).own sub in
+    let here : (before_of engine (turn ∷ past)).own sub ≡ before ++ ask.act ∷ [] = rw (is, counted) refl in
+    let more = own_grows engine later (turn ∷ past) sub in
+    let all : (before_of engine (later ++ turn ∷ past)).own sub ≡ (before ++ ask.act ∷ []) ++ more.0 = more.1 ∙ ap (λ (xs : List Act). xs ++ more.0) here in
+    sym (ap (λ (xs : List Act). outcome terms xs (length before + 1)) all
+    ∙ law terms (before ++ ask.act ∷ []) more.0 (length before + 1) (omega (arith, length-append before (ask.act ∷ [])))
+    ∙ last terms before ask.act)
 
--- a list of steps at one of its places, looked back over
-split_at : (all : List Step) (k : ℕ) (step : Step) → slice_get all k ≡ Some step → reverse all ≡ reverse (drop (k + 1) all) ++ step ∷ reverse (take k all)
-split_at all k step at =
-    let lt = slice_get_within all k step at in
-    let here : get_or all k step ≡ step = get_or_from_slice_get all k step step at in
-    let parts : all ≡ take k all ++ (step ∷ drop (k + 1) all) = sym (take-append-drop k all) ∙ ap (λ (xs : List Step). take k all ++ xs) (drop_more all k step lt ∙ ap (λ (x : Step). x ∷ drop (k + 1) all) here) in
-    ap reverse parts ∙ reverse-append (take k all) (step ∷ drop (k + 1) all) ∙ ap (λ (xs : List Step). xs ++ reverse (take k all)) (reverse_cons step (drop (k + 1) all)) ∙ append_assoc (reverse (drop (k + 1) all)) (step ∷ []) (reverse (take k all))
+-- a list of turns at one of its places, looked back over
+split_at : (all : List Turn) (k : ℕ) (turn : Turn) → slice_get all k ≡ Some turn → reverse all ≡ reverse (drop (k + 1) all) ++ turn ∷ reverse (take k all)
+split_at all k turn at =
+    let lt = slice_get_within all k turn at in
+    let here : get_or all k turn ≡ turn = get_or_from_slice_get all k turn turn at in
+    let parts : all ≡ take k all ++ (turn ∷ drop (k + 1) all) = sym (take-append-drop k all) ∙ ap (λ (xs : List Turn). take k all ++ xs) (drop_more all k turn lt ∙ ap (λ (x : Turn). x ∷ drop (k + 1) all) here) in
+    ap reverse parts ∙ reverse-append (take k all) (turn ∷ drop (k + 1) all) ∙ ap (λ (xs : List Turn). xs ++ reverse (take k all)) (reverse_cons turn (drop (k + 1) all)) ∙ append_assoc (reverse (drop (k + 1) all)) (turn ∷ []) (reverse (take k all))
 
-pub run_from_past : LaterChangesNothing → (core : Core) (all : List Step) → IsPast core (reverse all) → IsRun core all
-run_from_past law core all h k step at =
-    let terms = core.setting.plan.terms in
+pub run_from_past : LaterChangesNothing → LastComesAfter → (engine : EngineView) (all : List Turn) → IsPast engine (reverse all) → IsRun engine all
+run_from_past law last engine all h k turn at =
+    let terms = engine.setting.plan.terms in
     let past = reverse (take k all) in
     let later = reverse (drop (k + 1) all) in
-    let split = split_at all k step at in
-    let next = past_at core later step past (subst (IsPast core) split h) in
+    let split = split_at all k turn at in
+    let next = past_at engine later turn past (subst (IsPast engine) split h) in
     record {
-      asked_of = λ sub ask is. asked_at core.setting step.event ask step.out (next_outcome terms (own_after core past sub) ask.act) (outcome terms (own core all sub) (place core (take k all) sub))
-          (λ f. place_is law core later past step sub ask is f ∙ ap (λ (zs : List Step). outcome terms (own_after core zs sub) (place core (take k all) sub)) (sym split))
-          (next.asked_of sub ask is);
-      plain = next.plain;
+      subscribers = λ sub ask is.
+          let before = (before_of engine past).own sub in
+          answered_at engine.setting before ask sub turn.out (Some (after terms before ask.act)) (outcome terms (own engine all sub) (entry_place engine (take k all) sub))
+          (λ f. place_is law last engine later past turn sub ask is f ∙ ap (λ (zs : List Turn). outcome terms ((before_of engine zs).own sub) (entry_place engine (take k all) sub)) (sym split))
+          (next.subscribers sub ask is);
+      whole = next.whole;
     }

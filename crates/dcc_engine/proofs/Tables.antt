@@ -5,7 +5,7 @@ use Rattle.std.proofs.lemmas.Bool.{cases_Bool, eq-eqb}
 use Rattle.std.proofs.lemmas.Bool.Decides.{nat_tests}
 use Rattle.dcc_engine.specs.declared.peers.Peer.{Peer}
 use Rattle.dcc_engine.specs.declared.peers.PeerRow.{PeerRow}
-use Rattle.dcc_engine.specs.Core.{peer_in}
+use Rattle.dcc_engine.specs.Engines.{peer_in}
 
 pub peer_in-filter : (rows : List PeerRow) (id q : ℕ) → peer_in (filter (λ row. not (row.id == id)) rows) q ≡ cond (id == q) None (peer_in rows q)
 peer_in-filter [] id q = grind (arith, nat_tests)

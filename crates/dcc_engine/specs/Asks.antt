@@ -1,75 +1,68 @@
--- Whose an event is, what it may be answered, and which events were refused.
-use Rattle.std.specs.Prelude.{◌≡◌, ℕ, ◌^◌, Bool, true, false, ◌&&◌, ◌||◌, ◌==◌, nat_le, if◌then◌else◌}
-use Rattle.std.specs.Prelude.{List, [], ◌∷◌, ◌++◌, length, Option, Some, None, MatchBool, ◌⊎◌}
+-- What an event asks of a subscriber, what is told of it, and where it leaves its peer.
+use Rattle.std.specs.Prelude.{◌≡◌, ℕ, Bool, true, false, ◌&&◌, ◌||◌, ◌==◌, if◌then◌else◌, List, [], ◌∷◌, ◌++◌, length}
+use Rattle.std.specs.Prelude.{Option, Some, None, option_map, MatchBool, ◌⊎◌}
 use Rattle.dcc_tariff.specs.Plans.{PlanView}
+use Rattle.dcc_message.specs.declared.identity.Identity.{Identity}
 use Rattle.dcc_act.specs.declared.act.Act.{Act}
-use Rattle.dcc_act.specs.declared.act.Kind.TheVariants as kind
 use Rattle.dcc_act.specs.declared.outcome.Outcome.{Outcome}
 use Rattle.dcc_act.specs.declared.sub.Sub.{Sub}
+use Rattle.dcc_act.specs.Subs.{same_sub}
+use Rattle.dcc_act.specs.TopUps.{is_amount}
+use Rattle.dcc_model.specs.Outcomes.{place, is_new}
 use Rattle.dcc_credit.specs.Requests.{RequestView, act_of}
 use Rattle.dcc_credit.specs.Answers.{answer_octets, busy_octets, is_busy}
-use Rattle.dcc_engine.specs.Books.{same_sub, told}
-use Rattle.dcc_engine.specs.Core.{Setting}
-use Rattle.dcc_engine.specs.Messages.{Brought, Met, met_on}
-use Rattle.dcc_engine.specs.Messages.Met.{Passed, Broken, Asking}
+use Rattle.dcc_shard.specs.Answers.{top_up_act, told}
+use Rattle.dcc_shard.specs.declared.answers.TopUpAnswer.{TopUpAnswer}
+use Rattle.dcc_shard.specs.declared.answers.TopUpAnswer.TheVariants.{Done, Ceiling, Refused, BadAmount}
+use Rattle.dcc_engine.specs.Engines.{Setting}
+use Rattle.dcc_engine.specs.Messages as messages
+use Rattle.dcc_engine.specs.Messages.{MessageView, Received, received_on}
+use Rattle.dcc_engine.specs.Messages.Received.{Ignored, Broken, Requested}
 use Rattle.dcc_engine.specs.declared.event.Event.{Event}
 use Rattle.dcc_engine.specs.declared.event.Event.TheVariants as events
 use Rattle.dcc_engine.specs.declared.event.Out.{Out}
-use Rattle.dcc_engine.specs.declared.event.TopUpAnswer.{TopUpAnswer}
-use Rattle.dcc_engine.specs.declared.event.TopUpAnswer.TheVariants.{Refused, BadAmount}
 use Rattle.dcc_engine.specs.declared.peers.Peer.{Peer}
 use Rattle.dcc_engine.specs.declared.peers.Peer.TheVariants.{Open, Closed}
 
--- an event with what it was answered
-pub record Step : Type 0 where
+-- an event with its out
+pub record Turn : Type 0 where
   pub event : Event
   pub out : Out
 
--- What an event asks of a subscriber's account, and the message that brought it, where one did.
+-- What was before an event: the peers, and each subscriber's own entries.
+pub record Before : Type 0 where
+  pub peers : ℕ → Option Peer
+  pub own : Sub → List Act
+
+-- what brought an ask
+pub data Source : Type 0 where
+  Request : MessageView → Source
+  TopUp : Source
+
+-- what an event asks of a subscriber's account, and what brought it
 pub record Ask : Type 0 where
   pub act : Act
-  pub message : Option Brought
+  pub source : Source
 
 -- a request is its subscriber's
-abbrev pub request_ask : PlanView → ℕ → Brought → Option RequestView → Sub → Option Ask
+abbrev pub request_ask : PlanView → ℕ → MessageView → Option RequestView → Sub → Option Ask
 request_ask plan moment message None sub = None
 request_ask plan moment message (Some request) sub =
-    if same_sub request.sub sub then Some (record { act = act_of plan request moment; message = Some message }) else None
+    if same_sub request.sub sub then Some (record { act = act_of plan request moment; source = Request message }) else None
 
-abbrev pub message_ask : PlanView → ℕ → Met → Sub → Option Ask
-message_ask plan moment Passed sub = None
-message_ask plan moment Broken sub = None
-message_ask plan moment (Asking message) sub = request_ask plan moment message message.request sub
+abbrev pub received_ask : PlanView → ℕ → Received → Sub → Option Ask
+received_ask plan moment Ignored sub = None
+received_ask plan moment Broken sub = None
+received_ask plan moment (Requested message) sub = request_ask plan moment message (messages.request message) sub
 
--- 1 to 10^18 minor units
-unfoldable pub is_amount : ℕ → Bool
-is_amount amount = nat_le 1 amount && nat_le amount (10 ^ 18)
-
-abbrev pub top_up_act : ℕ → ℕ → ℕ → Act
-top_up_act moment ticket amount = record { moment = moment; kind = kind.TopUp (record { ticket = ticket; amount = amount }) }
-
--- what an event asks of a subscriber: a request on a peer that is open is its subscriber's, a top-up of an amount that
--- may be is its subscriber's, and all others are nobody's
-abbrev pub ask_for : Setting → (ℕ → Option Peer) → Event → Sub → Option Ask
-ask_for setting peers (events.Connect peer host) sub = None
-ask_for setting peers (events.Message peer moment octets) sub = message_ask setting.plan moment (met_on (peers peer) octets) sub
-ask_for setting peers (events.TopUp moment owner ticket amount) sub =
-    if is_amount amount && same_sub owner sub then Some (record { act = top_up_act moment ticket amount; message = None }) else None
-
--- the peer that an event names
-abbrev pub peer_named : Event → Option ℕ
-peer_named (events.Connect peer host) = Some peer
-peer_named (events.Message peer moment octets) = Some peer
-peer_named (events.TopUp moment sub ticket amount) = None
-
-abbrev pub out_octets : Event → List ℕ → Out
-out_octets event octets = record { peer = peer_named event; octets = octets; close = false; top_up = None }
-
-abbrev pub out_close : Event → Out
-out_close event = record { peer = peer_named event; octets = []; close = true; top_up = None }
-
-abbrev pub out_top_up : TopUpAnswer → Out
-out_top_up answer = record { peer = None; octets = []; close = false; top_up = Some answer }
+-- What an event asks of a subscriber: a request on a peer that is open is its subscriber's, a top-up of an amount that
+-- may be is its subscriber's, and all others are nobody's.
+abbrev pub ask_for : Setting → Before → Event → Sub → Option Ask
+ask_for setting before (events.Connect peer host) sub = None
+ask_for setting before (events.Message peer moment octets) sub =
+    received_ask setting.plan moment (received_on (before.peers peer) octets) sub
+ask_for setting before (events.TopUp moment owner ticket amount) sub =
+    if is_amount amount && same_sub owner sub then Some (record { act = top_up_act moment ticket amount; source = TopUp }) else None
 
 -- a request is refused by the busy answer or by nothing, a top-up by being told so
 unfoldable pub is_refusal : List ℕ → Bool
@@ -77,62 +70,89 @@ is_refusal octets = (length octets == 0) || is_busy octets
 
 abbrev pub is_refused_top_up : Option TopUpAnswer → Bool
 is_refused_top_up (Some Refused) = true
-is_refused_top_up other = false
+is_refused_top_up (Some BadAmount) = false
+is_refused_top_up (Some (Done at fresh)) = false
+is_refused_top_up (Some (Ceiling at fresh)) = false
+is_refused_top_up None = false
 
-abbrev pub refused_by : Option Brought → Out → Bool
-refused_by (Some message) out = is_refusal out.octets
-refused_by None out = is_refused_top_up out.top_up
+abbrev pub is_refused_by : Source → Out → Sub → Bool
+is_refused_by (Request message) out sub = is_refusal out.octets
+is_refused_by TopUp out sub = is_refused_top_up out.top_up
 
-abbrev pub is_refused : Ask → Out → Bool
-is_refused ask out = refused_by ask.message out
+-- whether an out refuses what the event asked of this subscriber
+abbrev pub is_refused_for : Ask → Out → Sub → Bool
+is_refused_for ask out sub = is_refused_by ask.source out sub
 
 -- the octets under a message: of an outcome, and of the busy answer
-abbrev pub answer_to : Setting → Brought → Outcome → List ℕ
-answer_to setting message outcome = answer_octets setting.identity setting.plan.terms message.header message.proxies outcome
+abbrev pub answer_to : Setting → MessageView → Outcome → List ℕ
+answer_to setting message outcome =
+    answer_octets setting.identity setting.plan.terms message.header (messages.proxies message) outcome
 
-abbrev pub busy_to : Setting → Brought → List ℕ
-busy_to setting message = busy_octets setting.identity message.session message.header message.proxies
+abbrev pub busy_to : Identity → MessageView → List ℕ
+busy_to identity message = busy_octets identity (messages.session message) message.header (messages.proxies message)
 
--- what an event is answered by its outcome: the octets under its message, or what a top-up is told
-abbrev pub answer_by : Setting → Event → Option Brought → Outcome → Out
-answer_by setting event (Some message) outcome = out_octets event (answer_to setting message outcome)
-answer_by setting event None outcome = out_top_up (told outcome)
+-- What an out says to one subscriber: the octets of its answer, or what its top-up is told.
+pub data Said : Type 0 where
+  Octets : List ℕ → Said
+  Told : Option TopUpAnswer → Said
 
--- the busy answer, or nothing
-abbrev pub IsBusy : Setting → Event → Brought → Out → Type 0
-IsBusy setting event message out = (out ≡ out_octets event (busy_to setting message)) ⊎ (out ≡ out_octets event [])
+abbrev pub said_by : Source → Out → Said
+said_by (Request message) out = Octets out.octets
+said_by TopUp out = Told out.top_up
 
-abbrev pub IsRefusal : Setting → Event → Option Brought → Out → Type 0
-IsRefusal setting event (Some message) out = IsBusy setting event message out
-IsRefusal setting event None out = out ≡ out_top_up Refused
+-- what is said of what an act comes to that is asked after these entries
+abbrev pub said_from : Setting → List Act → Act → Source → Outcome → Said
+said_from setting before act (Request message) outcome = Octets (answer_to setting message outcome)
+said_from setting before act TopUp outcome =
+    Told (told outcome (place setting.plan.terms before act) (is_new setting.plan.terms before act))
 
--- a subscriber's event is answered by its outcome, or refused
-abbrev pub IsAsked : Setting → Event → Ask → Out → Outcome → Type 0
-IsAsked setting event ask out outcome =
-    MatchBool (is_refused ask out) (IsRefusal setting event ask.message out) (out ≡ answer_by setting event ask.message outcome)
+abbrev pub said_of : Setting → List Act → Ask → Outcome → Said
+said_of setting before ask outcome = said_from setting before ask.act ask.source outcome
 
--- a request that is nobody's is answered busy, or by nothing
-abbrev pub IsPlainRequest : Setting → Event → Brought → Option RequestView → Out → Type 0
-IsPlainRequest setting event message None out = IsBusy setting event message out
-IsPlainRequest setting event message (Some request) out = Unit {0}
+-- a request is refused by the busy answer or by none, a top-up by being told so
+abbrev pub IsBusy : Identity → MessageView → List ℕ → Type 0
+IsBusy identity message octets = (octets ≡ busy_to identity message) ⊎ (octets ≡ [])
 
-abbrev pub IsPlainMessage : Setting → Event → Met → Out → Type 0
-IsPlainMessage setting event Passed out = out ≡ out_octets event []
-IsPlainMessage setting event Broken out = out ≡ out_close event
-IsPlainMessage setting event (Asking message) out = IsPlainRequest setting event message message.request out
+abbrev pub IsRefusal : Identity → Source → Out → Type 0
+IsRefusal identity (Request message) out = IsBusy identity message out.octets
+IsRefusal identity TopUp out = out.top_up ≡ Some Refused
 
--- what an event of nobody is answered; of a subscriber's event this says nothing
-abbrev pub IsPlain : Setting → (ℕ → Option Peer) → Event → Out → Type 0
-IsPlain setting peers (events.Connect peer host) out = out ≡ out_octets (events.Connect peer host) []
-IsPlain setting peers (events.Message peer moment octets) out =
-    IsPlainMessage setting (events.Message peer moment octets) (met_on (peers peer) octets) out
-IsPlain setting peers (events.TopUp moment sub ticket amount) out = MatchBool (is_amount amount) (Unit {0}) (out ≡ out_top_up BadAmount)
+-- The subscriber's own event is answered by its outcome, or refused.
+abbrev pub IsAnsweredFor : Setting → List Act → Ask → Sub → Out → Option Outcome → Type 0
+IsAnsweredFor setting before ask sub out outcome =
+    MatchBool (is_refused_for ask out sub) (IsRefusal setting.identity ask.source out)
+    (Some (said_by ask.source out) ≡ option_map (said_of setting before ask) outcome)
 
--- the host of an event that has one
-abbrev pub host_of : Event → List ℕ
-host_of (events.Connect peer host) = host
-host_of (events.Message peer moment octets) = []
-host_of (events.TopUp moment sub ticket amount) = []
+-- an out of nothing but octets, or of nothing at all
+abbrev pub out_octets : Option ℕ → List ℕ → Out
+out_octets peer octets = record { peer = peer; octets = octets; close = false; top_up = None }
+
+-- an out that closes a peer's connection
+abbrev pub out_close : ℕ → Out
+out_close peer = record { peer = Some peer; octets = []; close = true; top_up = None }
+
+-- an out of what a top-up is told
+abbrev pub out_top_up : TopUpAnswer → Out
+out_top_up answer = record { peer = None; octets = []; close = false; top_up = Some answer }
+
+-- a request that is nobody's is answered busy, or by nothing; what another is answered, its subscriber's clause says
+abbrev pub IsOfNobody : Identity → MessageView → Option RequestView → List ℕ → Type 0
+IsOfNobody identity message None octets = IsBusy identity message octets
+IsOfNobody identity message (Some request) octets = Unit {0}
+
+abbrev pub IsMessageOut : Setting → Received → ℕ → Out → Type 0
+IsMessageOut setting Ignored peer out = out ≡ out_octets (Some peer) []
+IsMessageOut setting Broken peer out = out ≡ out_close peer
+IsMessageOut setting (Requested message) peer out =
+    (out ≡ out_octets (Some peer) out.octets) × IsOfNobody setting.identity message (messages.request message) out.octets
+
+-- The whole out of an event: its form, and what is in it that is no subscriber's.
+abbrev pub IsOut : Setting → Before → Event → Out → Type 0
+IsOut setting before (events.Connect peer host) out = out ≡ out_octets (Some peer) []
+IsOut setting before (events.Message peer moment octets) out =
+    IsMessageOut setting (received_on (before.peers peer) octets) peer out
+IsOut setting before (events.TopUp moment sub ticket amount) out =
+    (answer : TopUpAnswer) × (out ≡ out_top_up answer) × (is_amount amount ≡ false → answer ≡ BadAmount)
 
 -- whether an event is of this peer
 abbrev pub is_from : ℕ → Event → Bool
@@ -140,22 +160,45 @@ is_from id (events.Connect peer host) = peer == id
 is_from id (events.Message peer moment octets) = peer == id
 is_from id (events.TopUp moment sub ticket amount) = false
 
--- where a message leaves its peer
-abbrev pub left_by : Met → Option Peer → Option Peer
-left_by Passed peer = peer
+-- a message is refused that was to be answered, and is answered busy or by nothing
+abbrev pub is_refused_message : Received → Out → Bool
+is_refused_message Ignored out = false
+is_refused_message Broken out = false
+is_refused_message (Requested message) out = is_refusal out.octets
+
+-- where a message leaves its peer that is not refused
+abbrev pub left_by : Received → Option Peer → Option Peer
+left_by Ignored peer = peer
 left_by Broken peer = Some Closed
-left_by (Asking message) peer = peer
+left_by (Requested message) peer = peer
 
-abbrev pub moved : Option Peer → Event → Option Peer
-moved peer (events.Connect id host) = Some (Open host)
-moved peer (events.Message id moment octets) = left_by (met_on peer octets) peer
-moved peer (events.TopUp moment sub ticket amount) = peer
+abbrev pub left_with : Received → Out → Option Peer → Option Peer
+left_with received out peer = if is_refused_message received out then peer else left_by received peer
 
--- where an event leaves each peer
-abbrev pub moved_by : ℕ → Event → Option Peer → Option Peer
-moved_by id event peer = if is_from id event then moved peer event else peer
+-- where its event and its out leave a peer: a message that was refused moves nothing
+abbrev pub moved : Event → Out → Option Peer → Option Peer
+moved (events.Connect id host) out peer = Some (Open host)
+moved (events.Message id moment octets) out peer = left_with (received_on peer octets) out peer
+moved (events.TopUp moment sub ticket amount) out peer = peer
+
+abbrev pub moved_by : ℕ → Turn → Option Peer → Option Peer
+moved_by id turn peer = if is_from id turn.event then moved turn.event turn.out peer else peer
 
 -- a subscriber's entries with those of one more event: its act, where it asked one and was not refused
-abbrev pub own_with : Option Ask → Out → List Act → List Act
-own_with None out before = before
-own_with (Some ask) out before = if is_refused ask out then before else before ++ ask.act ∷ []
+abbrev pub own_with : Option Ask → Out → Sub → List Act → List Act
+own_with None out sub before = before
+own_with (Some ask) out sub before = if is_refused_for ask out sub then before else before ++ ask.act ∷ []
+
+-- what is before the next event
+abbrev pub after_turn : Setting → Turn → Before → Before
+after_turn setting turn before =
+    record {
+      peers = λ id. moved_by id turn (before.peers id);
+      own = λ sub. own_with (ask_for setting before turn.event sub) turn.out sub (before.own sub);
+    }
+
+-- the host of an event that has one
+abbrev pub host_of : Event → List ℕ
+host_of (events.Connect peer host) = host
+host_of (events.Message peer moment octets) = []
+host_of (events.TopUp moment sub ticket amount) = []

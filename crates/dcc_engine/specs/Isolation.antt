@@ -2,84 +2,82 @@
 use Rattle.std.specs.Prelude.{◌≡◌, ℕ, ◌+◌, if◌then◌else◌, List, [], ◌∷◌, length, take, reverse, slice_get, Option, Some, None}
 use Rattle.dcc_act.specs.declared.act.Act.{Act}
 use Rattle.dcc_act.specs.declared.sub.Sub.{Sub}
-use Rattle.dcc_model.specs.Outcomes.{outcome}
-use Rattle.dcc_engine.specs.Core.{Core, held_of, peer_of}
-use Rattle.dcc_engine.specs.Asks.{Step, Ask, ask_for, is_refused, IsAsked, IsPlain, moved_by, own_with}
+use Rattle.dcc_model.specs.Outcomes.{outcome, acts}
+use Rattle.dcc_engine.specs.Engines.{EngineView, held_of, peer_of}
+use Rattle.dcc_engine.specs.Asks.{Turn, Before, Ask, Said, ask_for, is_refused_for, said_by, IsAnsweredFor, IsOut, after_turn}
 use Rattle.dcc_engine.specs.declared.event.Event.{Event}
 use Rattle.dcc_engine.specs.declared.event.Out.{Out}
-use Rattle.dcc_engine.specs.declared.event.TopUpAnswer.{TopUpAnswer}
 use Rattle.dcc_engine.specs.declared.peers.Peer.{Peer}
 
 -- the events with their outs, in order
-abbrev pub steps : List Event → List Out → List Step
-steps [] outs = []
-steps (event ∷ events) [] = []
-steps (event ∷ events) (out ∷ outs) = record { event = event; out = out } ∷ steps events outs
+abbrev pub turns : List Event → List Out → List Turn
+turns [] outs = []
+turns (event ∷ events) [] = []
+turns (event ∷ events) (out ∷ outs) = record { event = event; out = out } ∷ turns events outs
 
 -- Looking back from a moment: past is what happened since the run began, the latest first.
 
--- a peer's state, by its own events alone
-abbrev pub peers_after : Core → List Step → ℕ → Option Peer
-peers_after core [] id = peer_of core id
-peers_after core (step ∷ past) id = moved_by id step.event (peers_after core past id)
+-- where a past has led: each peer by its own events alone; of each subscriber the acts held before, and those of its
+-- events, in order, without the refused
+abbrev pub before_of : EngineView → List Turn → Before
+before_of engine [] = record { peers = peer_of engine; own = held_of engine }
+before_of engine (turn ∷ past) = after_turn engine.setting turn (before_of engine past)
 
 -- what an event asks of a subscriber at that moment
-abbrev pub asked : Core → List Step → Event → Sub → Option Ask
-asked core past event sub = ask_for core.setting (peers_after core past) event sub
+abbrev pub asked : EngineView → List Turn → Event → Sub → Option Ask
+asked engine past event sub = ask_for engine.setting (before_of engine past) event sub
 
--- a subscriber's own entries: the acts held before, and those of its events, in order, without the refused
-abbrev pub own_after : Core → List Step → Sub → List Act
-own_after core [] sub = held_of core sub
-own_after core (step ∷ past) sub = own_with (asked core past step.event sub) step.out (own_after core past sub)
+-- The same of a list of turns in order.
 
--- The same of a list of steps in order.
+-- a subscriber's own entries
+abbrev pub own : EngineView → List Turn → Sub → List Act
+own engine all sub = (before_of engine (reverse all)).own sub
 
-abbrev pub own : Core → List Step → Sub → List Act
-own core all sub = own_after core (reverse all) sub
+abbrev pub peers : EngineView → List Turn → ℕ → Option Peer
+peers engine all id = (before_of engine (reverse all)).peers id
 
-abbrev pub peers : Core → List Step → ℕ → Option Peer
-peers core all id = peers_after core (reverse all) id
+-- the place in its subscriber's own entries that an event has, after these turns
+abbrev pub entry_place : EngineView → List Turn → Sub → ℕ
+entry_place engine before sub = length (own engine before sub) + 1
 
--- the place in its subscriber's own entries that an event has, after these steps
-abbrev pub place : Core → List Step → Sub → ℕ
-place core before sub = length (own core before sub) + 1
+-- The turn at index k is answered by the outcome at its place in the own entries of the subscriber that it asks, or
+-- refused; and its whole out is by its peer's own events.
+pub record IsAnswered (engine : EngineView) (all : List Turn) (k : ℕ) (turn : Turn) : Type 0 where
+  pub subscribers : (sub : Sub) (ask : Ask) → asked engine (reverse (take k all)) turn.event sub ≡ Some ask
+      → IsAnsweredFor engine.setting (own engine (take k all) sub) ask sub turn.out
+      (outcome engine.setting.plan.terms (own engine all sub) (entry_place engine (take k all) sub))
+  pub whole : IsOut engine.setting (before_of engine (reverse (take k all))) turn.event turn.out
 
--- The step at index k is answered by the outcome at its place in the own entries of the subscriber that it asks, and
--- where it asks nobody, by its peer's own events.
-pub record IsAnswered (core : Core) (all : List Step) (k : ℕ) (step : Step) : Type 0 where
-  pub asked_of : (sub : Sub) (ask : Ask) → asked core (reverse (take k all)) step.event sub ≡ Some ask
-      → IsAsked core.setting step.event ask step.out (outcome core.setting.plan.terms (own core all sub) (place core (take k all) sub))
-  pub plain : IsPlain core.setting (peers core (take k all)) step.event step.out
-
--- so is each step of a run
-abbrev pub IsRun : Core → List Step → Type 0
-IsRun core all = (k : ℕ) (step : Step) → slice_get all k ≡ Some step → IsAnswered core all k step
+-- so is each turn of a run
+abbrev pub IsRun : EngineView → List Turn → Type 0
+IsRun engine all = (k : ℕ) (turn : Turn) → slice_get all k ≡ Some turn → IsAnswered engine all k turn
 
 -- What a subscriber's own events asked and what each was told, without the refused ones, the latest first.
 
-abbrev pub Said : Type 0
-Said = List ℕ × Option TopUpAnswer
-
-abbrev pub said : Out → Said
-said out = (out.octets, out.top_up)
-
 -- x in front, where the event asked of the subscriber and was not refused
-abbrev pub with_own : {X : Type 0} → Option Ask → Out → (Ask → X) → List X → List X
-with_own None out x before = before
-with_own (Some ask) out x before = if is_refused ask out then before else x ask ∷ before
+abbrev pub with_own : {X : Type 0} → Option Ask → Out → Sub → (Ask → X) → List X → List X
+with_own None out sub x before = before
+with_own (Some ask) out sub x before = if is_refused_for ask out sub then before else x ask ∷ before
 
-abbrev pub asks_after : Core → List Step → Sub → List Ask
-asks_after core [] sub = []
-asks_after core (step ∷ past) sub = with_own (asked core past step.event sub) step.out (λ ask. ask) (asks_after core past sub)
+abbrev pub asks_after : EngineView → List Turn → Sub → List Ask
+asks_after engine [] sub = []
+asks_after engine (turn ∷ past) sub =
+    with_own (asked engine past turn.event sub) turn.out sub (λ ask. ask) (asks_after engine past sub)
 
-abbrev pub answers_after : Core → List Step → Sub → List Said
-answers_after core [] sub = []
-answers_after core (step ∷ past) sub =
-    with_own (asked core past step.event sub) step.out (λ ask. said step.out) (answers_after core past sub)
+abbrev pub answers_after : EngineView → List Turn → Sub → List Said
+answers_after engine [] sub = []
+answers_after engine (turn ∷ past) sub =
+    with_own (asked engine past turn.event sub) turn.out sub (λ ask. said_by ask.source turn.out) (answers_after engine past sub)
 
--- the same of a list of steps in order
-abbrev pub own_asks : Core → List Step → Sub → List Ask
-own_asks core all sub = reverse (asks_after core (reverse all) sub)
+-- the same of a list of turns in order
+abbrev pub own_asks : EngineView → List Turn → Sub → List Ask
+own_asks engine all sub = reverse (asks_after engine (reverse all) sub)
 
-abbrev pub answers : Core → List Step → Sub → List Said
-answers core all sub = reverse (answers_after core (reverse all) sub)
+abbrev pub answers : EngineView → List Turn → Sub → List Said
+answers engine all sub = reverse (answers_after engine (reverse all) sub)
+
+-- one run begins as another left off
+pub record Follows (a b : EngineView) (xs : List Turn) : Type 0 where
+  pub setting : b.setting ≡ a.setting
+  pub held : (sub : Sub) → held_of b sub ≡ acts a.setting.plan.terms (own a xs sub)
+  pub peers_are : (id : ℕ) → peer_of b id ≡ peers a xs id

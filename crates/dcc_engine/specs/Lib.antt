@@ -1,8 +1,5 @@
-pub mod Books
-pub mod Core
-pub mod Due
+pub mod Engines
 pub mod Messages
-pub mod Heard
 pub mod Asks
-pub mod Served
 pub mod Isolation
+pub mod inner

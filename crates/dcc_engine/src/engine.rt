@@ -1,27 +1,28 @@
 //! The engine.
 
-ghost use Rattle.std.specs.Prelude.{◌≡◌, ◌≢◌, ◌+◌, ◌<◌, ◌≤◌, ℕ, [], map, length, true, false, Some, None};
+ghost use Rattle.std.specs.Prelude.{◌≡◌, ◌≢◌, ◌+◌, ◌<◌, ◌≤◌, ℕ, [], map, length, None};
 ghost use Rattle.std.specs.Prelude.{IfOk, IfSome, IfNone, OnErr};
 ghost use Rattle.dcc_act.specs.declared.sub.Sub.{Sub};
 ghost use Rattle.dcc_model.specs.Outcomes.{acts, funds, free, overrun};
-ghost use Rattle.dcc_engine.specs.Core.{Core, held_of, peer_of, IsUnchanged};
-ghost use Rattle.dcc_engine.specs.Asks.{host_of as host_in, moved_by};
+ghost use Rattle.dcc_engine.specs.Engines.{held_of, peer_of, IsUnchanged};
+ghost use Rattle.dcc_engine.specs.Asks.{host_of as host_in};
+ghost use Rattle.dcc_engine.specs.Isolation.{turns, own, peers, IsRun};
+ghost use Rattle.dcc_engine.specs.inner.Done.{IsDone};
 ghost use Rattle.dcc_engine.specs.declared.event.Event.TheVariants.{Message};
-ghost use Rattle.dcc_engine.specs.Isolation.{steps, own, peers, IsRun};
-ghost use Rattle.dcc_engine.specs.Served.{IsDone};
 
-use crate::books::find;
-use crate::event::{Event, Out, TopUpAnswer};
-use crate::message::{Heard, hear};
-use crate::octet_string::OctetString;
+use crate::event::{Event, Out};
+use crate::message::{Heading, receive};
+use crate::outs::{closing, quiet, sending, telling};
 use crate::peers::{Peer, Peers};
-use crate::row::Row;
-use crate::serve::{respond, serve_top_up};
+use crate::respond::respond;
 use dcc_account::Account;
-use dcc_act::{Moment, Sub};
-use dcc_credit::told_apart;
+use dcc_act::{Moment, Sub, same_subscribers_are_equal};
 use dcc_message::Identity;
-use dcc_model::{later_acts_change_no_outcome, leaving_out_changes_nothing};
+use dcc_model::{
+    acts_come_to_their_own, later_acts_change_no_outcome, leaving_out_changes_nothing,
+};
+use dcc_octets::OctetString;
+use dcc_shard::Shard;
 use dcc_tariff::Plan;
 use std::alloc::{AllocError, Global};
 use std::marker::Model;
@@ -33,37 +34,43 @@ pub struct Engine {
     plan: Plan,
     identity: Identity,
     peers: Peers,
-    rows: Vec<Row>,
+    shard: Shard,
 }
 
 impl Model for Engine {
-    ghost use Rattle.dcc_engine.specs.Books.{AreBooks};
-    ghost use Rattle.dcc_engine.specs.Core.{Core};
+    ghost use Rattle.std.specs.Prelude.{◌≡◌};
+    ghost use Rattle.dcc_shard.specs.Shards.{AreOwn};
+    ghost use Rattle.dcc_engine.specs.Engines.{EngineView};
 
-    ghost Value = { Core };
+    ghost Value = { EngineView };
 
-    ghost view = { λ e. record { setting = record { plan = e.plan; identity = e.identity }; peers = e.peers; books = e.rows.items } };
+    ghost view = { λ e. record { setting = record { plan = e.plan; identity = e.identity }; peers = e.peers; shard = e.shard } };
 
-    ghost invariant = { λ e. AreBooks e.rows.items e.plan.terms };
+    ghost invariant = { λ e. (e.shard.terms ≡ e.plan.terms) × (e.shard.identity ≡ e.identity) × AreOwn e.shard };
 }
 
 impl Engine {
     /// An engine without peers and accounts. How many shards it keeps its accounts in, 1 to 8, changes no answer; today
-    /// there is one list of accounts.
-    pub fn open(alloc: Global, plan: Plan, identity: Identity, shards: u8) -> Engine
+    /// there is one.
+    pub fn open(
+        alloc: Global,
+        plan: Plan,
+        identity: Identity,
+        shards: u8,
+    ) -> Result<Engine, AllocError>
         requires some { 1 ≤ shards }
         requires most { shards ≤ 8 }
-        ensures setting { result.setting ≡ record { plan = plan; identity = identity } }
-        ensures peers { (id : ℕ) → peer_of result id ≡ None }
-        ensures accounts { (sub : Sub) → held_of result sub ≡ [] }
+        ensures setting { IfOk result (λ engine. engine.setting ≡ record { plan = plan; identity = identity }) }
+        ensures peers { IfOk result (λ engine. (id : ℕ) → peer_of engine id ≡ None) }
+        ensures accounts { IfOk result (λ engine. (sub : Sub) → held_of engine sub ≡ []) }
     {
-        leaving_out_changes_nothing();
-        Engine {
+        let shard = Shard::new(alloc, plan.terms(), &identity)?;
+        Ok(Engine {
             plan,
             identity,
             peers: Peers::new(alloc),
-            rows: Vec::new(alloc),
-        }
+            shard,
+        })
     }
 
     /// The account of a subscriber, where there is one.
@@ -73,8 +80,7 @@ impl Engine {
         ensures some { IfSome result (λ account. account.now.acts ≢ []) }
         ensures none { IfNone result (held_of self.now sub ≡ []) }
     {
-        let i = find(&self.rows, &sub)?;
-        Some(&self.rows[i].account)
+        self.shard.account(sub)
     }
 
     /// Answers events in order, each with one out.
@@ -87,22 +93,23 @@ impl Engine {
         ensures count { IfOk result (λ outs. length outs.items ≡ length events.now) }
         // A subscriber's event is answered by its outcome at its place in that subscriber's own entries, or is refused; an
         // event of nobody is answered by its peer's own events.
-        ensures answers { IfOk result (λ outs. IsRun self.old (steps events.now outs.items)) }
+        ensures answers { IfOk result (λ outs. IsRun self.old (turns events.now outs.items)) }
         // Of each subscriber the acts of the own entries are held, and the money is theirs.
         ensures acts { IfOk result (λ outs. (sub : Sub) →
-            held_of self.new sub ≡ acts self.old.setting.plan.terms (own self.old (steps events.now outs.items) sub)) }
+            held_of self.new sub ≡ acts self.old.setting.plan.terms (own self.old (turns events.now outs.items) sub)) }
         ensures funds { IfOk result (λ outs. (sub : Sub) → funds self.old.setting.plan.terms (held_of self.new sub)
-            ≡ funds self.old.setting.plan.terms (own self.old (steps events.now outs.items) sub)) }
+            ≡ funds self.old.setting.plan.terms (own self.old (turns events.now outs.items) sub)) }
         ensures free { IfOk result (λ outs. (sub : Sub) → free self.old.setting.plan.terms (held_of self.new sub)
-            ≡ free self.old.setting.plan.terms (own self.old (steps events.now outs.items) sub)) }
+            ≡ free self.old.setting.plan.terms (own self.old (turns events.now outs.items) sub)) }
         ensures overrun { IfOk result (λ outs. (sub : Sub) → overrun self.old.setting.plan.terms (held_of self.new sub)
-            ≡ overrun self.old.setting.plan.terms (own self.old (steps events.now outs.items) sub)) }
+            ≡ overrun self.old.setting.plan.terms (own self.old (turns events.now outs.items) sub)) }
         // Each peer is where its own events leave it.
-        ensures peers { IfOk result (λ outs. (id : ℕ) → peer_of self.new id ≡ peers self.old (steps events.now outs.items) id) }
+        ensures peers { IfOk result (λ outs. (id : ℕ) → peer_of self.new id ≡ peers self.old (turns events.now outs.items) id) }
         ensures setting { self.new.setting ≡ self.old.setting }
         ensures err { OnErr result (IsUnchanged self.old self.new) }
     {
         leaving_out_changes_nothing();
+        acts_come_to_their_own();
         later_acts_change_no_outcome();
         let mut outs = Vec::with_capacity(alloc, events.len())?;
         let mut hosts = hosts_of(alloc, events)?;
@@ -119,11 +126,10 @@ impl Engine {
     fn step(&mut self, alloc: Global, event: &Event, host: OctetString) -> Out
         requires room { 0 < self.old.peers.room }
         requires host { host ≡ host_in event.now }
-        ensures setting { self.new.setting ≡ self.old.setting }
-        ensures done { IsDone self.old.setting (peer_of self.old) self.old.books self.new.books event.now result }
-        ensures peers { (id : ℕ) → peer_of self.new id ≡ moved_by id event.now (peer_of self.old id) }
+        ensures done { IsDone self.old self.new (record { event = event.now; out = result }) }
         ensures room { self.old.peers.room ≤ self.new.peers.room + 1 }
     {
+        same_subscribers_are_equal();
         match event {
             Event::Connect { peer, .. } => {
                 self.peers.set(*peer, Peer::Open { host });
@@ -135,15 +141,7 @@ impl Engine {
                 ticket,
                 amount,
             } => {
-                let answer = serve_top_up(
-                    &mut self.rows,
-                    alloc,
-                    self.plan.terms(),
-                    *moment,
-                    *sub,
-                    *ticket,
-                    *amount,
-                );
+                let answer = self.shard.top_up(alloc, *sub, *moment, *ticket, *amount);
                 telling(alloc, answer)
             }
             Event::Message {
@@ -157,22 +155,20 @@ impl Engine {
     /// Answers a message of a peer.
     fn hear(&mut self, alloc: Global, peer: u32, moment: Moment, octets: &OctetString) -> Out
         requires room { 0 < self.old.peers.room }
-        ensures setting { self.new.setting ≡ self.old.setting }
-        ensures done { IsDone self.old.setting (peer_of self.old) self.old.books self.new.books (Message peer moment octets.now) result }
-        ensures peers { (id : ℕ) → peer_of self.new id ≡ moved_by id (Message peer moment octets.now) (peer_of self.old id) }
+        ensures done { IsDone self.old self.new (record { event = Message peer moment octets.now; out = result }) }
         ensures room { self.old.peers.room ≤ self.new.peers.room + 1 }
     {
-        told_apart();
+        same_subscribers_are_equal();
         let is_heard = self.peers.is_open(peer);
-        match hear(is_heard, octets.as_slice()) {
-            Heard::Nothing => quiet(alloc, peer),
-            Heard::Break => {
+        match receive(is_heard, octets.as_slice()) {
+            Heading::Ignored => quiet(alloc, peer),
+            Heading::Broken => {
                 self.peers.set(peer, Peer::Closed);
                 closing(alloc, peer)
             }
-            Heard::Request(header) => {
-                let octets = respond(
-                    &mut self.rows,
+            Heading::Requested(header) => {
+                let answer = respond(
+                    &mut self.shard,
                     alloc,
                     &self.plan,
                     &self.identity,
@@ -180,7 +176,7 @@ impl Engine {
                     header,
                     octets.as_slice(),
                 );
-                sending(peer, octets)
+                sending(peer, answer)
             }
         }
     }
@@ -203,53 +199,5 @@ fn host_of(alloc: Global, event: &Event) -> Result<OctetString, AllocError>
     match event {
         Event::Connect { host, .. } => host.copy(),
         _ => Ok(OctetString::new(alloc)),
-    }
-}
-
-/// An out that sends nothing.
-fn quiet(alloc: Global, peer: u32) -> Out
-    ensures { result ≡ record { peer = Some peer; octets = []; close = false; top_up = None } }
-{
-    Out {
-        peer: Some(peer),
-        octets: OctetString::new(alloc),
-        close: false,
-        top_up: None,
-    }
-}
-
-/// An out that closes a connection.
-fn closing(alloc: Global, peer: u32) -> Out
-    ensures { result ≡ record { peer = Some peer; octets = []; close = true; top_up = None } }
-{
-    Out {
-        peer: Some(peer),
-        octets: OctetString::new(alloc),
-        close: true,
-        top_up: None,
-    }
-}
-
-/// An out that sends an answer, or nothing.
-fn sending(peer: u32, octets: Vec<u8>) -> Out
-    ensures { result ≡ record { peer = Some peer; octets = octets.items; close = false; top_up = None } }
-{
-    Out {
-        peer: Some(peer),
-        octets: OctetString::from_vec(octets),
-        close: false,
-        top_up: None,
-    }
-}
-
-/// An out that tells a top-up its answer.
-fn telling(alloc: Global, answer: TopUpAnswer) -> Out
-    ensures { result ≡ record { peer = None; octets = []; close = false; top_up = Some answer } }
-{
-    Out {
-        peer: None,
-        octets: OctetString::new(alloc),
-        close: false,
-        top_up: Some(answer),
     }
 }

@@ -1,7 +1,8 @@
 //! What comes to an engine, and what goes out.
 
-use crate::octet_string::OctetString;
 use dcc_act::{Moment, Sub};
+use dcc_octets::OctetString;
+use dcc_shard::TopUpAnswer;
 
 /// Something that happens to the server.
 #[derive(Debug, Drop)]
@@ -24,19 +25,6 @@ pub enum Event {
         ticket: u64,
         amount: u64,
     },
-}
-
-/// What a top-up is told.
-#[derive(Clone, Copy, Debug, PartialEq, Eq)]
-pub enum TopUpAnswer {
-    /// It was added, now or when its ticket came first.
-    Done,
-    /// It would have lifted the funds above 10^18 minor units, and wasn't added.
-    Ceiling,
-    /// Its amount isn't 1 to 10^18 minor units; nothing is kept of it.
-    BadAmount,
-    /// Memory was short, and nothing changed.
-    Refused,
 }
 
 /// What an event is answered.

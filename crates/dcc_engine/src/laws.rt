@@ -1,38 +1,50 @@
 //! The law of isolation, and of runs in turn. Neither function does anything: each has a law as its contract.
 
 ghost use Rattle.std.specs.Prelude.{◌≡◌, ◌++◌, ℕ, List, map};
-ghost use Rattle.dcc_act.specs.declared.act.Act.{Act};
 ghost use Rattle.dcc_act.specs.declared.sub.Sub.{Sub};
 ghost use Rattle.dcc_model.specs.Outcomes.{acts};
-ghost use Rattle.dcc_engine.specs.Core.{Core, held_of, peer_of};
-ghost use Rattle.dcc_engine.specs.Asks.{Step};
-ghost use Rattle.dcc_engine.specs.Isolation.{IsRun, own, own_asks, answers, peers};
+ghost use Rattle.dcc_engine.specs.Engines.{EngineView, held_of};
+ghost use Rattle.dcc_engine.specs.Asks.{Turn};
+ghost use Rattle.dcc_engine.specs.Isolation.{IsRun, Follows, own, own_asks, answers, peers};
 
-use dcc_model::{later_acts_change_no_outcome, leaving_out_changes_nothing};
+use dcc_model::{
+    acts_come_to_their_own, later_acts_change_no_outcome, leaving_out_changes_nothing,
+};
 
-/// Two runs under one setting that agree on a subscriber's own events, with which of them were refused, and on the acts
-/// held for it before, agree on its answers, octet for octet, and on its own entries. All else may differ: other
-/// subscribers, peers, and the order between subscribers.
+/// Two runs that agree on a subscriber's own events, with which of them were refused, and on the acts held for it before,
+/// agree on its answers, octet for octet, and on its own entries. The servers answer under one identity and one plan's
+/// terms; all else may differ: shards, tariffs that no own event was priced by, other subscribers, peers, and the order
+/// between subscribers.
 pub fn isolation()
-    ensures answers { (sub : Sub) (a b : Core) (xs ys : List Step) → IsRun a xs → IsRun b ys → a.setting ≡ b.setting
+    ensures answers { (sub : Sub) (a b : EngineView) (xs ys : List Turn) → IsRun a xs → IsRun b ys
+        → a.setting.identity ≡ b.setting.identity → a.setting.plan.terms ≡ b.setting.plan.terms
         → held_of a sub ≡ held_of b sub → own_asks a xs sub ≡ own_asks b ys sub → answers a xs sub ≡ answers b ys sub }
-    ensures own { (sub : Sub) (a b : Core) (xs ys : List Step)
+    ensures own { (sub : Sub) (a b : EngineView) (xs ys : List Turn)
         → held_of a sub ≡ held_of b sub → own_asks a xs sub ≡ own_asks b ys sub → own a xs sub ≡ own b ys sub }
     // The acts that its events asked are those that it owns beyond the ones held before.
-    ensures asks { (sub : Sub) (a : Core) (xs : List Step) → own a xs sub ≡ held_of a sub ++ map (λ ask. ask.act) (own_asks a xs sub) }
+    ensures asks { (sub : Sub) (a : EngineView) (xs : List Turn)
+        → own a xs sub ≡ held_of a sub ++ map (λ ask. ask.act) (own_asks a xs sub) }
 {
+    acts_come_to_their_own();
     later_acts_change_no_outcome();
 }
 
-/// Two runs in turn are one run of both lists, with the same answers, where the second begins as the first left off. Its own
-/// entries are those of the first and then what the second run's events asked.
+/// Two runs in turn are one run of both lists, where the second begins as the first left off: with the same answers, the
+/// same acts held afterwards and the same peers, and for each subscriber what the first run's events asked and were
+/// answered, and then the second's. So the law of isolation serves for a history of runs.
 pub fn runs_in_turn()
-    ensures run { (a b : Core) (xs ys : List Step) → IsRun a xs → IsRun b ys → b.setting ≡ a.setting
-        → ((sub : Sub) → held_of b sub ≡ acts a.setting.plan.terms (own a xs sub)) → ((id : ℕ) → peer_of b id ≡ peers a xs id)
-        → IsRun a (xs ++ ys) }
-    ensures own { (a b : Core) (xs ys : List Step) → b.setting ≡ a.setting → ((id : ℕ) → peer_of b id ≡ peers a xs id)
+    ensures run { (a b : EngineView) (xs ys : List Turn) → IsRun a xs → IsRun b ys → Follows a b xs → IsRun a (xs ++ ys) }
+    ensures acts { (a b : EngineView) (xs ys : List Turn) → Follows a b xs
+        → (sub : Sub) → acts b.setting.plan.terms (own b ys sub) ≡ acts a.setting.plan.terms (own a (xs ++ ys) sub) }
+    ensures peers { (a b : EngineView) (xs ys : List Turn) → Follows a b xs → (id : ℕ) → peers b ys id ≡ peers a (xs ++ ys) id }
+    ensures asks { (a b : EngineView) (xs ys : List Turn) → Follows a b xs
+        → (sub : Sub) → own_asks a (xs ++ ys) sub ≡ own_asks a xs sub ++ own_asks b ys sub }
+    ensures answers { (a b : EngineView) (xs ys : List Turn) → Follows a b xs
+        → (sub : Sub) → answers a (xs ++ ys) sub ≡ answers a xs sub ++ answers b ys sub }
+    ensures own { (a b : EngineView) (xs ys : List Turn) → Follows a b xs
         → (sub : Sub) → own a (xs ++ ys) sub ≡ own a xs sub ++ map (λ ask. ask.act) (own_asks b ys sub) }
 {
     leaving_out_changes_nothing();
+    acts_come_to_their_own();
     later_acts_change_no_outcome();
 }

@@ -1,70 +1,66 @@
 //! A message that is a request: its header, its list, and what an answer copies of it.
 
-ghost use Rattle.std.specs.Prelude.{◌≡◌, ◌+◌, ◌≤◌, length, drop, sum_by, Option, IfOk};
-ghost use Rattle.dcc_avp.specs.Spelling.{padded_len};
-ghost use Rattle.dcc_avp.specs.Reading.{avps_of};
-ghost use Rattle.dcc_engine.specs.Core.{is_open};
-ghost use Rattle.dcc_engine.specs.Messages.{brought, is_request, readable, met_on};
-ghost use Rattle.dcc_engine.specs.Heard.{met_heard, IsWhole};
+ghost use Rattle.std.specs.Prelude.{◌≡◌, ◌≢◌, ◌≤◌, length, Some, Option, Err, IfOk, OnOk};
+ghost use Rattle.dcc_avp.specs.declared.fault.AvpFault.TheVariants.{Memory};
+ghost use Rattle.dcc_message.specs.Headers.{is_request};
+ghost use Rattle.dcc_credit.specs.Requests.{RequestView, act_of};
+ghost use Rattle.dcc_engine.specs.Engines.{is_open};
+ghost use Rattle.dcc_engine.specs.Messages.{message_view, request, session, received_on};
+ghost use Rattle.dcc_engine.specs.inner.Headings.{received_as, layout_fault, IsWhole};
 ghost use Rattle.dcc_engine.specs.declared.peers.Peer.{Peer};
 
+use dcc_act::{Act, Moment, Sub};
 use dcc_avp::{Avp, AvpFault, read_list};
-use dcc_credit::Proxies;
-use dcc_message::{Header, read_header};
+use dcc_credit::{CcrFault, Proxies, Session, read_ccr, session_id, subscriber, to_act};
+use dcc_message::{HEADER_LENGTH, Header, read_header};
+use dcc_tariff::Plan;
 use std::alloc::{AllocError, Global};
 use std::marker::Model;
 
-/// A request as it was read. Where its list can't be read, it has no AVPs.
+/// A request as its message brings it: the header, and the list behind it or why that can't be read.
 #[derive(Drop)]
 pub(crate) struct Message<'a> {
     pub(crate) header: Header,
-    pub(crate) avps: Vec<Avp<'a>>,
+    list: Result<Vec<Avp<'a>>, AvpFault>,
     pub(crate) proxies: Proxies,
 }
 
 impl<'a> Model for Message<'a> {
-    ghost use Rattle.std.specs.Prelude.{◌≡◌};
-    ghost use Rattle.dcc_engine.specs.Messages.{Brought, brought_in};
-    ghost use Rattle.dcc_credit.specs.Answers.{proxies_of};
+    ghost use Rattle.std.specs.Prelude.{◌≡◌, Ok, Err};
+    ghost use Rattle.dcc_engine.specs.Messages.{MessageView, proxies_in};
+    ghost use Rattle.dcc_engine.specs.inner.Headings.{list_with};
 
-    ghost Value = { Brought };
+    ghost Value = { MessageView };
 
-    ghost view = { λ m. brought_in m.header m.avps.items };
+    ghost view = { λ m. record { header = m.header; list = list_with (λ avps. avps.items) m.list } };
 
-    ghost invariant = { λ m. m.proxies ≡ proxies_of m.avps.items };
+    ghost invariant = { λ m. m.proxies ≡ proxies_in (list_with (λ avps. avps.items) m.list) };
 }
 
-/// What the octets of a message are.
-pub(crate) enum Heard {
-    /// They have no answer.
-    Nothing,
-    /// They are no message.
-    Break,
-    /// They are a request with this header.
-    Request(Header),
+/// What the first octets of a message say of it.
+pub(crate) enum Heading {
+    /// It has no answer.
+    Ignored,
+    /// It is no message.
+    Broken,
+    /// It is a request with this header.
+    Requested(Header),
 }
 
-/// What the octets of a peer are, who is heard only where it is open.
-#[tactic(auto, unfolding(crate::specs::Messages::met))]
-pub(crate) fn hear(is_heard: bool, octets: &[u8]) -> Heard
-    ensures met { (peer : Option Peer) → is_open peer ≡ is_heard → met_on peer octets.now ≡ met_heard result octets.now }
+/// What a message of a peer is, who is heard only where it is open.
+#[tactic(auto, unfolding(crate::specs::Messages::received))]
+pub(crate) fn receive(is_heard: bool, octets: &[u8]) -> Heading
+    ensures received { (peer : Option Peer) → is_open peer ≡ is_heard → received_on peer octets.now ≡ received_as result octets.now }
     ensures whole { IsWhole result octets.now }
 {
     if !is_heard {
-        return Heard::Nothing;
+        return Heading::Ignored;
     }
     match read_header(octets) {
-        Err(_) => Heard::Break,
-        Ok(header) if is_request(&header) => Heard::Request(header),
-        Ok(_) => Heard::Nothing,
+        Err(_) => Heading::Broken,
+        Ok(header) if header.is_request() => Heading::Requested(header),
+        Ok(_) => Heading::Ignored,
     }
-}
-
-/// Whether a message is a request: the R bit (RFC 6733, section 3).
-fn is_request(header: &Header) -> bool
-    ensures { result ≡ is_request header.now }
-{
-    header.flags & 0x80 != 0
 }
 
 impl<'a> Message<'a> {
@@ -76,26 +72,61 @@ impl<'a> Message<'a> {
     ) -> Result<Message<'a>, AllocError>
         requires least { 20 ≤ length octets.now }
         requires most { length octets.now ≤ 65_532 }
-        ensures { IfOk result (λ m. m ≡ brought header octets.now) }
+        ensures { IfOk result (λ message. message ≡ message_view header octets.now) }
     {
-        let avps = list_of(alloc, &octets[20..])?;
-        let proxies = Proxies::of(alloc, &avps)?;
-        Ok(Message {
-            header,
-            avps,
-            proxies,
-        })
+        match read_list(alloc, &octets[HEADER_LENGTH..]) {
+            Ok(avps) => {
+                let proxies = Proxies::of(alloc, &avps)?;
+                Ok(Message {
+                    header,
+                    list: Ok(avps),
+                    proxies,
+                })
+            }
+            Err(fault) => Message::unread(alloc, header, fault),
+        }
     }
-}
 
-/// A list of AVPs, empty where it can't be read.
-fn list_of(alloc: Global, octets: &[u8]) -> Result<Vec<Avp<'_>>, AllocError>
-    ensures value { IfOk result (λ avps. avps.items ≡ readable (avps_of octets.now)) }
-    ensures within { IfOk result (λ avps. sum_by padded_len avps.items ≤ length octets.now + 3) }
-{
-    match read_list(alloc, octets) {
-        Ok(avps) => Ok(avps),
-        Err(AvpFault::Memory) => Err(AllocError),
-        Err(_) => Ok(Vec::new(alloc)),
+    /// A request whose list can't be read, or want of memory where that was the fault.
+    fn unread(alloc: Global, header: Header, fault: AvpFault) -> Result<Message<'a>, AllocError>
+        ensures message { IfOk result (λ message. message ≡ record { header = header; list = Err (layout_fault fault) }) }
+        ensures memory { OnOk result (fault ≢ Memory) }
+    {
+        match fault {
+            AvpFault::Memory => Err(AllocError),
+            _ => Ok(Message {
+                header,
+                list: Err(fault),
+                proxies: Proxies::none(alloc),
+            }),
+        }
+    }
+
+    /// The Session-Id that a busy answer takes over.
+    pub(crate) fn session(&self) -> Option<Session<'a>>
+        ensures { result ≡ session self.now }
+    {
+        match &self.list {
+            Ok(avps) => session_id(avps),
+            Err(_) => None,
+        }
+    }
+
+    /// Whose account the request is for, and the act that it asks for at a moment.
+    pub(crate) fn ask(
+        &self,
+        alloc: Global,
+        plan: &Plan,
+        moment: Moment,
+    ) -> Result<(Sub, Act), CcrFault>
+        ensures { IfOk result (λ asked. (found : RequestView) × (request self.now ≡ Some found)
+            × (session self.now ≡ Some found.key.sid) × (asked.0 ≡ found.sub) × (asked.1 ≡ act_of plan.now found moment)) }
+    {
+        let Ok(avps) = &self.list else {
+            return Err(CcrFault::Later);
+        };
+        let found = read_ccr(alloc, &self.header, avps)?;
+        let act = to_act(alloc, plan, &found, moment)?;
+        Ok((subscriber(&found), act))
     }
 }

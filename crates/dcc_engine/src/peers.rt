@@ -2,9 +2,9 @@
 
 ghost use Rattle.std.specs.Prelude.{◌≡◌, ◌==◌, ◌+◌, ◌<◌, ◌≤◌, ℕ, [], Some, None, OnOk, OnErr, if◌then◌else◌};
 ghost use Rattle.std.specs.Option.{option_map};
-ghost use Rattle.dcc_engine.specs.Core.{peer_in, is_open};
+ghost use Rattle.dcc_engine.specs.Engines.{peer_in, is_open};
 
-use crate::octet_string::OctetString;
+use dcc_octets::OctetString;
 use std::alloc::{AllocError, Global};
 use std::marker::Model;
 
@@ -30,9 +30,9 @@ pub struct Peers {
 
 impl Model for Peers {
     ghost use Rattle.std.specs.Prelude.{◌-◌, vec_len, vec_capacity};
-    ghost use Rattle.dcc_engine.specs.Core.{Table};
+    ghost use Rattle.dcc_engine.specs.Engines.{PeersView};
 
-    ghost Value = { Table };
+    ghost Value = { PeersView };
 
     ghost view = { λ p. record { rows = p.rows.items; room = vec_capacity p.rows - vec_len p.rows } };
 }

@@ -2,7 +2,7 @@ use Rattle.dcc_engine.proofs.OwnAnswers.{same_answers, same_own, own_asked}
 use Rattle.dcc_engine.proofs.laws.isolation.Goals as goal
 
 pub returns-clause-answers : goal.returns-clause-answers
-returns-clause-answers c = same_answers c.later_acts_change_no_outcome.ensures
+returns-clause-answers c = same_answers c.later_acts_change_no_outcome.ensures c.acts_come_to_their_own.ensures.last
 
 pub returns-clause-own : goal.returns-clause-own
 returns-clause-own c = same_own

@@ -1,22 +1,18 @@
 use Rattle.std.proofs.Common.{◌≡◌, ◌+◌, ◌≤◌, ℕ, [], length, map, take, reverse, get_or, vec_capacity}
-use Rattle.dcc_act.specs.declared.sub.Sub.{Sub}
-use Rattle.dcc_model.specs.Outcomes.{acts}
 use Rattle.dcc_engine.specs.Asks.{host_of}
-use Rattle.dcc_engine.specs.Core.{held_of, peer_of}
-use Rattle.dcc_engine.specs.Isolation.{steps, own_after, peers_after}
+use Rattle.dcc_engine.specs.Isolation.{turns}
 use Rattle.dcc_engine.proofs.Pasts.{IsPast}
+use Rattle.dcc_engine.proofs.Runs.{StandsAt}
 use Rattle.dcc_engine.proofs.engine.Engine.run.Given as goal
 
 -- what was answered so far, and where it has led
 abbrev pub invariant-loop-i : goal.invariant-loop-i
 invariant-loop-i l =
-    let past = reverse (steps (take l.i l.events) l.outs.items) in
+    let past = reverse (turns (take l.i l.events) l.outs.items) in
     record {
       count : length l.outs.items ≡ l.i;
       answers : IsPast l.fn.self past;
-      acts : (sub : Sub) → held_of l.self sub ≡ acts l.fn.self.setting.plan.terms (own_after l.fn.self past sub);
-      peers : (id : ℕ) → peer_of l.self id ≡ peers_after l.fn.self past id;
-      setting : l.self.setting ≡ l.fn.self.setting;
+      stands : StandsAt l.fn.self l.self past;
       room : length l.events ≤ l.i + l.self.peers.room;
       outs : length l.events ≤ vec_capacity l.outs;
       hosts_count : length l.hosts.items ≡ length l.events;

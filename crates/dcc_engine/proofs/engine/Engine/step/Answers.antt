@@ -1,20 +1,23 @@
-use Rattle.std.proofs.Common.{subst}
-use Rattle.dcc_tariff.specs.Terms.{TermsView}
-use Rattle.dcc_engine.specs.Core.{Core, Setting, peer_of, peer_in}
-use Rattle.dcc_engine.specs.Served.{IsToppedUp, IsDone}
+use Rattle.std.proofs.Common.{refl, subst}
+use Rattle.dcc_engine.specs.Asks.{out_top_up}
+use Rattle.dcc_engine.specs.Engines.{EngineView, Setting, peer_in}
+use Rattle.dcc_engine.specs.inner.Done.{IsDone}
 use Rattle.dcc_engine.specs.declared.event.Event.TheVariants.{TopUp}
-use Rattle.dcc_engine.proofs.ToppedUp.{topped_up_done}
+use Rattle.dcc_engine.proofs.TopUps.{top_up_judged}
 use Rattle.dcc_engine.proofs.engine.Engine.step.Goals as goal
 
 pub returns-in-TopUp-clause-done : goal.returns-in-TopUp-clause-done
 returns-in-TopUp-clause-done c =
     let inside = c.self-in-TopUp.inside in
     let setting : Setting = record { plan = inside.plan; identity = inside.identity } in
-    let old = inside.rows.items in
-    let new = c.serve_top_up-answer.new.rows.items in
+    let old = inside.shard in
+    let new = c.top_up-answer.new.self in
     let t = c.in-TopUp in
-    let answer = c.serve_top_up-answer.result in
-    let served = subst (λ (terms : TermsView). IsToppedUp terms old new t.moment t.sub t.ticket t.amount answer) c.terms.ensures c.serve_top_up-answer.ensures in
-    let done = topped_up_done setting (peer_in inside.peers.rows) old new t.moment t.sub t.ticket t.amount answer c.self-in-TopUp.invariant served in
-    let whole = subst (λ (core : Core). IsDone core.setting (peer_of core) core.books new (TopUp t.moment t.sub t.ticket t.amount) c.telling.result) c.self-in-TopUp.view_is (rw c.telling.ensures done) in
+    let answer = c.top_up-answer.result in
+    let after : EngineView = record { setting = setting; peers = inside.peers; shard = new } in
+    let judged = top_up_judged c.same_subscribers_are_equal.ensures setting (peer_in inside.peers.rows) old new t.moment t.sub t.ticket t.amount answer
+      c.self-in-TopUp.invariant.0 c.self-in-TopUp.invariant.2 c.top_up-answer.ensures.answer c.top_up-answer.ensures.step in
+    let before : EngineView = record { setting = setting; peers = inside.peers; shard = old } in
+    let done : IsDone before after (record { event = TopUp t.moment t.sub t.ticket t.amount; out = out_top_up answer }) = record { judged = judged; peers = λ id. refl; setting = refl } in
+    let whole = subst (λ (engine : EngineView). IsDone engine after (record { event = TopUp t.moment t.sub t.ticket t.amount; out = c.telling.result })) c.self-in-TopUp.view_is (rw c.telling.ensures done) in
     rw t.is whole

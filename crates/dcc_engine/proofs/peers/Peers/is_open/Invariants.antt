@@ -1,5 +1,5 @@
 use Rattle.std.proofs.Common.{◌≡◌, drop}
-use Rattle.dcc_engine.specs.Core.{peer_in}
+use Rattle.dcc_engine.specs.Engines.{peer_in}
 use Rattle.dcc_engine.proofs.peers.Peers.is_open.Given as goal
 
 abbrev pub invariant-loop-row : goal.invariant-loop-row

@@ -1,0 +1,52 @@
+//! Outs.
+
+ghost use Rattle.std.specs.Prelude.{◌≡◌, [], Some};
+ghost use Rattle.dcc_engine.specs.Asks.{out_octets, out_close, out_top_up};
+
+use crate::event::Out;
+use dcc_octets::OctetString;
+use dcc_shard::TopUpAnswer;
+use std::alloc::Global;
+
+/// An out that sends a peer an answer, or nothing where there are no octets.
+pub(crate) fn sending(peer: u32, octets: OctetString) -> Out
+    ensures { result ≡ out_octets (Some peer) octets }
+{
+    Out {
+        peer: Some(peer),
+        octets,
+        close: false,
+        top_up: None,
+    }
+}
+
+/// An out that sends nothing.
+pub(crate) fn quiet(alloc: Global, peer: u32) -> Out
+    ensures { result ≡ out_octets (Some peer) [] }
+{
+    sending(peer, OctetString::new(alloc))
+}
+
+/// An out that closes a connection.
+pub(crate) fn closing(alloc: Global, peer: u32) -> Out
+    ensures { result ≡ out_close peer }
+{
+    Out {
+        peer: Some(peer),
+        octets: OctetString::new(alloc),
+        close: true,
+        top_up: None,
+    }
+}
+
+/// An out that tells a top-up its answer.
+pub(crate) fn telling(alloc: Global, answer: TopUpAnswer) -> Out
+    ensures { result ≡ out_top_up answer }
+{
+    Out {
+        peer: None,
+        octets: OctetString::new(alloc),
+        close: false,
+        top_up: Some(answer),
+    }
+}
