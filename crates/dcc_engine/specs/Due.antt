@@ -3,7 +3,7 @@ use Rattle.std.specs.Prelude.{◌≡◌, ℕ, ◌<◌, if◌then◌else◌, List
 use Rattle.dcc_tariff.specs.Terms.{TermsView}
 use Rattle.dcc_act.specs.declared.act.Act.{Act}
 use Rattle.dcc_act.specs.declared.sub.Sub.{Sub}
-use Rattle.dcc_account.specs.Kept.{AccountView}
+use Rattle.dcc_account.specs.Accounts.{AccountView}
 use Rattle.dcc_account.specs.Prepared.{StepView, IsPrepared}
 use Rattle.dcc_model.specs.Outcomes.{acts}
 use Rattle.dcc_engine.specs.Books.{held_in, next_outcome, IsAt, IsAbsent}

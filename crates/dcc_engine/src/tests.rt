@@ -32,7 +32,7 @@ fn engine(alloc: Global) -> Result<Engine, Fail> {
         realm: DiameterIdentity::from_vec(b"example".to_vec(alloc)?).ok_or("a realm")?,
         address: [127, 0, 0, 1],
     };
-    Ok(Engine::open(alloc, Plan::rows(alloc)?, identity, 2))
+    Ok(Engine::open(alloc, Plan::read(alloc, dcc_samples::PLAN)?, identity, 2))
 }
 
 fn subscriber() -> Result<Sub, Fail> {
