@@ -1,7 +1,7 @@
 -- What a plan is: who the server says it is, its terms, and the tariffs of each rating group.
-use Rattle.std.specs.Prelude.{ℕ, Bool, true, not, ◌&&◌, ◌||◌, ◌==◌, nat_lt, nat_le, if◌then◌else◌, List, [], ◌∷◌, length}
+use Rattle.std.specs.Prelude.{ℕ, Bool, true, not, ◌&&◌, ◌||◌, ◌==◌, nat_lt, nat_le, if◌then◌else◌, List, [], ◌∷◌}
 use Rattle.std.specs.Prelude.{filter, Option, Some, None, option_map}
-use Rattle.std.specs.List.{find, list_all, list_any}
+use Rattle.std.specs.List.{find, list_all}
 use Rattle.dcc_tariff.specs.Terms.{TariffView, TermsView}
 use Rattle.dcc_tariff.specs.declared.tariff.UnitKind.{UnitKind}
 use Rattle.dcc_tariff.specs.declared.tariff.UnitKind.TheVariants.{Octets, Time, Units}
