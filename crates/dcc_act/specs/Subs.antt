@@ -1,6 +1,6 @@
 -- Subscribers, as a contract sees them.
 use Rattle.std.specs.Prelude.{ℕ, ◌≡◌, ◌↔◌, Bool, true, ◌&&◌, ◌==◌, nat_le, bytes_eq, List, length}
-use Rattle.std.specs.List.{list_all}
+use Rattle.dcc_octets.specs.Names.{are_visible}
 
 -- the type and the data of a Subscription-Id (RFC 8506, section 8.46)
 pub record SubView : Type 0 where
@@ -10,7 +10,7 @@ pub record SubView : Type 0 where
 -- the types are those of RFC 8506, section 8.47; the data is 1 to 64 octets of visible ASCII
 abbrev pub is_sub : ℕ → List ℕ → Bool
 is_sub kind name =
-    nat_le kind 4 && nat_le 1 (length name) && nat_le (length name) 64 && list_all (λ octet. nat_le 0x21 octet && nat_le octet 0x7E) name
+    nat_le kind 4 && nat_le 1 (length name) && nat_le (length name) 64 && are_visible name
 
 -- whether two subscribers are one: the same type and the same data
 abbrev pub same_sub : SubView → SubView → Bool

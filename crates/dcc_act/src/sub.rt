@@ -1,10 +1,10 @@
 //! Subscribers.
 
-ghost use Rattle.std.specs.Prelude.{◌≡◌, ◌≤◌, ◌&&◌, nat_le, true, if◌then◌else◌, length, Some, None};
-ghost use Rattle.std.specs.List.{list_all};
+ghost use Rattle.std.specs.Prelude.{◌≡◌, ◌≤◌, true, if◌then◌else◌, length, Some, None};
 ghost use Rattle.dcc_act.specs.Subs.{is_sub};
 ghost use Rattle.dcc_act.specs.inner.Stored.{padded};
 
+use dcc_octets::are_visible;
 use std::marker::Model;
 
 /// Who an account is for: the type and the data of a Subscription-Id (RFC 8506, section 8.46).
@@ -74,12 +74,6 @@ fn is_sub(kind: u8, name: &[u8]) -> bool
     ensures { result ≡ is_sub kind name.now }
 {
     kind <= 4 && 1 <= name.len() && name.len() <= 64 && are_visible(name)
-}
-
-fn are_visible(name: &[u8]) -> bool
-    ensures { result ≡ list_all (λ octet. nat_le 0x21 octet && nat_le octet 0x7E) name.now }
-{
-    name.iter().all(|octet| b'!' <= *octet && *octet <= b'~')
 }
 
 /// The octets, and zeros behind.

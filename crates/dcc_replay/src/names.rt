@@ -1,7 +1,7 @@
 //! Who answers, as a plan names it.
 
 ghost use Rattle.std.specs.Prelude.{◌≡◌, true, IfOk};
-ghost use Rattle.dcc_tariff.specs.Plans.{is_identity};
+ghost use Rattle.dcc_octets.specs.Names.{is_name};
 ghost use Rattle.dcc_replay.specs.Names.{identity_of};
 
 use dcc_message::{DiameterIdentity, Identity};
@@ -20,7 +20,7 @@ pub(crate) fn identity_of(alloc: Global, plan: &Plan) -> Result<Identity, AllocE
 }
 
 fn name_of(alloc: Global, text: &[u8]) -> Result<DiameterIdentity, AllocError>
-    requires { is_identity text.now ≡ true }
+    requires { is_name text.now ≡ true }
     ensures { IfOk result (λ name. name ≡ text.now) }
 {
     let octets = Vec::from_slice(alloc, text)?;

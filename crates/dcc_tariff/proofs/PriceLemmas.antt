@@ -64,20 +64,20 @@ rounded_up_more units block count some short =
     lt_of_mul-lt-mul_right block beyond
 
 -- the blocks that cover the units, in one quotient
-blocks-is : (rate : TariffView) (units : ℕ) → 1 ≤ rate.block → blocks rate units ≡ rounded_up units rate.block
-blocks-is rate units some =
-    let (enough, close) = div_ceil_times units rate.block some in
-    least-is (λ count. nat_le units (count * rate.block)) units (rounded_up units rate.block)
-    (rounded_up_least units rate.block units some (le-mul_of_pos_right units some))
+blocks-is : (tariff : TariffView) (units : ℕ) → 1 ≤ tariff.block → blocks tariff units ≡ rounded_up units tariff.block
+blocks-is tariff units some =
+    let (enough, close) = div_ceil_times units tariff.block some in
+    least-is (λ count. nat_le units (count * tariff.block)) units (rounded_up units tariff.block)
+    (rounded_up_least units tariff.block units some (le-mul_of_pos_right units some))
     (grind (arith, nat_tests))
-    (λ k fewer. elim (cases_lt (k * rate.block) units) [
+    (λ k fewer. elim (cases_lt (k * tariff.block) units) [
       | inl short ↦ grind (arith, nat_tests)
-      | inr covered ↦ let least = rounded_up_least units rate.block k some covered in absurd (omega arith)
+      | inr covered ↦ let least = rounded_up_least units tariff.block k some covered in absurd (omega arith)
     ])
 
-pub price-is : (rate : TariffView) (units : ℕ) → 1 ≤ rate.block → price rate units ≡ rounded_up units rate.block * rate.price
+pub price-is : (tariff : TariffView) (units : ℕ) → 1 ≤ tariff.block → price tariff units ≡ rounded_up units tariff.block * tariff.price
 unfolding price
-price-is rate units some = ap (λ count. count * rate.price) (blocks-is rate units some)
+price-is tariff units some = ap (λ count. count * tariff.price) (blocks-is tariff units some)
 
 -- where none passes, all of it
 least-none : (passes : ℕ → Bool) (n : ℕ) → ((k : ℕ) → k < n → passes k ≡ false) → least passes n ≡ n
@@ -87,34 +87,34 @@ least-none passes (suc n) none =
     let up = least_le passes n in
     cond-false (passes (least passes n)) (least passes n) (suc n) (none (least passes n) (omega arith))
 
-blocks-empty : (rate : TariffView) (units : ℕ) → rate.block ≡ 0 → blocks rate units ≡ units
-blocks-empty rate units none =
-    least-none (λ count. nat_le units (count * rate.block)) units
-    (λ k fewer. let nothing : k * rate.block ≡ 0 = rw none (omega arith) in rw nothing (grind (arith, nat_tests)))
+blocks-empty : (tariff : TariffView) (units : ℕ) → tariff.block ≡ 0 → blocks tariff units ≡ units
+blocks-empty tariff units none =
+    least-none (λ count. nat_le units (count * tariff.block)) units
+    (λ k fewer. let nothing : k * tariff.block ≡ 0 = rw none (omega arith) in rw nothing (grind (arith, nat_tests)))
 
-blocks_grow : (rate : TariffView) (fewer more : ℕ) → fewer ≤ more → blocks rate fewer ≤ blocks rate more
-blocks_grow rate fewer more h =
-    elim (cases_lt 0 rate.block) [
+blocks_grow : (tariff : TariffView) (fewer more : ℕ) → fewer ≤ more → blocks tariff fewer ≤ blocks tariff more
+blocks_grow tariff fewer more h =
+    elim (cases_lt 0 tariff.block) [
       | inl some ↦
-          let (enough, close) = div_ceil_times more rate.block some in
-          rw (blocks-is rate fewer some, blocks-is rate more some)
-          (rounded_up_least fewer rate.block (rounded_up more rate.block) some (omega arith))
+          let (enough, close) = div_ceil_times more tariff.block some in
+          rw (blocks-is tariff fewer some, blocks-is tariff more some)
+          (rounded_up_least fewer tariff.block (rounded_up more tariff.block) some (omega arith))
       | inr none ↦
-          let empty : rate.block ≡ 0 = omega arith in
-          rw (blocks-empty rate fewer empty, blocks-empty rate more empty) h
+          let empty : tariff.block ≡ 0 = omega arith in
+          rw (blocks-empty tariff fewer empty, blocks-empty tariff more empty) h
     ]
 
 -- more units cost no less
-pub price_grows : (rate : TariffView) (fewer more : ℕ) → fewer ≤ more → price rate fewer ≤ price rate more
+pub price_grows : (tariff : TariffView) (fewer more : ℕ) → fewer ≤ more → price tariff fewer ≤ price tariff more
 unfolding price
-price_grows rate fewer more h = mul-le-mul_right rate.price (blocks_grow rate fewer more h)
+price_grows tariff fewer more h = mul-le-mul_right tariff.price (blocks_grow tariff fewer more h)
 
 -- a limit on prices
-pub price_bound : (rate : TariffView) (units : ℕ) → IsTariff rate → units ≤ 10 ^ 12 → price rate units ≤ 10 ^ 18
-price_bound rate units fits h =
+pub price_bound : (tariff : TariffView) (units : ℕ) → IsTariff tariff → units ≤ 10 ^ 12 → price tariff units ≤ 10 ^ 18
+price_bound tariff units fits h =
     let some = fits.block_begun in
-    let few = rounded_up_least units rate.block units some (le-mul_of_pos_right units some) in
-    rw (price-is rate units some) (mul-le (rounded_up units rate.block) rate.price (10 ^ 12) 1_000_000 (omega arith) fits.price)
+    let few = rounded_up_least units tariff.block units some (le-mul_of_pos_right units some) in
+    rw (price-is tariff units some) (mul-le (rounded_up units tariff.block) tariff.price (10 ^ 12) 1_000_000 (omega arith) fits.price)
 
 -- the greatest number that passes is within the bound, passes, and none above it does
 pub greatest_le : (passes : ℕ → Bool) (n : ℕ) → greatest passes n ≤ n
@@ -144,80 +144,80 @@ greatest_last passes (suc n) k over within =
           ]
     ]
 
-pub price-nothing : (rate : TariffView) → price rate 0 ≡ 0
+pub price-nothing : (tariff : TariffView) → price tariff 0 ≡ 0
 unfolding price least
-price-nothing rate = omega arith
+price-nothing tariff = omega arith
 
-pub best_up_to_asked : (rate : TariffView) (asked : ℕ) (free : ℤ) → best rate asked free ≤ asked
+pub best_up_to_asked : (tariff : TariffView) (asked : ℕ) (free : ℤ) → best tariff asked free ≤ asked
 unfolding best
-best_up_to_asked rate asked free = greatest_le (λ units. covers free (price rate units)) asked
+best_up_to_asked tariff asked free = greatest_le (λ units. covers free (price tariff units)) asked
 
-pub best_affordable : (rate : TariffView) (asked : ℕ) (free : ℤ) → covers free (price rate (best rate asked free)) ≡ true
+pub best_affordable : (tariff : TariffView) (asked : ℕ) (free : ℤ) → covers free (price tariff (best tariff asked free)) ≡ true
 unfolding best
-best_affordable rate asked free = greatest_passes (λ units. covers free (price rate units)) asked (rw (price-nothing rate))
+best_affordable tariff asked free = greatest_passes (λ units. covers free (price tariff units)) asked (rw (price-nothing tariff))
 
-pub best_greatest : (rate : TariffView) (asked : ℕ) (free : ℤ) (more : ℕ) → best rate asked free < more → more ≤ asked
-    → covers free (price rate more) ≡ false
+pub best_greatest : (tariff : TariffView) (asked : ℕ) (free : ℤ) (more : ℕ) → best tariff asked free < more → more ≤ asked
+    → covers free (price tariff more) ≡ false
 unfolding best
-best_greatest rate asked free more over within = greatest_last (λ units. covers free (price rate units)) asked more over within
+best_greatest tariff asked free more over within = greatest_last (λ units. covers free (price tariff units)) asked more over within
 
 -- what is covered, above which nothing up to the amount asked is, is the best grant
-pub best-is : (rate : TariffView) (asked given : ℕ) (free : ℤ) → given ≤ asked → covers free (price rate given) ≡ true
-    → ((more : ℕ) → given < more → more ≤ asked → covers free (price rate more) ≡ false) → best rate asked free ≡ given
+pub best-is : (tariff : TariffView) (asked given : ℕ) (free : ℤ) → given ≤ asked → covers free (price tariff given) ≡ true
+    → ((more : ℕ) → given < more → more ≤ asked → covers free (price tariff more) ≡ false) → best tariff asked free ≡ given
 unfolding best
-best-is rate asked given free up here above = greatest-is (λ units. covers free (price rate units)) asked given up here above
+best-is tariff asked given free up here above = greatest-is (λ units. covers free (price tariff units)) asked given up here above
 
 -- what costs something has a price of blocks
-pub price_some : (rate : TariffView) (units : ℕ) → 1 ≤ rate.block → 0 < price rate units → 0 < rate.price
-price_some rate units some costs =
-    let costs' : 0 < rounded_up units rate.block * rate.price = rw (price-is rate units some) at costs in
-    elim (cases_lt 0 rate.price) [
+pub price_some : (tariff : TariffView) (units : ℕ) → 1 ≤ tariff.block → 0 < price tariff units → 0 < tariff.price
+price_some tariff units some costs =
+    let costs' : 0 < rounded_up units tariff.block * tariff.price = rw (price-is tariff units some) at costs in
+    elim (cases_lt 0 tariff.price) [
       | inl more ↦ more
-      | inr none ↦ let free = mul-le-mul_left (rounded_up units rate.block) none in absurd (omega arith)
+      | inr none ↦ let free = mul-le-mul_left (rounded_up units tariff.block) none in absurd (omega arith)
     ]
 
 -- the whole blocks that the money pays, where it does not pay all
-pub record IsMost (rate : TariffView) (asked : ℕ) (free : ℤ) (given : ℕ) : Type 0 where
+pub record IsMost (tariff : TariffView) (asked : ℕ) (free : ℤ) (given : ℕ) : Type 0 where
   pub up_to_asked : given ≤ asked
-  pub affordable : covers free (price rate given) ≡ true
-  pub greatest : (more : ℕ) → given < more → more ≤ asked → covers free (price rate more) ≡ false
+  pub affordable : covers free (price tariff given) ≡ true
+  pub greatest : (more : ℕ) → given < more → more ≤ asked → covers free (price tariff more) ≡ false
 
-pub all_of_it : (rate : TariffView) (asked : ℕ) (free : ℤ) → covers free (price rate asked) ≡ true → IsMost rate asked free asked
-all_of_it rate asked free here = record {
+pub all_of_it : (tariff : TariffView) (asked : ℕ) (free : ℤ) → covers free (price tariff asked) ≡ true → IsMost tariff asked free asked
+all_of_it tariff asked free here = record {
   up_to_asked = omega arith;
   affordable = here;
   greatest = λ more after within. absurd (omega arith);
 }
 
-pub whole_blocks : (rate : TariffView) (asked money : ℕ) (free : ℤ) → 1 ≤ rate.block → price rate asked ≤ 10 ^ 18 → money < price rate asked
+pub whole_blocks : (tariff : TariffView) (asked money : ℕ) (free : ℤ) → 1 ≤ tariff.block → price tariff asked ≤ 10 ^ 18 → money < price tariff asked
     → ((cost : ℕ) → cost ≤ 10 ^ 18 → covers free cost ≡ nat_le cost money)
-    → IsMost rate asked free (money / rate.price * rate.block)
-whole_blocks rate asked money free some bound short purse =
-    let count = money / rate.price in
-    let paid : count * rate.price ≤ money = div-mul-le_self money rate.price in
-    let costs : 0 < rate.price = price_some rate asked some (omega arith) in
-    let next : money < count * rate.price + rate.price = lt-div-mul-add costs in
-    let short' : money < rounded_up asked rate.block * rate.price = rw (price-is rate asked some) at short in
+    → IsMost tariff asked free (money / tariff.price * tariff.block)
+whole_blocks tariff asked money free some bound short purse =
+    let count = money / tariff.price in
+    let paid : count * tariff.price ≤ money = div-mul-le_self money tariff.price in
+    let costs : 0 < tariff.price = price_some tariff asked some (omega arith) in
+    let next : money < count * tariff.price + tariff.price = lt-div-mul-add costs in
+    let short' : money < rounded_up asked tariff.block * tariff.price = rw (price-is tariff asked some) at short in
     record {
-      up_to_asked = elim (cases_lt asked (count * rate.block)) [
+      up_to_asked = elim (cases_lt asked (count * tariff.block)) [
         | inl over ↦
-            let few = rounded_up_least asked rate.block count some (omega arith) in
-            let cheap = mul-le-mul_right rate.price few in
+            let few = rounded_up_least asked tariff.block count some (omega arith) in
+            let cheap = mul-le-mul_right tariff.price few in
             absurd (omega arith)
         | inr within ↦ within
       ];
       affordable =
-          let few = rounded_up_least (count * rate.block) rate.block count some (omega arith) in
-          let cheap = mul-le-mul_right rate.price few in
-          let within : price rate (count * rate.block) ≤ money = rw (price-is rate (count * rate.block) some) (omega arith) in
-          purse (price rate (count * rate.block)) (omega arith) ∙ le-leb (price rate (count * rate.block)) money within;
+          let few = rounded_up_least (count * tariff.block) tariff.block count some (omega arith) in
+          let cheap = mul-le-mul_right tariff.price few in
+          let within : price tariff (count * tariff.block) ≤ money = rw (price-is tariff (count * tariff.block) some) (omega arith) in
+          purse (price tariff (count * tariff.block)) (omega arith) ∙ le-leb (price tariff (count * tariff.block)) money within;
       greatest = λ more after within.
-          let many = rounded_up_more more rate.block count some after in
-          let dear : (count + 1) * rate.price ≤ rounded_up more rate.block * rate.price = mul-le-mul_right rate.price (omega arith) in
-          let over : money < price rate more = rw (price-is rate more some) (omega arith) in
-          let bounded = price_grows rate more asked within in
-          purse (price rate more) (omega arith) ∙ grind (arith, nat_tests);
+          let many = rounded_up_more more tariff.block count some after in
+          let dear : (count + 1) * tariff.price ≤ rounded_up more tariff.block * tariff.price = mul-le-mul_right tariff.price (omega arith) in
+          let over : money < price tariff more = rw (price-is tariff more some) (omega arith) in
+          let bounded = price_grows tariff more asked within in
+          purse (price tariff more) (omega arith) ∙ grind (arith, nat_tests);
     }
 
-pub best_from_most : (rate : TariffView) (asked given : ℕ) (free : ℤ) → IsMost rate asked free given → given ≡ best rate asked free
-best_from_most rate asked given free most = sym (best-is rate asked given free most.up_to_asked most.affordable most.greatest)
+pub best_from_most : (tariff : TariffView) (asked given : ℕ) (free : ℤ) → IsMost tariff asked free given → given ≡ best tariff asked free
+best_from_most tariff asked given free most = sym (best-is tariff asked given free most.up_to_asked most.affordable most.greatest)

@@ -3,6 +3,7 @@ use Rattle.std.proofs.Common.{◌≡◌, ◌-◌, ◌^◌, true, ◌&&◌, [], c
 use Rattle.std.specs.List.{list_any}
 use Rattle.toml.specs.Data.{Members, Items}
 use Rattle.dcc_tariff.specs.Plans.{PlanView, all_agree, is_of}
+use Rattle.dcc_tariff.specs.declared.limits.TheConstants.{MAX_SHARDS, MAX_UNITS}
 use Rattle.dcc_tariff.specs.PlanTexts.{identity_at, address_at, number_at, terms_of, tables_at, versions_onto, plan_of}
 
 -- what each key holds
@@ -10,9 +11,9 @@ pub record HasParts (table : Members) (tables : Items) (plan : PlanView) : Type 
   pub host : identity_at (codes "host") table ≡ Ok plan.host
   pub realm : identity_at (codes "realm") table ≡ Ok plan.realm
   pub address : address_at (codes "address") table ≡ Ok plan.address
-  pub shards : number_at (codes "shards") 1 8 table ≡ Ok plan.shards
+  pub shards : number_at (codes "shards") 1 MAX_SHARDS table ≡ Ok plan.shards
   pub default_group : number_at (codes "default_group") 0 (2 ^ 32 - 1) table ≡ Ok plan.default_group
-  pub quantum : number_at (codes "quantum") 1 (10 ^ 12) table ≡ Ok plan.quantum
+  pub quantum : number_at (codes "quantum") 1 MAX_UNITS table ≡ Ok plan.quantum
   pub terms : terms_of table ≡ Ok plan.terms
   pub all_tables : tables_at (codes "tariff") table ≡ Ok tables
   pub versions : versions_onto [] tables ≡ Ok plan.versions

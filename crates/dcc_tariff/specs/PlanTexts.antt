@@ -4,13 +4,14 @@ use Rattle.std.specs.Prelude.{ℤ, pos, negsuc, int_le, int_div, unsigned_abs, L
 use Rattle.std.specs.Prelude.{None, is_some, Result, Ok, Err, ok_or}
 use Rattle.std.specs.Char.{is_ascii_digit}
 use Rattle.std.specs.List.{list_all, list_any, zip}
-use Rattle.std.specs.Result.{result_map_both}
 use Rattle.std.specs.Net.Text.{ipv4_text}
 use Rattle.toml.specs.Data.{Data, Members, Items, no_items, item, get_member, as_str, as_integer, as_array, as_table}
 use Rattle.toml.specs.Parse.{parse_document}
 use Rattle.jiff.specs.Words.{parse_timestamp}
 use Rattle.dcc_tariff.specs.Terms.{TermsView}
-use Rattle.dcc_tariff.specs.Plans.{PlanView, precedes, all_agree, is_identity, is_of}
+use Rattle.dcc_tariff.specs.Plans.{PlanView, precedes, all_agree, is_of}
+use Rattle.dcc_octets.specs.Names.{is_name}
+use Rattle.dcc_tariff.specs.declared.limits.TheConstants.{LAST_SECOND, MAX_BLOCK_PRICE, MAX_HOLD, MAX_SHARDS, MAX_TABLES, MAX_UNITS}
 use Rattle.dcc_tariff.specs.declared.tariff.UnitKind.{UnitKind}
 use Rattle.dcc_tariff.specs.declared.tariff.UnitKind.TheVariants.{Octets, Time, Units}
 use Rattle.dcc_tariff.specs.declared.version.Version.{Version}
@@ -39,7 +40,7 @@ value_at as_type key table = found_at key table >>= λ value. required (as_type 
 
 -- a text of visible characters
 unfoldable pub identity_at : List ℕ → Members → Result (List ℕ) PlanFault
-identity_at key table = value_at as_str key table >>= λ text. in_range (is_identity text) text
+identity_at key table = value_at as_str key table >>= λ text. in_range (is_name text) text
 
 -- a number within its limits
 unfoldable pub integer_at : List ℕ → ℤ → ℤ → Members → Result ℤ PlanFault
@@ -82,15 +83,11 @@ abbrev pub has_form : List ℕ → List ℕ → Bool
 has_form form text =
     (length text == length form) && list_all (λ pair. fits_at pair.0 pair.1) (zip form text)
 
--- the last second that a moment may be, that of the year 2099
-abbrev pub last_moment : ℕ
-last_moment = 4_102_444_799
-
 -- the whole seconds since 1970 that the instant comes after it, within the limit
 abbrev pub moment_of_instant : {E : Type 0} → Result ℤ E → Option ℕ
 moment_of_instant (Ok nanos) =
     let seconds = int_div nanos (pos 1_000_000_000) in
-    if int_le (pos 0) seconds && int_le seconds (pos last_moment) then Some (unsigned_abs seconds) else None
+    if int_le (pos 0) seconds && int_le seconds (pos LAST_SECOND) then Some (unsigned_abs seconds) else None
 moment_of_instant (Err error) = None
 
 -- a UTC date and time of the calendar, with seconds up to 59
@@ -108,8 +105,8 @@ version_of table = do
   group ← number_at (codes "group") 0 (2 ^ 32 - 1) table
   unit ← unit_at (codes "unit") table
   from ← moment_at (codes "from") table
-  price ← number_at (codes "price") 0 1_000_000 table
-  block ← number_at (codes "block") 1 (10 ^ 12) table
+  price ← number_at (codes "price") 0 MAX_BLOCK_PRICE table
+  block ← number_at (codes "block") 1 MAX_UNITS table
   Ok (record { group = group; unit = unit; from = from; tariff = record { price = price; block = block } })
 
 abbrev pub version_of_value : Data → Result Version PlanFault
@@ -138,12 +135,12 @@ count (item value values) = suc (count values)
 -- from 1 to 1,000 tables
 unfoldable pub tables_at : List ℕ → Members → Result Items PlanFault
 tables_at key table = value_at as_array key table >>= λ tables.
-    if are_tables tables then in_range (nat_le 1 (count tables) && nat_le (count tables) 1000) tables else Err MissingKey
+    if are_tables tables then in_range (nat_le 1 (count tables) && nat_le (count tables) MAX_TABLES) tables else Err MissingKey
 
 unfoldable pub terms_of : Members → Result TermsView PlanFault
 terms_of table = do
-  validity ← number_at (codes "validity") 1 1_000_000 table
-  hold ← number_at (codes "hold") 1 1_000_000 table
+  validity ← number_at (codes "validity") 1 MAX_HOLD table
+  hold ← number_at (codes "hold") 1 MAX_HOLD table
   currency ← number_at (codes "currency") 0 999 table
   exponent ← integer_at (codes "exponent") (negsuc 8) (pos 9) table
   Ok (record { validity = validity; hold = hold; currency = currency; exponent = exponent })
@@ -154,9 +151,9 @@ plan_of table = do
   host ← identity_at (codes "host") table
   realm ← identity_at (codes "realm") table
   address ← address_at (codes "address") table
-  shards ← number_at (codes "shards") 1 8 table
+  shards ← number_at (codes "shards") 1 MAX_SHARDS table
   default_group ← number_at (codes "default_group") 0 (2 ^ 32 - 1) table
-  quantum ← number_at (codes "quantum") 1 (10 ^ 12) table
+  quantum ← number_at (codes "quantum") 1 MAX_UNITS table
   terms ← terms_of table
   tables ← tables_at (codes "tariff") table
   versions ← versions_onto [] tables
@@ -186,7 +183,3 @@ GivesBy seen (Err BadMoment) meant = meant ≡ Err BadMoment
 
 abbrev pub Gives : {X : Type 0} → Result X PlanFault → Result X PlanFault → Type 0
 Gives read meant = GivesBy (λ x. x) read meant
-
--- what was read, seen so
-abbrev pub seen_by : {X Y : Type 0} → (X → Y) → Result X PlanFault → Result Y PlanFault
-seen_by seen read = result_map_both seen (λ fault. fault) read

@@ -1,7 +1,7 @@
 -- What a plan is: who the server says it is, its terms, and the tariffs of each rating group.
-use Rattle.std.specs.Prelude.{◌≡◌, ℕ, ◌≤◌, ◌^◌, Bool, true, not, ◌&&◌, ◌||◌, ◌==◌, nat_lt, nat_le, if◌then◌else◌, List, [], ◌∷◌, length}
+use Rattle.std.specs.Prelude.{ℕ, Bool, true, not, ◌&&◌, ◌||◌, ◌==◌, nat_lt, nat_le, if◌then◌else◌, List, [], ◌∷◌}
 use Rattle.std.specs.Prelude.{filter, Option, Some, None, option_map}
-use Rattle.std.specs.List.{find, list_all, list_any}
+use Rattle.std.specs.List.{find, list_all}
 use Rattle.dcc_tariff.specs.Terms.{TariffView, TermsView}
 use Rattle.dcc_tariff.specs.declared.tariff.UnitKind.{UnitKind}
 use Rattle.dcc_tariff.specs.declared.tariff.UnitKind.TheVariants.{Octets, Time, Units}
@@ -71,21 +71,3 @@ agrees version other =
 abbrev pub all_agree : List Version → Bool
 all_agree [] = true
 all_agree (version ∷ versions) = list_all (agrees version) versions && all_agree versions
-
--- 1 to 255 octets, each a visible character of ASCII
-abbrev pub is_identity : List ℕ → Bool
-is_identity text =
-    (nat_le 1 (length text) && nat_le (length text) 255) && list_all (λ c. nat_le 0x21 c && nat_le c 0x7E) text
-
--- what holds of every plan
-pub record IsPlan (plan : PlanView) : Type 0 where
-  pub host : is_identity plan.host ≡ true
-  pub realm : is_identity plan.realm ≡ true
-  pub shards_some : 1 ≤ plan.shards
-  pub shards : plan.shards ≤ 8
-  pub quantum_some : 1 ≤ plan.quantum
-  pub quantum : plan.quantum ≤ 10 ^ 12
-  pub ordered : are_ordered plan.versions ≡ true
-  pub agree : all_agree plan.versions ≡ true
-  pub default_group : list_any (is_of plan.default_group) plan.versions ≡ true
-  pub few : length plan.versions ≤ 1000

@@ -1,15 +1,16 @@
 -- What contracts see of a tariff and of a plan's terms, and their limits.
-use Rattle.std.specs.Prelude.{ℕ, ◌≤◌, ◌^◌, ℤ, pos, negsuc, ◌≤ℤ◌}
+use Rattle.std.specs.Prelude.{ℕ, ◌≤◌, ℤ, pos, negsuc, ◌≤ℤ◌}
+use Rattle.dcc_tariff.specs.declared.limits.TheConstants.{MAX_BLOCK_PRICE, MAX_HOLD, MAX_UNITS}
 
 -- the price of a block in minor units, and the units of a block
 pub record TariffView : Type 0 where
   pub price : ℕ
   pub block : ℕ
 
-pub record IsTariff (rate : TariffView) : Type 0 where
-  pub price : rate.price ≤ 1_000_000
-  pub block_begun : 1 ≤ rate.block
-  pub block : rate.block ≤ 10 ^ 12
+pub record IsTariff (tariff : TariffView) : Type 0 where
+  pub price : tariff.price ≤ MAX_BLOCK_PRICE
+  pub block_begun : 1 ≤ tariff.block
+  pub block : tariff.block ≤ MAX_UNITS
 
 -- seconds that a grant is valid, seconds that a session is held, the currency's number, and the power of ten of a minor unit
 pub record TermsView : Type 0 where
@@ -20,9 +21,9 @@ pub record TermsView : Type 0 where
 
 pub record AreTerms (terms : TermsView) : Type 0 where
   pub validity_some : 1 ≤ terms.validity
-  pub validity : terms.validity ≤ 1_000_000
+  pub validity : terms.validity ≤ MAX_HOLD
   pub hold_some : 1 ≤ terms.hold
-  pub hold : terms.hold ≤ 1_000_000
+  pub hold : terms.hold ≤ MAX_HOLD
   pub currency : terms.currency ≤ 999
   pub exponent_low : negsuc 8 ≤ℤ terms.exponent
   pub exponent_high : terms.exponent ≤ℤ pos 9

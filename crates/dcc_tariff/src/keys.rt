@@ -1,16 +1,17 @@
 //! The values of a table's keys: each of its type, within its limits.
 
-ghost use Rattle.std.specs.Prelude.{◌≡◌, ◌≤◌, ◌<◌, ◌≤ℤ◌, ◌^◌, true, ◌&&◌, nat_le, string_bytes, IfOk};
-ghost use Rattle.std.specs.List.{list_all};
+ghost use Rattle.std.specs.Prelude.{◌≡◌, ◌≤◌, ◌<◌, ◌≤ℤ◌, ◌^◌, true, string_bytes, IfOk};
 ghost use Rattle.toml.specs.Data.{as_str};
 ghost use Rattle.toml.specs.View.{view, table_view};
-ghost use Rattle.dcc_tariff.specs.Plans.{is_identity};
-ghost use Rattle.dcc_tariff.specs.PlanTexts.{found_at, value_at, seen_by, integer_at, number_at, identity_at, address_at, address_of};
+ghost use Rattle.dcc_octets.specs.Names.{is_name};
+ghost use Rattle.dcc_tariff.specs.PlanTexts.{found_at, value_at, integer_at, number_at, identity_at, address_at, address_of};
+ghost use Rattle.dcc_tariff.specs.inner.Seen.{seen_by};
 ghost use Rattle.dcc_tariff.specs.PlanTexts.{unit_at, unit_named, moment_at, GivesBy};
 
 use crate::fault::PlanFault;
 use crate::moment::moment_of;
 use crate::tariff::UnitKind;
+use dcc_octets::is_name;
 use std::alloc::Global;
 use std::net::Ipv4Addr;
 use toml::{Table, Value};
@@ -66,26 +67,13 @@ pub(crate) fn number_at(table: &Table, key: &str, low: u64, high: u64) -> Result
 #[tactic(auto, unfolding(crate::specs::PlanTexts::identity_at))]
 pub(crate) fn identity_at(alloc: Global, table: &Table, key: &str) -> Result<String, PlanFault>
     ensures value { GivesBy string_bytes result (identity_at key.now (table_view table.now)) }
-    ensures limits { IfOk result (λ name. is_identity (string_bytes name) ≡ true) }
+    ensures limits { IfOk result (λ name. is_name (string_bytes name) ≡ true) }
 {
     let text = text_at(table, key)?;
-    if !is_identity(text) {
+    if !is_name(text.as_bytes()) {
         return Err(PlanFault::Range);
     }
     Ok(String::from_str(alloc, text)?)
-}
-
-/// Whether the text has 1 to 255 octets, each a visible character of ASCII.
-fn is_identity(text: &str) -> bool
-    ensures { result ≡ is_identity text.now }
-{
-    1 <= text.len() && text.len() <= 255 && is_visible(text)
-}
-
-fn is_visible(text: &str) -> bool
-    ensures { result ≡ list_all (λ c. nat_le 0x21 c && nat_le c 0x7E) text.now }
-{
-    text.bytes().all(|c| b'!' <= c && c <= b'~')
 }
 
 /// The IPv4 address of a key.

@@ -1,7 +1,7 @@
 //! What units cost, and what a plan file says.
 //!
 //! Its one job: the operator's plan, read whole or refused with the first thing that is wrong in it, and the prices that
-//! rest on it. It stands on nothing of this repository; TOML is read by `toml`, and moments by `jiff`.
+//! rest on it. Stands on `dcc_octets` for the limits of names; TOML is read by `toml`, and moments by `jiff`.
 //!
 //! The contract that it gives:
 //! - [`price_of`] is the price of the blocks that some units begin, and [`most_units`] the greatest amount up to the one
@@ -20,14 +20,15 @@ mod place;
 mod plan;
 mod prices;
 mod reading;
-mod rows;
 mod tables;
 mod tariff;
 mod terms;
 mod version;
 
 pub use fault::PlanFault;
-pub use limits::{LAST_SECOND, MAX_BLOCK_PRICE, MAX_PRICE, MAX_UNITS};
+pub use limits::{
+    LAST_SECOND, MAX_BLOCK_PRICE, MAX_HOLD, MAX_PRICE, MAX_SHARDS, MAX_TABLES, MAX_UNITS,
+};
 pub use plan::Plan;
 pub use prices::{best_grant_is_the_greatest_covered, most_units, price_of, prices_never_fall};
 pub use tariff::{Tariff, UnitKind};

@@ -9,5 +9,14 @@ pub const MAX_BLOCK_PRICE: u32 = 1_000_000;
 /// The most that units can cost, in minor units: those of 10^12 blocks.
 pub const MAX_PRICE: u64 = MAX_UNITS * MAX_BLOCK_PRICE as u64;
 
+/// Among how many shards the subscribers may be divided at most.
+pub const MAX_SHARDS: u8 = 8;
+
+/// The most seconds for which a grant is valid, and for which a session is held.
+pub const MAX_HOLD: u32 = 1_000_000;
+
+/// The most tables of tariffs that a plan may have.
+pub const MAX_TABLES: usize = 1_000;
+
 /// The last second that a moment may be, counted from 1970-01-01T00:00:00Z: 2099-12-31T23:59:59Z.
 pub const LAST_SECOND: u64 = 4_102_444_799;

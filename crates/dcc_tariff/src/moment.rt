@@ -4,13 +4,11 @@ ghost use Rattle.std.specs.Prelude.{◌≡◌};
 ghost use Rattle.std.specs.List.{list_all, zip};
 ghost use Rattle.dcc_tariff.specs.PlanTexts.{has_form, fits_at, moment_of};
 
+use crate::limits::LAST_SECOND;
 use jiff::Timestamp;
 
 /// The form of a moment's text, with a 0 for each digit.
 const FORM: &[u8] = b"0000-00-00T00:00:00Z";
-
-/// The last moment, 2099-12-31T23:59:59Z.
-const LAST: i64 = 4_102_444_799;
 
 /// The seconds since 1970 of a UTC date and time, as `2025-06-01T00:00:00Z`, if there is such a moment within the limit.
 #[tactic(auto, unfolding(crate::specs::PlanTexts::moment_of))]
@@ -25,7 +23,7 @@ pub(crate) fn moment_of(text: &str) -> Option<u64>
         return None;
     };
     let seconds = instant.as_second();
-    if 0 <= seconds && seconds <= LAST {
+    if 0 <= seconds && seconds <= LAST_SECOND as i64 {
         Some(seconds as u64)
     } else {
         None

@@ -22,8 +22,8 @@ pub(crate) fn places_of(alloc: Global, versions: &[Version]) -> Result<Vec<u16>,
 }
 
 /// The place at which a look-up of the group begins.
-pub(crate) fn place_of(places: &Vec<u16>, group: u32) -> u16
-    ensures { result ≡ unwrap_or (slice_get places.now.items (group % PLACES)) 0 }
+pub(crate) fn place_of(places: &[u16], group: u32) -> u16
+    ensures { result ≡ unwrap_or (slice_get places.now (group % PLACES)) 0 }
 {
     places.get(group as usize % PLACES).copied().unwrap_or(0)
 }

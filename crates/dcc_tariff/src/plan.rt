@@ -1,8 +1,10 @@
 //! A plan, as the file of an operator says it.
 
 ghost use Rattle.std.specs.Prelude.{◌≡◌, ◌≤◌, ◌^◌, true, Some, IsSome, IfSome, IfOk};
-ghost use Rattle.dcc_tariff.specs.Plans.{unit_of, tariff_at, is_identity};
+ghost use Rattle.dcc_tariff.specs.Plans.{unit_of, tariff_at};
+ghost use Rattle.dcc_octets.specs.Names.{is_name};
 
+use crate::limits::{MAX_SHARDS, MAX_UNITS};
 use crate::place::place_of;
 use crate::tariff::{Tariff, UnitKind};
 use crate::terms::Terms;
@@ -27,8 +29,8 @@ pub struct Plan {
 
 impl Model for Plan {
     ghost use Rattle.std.specs.Prelude.{string_bytes};
-    ghost use Rattle.dcc_tariff.specs.Plans.{PlanView, IsPlan};
-    ghost use Rattle.dcc_tariff.specs.PlanViews.{shown};
+    ghost use Rattle.dcc_tariff.specs.Plans.{PlanView};
+    ghost use Rattle.dcc_tariff.specs.inner.PlanViews.{shown, IsPlan};
 
     ghost Value = { PlanView };
 
@@ -41,7 +43,7 @@ impl Plan {
     /// The host by which the server names itself, 1 to 255 visible characters of ASCII (Origin-Host, RFC 6733, section 6.3).
     pub fn host(&self) -> &[u8]
         ensures value { result.now ≡ self.now.host }
-        ensures limits { is_identity result.now ≡ true }
+        ensures limits { is_name result.now ≡ true }
     {
         self.host.as_bytes()
     }
@@ -49,7 +51,7 @@ impl Plan {
     /// The realm by which the server names itself, within the same limits (Origin-Realm, RFC 6733, section 6.4).
     pub fn realm(&self) -> &[u8]
         ensures value { result.now ≡ self.now.realm }
-        ensures limits { is_identity result.now ≡ true }
+        ensures limits { is_name result.now ≡ true }
     {
         self.realm.as_bytes()
     }
@@ -65,7 +67,7 @@ impl Plan {
     pub fn shards(&self) -> u8
         ensures value { result ≡ self.now.shards }
         ensures some { 1 ≤ result }
-        ensures limit { result ≤ 8 }
+        ensures limit { result ≤ MAX_SHARDS }
     {
         self.shards
     }
@@ -82,7 +84,7 @@ impl Plan {
     pub fn quantum(&self) -> u64
         ensures value { result ≡ self.now.quantum }
         ensures some { 1 ≤ result }
-        ensures limit { result ≤ 10 ^ 12 }
+        ensures limit { result ≤ MAX_UNITS }
     {
         self.quantum
     }

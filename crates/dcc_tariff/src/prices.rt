@@ -40,13 +40,13 @@ fn money_for_prices(free: i128) -> u64
 
 /// More units never cost less.
 pub fn prices_never_fall()
-    ensures { (rate : TariffView) (fewer more : ℕ) → fewer ≤ more → price rate fewer ≤ price rate more }
+    ensures { (tariff : TariffView) (fewer more : ℕ) → fewer ≤ more → price tariff fewer ≤ price tariff more }
 {}
 
 /// The best grant is at most what was asked, the money covers it, and it covers no greater amount up to what was asked.
 pub fn best_grant_is_the_greatest_covered()
-    ensures up_to_asked { (rate : TariffView) (asked : ℕ) (free : ℤ) → best rate asked free ≤ asked }
-    ensures covered { (rate : TariffView) (asked : ℕ) (free : ℤ) → IsTrue (covers free (price rate (best rate asked free))) }
-    ensures greatest { (rate : TariffView) (asked : ℕ) (free : ℤ) (more : ℕ) →
-        best rate asked free < more → more ≤ asked → covers free (price rate more) ≡ false }
+    ensures up_to_asked { (tariff : TariffView) (asked : ℕ) (free : ℤ) → best tariff asked free ≤ asked }
+    ensures covered { (tariff : TariffView) (asked : ℕ) (free : ℤ) → IsTrue (covers free (price tariff (best tariff asked free))) }
+    ensures greatest { (tariff : TariffView) (asked : ℕ) (free : ℤ) (more : ℕ) →
+        best tariff asked free < more → more ≤ asked → covers free (price tariff more) ≡ false }
 {}

@@ -8,6 +8,7 @@ ghost use Rattle.dcc_tariff.specs.PlanTexts.{plan_of_text, plan_of, terms_of, Gi
 
 use crate::fault::PlanFault;
 use crate::keys::{address_at, identity_at, integer_at, number_at};
+use crate::limits::{MAX_HOLD, MAX_SHARDS, MAX_UNITS};
 use crate::place::places_of;
 use crate::plan::Plan;
 use crate::tables::{tables_at, versions_of};
@@ -43,9 +44,9 @@ fn plan_of(alloc: Global, table: &Table) -> Result<Plan, PlanFault>
     let host = identity_at(alloc, table, "host")?;
     let realm = identity_at(alloc, table, "realm")?;
     let address = address_at(table, "address")?;
-    let shards = number_at(table, "shards", 1, 8)? as u8;
+    let shards = number_at(table, "shards", 1, MAX_SHARDS as u64)? as u8;
     let default_group = number_at(table, "default_group", 0, u64::from(u32::MAX))? as u32;
-    let quantum = number_at(table, "quantum", 1, 1_000_000_000_000)?;
+    let quantum = number_at(table, "quantum", 1, MAX_UNITS)?;
     let terms = terms_of(table)?;
     let versions = versions_of(alloc, tables_at(table, "tariff")?.as_slice())?;
     if !agree(versions.as_slice()) || !has_group(versions.as_slice(), default_group) {
@@ -70,8 +71,8 @@ fn terms_of(table: &Table) -> Result<Terms, PlanFault>
     ensures { result ≡ terms_of (table_view table.now) }
 {
     Ok(Terms {
-        validity: number_at(table, "validity", 1, 1_000_000)? as u32,
-        hold: number_at(table, "hold", 1, 1_000_000)? as u32,
+        validity: number_at(table, "validity", 1, MAX_HOLD as u64)? as u32,
+        hold: number_at(table, "hold", 1, MAX_HOLD as u64)? as u32,
         currency: number_at(table, "currency", 0, 999)? as u32,
         exponent: integer_at(table, "exponent", -9, 9)? as i32,
     })

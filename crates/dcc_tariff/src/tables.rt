@@ -5,19 +5,18 @@ ghost use Rattle.std.specs.List.{list_all};
 ghost use Rattle.toml.specs.Data.{as_array, as_table};
 ghost use Rattle.toml.specs.View.{view, items_view, array_view, table_view};
 ghost use Rattle.dcc_tariff.specs.Plans.{are_ordered};
-ghost use Rattle.dcc_tariff.specs.PlanTexts.{value_at, seen_by, tables_at, version_of, version_of_value, versions_onto, place, Gives};
+ghost use Rattle.dcc_tariff.specs.PlanTexts.{value_at, tables_at, version_of, version_of_value, versions_onto, place, Gives};
+ghost use Rattle.dcc_tariff.specs.inner.Seen.{seen_by};
 ghost use Rattle.dcc_tariff.specs.PlanTexts.{GivesBy};
 
 use crate::fault::PlanFault;
 use crate::keys::{found_at, moment_at, number_at, unit_at};
+use crate::limits::{MAX_BLOCK_PRICE, MAX_TABLES, MAX_UNITS};
 use crate::tariff::Tariff;
 use crate::version::Version;
 use std::alloc::{AllocError, Global};
 use toml::value::Array;
 use toml::{Table, Value};
-
-/// The most tables that a plan may have.
-const MAX_TABLES: usize = 1000;
 
 /// The tables of a key, 1 to 1,000.
 #[tactic(auto, unfolding(crate::specs::PlanTexts::tables_at))]
@@ -95,8 +94,8 @@ fn version_of(table: &Table) -> Result<Version, PlanFault>
     let group = number_at(table, "group", 0, u64::from(u32::MAX))? as u32;
     let unit = unit_at(table, "unit")?;
     let from = moment_at(table, "from")?;
-    let price = number_at(table, "price", 0, 1_000_000)? as u32;
-    let block = number_at(table, "block", 1, 1_000_000_000_000)?;
+    let price = number_at(table, "price", 0, MAX_BLOCK_PRICE as u64)? as u32;
+    let block = number_at(table, "block", 1, MAX_UNITS)?;
     Ok(Version {
         group,
         unit,

@@ -14,7 +14,7 @@ fn tells_line<R: Abort + AllocGlobal>(rt: &R, line: &str) -> Result<(), Fail> {
     let mut written = Vec::new(alloc);
     let result = replay_run(
         alloc,
-        &Plan::rows(alloc)?,
+        &Plan::read(alloc, dcc_samples::PLAN)?,
         &mut script.as_bytes(),
         &mut written,
     );
@@ -105,7 +105,7 @@ fn takes_hosts_of_255_octets_and_subscribers_of_64_and_none_longer(
     ] {
         let mut longest = with_letters(alloc, start, most)?;
         longest.push_str(end)?;
-        let text = replayed(alloc, Plan::rows(alloc)?, longest.as_bytes())?;
+        let text = replayed(alloc, Plan::read(alloc, dcc_samples::PLAN)?, longest.as_bytes())?;
         assert_eq!(&rt; text.as_str(), printed, "{start:?}");
         let mut longer = with_letters(alloc, start, most + 1)?;
         longer.push_str(end)?;
@@ -129,7 +129,7 @@ fn takes_each_form_up_to_its_limits(rt: HostRuntime) -> Result<(), Fail> {
         ),
         (b"topup 0 00:~ 0 00001", "1 topup done\n"),
     ] {
-        let text = replayed(alloc, Plan::rows(alloc)?, script)?;
+        let text = replayed(alloc, Plan::read(alloc, dcc_samples::PLAN)?, script)?;
         assert_eq!(&rt; text.as_str(), printed, "{script:?}");
     }
     Ok(())
@@ -147,7 +147,7 @@ fn takes_messages_of_65536_octets_and_none_longer(rt: HostRuntime) -> Result<(),
         for _ in 0..octets {
             script.push_str("00")?;
         }
-        let result = replayed(alloc, Plan::rows(alloc)?, script.as_bytes());
+        let result = replayed(alloc, Plan::read(alloc, dcc_samples::PLAN)?, script.as_bytes());
         assert_eq!(&rt; result.err(), fault, "{octets}");
     }
     Ok(())

@@ -84,7 +84,7 @@ fn reads_however_the_script_comes(rt: HostRuntime) -> Result<(), Fail> {
         };
         let mut output = Vec::new(alloc);
         assert_eq!(&rt;
-            replay_run(alloc, &Plan::rows(alloc)?, &mut input, &mut output),
+            replay_run(alloc, &Plan::read(alloc, dcc_samples::PLAN)?, &mut input, &mut output),
             result
         );
         assert_eq!(&rt; output.as_slice(), printed.as_bytes());
@@ -116,7 +116,7 @@ fn writes_whole_or_fails(rt: HostRuntime) -> Result<(), Fail> {
             };
             let result = replay_run(
                 alloc,
-                &Plan::rows(alloc)?,
+                &Plan::read(alloc, dcc_samples::PLAN)?,
                 &mut SCRIPT.as_bytes(),
                 &mut output,
             );

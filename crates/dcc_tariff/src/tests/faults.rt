@@ -1,281 +1,235 @@
-use super::texts::{PLAN, check_edits, edited, fault_in};
+use super::texts::{edited, fault_in};
+use dcc_samples::PLAN;
 use std::alloc::Global;
 use std::test::Fail;
 
+/// What of the samples' plan is replaced, by what, and the number of the fault, 0 for none.
+const EDITS: &[(&str, &str, u8)] = &[
+    // One of each.
+    ("quantum = 100000\n", "", 21),
+    ("block = 1000", "block = 0", 22),
+    ("2020-01-01T00:00:00Z", "2025-02-30T00:00:00Z", 23),
+    ("quantum = 100000", "quantum = 100000\nextra = 1", 0),
+    // Keys that are missing.
+    ("host = ", "hosts = ", 21),
+    ("realm = ", "realms = ", 21),
+    ("address = ", "addresses = ", 21),
+    ("shards = 2", "shard = 2", 21),
+    ("default_group = ", "group = ", 21),
+    ("quantum = ", "quanta = ", 21),
+    ("validity = ", "valid = ", 21),
+    ("hold = ", "holds = ", 21),
+    ("currency = ", "currencies = ", 21),
+    ("exponent = ", "exponents = ", 21),
+    ("group = 30", "groups = 30", 21),
+    ("unit = \"units\"", "units = \"units\"", 21),
+    ("from = ", "since = ", 21),
+    ("price = 0", "prices = 0", 21),
+    ("block = 1000", "blocks = 1000", 21),
+    // Values of another type.
+    ("\"ocs.example\"", "1", 21),
+    ("\"example\"", "true", 21),
+    ("\"127.0.0.1\"", "2020-01-01", 21),
+    ("shards = 2", "shards = \"2\"", 21),
+    ("default_group = 10", "default_group = 10.0", 21),
+    ("quantum = 100000", "quantum = 1e5", 21),
+    ("validity = 600", "validity = [600]", 21),
+    ("hold = 1200", "hold = {}", 21),
+    ("currency = 978", "currency = \"EUR\"", 21),
+    ("exponent = -2", "exponent = -2.0", 21),
+    ("group = 30", "group = \"30\"", 21),
+    ("unit = \"units\"", "unit = 3", 21),
+    (
+        "from = \"2020-01-01T00:00:00Z\"",
+        "from = 2020-01-01T00:00:00Z",
+        21,
+    ),
+    ("price = 5", "price = 5.0", 21),
+    ("block = 1000", "block = false", 21),
+    // Names.
+    ("ocs.example", "", 22),
+    ("ocs.example", "!", 0),
+    ("ocs.example", "~", 0),
+    ("ocs.example", "ocs example", 22),
+    ("ocs.example", "\\u007F", 22),
+    ("ocs.example", "h\u{f4}te", 22),
+    ("\"example\"", "\"\"", 22),
+    ("\"example\"", "\"a b\"", 22),
+    // Addresses.
+    ("127.0.0.1", "0.0.0.0", 0),
+    ("127.0.0.1", "255.255.255.255", 0),
+    ("127.0.0.1", "", 22),
+    ("127.0.0.1", "127.0.0.256", 22),
+    ("127.0.0.1", "127.0.0", 22),
+    ("127.0.0.1", "127.0.0.1.1", 22),
+    ("127.0.0.1", "127.0.0.01", 22),
+    ("127.0.0.1", "127.0.0.", 22),
+    ("127.0.0.1", "127.0.0.1 ", 22),
+    ("127.0.0.1", "+1.0.0.1", 22),
+    ("127.0.0.1", "::1", 22),
+    ("127.0.0.1", "localhost", 22),
+    // Numbers at their limits.
+    ("shards = 2", "shards = 0", 22),
+    ("shards = 2", "shards = 1", 0),
+    ("shards = 2", "shards = 8", 0),
+    ("shards = 2", "shards = 9", 22),
+    ("shards = 2", "shards = -1", 22),
+    ("quantum = 100000", "quantum = 0", 22),
+    ("quantum = 100000", "quantum = 1", 0),
+    ("quantum = 100000", "quantum = 1000000000000", 0),
+    ("quantum = 100000", "quantum = 1000000000001", 22),
+    ("quantum = 100000", "quantum = 9223372036854775807", 22),
+    ("quantum = 100000", "quantum = -9223372036854775808", 22),
+    ("quantum = 100000", "quantum = 9223372036854775808", 20),
+    ("validity = 600", "validity = 0", 22),
+    ("validity = 600", "validity = 1", 0),
+    ("validity = 600", "validity = 1000000", 0),
+    ("validity = 600", "validity = 1000001", 22),
+    ("hold = 1200", "hold = 0", 22),
+    ("hold = 1200", "hold = 1", 0),
+    ("hold = 1200", "hold = 1000000", 0),
+    ("hold = 1200", "hold = 1000001", 22),
+    ("currency = 978", "currency = -1", 22),
+    ("currency = 978", "currency = 0", 0),
+    ("currency = 978", "currency = 999", 0),
+    ("currency = 978", "currency = 1000", 22),
+    ("exponent = -2", "exponent = -10", 22),
+    ("exponent = -2", "exponent = -9", 0),
+    ("exponent = -2", "exponent = 9", 0),
+    ("exponent = -2", "exponent = 10", 22),
+    // What a tariff may hold.
+    ("group = 30", "group = -1", 22),
+    ("group = 30", "group = 0", 0),
+    ("group = 30", "group = 4294967295", 0),
+    ("group = 30", "group = 4294967296", 22),
+    ("unit = \"units\"", "unit = \"Units\"", 22),
+    ("unit = \"units\"", "unit = \"octets\"", 0),
+    ("price = 5", "price = -1", 22),
+    ("price = 5", "price = 0", 0),
+    ("price = 5", "price = 1000000", 0),
+    ("price = 5", "price = 1000001", 22),
+    ("block = 1000", "block = 1", 0),
+    ("block = 1000", "block = 1000000000000", 0),
+    ("block = 1000", "block = 1000000000001", 22),
+    // Tariffs that disagree.
+    ("default_group = 10", "default_group = 11", 22),
+    ("default_group = 10", "default_group = -1", 22),
+    ("default_group = 10", "default_group = 4294967296", 22),
+    // Two versions of one group from one moment, and of two units.
+    (
+        "group = 30, unit = \"units\"",
+        "group = 20, unit = \"time\"",
+        22,
+    ),
+    (
+        "group = 30, unit = \"units\", from = \"2020",
+        "group = 20, unit = \"units\", from = \"2021",
+        22,
+    ),
+    (
+        "group = 30, unit = \"units\", from = \"2020",
+        "group = 20, unit = \"time\", from = \"2021",
+        0,
+    ),
+    // The first key decides.
+    (
+        "\"ocs.example\"\nrealm = \"example\"",
+        "\"\"\nrealm = 1",
+        22,
+    ),
+    (
+        "\"ocs.example\"\nrealm = \"example\"",
+        "1\nrealm = \"\"",
+        21,
+    ),
+    (
+        "validity = 600\nhold = 1200",
+        "validity = 0\nhold = true",
+        22,
+    ),
+    (
+        "validity = 600\nhold = 1200",
+        "validity = true\nhold = 0",
+        21,
+    ),
+    ("2020-01-01T00:00:00Z\", price = 5", "\", price = -1", 23),
+    ("price = 5, block = 1000", "price = -1, block = true", 22),
+    // The tables one after another, and what they say together last.
+    (
+        "price = 2, block = 60 },\n  { group = 30",
+        "price = 2, block = 0 },\n  { groups = 30",
+        22,
+    ),
+    (
+        "price = 2, block = 60 },\n  { group = 30",
+        "price = 2 },\n  { group = -1",
+        21,
+    ),
+    (
+        "group = 30, unit = \"units\", from = \"2020-01-01T00:00:00Z\"",
+        "group = 20, unit = \"units\", from = \"\"",
+        23,
+    ),
+    // Moments.
+    ("2020-01-01T00:00:00Z", "1970-01-01T00:00:00Z", 0),
+    ("2020-01-01T00:00:00Z", "2099-12-31T23:59:59Z", 0),
+    ("2020-01-01T00:00:00Z", "2025-02-30T00:00:00Z", 23),
+    ("2020-01-01T00:00:00Z", "2100-01-01T00:00:00Z", 23),
+    ("2020-01-01T00:00:00Z", "soon", 23),
+];
+
 #[test]
-fn first_faults(rt: HostRuntime) -> Result<(), Fail> {
+fn faults_of_edited_plans(rt: HostRuntime) -> Result<(), Fail> {
     assert_eq!(rt; fault_in(rt.alloc(), "="), 20);
     assert_eq!(rt; fault_in(rt.alloc(), ""), 21);
-    check_edits(
-        &rt,
-        rt.alloc(),
-        &[
-            ("quantum = 100000\n", "", 21),
-            ("block = 1000", "block = 0", 22),
-            ("2020-01-01T00:00:00Z", "2025-02-30T00:00:00Z", 23),
-            ("quantum = 100000", "quantum = 100000\nextra = 1", 0),
-        ],
-    )
+    for (old, new, fault) in EDITS {
+        let text = edited(rt.alloc(), PLAN, old, new)?;
+        assert_eq!(rt;
+            fault_in(rt.alloc(), text.as_str()),
+            *fault,
+            "{old} to {new}"
+        );
+    }
+    Ok(())
 }
 
-#[test]
-fn missing_keys(rt: HostRuntime) -> Result<(), Fail> {
-    check_edits(
-        &rt,
-        rt.alloc(),
-        &[
-            ("host = ", "hosts = ", 21),
-            ("realm = ", "realms = ", 21),
-            ("address = ", "addresses = ", 21),
-            ("shards = 2", "shard = 2", 21),
-            ("default_group = ", "group = ", 21),
-            ("quantum = ", "quanta = ", 21),
-            ("validity = ", "valid = ", 21),
-            ("hold = ", "holds = ", 21),
-            ("currency = ", "currencies = ", 21),
-            ("exponent = ", "exponents = ", 21),
-            ("group = 30", "groups = 30", 21),
-            ("unit = \"units\"", "units = \"units\"", 21),
-            ("from = ", "since = ", 21),
-            ("price = 0", "prices = 0", 21),
-            ("block = 1000", "blocks = 1000", 21),
-        ],
-    )
-}
-
-#[test]
-fn values_of_another_type(rt: HostRuntime) -> Result<(), Fail> {
-    check_edits(
-        &rt,
-        rt.alloc(),
-        &[
-            ("\"ocs.example\"", "1", 21),
-            ("\"example\"", "true", 21),
-            ("\"127.0.0.1\"", "2020-01-01", 21),
-            ("shards = 2", "shards = \"2\"", 21),
-            ("default_group = 10", "default_group = 10.0", 21),
-            ("quantum = 100000", "quantum = 1e5", 21),
-            ("validity = 600", "validity = [600]", 21),
-            ("hold = 1200", "hold = {}", 21),
-            ("currency = 978", "currency = \"EUR\"", 21),
-            ("exponent = -2", "exponent = -2.0", 21),
-            ("group = 30", "group = \"30\"", 21),
-            ("unit = \"units\"", "unit = 3", 21),
-            (
-                "from = \"2020-01-01T00:00:00Z\"",
-                "from = 2020-01-01T00:00:00Z",
-                21,
-            ),
-            ("price = 5", "price = 5.0", 21),
-            ("block = 1000", "block = false", 21),
-        ],
-    )
-}
-
+/// The longest name, and one that is longer.
 #[test]
 fn limits_of_names(rt: HostRuntime) -> Result<(), Fail> {
-    let mut longest = String::new(rt.alloc());
+    let mut name = String::new(rt.alloc());
     for _ in 0..255 {
-        longest.push('a')?;
+        name.push('a')?;
     }
-    let longer = format!(in rt.alloc(); "{longest}a")?;
-    assert_eq!(rt; longest.len(), 255);
-    check_edits(
-        &rt,
-        rt.alloc(),
-        &[
-            ("ocs.example", "", 22),
-            ("ocs.example", "!", 0),
-            ("ocs.example", "~", 0),
-            ("ocs.example", longest.as_str(), 0),
-            ("ocs.example", longer.as_str(), 22),
-            ("ocs.example", "ocs example", 22),
-            ("ocs.example", "\\u007F", 22),
-            ("ocs.example", "h\u{f4}te", 22),
-            ("\"example\"", "\"\"", 22),
-            ("\"example\"", "\"a b\"", 22),
-        ],
-    )
+    let text = edited(rt.alloc(), PLAN, "ocs.example", name.as_str())?;
+    assert_eq!(rt; fault_in(rt.alloc(), text.as_str()), 0);
+    name.push('a')?;
+    let text = edited(rt.alloc(), PLAN, "ocs.example", name.as_str())?;
+    assert_eq!(rt; fault_in(rt.alloc(), text.as_str()), 22);
+    Ok(())
 }
 
+/// The default group at its limit.
 #[test]
-fn limits_of_addresses(rt: HostRuntime) -> Result<(), Fail> {
-    let address = "127.0.0.1";
-    check_edits(
-        &rt,
-        rt.alloc(),
-        &[
-            (address, "0.0.0.0", 0),
-            (address, "255.255.255.255", 0),
-            (address, "", 22),
-            (address, "127.0.0.256", 22),
-            (address, "127.0.0", 22),
-            (address, "127.0.0.1.1", 22),
-            (address, "127.0.0.01", 22),
-            (address, "127.0.0.", 22),
-            (address, "127.0.0.1 ", 22),
-            (address, "+1.0.0.1", 22),
-            (address, "::1", 22),
-            (address, "localhost", 22),
-        ],
-    )
-}
-
-#[test]
-fn limits_of_numbers(rt: HostRuntime) -> Result<(), Fail> {
-    check_edits(
-        &rt,
-        rt.alloc(),
-        &[
-            ("shards = 2", "shards = 0", 22),
-            ("shards = 2", "shards = 1", 0),
-            ("shards = 2", "shards = 8", 0),
-            ("shards = 2", "shards = 9", 22),
-            ("shards = 2", "shards = -1", 22),
-            ("quantum = 100000", "quantum = 0", 22),
-            ("quantum = 100000", "quantum = 1", 0),
-            ("quantum = 100000", "quantum = 1000000000000", 0),
-            ("quantum = 100000", "quantum = 1000000000001", 22),
-            ("quantum = 100000", "quantum = 9223372036854775807", 22),
-            ("quantum = 100000", "quantum = -9223372036854775808", 22),
-            ("quantum = 100000", "quantum = 9223372036854775808", 20),
-            ("validity = 600", "validity = 0", 22),
-            ("validity = 600", "validity = 1", 0),
-            ("validity = 600", "validity = 1000000", 0),
-            ("validity = 600", "validity = 1000001", 22),
-            ("hold = 1200", "hold = 0", 22),
-            ("hold = 1200", "hold = 1", 0),
-            ("hold = 1200", "hold = 1000000", 0),
-            ("hold = 1200", "hold = 1000001", 22),
-            ("currency = 978", "currency = -1", 22),
-            ("currency = 978", "currency = 0", 0),
-            ("currency = 978", "currency = 999", 0),
-            ("currency = 978", "currency = 1000", 22),
-            ("exponent = -2", "exponent = -10", 22),
-            ("exponent = -2", "exponent = -9", 0),
-            ("exponent = -2", "exponent = 9", 0),
-            ("exponent = -2", "exponent = 10", 22),
-        ],
-    )
-}
-
-#[test]
-fn limits_of_tariffs(rt: HostRuntime) -> Result<(), Fail> {
-    check_edits(
-        &rt,
-        rt.alloc(),
-        &[
-            ("group = 30", "group = -1", 22),
-            ("group = 30", "group = 0", 0),
-            ("group = 30", "group = 4294967295", 0),
-            ("group = 30", "group = 4294967296", 22),
-            ("unit = \"units\"", "unit = \"Units\"", 22),
-            ("unit = \"units\"", "unit = \"octets\"", 0),
-            ("price = 5", "price = -1", 22),
-            ("price = 5", "price = 0", 0),
-            ("price = 5", "price = 1000000", 0),
-            ("price = 5", "price = 1000001", 22),
-            ("block = 1000", "block = 1", 0),
-            ("block = 1000", "block = 1000000000000", 0),
-            ("block = 1000", "block = 1000000000001", 22),
-        ],
-    )
-}
-
-#[test]
-fn tariffs_that_disagree(rt: HostRuntime) -> Result<(), Fail> {
-    check_edits(
-        &rt,
-        rt.alloc(),
-        &[
-            ("default_group = 10", "default_group = 11", 22),
-            ("default_group = 10", "default_group = -1", 22),
-            ("default_group = 10", "default_group = 4294967296", 22),
-            // Two versions of one group from one moment, and of two units.
-            (
-                "group = 30\nunit = \"units\"",
-                "group = 20\nunit = \"time\"",
-                22,
-            ),
-            (
-                "group = 30\nunit = \"units\"\nfrom = \"2020",
-                "group = 20\nunit = \"units\"\nfrom = \"2021",
-                22,
-            ),
-            (
-                "group = 30\nunit = \"units\"\nfrom = \"2020",
-                "group = 20\nunit = \"time\"\nfrom = \"2021",
-                0,
-            ),
-        ],
-    )?;
-    let last = edited(
+fn last_default_group(rt: HostRuntime) -> Result<(), Fail> {
+    let text = edited(
         rt.alloc(),
         PLAN,
         "default_group = 10",
         "default_group = 4294967295",
     )?;
-    let last = edited(
+    let text = edited(
         rt.alloc(),
-        last.as_str(),
+        text.as_str(),
         "group = 30",
         "group = 4294967295",
     )?;
-    assert_eq!(rt; fault_in(rt.alloc(), last.as_str()), 0);
+    assert_eq!(rt; fault_in(rt.alloc(), text.as_str()), 0);
     Ok(())
-}
-
-#[test]
-fn the_first_key_decides(rt: HostRuntime) -> Result<(), Fail> {
-    check_edits(
-        &rt,
-        rt.alloc(),
-        &[
-            (
-                "\"ocs.example\"\nrealm = \"example\"",
-                "\"\"\nrealm = 1",
-                22,
-            ),
-            (
-                "\"ocs.example\"\nrealm = \"example\"",
-                "1\nrealm = \"\"",
-                21,
-            ),
-            (
-                "validity = 600\nhold = 1200",
-                "validity = 0\nhold = true",
-                22,
-            ),
-            (
-                "validity = 600\nhold = 1200",
-                "validity = true\nhold = 0",
-                21,
-            ),
-            ("2020-01-01T00:00:00Z\"\nprice = 5", "\"\nprice = -1", 23),
-            ("price = 5\nblock = 1000", "price = -1\nblock = true", 22),
-            // The tables one after another, and what they say together last.
-            (
-                "price = 2\nblock = 60\n\n[[tariff]]\ngroup = 30",
-                "price = 2\nblock = 0\n\n[[tariff]]",
-                22,
-            ),
-            (
-                "price = 2\nblock = 60\n\n[[tariff]]\ngroup = 30",
-                "price = 2\n\n[[tariff]]\ngroup = -1",
-                21,
-            ),
-            (
-                "group = 30\nunit = \"units\"\nfrom = \"2020-01-01T00:00:00Z\"",
-                "group = 20\nunit = \"units\"\nfrom = \"\"",
-                23,
-            ),
-        ],
-    )
 }
 
 /// The keys above the tables, and so many tables of one group.
 fn with_tables(alloc: Global, count: u32) -> Result<String, Fail> {
-    let (keys, _) = PLAN.split_once("[[tariff]]").ok_or("no tables")?;
+    let (keys, _) = PLAN.split_once("tariff = [").ok_or("no tables")?;
     let mut text = String::from_str(alloc, keys)?;
     for i in 0..count {
         let (hour, minute) = (i / 60 % 24, i % 60);

@@ -1,6 +1,4 @@
-use super::texts::check_edits;
 use crate::moment::moment_of;
-use std::test::Fail;
 
 #[test]
 fn moments_are_seconds_since_1970(rt: HostRuntime) {
@@ -13,10 +11,6 @@ fn moments_are_seconds_since_1970(rt: HostRuntime) {
     ] {
         assert_eq!(rt; moment_of(text), Some(moment), "{text}");
     }
-}
-
-#[test]
-fn other_texts_are_no_moments(rt: HostRuntime) {
     for text in [
         "",
         "2025-06-01",
@@ -49,20 +43,4 @@ fn other_texts_are_no_moments(rt: HostRuntime) {
     ] {
         assert!(rt; moment_of(text).is_none(), "{text}");
     }
-}
-
-#[test]
-fn a_tariff_begins_at_a_moment(rt: HostRuntime) -> Result<(), Fail> {
-    let begin = "2020-01-01T00:00:00Z";
-    check_edits(
-        &rt,
-        rt.alloc(),
-        &[
-            (begin, "1970-01-01T00:00:00Z", 0),
-            (begin, "2099-12-31T23:59:59Z", 0),
-            (begin, "2025-02-30T00:00:00Z", 23),
-            (begin, "2100-01-01T00:00:00Z", 23),
-            (begin, "soon", 23),
-        ],
-    )
 }

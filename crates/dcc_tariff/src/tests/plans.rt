@@ -1,35 +1,40 @@
-use super::texts::{PLAN, VERSIONS, edited};
+use super::texts::{VERSIONS, edited};
 use crate::{Plan, UnitKind};
+use dcc_samples::PLAN;
 use std::test::Fail;
 
+/// The samples' plan is that of the worked examples, value by value.
 #[test]
-fn the_rows_plan_is_read(rt: HostRuntime) -> Result<(), Fail> {
+fn the_plan_of_the_samples(rt: HostRuntime) -> Result<(), Fail> {
     let plan = Plan::read(rt.alloc(), PLAN)?;
-    let rows = Plan::rows(rt.alloc())?;
-    assert!(rt; plan.host() == rows.host());
-    assert!(rt; plan.realm() == rows.realm());
-    assert_eq!(rt; plan.address(), rows.address());
-    assert_eq!(rt; plan.shards(), rows.shards());
-    assert_eq!(rt; plan.default_group(), rows.default_group());
-    assert_eq!(rt; plan.quantum(), rows.quantum());
-    assert!(rt; *plan.terms() == *rows.terms());
-    assert!(rt; plan.versions.as_slice() == rows.versions.as_slice());
-    Ok(())
-}
-
-#[test]
-fn the_rows_plan_has_its_values(rt: HostRuntime) -> Result<(), Fail> {
-    let plan = Plan::rows(rt.alloc())?;
     assert!(rt; plan.host() == b"ocs.example".as_slice());
     assert!(rt; plan.realm() == b"example".as_slice());
     assert_eq!(rt; plan.address(), [127, 0, 0, 1]);
     assert_eq!(rt; plan.shards(), 2);
     assert_eq!(rt; plan.default_group(), 10);
     assert_eq!(rt; plan.quantum(), 100_000);
-    assert_eq!(rt; plan.terms().validity, 600);
-    assert_eq!(rt; plan.terms().hold, 1200);
-    assert_eq!(rt; plan.terms().currency, 978);
-    assert_eq!(rt; plan.terms().exponent, -2);
+    let terms = plan.terms();
+    assert_eq!(rt; (terms.validity, terms.hold), (600, 1200));
+    assert_eq!(rt; (terms.currency, terms.exponent), (978, -2));
+    for (group, unit, tariff) in [
+        (10, Some(UnitKind::Octets), (5, 1000)),
+        (20, Some(UnitKind::Time), (2, 60)),
+        (30, Some(UnitKind::Units), (0, 1)),
+        (99, None, (0, 0)),
+    ] {
+        assert!(rt; plan.unit(group) == unit, "group {group}");
+        assert_eq!(rt;
+            tariff_at(&plan, group, 1_577_836_800),
+            tariff,
+            "group {group}"
+        );
+        assert_eq!(rt;
+            tariff_at(&plan, group, 1_577_836_799),
+            (0, 0),
+            "group {group}"
+        );
+    }
+    assert_eq!(rt; plan.versions.len(), 3);
     Ok(())
 }
 
@@ -169,15 +174,5 @@ fn many_tariffs_are_told_apart(rt: HostRuntime) -> Result<(), Fail> {
         }
     }
     assert_eq!(rt; tariff_at(&plan, u32::MAX, u64::MAX), (0, 0));
-    Ok(())
-}
-
-#[test]
-fn groups_have_units(rt: HostRuntime) -> Result<(), Fail> {
-    let plan = Plan::rows(rt.alloc())?;
-    assert!(rt; plan.unit(10) == Some(UnitKind::Octets));
-    assert!(rt; plan.unit(20) == Some(UnitKind::Time));
-    assert!(rt; plan.unit(30) == Some(UnitKind::Units));
-    assert!(rt; plan.unit(99).is_none());
     Ok(())
 }

@@ -3,7 +3,8 @@ use Rattle.std.specs.List.{list_all}
 use Rattle.std.proofs.lemmas.Bool.{cond-true, cond-false, eqb-true, eqb-false}
 use Rattle.toml.specs.Data.{as_table}
 use Rattle.toml.specs.View.{view, items_view, array_view, table_view}
-use Rattle.dcc_tariff.specs.PlanTexts.{seen_by, in_range}
+use Rattle.dcc_tariff.specs.PlanTexts.{in_range}
+use Rattle.dcc_tariff.specs.inner.Seen.{seen_by}
 use Rattle.dcc_tariff.proofs.TableLemmas.{tables_at-found, not_few, few}
 use Rattle.dcc_tariff.proofs.tables.tables_at.Goals as goal
 use Rattle.dcc_tariff.proofs.tables.tables_at.Goals.{then-is_empty-via-then-is_empty, then-is_empty-via-else-is_empty+then-len-gt-MAX_TABLES}

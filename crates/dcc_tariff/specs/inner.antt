@@ -1,0 +1,2 @@
+pub mod PlanViews
+pub mod Seen
