@@ -6,7 +6,7 @@ use crate::rounds::timed;
 use crate::tariffs::plan_text;
 use anyhow::{Context, Result};
 use dcc_act::{Moment, Sub};
-use dcc_engine::{OctetString, Engine, Event, Out};
+use dcc_engine::{Engine, Event, OctetString, Out};
 use dcc_message::{DiameterIdentity, Identity};
 use dcc_replay::replay_run;
 use dcc_tariff::Plan;
@@ -107,7 +107,7 @@ fn events_of(alloc: Global, subscribers: u32, requests: u32) -> Result<Vec<Event
             amount: MONEY,
         })?;
     }
-    let mut debit = Debit::new();
+    let mut debit = Debit::new()?;
     for i in 0..requests {
         debit.set_identifiers(i);
         debit.set_number(i);
@@ -127,7 +127,7 @@ fn script_of(alloc: Global, subscribers: u32, requests: u32) -> Result<String> {
     for i in 0..subscribers {
         write!(text, "topup {MOMENT} 0:491700{i:06} 1 {MONEY}\n")?;
     }
-    let mut debit = Debit::new();
+    let mut debit = Debit::new()?;
     for i in 0..requests {
         debit.set_identifiers(i);
         debit.set_number(i);

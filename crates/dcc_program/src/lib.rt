@@ -23,3 +23,6 @@ pub use plan_file::{plan_from, plan_of};
 pub use process::execute;
 pub use program::run;
 pub use replaying::replay;
+
+#[cfg(test)]
+mod tests;
