@@ -5,7 +5,7 @@ use crate::debit::{Debit, LENGTH};
 use crate::rounds::timed;
 use anyhow::{Result, bail};
 use dcc_message::Framer;
-use std::alloc::{AllocError, Global};
+use std::alloc::Global;
 use std::time::CpuClock;
 
 /// Measures framing, where the messages are taken after each piece, and copying the same messages alone.
