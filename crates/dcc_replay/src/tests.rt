@@ -1,6 +1,7 @@
 mod corners;
 mod limits;
 mod octets;
+mod refusals;
 mod rows;
 mod scripts;
 mod streams;

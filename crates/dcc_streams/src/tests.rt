@@ -134,3 +134,18 @@ fn writes_whole_or_tells_how_much(rt: HostRuntime) -> Result<(), Fail> {
     }
     Ok(())
 }
+
+/// Meant for refused allocations.
+#[test]
+fn a_refusal_is_told(rt: HostRuntime) -> Result<(), Fail> {
+    let alloc = rt.alloc();
+    let mut input = io::repeat(b'#').take(10_000);
+    match read_all(alloc, &mut input, 100) {
+        Ok(text) => assert!(&rt; text.as_slice().len() == 10_000),
+        Err(fault) => {
+            assert_eq!(&rt; fault, ReadFault::Memory);
+            return Err(Fail::from("memory was refused"));
+        }
+    }
+    Ok(())
+}
