@@ -35,7 +35,7 @@ fn answers_each_type_of_subscriber_and_data_of_1_and_64_octets(
     let granted = granted(alloc, 0, 1001)?;
     let mut script = String::from_str(alloc, "open 1 gw1.example\n")?;
     let mut printed = String::from_str(alloc, "1 -\n")?;
-    let mut event = 1u64;
+    let mut event = 2u64;
     for kind in 0u32..5 {
         for octets in [1, 64] {
             let name = repeated(alloc, "~", octets)?;
@@ -46,11 +46,10 @@ fn answers_each_type_of_subscriber_and_data_of_1_and_64_octets(
                 script,
                 "topup 0 {kind}:{name} 1 10\nmessage 1 1748736000 {request}\n"
             )?;
+            let answered = event.wrapping_add(1);
             write!(
                 printed,
-                "{} topup done\n{} answer 1 {granted}\n",
-                event + 1,
-                event + 2
+                "{event} topup done\n{answered} answer 1 {granted}\n"
             )?;
             event = event.wrapping_add(2);
         }

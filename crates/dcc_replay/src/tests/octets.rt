@@ -81,7 +81,7 @@ pub(crate) fn debit_under(
     message(alloc, "c0", IDS, avps.as_str())
 }
 
-/// The answer that grants 1,001 octets to the request with this number under this Session-Id, with more AVPs behind.
+/// The answer that grants 1,001 octets to the request with this number, with its Session-Id and with more AVPs behind.
 pub(crate) fn granted_under(
     alloc: Global,
     session: &str,
