@@ -42,7 +42,7 @@ pub fn measure<R: AllocGlobal + Print + Eprint + CpuClock>(rt: &R, count: u32) -
 
 /// Reads the lists of requests.
 fn list_all(alloc: Global, count: u32) -> Result<u64> {
-    let mut debit = Debit::new();
+    let mut debit = Debit::new()?;
     let mut mark = 0u64;
     for i in 0..count {
         debit.set_identifiers(i);
@@ -59,7 +59,7 @@ fn list_all(alloc: Global, count: u32) -> Result<u64> {
 
 /// Reads requests.
 fn read_all(alloc: Global, count: u32) -> Result<u64> {
-    let mut debit = Debit::new();
+    let mut debit = Debit::new()?;
     let mut mark = 0u64;
     for i in 0..count {
         debit.set_identifiers(i);
@@ -72,7 +72,7 @@ fn read_all(alloc: Global, count: u32) -> Result<u64> {
 
 /// Writes answers.
 fn write_all(alloc: Global, reply: &Reply, count: u32) -> Result<u64> {
-    let Ok(mut header) = read_header(Debit::new().as_slice()) else {
+    let Ok(mut header) = read_header(Debit::new()?.as_slice()) else {
         bail!("no header");
     };
     let proxies = Proxies::none(alloc);
@@ -88,7 +88,7 @@ fn write_all(alloc: Global, reply: &Reply, count: u32) -> Result<u64> {
 
 /// Reads requests, and writes their answers.
 fn answer_all(alloc: Global, reply: &Reply, count: u32) -> Result<u64> {
-    let mut debit = Debit::new();
+    let mut debit = Debit::new()?;
     let mut mark = 0;
     for i in 0..count {
         debit.set_identifiers(i);
@@ -102,7 +102,7 @@ fn answer_all(alloc: Global, reply: &Reply, count: u32) -> Result<u64> {
 
 /// The checksum of the answers.
 fn sum_of_answers(alloc: Global, reply: &Reply, count: u32) -> Result<u64> {
-    let mut debit = Debit::new();
+    let mut debit = Debit::new()?;
     let mut sum = START;
     for i in 0..count {
         debit.set_identifiers(i);

@@ -1,4 +1,4 @@
-//! The program that measures the path of a direct debit: `codec N`, `framer BYTES PIECE`, `plan N`,
+//! The program that measures the path of a direct debit: `codec N`, `framer OCTETS PIECE`, `plan N`,
 //! `replay SUBSCRIBERS REQUESTS`, and `sample`, a little of each.
 //!
 //! It stands on the crates of that path, and calls them as the server does. Standard output has only what the arguments
@@ -33,7 +33,7 @@ fn main(rt: HostRuntime) -> Result<()> {
             },
         ) => replay::measure(&rt, subscribers, requests),
         None => bail!(
-            "usage: codec N | framer BYTES PIECE | plan N | replay SUBSCRIBERS REQUESTS | sample"
+            "usage: codec N | framer OCTETS PIECE | plan N | replay SUBSCRIBERS REQUESTS | sample"
         ),
     }
 }

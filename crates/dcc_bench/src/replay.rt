@@ -6,9 +6,10 @@ use crate::rounds::timed;
 use crate::tariffs::plan_text;
 use anyhow::{Context, Result};
 use dcc_act::{Moment, Sub};
-use dcc_engine::{OctetString, Engine, Event, Out};
+use dcc_engine::{Engine, Event, Out};
 use dcc_message::{DiameterIdentity, Identity};
 use dcc_replay::replay_run;
+use dcc_octets::OctetString;
 use dcc_tariff::Plan;
 use std::alloc::Global;
 use std::time::CpuClock;
@@ -107,7 +108,7 @@ fn events_of(alloc: Global, subscribers: u32, requests: u32) -> Result<Vec<Event
             amount: MONEY,
         })?;
     }
-    let mut debit = Debit::new();
+    let mut debit = Debit::new()?;
     for i in 0..requests {
         debit.set_identifiers(i);
         debit.set_number(i);
@@ -127,7 +128,7 @@ fn script_of(alloc: Global, subscribers: u32, requests: u32) -> Result<String> {
     for i in 0..subscribers {
         write!(text, "topup {MOMENT} 0:491700{i:06} 1 {MONEY}\n")?;
     }
-    let mut debit = Debit::new();
+    let mut debit = Debit::new()?;
     for i in 0..requests {
         debit.set_identifiers(i);
         debit.set_number(i);
@@ -147,7 +148,7 @@ fn make_engine(alloc: Global) -> Result<Engine> {
         address: plan.address(),
     };
     let shards = plan.shards();
-    Ok(Engine::open(alloc, plan, identity, shards))
+    Ok(Engine::open(alloc, plan, identity, shards)?)
 }
 
 fn make_plan(alloc: Global) -> Result<Plan> {

@@ -5,7 +5,7 @@ use crate::debit::{Debit, LENGTH};
 use crate::rounds::timed;
 use anyhow::{Result, bail};
 use dcc_message::Framer;
-use std::alloc::{AllocError, Global};
+use std::alloc::Global;
 use std::time::CpuClock;
 
 /// Measures framing, where the messages are taken after each piece, and copying the same messages alone.
@@ -32,8 +32,8 @@ pub fn measure<R: AllocGlobal + Print + Eprint + CpuClock>(
 }
 
 /// Requests one after another.
-fn stream_of(alloc: Global, count: usize) -> Result<Vec<u8>, AllocError> {
-    let mut debit = Debit::new();
+fn stream_of(alloc: Global, count: usize) -> Result<Vec<u8>> {
+    let mut debit = Debit::new()?;
     let mut stream = Vec::new(alloc);
     for i in 0..count {
         debit.set_identifiers((i & 0xffff_ffff) as u32);

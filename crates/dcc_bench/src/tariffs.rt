@@ -2,6 +2,7 @@
 
 use crate::rounds::timed;
 use anyhow::Result;
+use dcc_samples::PLAN;
 use dcc_tariff::Plan;
 use std::alloc::{AllocError, Global};
 use std::time::CpuClock;
@@ -11,19 +12,6 @@ const LOOK_UPS: u32 = 100_000;
 
 /// A moment at which each tariff holds.
 const MOMENT: u64 = 1_751_328_000;
-
-/// What a plan says beside its tariffs.
-const HEAD: &str = "host = \"ocs.example\"
-realm = \"example\"
-address = \"127.0.0.1\"
-shards = 2
-default_group = 10
-quantum = 100000
-validity = 600
-hold = 1200
-currency = 978
-exponent = -2
-";
 
 /// Measures reading a plan, picking a group, and picking a group and looking its tariff up.
 pub fn measure<R: AllocGlobal + Print + Eprint + CpuClock>(rt: &R, count: u32) -> Result<()> {
@@ -51,7 +39,9 @@ fn read(alloc: Global, text: &String) -> Result<u64> {
 
 /// A plan whose groups have one tariff each, from group 10 on.
 pub fn plan_text(alloc: Global, count: u32) -> Result<String, AllocError> {
-    let mut text = String::from_str(alloc, HEAD)?;
+    // What the sample plan says beside its tariffs.
+    let (head, _tariffs) = PLAN.split_once("tariff").unwrap_or((PLAN, ""));
+    let mut text = String::from_str(alloc, head)?;
     for i in 0..count {
         let group = u64::from(i) + 10;
         let price = i % 1000 + 5;

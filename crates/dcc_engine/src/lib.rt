@@ -19,3 +19,6 @@ pub use engine::Engine;
 pub use event::{Event, Out};
 pub use laws::{isolation, runs_in_turn};
 pub use peers::{Peer, PeerRow};
+
+#[cfg(test)]
+mod tests;

@@ -1,8 +1,6 @@
 pub mod Words
 pub mod Scripts
 pub mod Printed
-pub mod Failures
-pub mod Plans
+pub mod Faults
 pub mod Names
-pub mod CommandLines
 pub mod Replays

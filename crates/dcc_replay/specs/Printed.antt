@@ -3,13 +3,13 @@ use Rattle.std.specs.Prelude.{ℕ, ◌+◌, ◌==◌, if◌then◌else◌, List,
 use Rattle.std.specs.Fmt.{decimal}
 use Rattle.hex.specs.Hex.{encode_lower}
 use Rattle.dcc_engine.specs.declared.event.Out.{Out}
-use Rattle.dcc_engine.specs.declared.event.TopUpAnswer.{TopUpAnswer}
-use Rattle.dcc_engine.specs.declared.event.TopUpAnswer.TheVariants.{Done, Ceiling, BadAmount, Refused}
+use Rattle.dcc_shard.specs.declared.answers.TopUpAnswer.{TopUpAnswer}
+use Rattle.dcc_shard.specs.declared.answers.TopUpAnswer.TheVariants.{Done, Ceiling, BadAmount, Refused}
 
 -- what a top-up is told, as a word
 abbrev pub word_of : TopUpAnswer → List ℕ
-word_of Done = codes "done"
-word_of Ceiling = codes "ceiling"
+word_of (Done at fresh) = codes "done"
+word_of (Ceiling at fresh) = codes "ceiling"
 word_of BadAmount = codes "bad"
 word_of Refused = codes "refused"
 

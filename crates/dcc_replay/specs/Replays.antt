@@ -1,57 +1,51 @@
 -- A script's events, run and printed.
-use Rattle.std.specs.Prelude.{◌≡◌, ℕ, List, [], length, Option, Some, None, Ok, Err, ⊤}
+use Rattle.std.specs.Prelude.{◌≡◌, ℕ, List, [], length, take, Option, None, Ok, Err, IfSome, ⊤}
+use Rattle.std.specs.Io.KnownBytes.{Appends}
 use Rattle.dcc_tariff.specs.Plans.{PlanView}
 use Rattle.dcc_act.specs.declared.sub.Sub.{Sub}
 use Rattle.dcc_engine.specs.declared.event.Event.{Event}
 use Rattle.dcc_engine.specs.declared.event.Out.{Out}
-use Rattle.dcc_engine.specs.Core.{Core, peer_of, held_of}
-use Rattle.dcc_engine.specs.Isolation.{steps, IsRun}
-use Rattle.dcc_replay.specs.declared.failure.Failure.{Failure}
-use Rattle.dcc_replay.specs.declared.failure.Failure.TheVariants.{Usage, Memory, Io, Plan, Script}
-use Rattle.dcc_replay.specs.CommandLines.{IsSomeUse}
+use Rattle.dcc_engine.specs.Engines.{EngineView, peer_of, held_of}
+use Rattle.dcc_engine.specs.Isolation.{turns, IsRun}
+use Rattle.dcc_replay.specs.declared.fault.ReplayFault.{ReplayFault}
+use Rattle.dcc_replay.specs.declared.fault.ReplayFault.TheVariants.{Line, Memory, Input, Output}
 use Rattle.dcc_replay.specs.Names.{identity_of}
-use Rattle.dcc_replay.specs.Plans.{IsPlanFailure}
 use Rattle.dcc_replay.specs.Scripts.{script_of}
 use Rattle.dcc_replay.specs.Printed.{printed}
 
 -- an engine just opened: under the plan and the names that it gives, without peers and acts
-pub record IsNew (plan : PlanView) (core : Core) : Type 0 where
-  pub setting : core.setting ≡ record { plan = plan; identity = identity_of plan }
-  pub peers : (id : ℕ) → peer_of core id ≡ None
-  pub accounts : (sub : Sub) → held_of core sub ≡ []
+pub record IsNew (plan : PlanView) (engine : EngineView) : Type 0 where
+  pub setting : engine.setting ≡ record { plan = plan; identity = identity_of plan }
+  pub peers : (id : ℕ) → peer_of engine id ≡ None
+  pub accounts : (sub : Sub) → held_of engine sub ≡ []
 
 -- what is written is the printed form of the outs of a run over the script's events, one for each
 pub record IsReplayed (plan : PlanView) (text written : List ℕ) : Type 0 where
   pub events : List Event
   pub outs : List Out
-  pub core : Core
+  pub engine : EngineView
   pub read : script_of text ≡ Ok events
-  pub opened : IsNew plan core
+  pub opened : IsNew plan engine
   pub count : length outs ≡ length events
-  pub run : IsRun core (steps events outs)
+  pub run : IsRun engine (turns events outs)
   pub shown : written ≡ printed outs
 
--- the failures that a replay comes to: the script's first fault, where the script is known, or memory, or input or output
-abbrev pub IsReplayFailure : Option (List ℕ) → Failure → Type 0
-IsReplayFailure text Usage = ⊥
-IsReplayFailure text Memory = ⊤
-IsReplayFailure text Io = ⊤
-IsReplayFailure text (Plan number) = ⊥
-IsReplayFailure None (Script line) = ⊤
-IsReplayFailure (Some text) (Script line) = script_of text ≡ Err line
+-- this is what is printed of the script, where it is known
+abbrev pub IsShown : PlanView → Option (List ℕ) → List ℕ → Type 0
+IsShown plan script written = IfSome script (λ text. IsReplayed plan text written)
 
--- the failures that are told before any of the script is read
-abbrev pub IsBeforeScript : Failure → Type 0
-IsBeforeScript Usage = ⊤
-IsBeforeScript Memory = ⊥
-IsBeforeScript Io = ⊥
-IsBeforeScript (Plan number) = ⊤
-IsBeforeScript (Script line) = ⊥
+-- a writer, before and after, has grown by all of what is printed
+abbrev pub IsWritten : PlanView → (script old new : Option (List ℕ)) → Type 0
+IsWritten plan script old new = (written : List ℕ) × IsShown plan script written × Appends old new written
 
--- the failures that the program comes to: usage where the words of the command line are no use, and the others where they are
-abbrev pub IsRunFailure : List (List ℕ) → Option (List ℕ) → Failure → Type 0
-IsRunFailure words text Usage = ¬ IsSomeUse words
-IsRunFailure words text Memory = ⊤
-IsRunFailure words text Io = IsSomeUse words
-IsRunFailure words text (Plan number) = IsSomeUse words × IsPlanFailure None (Plan number)
-IsRunFailure words text (Script line) = IsSomeUse words × IsReplayFailure text (Script line)
+-- or by its first octets
+abbrev pub IsBegun : PlanView → (script old new : Option (List ℕ)) → Type 0
+IsBegun plan script old new = (written : List ℕ) × (n : ℕ) × IsShown plan script written × Appends old new (take n written)
+
+-- the faults that a replay comes to: that of the script's first line with a fault, where the script is known, or memory, or
+-- input or output
+abbrev pub IsReplayFault : Option (List ℕ) → ReplayFault → Type 0
+IsReplayFault script (Line line) = IfSome script (λ text. script_of text ≡ Err line)
+IsReplayFault script Memory = ⊤
+IsReplayFault script Input = ⊤
+IsReplayFault script Output = ⊤

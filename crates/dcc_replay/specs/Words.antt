@@ -7,7 +7,6 @@ use Rattle.std.specs.Str.Parse.{digits_value}
 use Rattle.hex.specs.Hex.{decode_of}
 use Rattle.hex.specs.declared.error.FromHexError.{FromHexError}
 use Rattle.dcc_act.specs.Subs.{SubView, is_sub}
-use Rattle.dcc_octets.specs.Names.{is_name}
 use Rattle.dcc_credit.specs.Requests.{where_, ◌>>=◌}
 
 -- the lines of a text: what stands between its line feeds
@@ -37,9 +36,9 @@ any_u64 word = number (2 ^ 64 - 1) word
 abbrev pub moment : List ℕ → Option ℕ
 moment word = number 4_102_444_799 word
 
--- a host's name: a DiameterIdentity, as a plan's host is (RFC 6733, section 4.3.1)
+-- a host's name: any word of 1 to 255 octets
 abbrev pub host : List ℕ → Option (List ℕ)
-host word = where_ (is_name word) word
+host word = where_ (nat_le 1 (length word) && nat_le (length word) 255) word
 
 -- octets of a message: 1 to 65,536
 abbrev pub sized : Result (List ℕ) FromHexError → Option (List ℕ)

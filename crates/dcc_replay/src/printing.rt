@@ -3,7 +3,8 @@
 ghost use Rattle.std.specs.Prelude.{◌≡◌, ◌++◌, ◌==◌, OnOk, IfOk, string_bytes, is_some, not, length};
 ghost use Rattle.dcc_replay.specs.Printed.{word_of, answered, closed, told, numbered, lines_of_out, printed};
 
-use dcc_engine::{Out, TopUpAnswer};
+use dcc_engine::Out;
+use dcc_shard::TopUpAnswer;
 use std::alloc::{AllocError, Global};
 use std::fmt::Write;
 
@@ -83,8 +84,8 @@ fn word_of(answer: TopUpAnswer) -> &'static str
     ensures { result.now ≡ word_of answer }
 {
     match answer {
-        TopUpAnswer::Done => "done",
-        TopUpAnswer::Ceiling => "ceiling",
+        TopUpAnswer::Done { .. } => "done",
+        TopUpAnswer::Ceiling { .. } => "ceiling",
         TopUpAnswer::BadAmount => "bad",
         TopUpAnswer::Refused => "refused",
     }

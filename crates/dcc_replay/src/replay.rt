@@ -1,51 +1,52 @@
 //! The run of a script.
 
-ghost use Rattle.std.specs.Prelude.{◌≡◌, ◌≢◌, ℕ, List, length, Ok, IfOk, IfErr, IfSome, OnOk, Err};
-ghost use Rattle.std.specs.Io.KnownBytes.{Appends, Keeps};
-ghost use Rattle.dcc_engine.specs.declared.event.Out.{Out};
-ghost use Rattle.dcc_engine.specs.Core.{Core};
-ghost use Rattle.dcc_engine.specs.Isolation.{steps, IsRun};
-ghost use Rattle.dcc_replay.specs.Replays.{IsNew, IsReplayed, IsReplayFailure};
-ghost use Rattle.dcc_replay.specs.declared.failure.Failure.TheVariants.{Io};
+ghost use Rattle.std.specs.Prelude.{◌≡◌, ◌≢◌, length, IfOk, IfErr, OnOk};
+ghost use Rattle.std.specs.Io.KnownBytes.{Keeps};
+ghost use Rattle.dcc_engine.specs.Engines.{EngineView};
+ghost use Rattle.dcc_engine.specs.Isolation.{turns, IsRun};
+ghost use Rattle.dcc_replay.specs.Replays.{IsNew, IsWritten, IsBegun, IsReplayFault};
+ghost use Rattle.dcc_replay.specs.declared.fault.ReplayFault.TheVariants.{Output};
 
-use crate::failure::Failure;
+use crate::fault::ReplayFault;
 use crate::names::identity_of;
 use crate::printing::printed;
 use crate::script::read_script;
-use crate::streams::{MOST_READS, read_all, write_all};
 use dcc_engine::{Engine, Event, Out};
+use dcc_streams::{MOST_READS, read_all, write_all};
 use dcc_tariff::Plan;
 use std::alloc::{AllocError, Global};
 use std::io::{Read, Write};
 
 /// Reads a script, runs its events on an engine just opened under the plan, and writes what is printed of the outs.
 ///
-/// The whole script is judged before anything is written: at a fault of the script, and where memory is short, nothing is. A script
-/// that has not ended after 4,294,967,295 reads is a failure of input.
+/// The whole script is judged before anything is written: at a fault of the script, and where memory is short, nothing is; where the
+/// writer fails, a beginning is. A script that has not ended after 4,294,967,295 reads is a failure of input.
 pub fn replay_run<R: Read, W: Write>(
     alloc: Global,
     plan: &Plan,
     input: &mut R,
     output: &mut W,
-) -> Result<(), Failure>
-    ensures ok { OnOk result (IfSome (R.remaining input.old) (λ text.
-        (written : List ℕ) × IsReplayed plan.now text written × Appends (W.contents output.old) (W.contents output.new) written)) }
-    ensures failures { IfErr result (IsReplayFailure (R.remaining input.old)) }
-    ensures silent { IfErr result (λ failure. failure ≢ Io → Keeps (W.contents output.old) (W.contents output.new)) }
+) -> Result<(), ReplayFault>
+    ensures whole { OnOk result (IsWritten plan.now (R.remaining input.old) (W.contents output.old) (W.contents output.new)) }
+    ensures fault { IfErr result (IsReplayFault (R.remaining input.old)) }
+    ensures silent { IfErr result (λ fault. fault ≢ Output → Keeps (W.contents output.old) (W.contents output.new)) }
+    ensures part { IfErr result (λ fault. fault ≡ Output
+        → IsBegun plan.now (R.remaining input.old) (W.contents output.old) (W.contents output.new)) }
 {
     let text = read_all(alloc, input, MOST_READS)?;
     let events = read_script(alloc, text.as_slice())?;
     let outs = outs_of(alloc, plan, events.as_slice())?;
     let written = printed(alloc, outs.as_slice())?;
-    write_all(output, written.as_bytes())
+    write_all(output, written.as_bytes())?;
+    Ok(())
 }
 
 /// The outs of a run of an engine just opened under the plan.
 fn outs_of(alloc: Global, plan: &Plan, events: &[Event]) -> Result<Vec<Out>, AllocError>
     ensures { IfOk result (λ outs.
-        (core : Core) × IsNew plan.now core × (length outs.items ≡ length events.now) × IsRun core (steps events.now outs.items)) }
+        (engine : EngineView) × IsNew plan.now engine × (length outs.items ≡ length events.now) × IsRun engine (turns events.now outs.items)) }
 {
     let identity = identity_of(alloc, plan)?;
-    let mut engine = Engine::open(alloc, plan.copy()?, identity, plan.shards());
+    let mut engine = Engine::open(alloc, plan.copy()?, identity, plan.shards())?;
     engine.run(alloc, events)
 }

@@ -5,7 +5,7 @@ ghost use Rattle.dcc_replay.specs.Scripts.{opened, arrived, topped_up, event_of,
 ghost use Rattle.dcc_replay.specs.Words.{words_of};
 ghost use Rattle.dcc_replay.specs.declared.script.ScriptFault.TheVariants as fault;
 
-use crate::words::{any_u64, host, moment, hex_octets, parts, peer, sub};
+use crate::words::{any_u64, hex_octets, host, moment, parts, peer, sub};
 use dcc_engine::Event;
 use std::alloc::{AllocError, AllocFailed, Global};
 

@@ -6,13 +6,15 @@ ghost use Rattle.std.specs.Char.{is_ascii_digit};
 ghost use Rattle.dcc_replay.specs.Words.{number, peer, any_u64, moment, host, hex_octets, known_sub, sub};
 
 use dcc_act::{Moment, Sub};
-use dcc_engine::OctetString;
-use dcc_message::DiameterIdentity;
+use dcc_octets::OctetString;
 use hex::FromHexError;
 use std::alloc::{AllocError, Global};
 
 /// The last moment, 2099-12-31T23:59:59Z.
 const LAST_MOMENT: u64 = 4_102_444_799;
+
+/// A host's name has at most as many octets.
+const LONGEST_HOST: usize = 255;
 
 /// A message of a script has at most as many octets.
 const MOST_OCTETS: usize = 65_536;
@@ -69,14 +71,14 @@ pub(crate) fn moment(word: &[u8]) -> Option<Moment>
     Moment::new(number(word, LAST_MOMENT)?)
 }
 
-/// A host's name: a DiameterIdentity, 1 to 255 octets of visible ASCII (RFC 6733, section 4.3.1).
+/// A host's name: any word of 1 to 255 octets.
 pub(crate) fn host(alloc: Global, word: &[u8]) -> Result<Option<OctetString>, AllocError>
     ensures { IfOk result (λ name. name ≡ host word.now) }
 {
-    let Some(name) = DiameterIdentity::from_vec(Vec::from_slice(alloc, word)?) else {
+    if word.is_empty() || word.len() > LONGEST_HOST {
         return Ok(None);
-    };
-    Ok(Some(OctetString::from_vec(name.into_vec())))
+    }
+    Ok(Some(OctetString::from_vec(Vec::from_slice(alloc, word)?)))
 }
 
 /// Octets in hex digits of either case, 1 to 65,536.
@@ -85,9 +87,9 @@ pub(crate) fn hex_octets(alloc: Global, word: &[u8]) -> Result<Option<OctetStrin
     ensures { IfOk result (λ octets. octets ≡ hex_octets word.now) }
 {
     match hex::decode(alloc, word) {
-        Ok(octets) if !octets.is_empty() && octets.len() <= MOST_OCTETS => Ok(Some(OctetString::from_vec(
-            octets,
-        ))),
+        Ok(octets) if !octets.is_empty() && octets.len() <= MOST_OCTETS => Ok(Some(
+            OctetString::from_vec(octets),
+        )),
         Err(FromHexError::OutOfMemory) => Err(AllocError),
         _ => Ok(None),
     }

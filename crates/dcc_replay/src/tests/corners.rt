@@ -2,9 +2,10 @@
 //!
 //! In the rows a word such as `debit/0/1001` stands for octets in hex: a request's number and its octets, or an answer's.
 
-use super::octets::{PROXY, bare_busy, broken, busy, debit_for, debit_of, granted, refused};
+use super::octets::{bare_busy, broken, busy, debit_for, debit_of, granted, refused};
 use super::replayed;
 use super::rows::MIDNIGHT;
+use dcc_samples::PROXY_INFO;
 use dcc_tariff::Plan;
 use std::alloc::Global;
 use std::test::Fail;
@@ -154,8 +155,8 @@ fn octets_of(alloc: Global, word: &str) -> Result<String, Fail> {
         "busy" => busy(alloc),
         "bare" => bare_busy(alloc, "60000110000000040000001100000021"),
         "asleep" => bare_busy(alloc, "20000118000000000000000100000002"),
-        "broken" => broken(alloc, "0100001c", ""),
-        "proxied" => broken(alloc, "01000040", PROXY),
+        "broken" => broken(alloc, ""),
+        "proxied" => broken(alloc, PROXY_INFO),
         "watchdog" => Ok(String::from_str(alloc, WATCHDOG)?),
         "cut" => debit_for(alloc, CUT),
         "padded" => debit_for(alloc, PADDED),

@@ -2,6 +2,7 @@
 
 use super::octets::{debit, debit_through_proxy, granted, granted_through_proxy, refused};
 use super::replayed;
+use dcc_samples::PLAN;
 use dcc_tariff::Plan;
 use std::process::Abort;
 use std::test::Fail;
@@ -53,7 +54,12 @@ fn debits_1001_octets(rt: HostRuntime) -> Result<(), Fail> {
         "# remark\nopen 1 gw1.example\n\ntopup {JUNE} {SUB} 1 1000\nmessage 1 {JUNE} {request}"
     )?;
     let printed = format!(in alloc; "1 -\n2 topup done\n3 answer 1 {granted}\n")?;
-    prints(&rt, Plan::read(alloc, dcc_samples::PLAN)?, script.as_str(), printed.as_str())
+    prints(
+        &rt,
+        Plan::read(alloc, PLAN)?,
+        script.as_str(),
+        printed.as_str(),
+    )
 }
 
 #[test]
@@ -72,7 +78,12 @@ message 1 {JUNE} {again}\ntopup {JUNE} {SUB} 2 999999999999999011\ntopup {JUNE} 
     let printed = format!(in alloc;
         "1 -\n2 answer 1 {unknown}\n3 topup done\n4 answer 1 {granted}\n5 answer 1 {repeated}\n6 topup ceiling\n7 topup done\n"
     )?;
-    prints(&rt, Plan::read(alloc, dcc_samples::PLAN)?, script.as_str(), printed.as_str())
+    prints(
+        &rt,
+        Plan::read(alloc, PLAN)?,
+        script.as_str(),
+        printed.as_str(),
+    )
 }
 
 #[test]
@@ -84,7 +95,7 @@ topup {JUNE} {SUB} 3 0\ntopup {JUNE} {SUB} 1 1000000000000000000\ntopup {JUNE} {
     )?;
     let printed =
         "1 topup done\n2 topup ceiling\n3 topup ceiling\n4 topup bad\n5 topup done\n6 topup ceiling\n";
-    prints(&rt, Plan::read(alloc, dcc_samples::PLAN)?, script.as_str(), printed)
+    prints(&rt, Plan::read(alloc, PLAN)?, script.as_str(), printed)
 }
 
 #[test]
@@ -141,7 +152,12 @@ fn closes_at_a_bad_header(rt: HostRuntime) -> Result<(), Fail> {
 open 1 gw1.example\nmessage 1 {JUNE} {request}\n"
         )?;
         let printed = format!(in alloc; "1 -\n2 close 1\n3 -\n4 -\n5 -\n6 answer 1 {unknown}\n")?;
-        prints(&rt, Plan::read(alloc, dcc_samples::PLAN)?, script.as_str(), printed.as_str())?;
+        prints(
+            &rt,
+            Plan::read(alloc, PLAN)?,
+            script.as_str(),
+            printed.as_str(),
+        )?;
     }
     Ok(())
 }

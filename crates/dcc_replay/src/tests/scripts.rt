@@ -1,25 +1,25 @@
 //! The forms of a script's lines, and their faults.
 
 use super::replayed;
-use crate::{Failure, replay_run};
+use crate::{ReplayFault, replay_run};
+use dcc_samples::PLAN;
 use dcc_tariff::Plan;
 use std::alloc::{AllocError, Global};
 use std::process::Abort;
 use std::test::Fail;
 
-/// Whether the fourth line of a script is told, with status 5, where the line is this one, and nothing is written.
+/// Whether the fourth line of a script is told where it is this one, and nothing is written.
 fn tells_line<R: Abort + AllocGlobal>(rt: &R, line: &str) -> Result<(), Fail> {
     let alloc = rt.alloc();
     let script = format!(in alloc; "# remark\nopen 1 a\n\n{line}\nopen\n")?;
     let mut written = Vec::new(alloc);
     let result = replay_run(
         alloc,
-        &Plan::read(alloc, dcc_samples::PLAN)?,
+        &Plan::read(alloc, PLAN)?,
         &mut script.as_bytes(),
         &mut written,
     );
-    assert_eq!(rt; result, Err(Failure::Script(4)), "{line:?}");
-    assert_eq!(rt; result.map_err(|failure| failure.status()), Err(5));
+    assert_eq!(rt; result, Err(ReplayFault::Line(4)), "{line:?}");
     assert!(rt; written.is_empty(), "{line:?}");
     Ok(())
 }
@@ -43,12 +43,8 @@ fn finds_the_first_line_that_has_no_form(rt: HostRuntime) -> Result<(), Fail> {
         "open 1  a",
         " open 1 a",
         "open 1 a ",
-        "open 1 a\r",
         "open\t1 a",
         "open 1\ta",
-        "open 1 a\tb",
-        "open 1 \u{7f}",
-        "open 1 \u{e4}",
         "OPEN 1 a",
         "open 4294967296 a",
         "open -1 a",
@@ -105,7 +101,7 @@ fn takes_hosts_of_255_octets_and_subscribers_of_64_and_none_longer(
     ] {
         let mut longest = with_letters(alloc, start, most)?;
         longest.push_str(end)?;
-        let text = replayed(alloc, Plan::read(alloc, dcc_samples::PLAN)?, longest.as_bytes())?;
+        let text = replayed(alloc, Plan::read(alloc, PLAN)?, longest.as_bytes())?;
         assert_eq!(&rt; text.as_str(), printed, "{start:?}");
         let mut longer = with_letters(alloc, start, most + 1)?;
         longer.push_str(end)?;
@@ -122,6 +118,7 @@ fn takes_each_form_up_to_its_limits(rt: HostRuntime) -> Result<(), Fail> {
         (b"\n#\n# open\n", ""),
         (b"#\xff\r\n\n# \0\t\x80\n#", ""),
         (b"open 0004294967295 !~:#", "1 -\n"),
+        (b"open 1 \t\xff\0\r\nopen 1 a\r", "1 -\n2 -\n"),
         (b"message 4294967295 4102444799 aF\n", "1 -\n"),
         (
             b"topup 4102444799 4:a:b 18446744073709551615 18446744073709551615\n",
@@ -129,7 +126,7 @@ fn takes_each_form_up_to_its_limits(rt: HostRuntime) -> Result<(), Fail> {
         ),
         (b"topup 0 00:~ 0 00001", "1 topup done\n"),
     ] {
-        let text = replayed(alloc, Plan::read(alloc, dcc_samples::PLAN)?, script)?;
+        let text = replayed(alloc, Plan::read(alloc, PLAN)?, script)?;
         assert_eq!(&rt; text.as_str(), printed, "{script:?}");
     }
     Ok(())
@@ -140,14 +137,14 @@ fn takes_messages_of_65536_octets_and_none_longer(rt: HostRuntime) -> Result<(),
     let alloc = rt.alloc();
     for (octets, fault) in [
         (65_536, None),
-        (65_537, Some(Failure::Script(1))),
-        (524_288, Some(Failure::Script(1))),
+        (65_537, Some(ReplayFault::Line(1))),
+        (524_288, Some(ReplayFault::Line(1))),
     ] {
         let mut script = String::from_str(alloc, "message 1 0 ")?;
         for _ in 0..octets {
             script.push_str("00")?;
         }
-        let result = replayed(alloc, Plan::read(alloc, dcc_samples::PLAN)?, script.as_bytes());
+        let result = replayed(alloc, Plan::read(alloc, PLAN)?, script.as_bytes());
         assert_eq!(&rt; result.err(), fault, "{octets}");
     }
     Ok(())

@@ -1,0 +1,62 @@
+-- How the program ends.
+use Rattle.std.specs.Prelude.{ℕ, [], ◌∷◌, ◌++◌, List, codes, Option, Some, None, Result, Ok, Err}
+use Rattle.std.specs.Fmt.{decimal}
+use Rattle.dcc_tariff.specs.declared.fault.PlanFault.{PlanFault}
+use Rattle.dcc_tariff.specs.Faults.{fault_number}
+use Rattle.std.specs.declared.io.ErrorKind as io
+use Rattle.std.specs.declared.io.ErrorKind.TheVariants as io_kind
+use Rattle.dcc_streams.specs.declared.reading.ReadFault.{ReadFault}
+use Rattle.dcc_streams.specs.declared.reading.ReadFault.TheVariants as read
+use Rattle.dcc_replay.specs.declared.fault.ReplayFault.{ReplayFault}
+use Rattle.dcc_replay.specs.declared.fault.ReplayFault.TheVariants as replay
+use Rattle.dcc_program.specs.declared.failure.Failure.{Failure}
+use Rattle.dcc_program.specs.declared.failure.Failure.TheVariants.{Usage, Memory, Io, Plan, Script}
+
+-- the exit status
+abbrev pub status_of : Failure → ℕ
+status_of Memory = 1
+status_of Io = 1
+status_of Usage = 2
+status_of (Plan number) = 3
+status_of (Script line) = 5
+
+-- the line on standard error
+abbrev pub line_of : Failure → List ℕ
+line_of Memory = codes "dcc: memory"
+line_of Io = codes "dcc: io"
+line_of Usage = codes "dcc: usage: dcc replay PLAN"
+line_of (Plan number) = codes "dcc: plan fault " ++ decimal number
+line_of (Script line) = codes "dcc: script line " ++ decimal line
+
+-- the exit status of a program that did its work, or failed
+abbrev pub status_of_end : Result (Unit {0}) Failure → ℕ
+status_of_end (Ok done) = 0
+status_of_end (Err failure) = status_of failure
+
+-- what it writes to standard error
+abbrev pub line_of_end : Result (Unit {0}) Failure → List ℕ
+line_of_end (Ok done) = []
+line_of_end (Err failure) = line_of failure ++ 10 ∷ []
+
+-- an error of input or output by its kind
+abbrev pub of_io_kind : io.ErrorKind → Failure
+of_io_kind io_kind.OutOfMemory = Memory
+of_io_kind _ = Io
+
+-- a plan's fault by its number; want of memory has none
+abbrev pub numbered_fault : Option ℕ → Failure
+numbered_fault None = Memory
+numbered_fault (Some number) = Plan number
+
+abbrev pub of_plan : PlanFault → Failure
+of_plan fault = numbered_fault (fault_number fault)
+
+abbrev pub of_read : ReadFault → Failure
+of_read read.Memory = Memory
+of_read read.Io = Io
+
+abbrev pub of_replay : ReplayFault → Failure
+of_replay (replay.Line line) = Script line
+of_replay replay.Memory = Memory
+of_replay replay.Input = Io
+of_replay replay.Output = Io

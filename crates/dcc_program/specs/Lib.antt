@@ -1,0 +1,5 @@
+pub mod Failures
+pub mod Plans
+pub mod CommandLines
+pub mod Replays
+pub mod Runs

@@ -1,0 +1,25 @@
+-- `dcc replay PLAN`: a script replayed under the plan of a file.
+use Rattle.std.specs.Prelude.{⊤, ◌≡◌, ℕ, List, Option, Err, IfSome}
+use Rattle.dcc_tariff.specs.Plans.{PlanView}
+use Rattle.dcc_replay.specs.Scripts.{script_of}
+use Rattle.dcc_replay.specs.Replays as run
+use Rattle.dcc_program.specs.declared.failure.Failure.{Failure}
+use Rattle.dcc_program.specs.declared.failure.Failure.TheVariants.{Usage, Memory, Io, Plan, Script}
+use Rattle.dcc_program.specs.Plans.{IsPlanOf, IsPlanFailure}
+
+-- a writer, before and after, has grown by what is printed of the script under the plan of the file
+abbrev pub IsReplay : (file script old new : Option (List ℕ)) → Type 0
+IsReplay file script old new = (plan : PlanView) × IsPlanOf file plan × run.IsWritten plan script old new
+
+-- or by its first octets
+abbrev pub IsReplayBegun : (file script old new : Option (List ℕ)) → Type 0
+IsReplayBegun file script old new = (plan : PlanView) × IsPlanOf file plan × run.IsBegun plan script old new
+
+-- the failures that a replay comes to: the plan's, or under a good plan that of the script's first line with a fault
+abbrev pub IsReplayFailure : (file script : Option (List ℕ)) → Failure → Type 0
+IsReplayFailure file script Usage = ⊥
+IsReplayFailure file script Memory = ⊤
+IsReplayFailure file script Io = ⊤
+IsReplayFailure file script (Plan number) = IsPlanFailure file (Plan number)
+IsReplayFailure file script (Script line) = (plan : PlanView) × IsPlanOf file plan
+    × IfSome script (λ text. script_of text ≡ Err line)

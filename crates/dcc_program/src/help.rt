@@ -1,0 +1,22 @@
+//! What `dcc --help` and `dcc --version` print. The launcher `dcc` reads both texts here, so that it answers without a build.
+
+/// What `dcc --help`, `dcc -h` and `dcc help` print.
+pub const HELP: &str = "\
+dcc is a Diameter credit-control server (RFC 8506) on prepaid balances.
+
+usage: dcc replay PLAN
+       dcc help
+
+dcc replay PLAN   reads a script of events from standard input, and prints what each event is answered under the
+                  plan of the file PLAN. A path that begins with a hyphen stands behind --
+dcc help          prints this text, as dcc --help and dcc -h do
+dcc --version     prints the version, as dcc -V does
+
+exit status: 0; 1 where memory, input or output failed; 2 at another command line; 3 at a faulty plan; 5 at a faulty script.
+A failure has one line on standard error.
+";
+
+/// What `dcc --version` prints.
+pub const VERSION: &str = "\
+dcc 0.1.0
+";

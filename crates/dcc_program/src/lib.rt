@@ -1,0 +1,28 @@
+//! The program `dcc`: its command line, its plan file, how it ends, and its work over any files, reader and writers.
+//!
+//! Stands on `dcc_replay` for scripts, and on `dcc_tariff` for plans. The contract that it gives: [`replay`] is `dcc replay PLAN`
+//! over the plan's reader, the script's reader and a writer; [`task_of`] is what the words of a command line ask for; [`run`]
+//! judges the words, opens the plan's file and replays, or prints a text; [`end`] is the line on standard error and the status.
+//! [`execute`] is all of it, for a `main` of one line.
+#![tactic(auto)]
+
+mod command_line;
+mod ending;
+mod failure;
+mod help;
+mod plan_file;
+mod process;
+mod program;
+mod replaying;
+
+pub use command_line::{Task, given_words, task_of};
+pub use ending::{Ending, end};
+pub use failure::Failure;
+pub use help::{HELP, VERSION};
+pub use plan_file::{plan_from, plan_of};
+pub use process::execute;
+pub use program::run;
+pub use replaying::replay;
+
+#[cfg(test)]
+mod tests;

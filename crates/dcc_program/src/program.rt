@@ -1,0 +1,45 @@
+//! The program's work, over any files, reader and writer.
+
+ghost use Rattle.std.specs.Prelude.{◌≡◌, ◌≢◌, ◌⊎◌, map, string_bytes, IfErr, OnOk};
+ghost use Rattle.std.specs.Io.KnownBytes.{Keeps};
+ghost use Rattle.dcc_program.specs.CommandLines.{Asks};
+ghost use Rattle.dcc_program.specs.Runs.{IsDone, IsBegun, IsBeforeScript, IsRunFailure};
+ghost use Rattle.dcc_program.specs.declared.command_line.Task.{Task};
+ghost use Rattle.dcc_program.specs.declared.failure.Failure.TheVariants.{Io};
+
+use crate::command_line::{Task, task_of};
+use crate::failure::Failure;
+use crate::help::{HELP, VERSION};
+use crate::replaying::replay;
+use dcc_streams::write_all;
+use std::fs;
+use std::io::{Read, Write};
+use std::rt::Files;
+
+/// Does what the words of a command line ask for: replays the script of the input under the plan of the file, or prints a text.
+///
+/// The words are judged first, then the plan, then the script. A text is printed before anything is opened or read.
+pub fn run<F: Files + AllocGlobal, R: Read, W: Write>(
+    rt: &F,
+    words: &[String],
+    input: &mut R,
+    output: &mut W,
+) -> Result<(), Failure>
+    ensures done { OnOk result ((task : Task) × Asks (map string_bytes words.now) task
+        × IsDone task (R.remaining input.old) (R.remaining input.new) (W.contents output.old) (W.contents output.new)) }
+    ensures failure { IfErr result (IsRunFailure (map string_bytes words.now) (R.remaining input.old)) }
+    ensures order { IfErr result (λ failure. IsBeforeScript failure → Keeps (R.remaining input.old) (R.remaining input.new)) }
+    ensures silent { IfErr result (λ failure. failure ≢ Io → Keeps (W.contents output.old) (W.contents output.new)) }
+    ensures part { IfErr result (λ failure. failure ≡ Io → Keeps (W.contents output.old) (W.contents output.new)
+        ⊎ ((task : Task) × Asks (map string_bytes words.now) task
+        × IsBegun task (R.remaining input.old) (W.contents output.old) (W.contents output.new))) }
+{
+    match task_of(rt.alloc(), words)? {
+        Task::Help => Ok(write_all(output, HELP.as_bytes())?),
+        Task::Version => Ok(write_all(output, VERSION.as_bytes())?),
+        Task::Replay(path) => {
+            let mut file = fs::open(rt, path)?;
+            replay(rt.alloc(), &mut file, input, output)
+        }
+    }
+}
