@@ -16,3 +16,6 @@ mod shard;
 pub use answers::{Answer, TopUpAnswer};
 pub use row::Row;
 pub use shard::Shard;
+
+#[cfg(test)]
+mod tests;

@@ -21,6 +21,6 @@ returns-in-Requested-clause-done c =
     let before : EngineView = record { setting = setting; peers = inside.peers; shard = old } in
     let after : EngineView = record { setting = setting; peers = inside.peers; shard = new } in
     let judged = served_judged c.same_subscribers_are_equal.ensures setting (peer_in inside.peers.rows) old new c.args.peer c.args.moment octets (message_view header octets) c.respond-answer.result
-      c.self.invariant.1 c.self.invariant.0 c.self.invariant.2 received served in
+    c.self.invariant.1 c.self.invariant.0 c.self.invariant.2 received served in
     let done = stays_put before new c.args.peer c.args.moment octets (message_view header octets) c.respond-answer.result received judged in
     subst (λ (engine : EngineView). IsDone engine after (record { event = Message c.args.peer c.args.moment octets; out = c.sending.result })) c.self.view_is (rw c.sending.ensures done)

@@ -16,7 +16,7 @@ returns-in-TopUp-clause-done c =
     let answer = c.top_up-answer.result in
     let after : EngineView = record { setting = setting; peers = inside.peers; shard = new } in
     let judged = top_up_judged c.same_subscribers_are_equal.ensures setting (peer_in inside.peers.rows) old new t.moment t.sub t.ticket t.amount answer
-      c.self-in-TopUp.invariant.0 c.self-in-TopUp.invariant.2 c.top_up-answer.ensures.answer c.top_up-answer.ensures.step in
+    c.self-in-TopUp.invariant.0 c.self-in-TopUp.invariant.2 c.top_up-answer.ensures.answer c.top_up-answer.ensures.step in
     let before : EngineView = record { setting = setting; peers = inside.peers; shard = old } in
     let done : IsDone before after (record { event = TopUp t.moment t.sub t.ticket t.amount; out = out_top_up answer }) = record { judged = judged; peers = λ id. refl; setting = refl } in
     let whole = subst (λ (engine : EngineView). IsDone engine after (record { event = TopUp t.moment t.sub t.ticket t.amount; out = c.telling.result })) c.self-in-TopUp.view_is (rw c.telling.ensures done) in

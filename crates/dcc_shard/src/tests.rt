@@ -1,0 +1,103 @@
+//! Each call once on its happy path: money, a debit, the same again, and a subscriber without an account.
+
+use super::*;
+use dcc_act::{Act, Kind, Moment, Sub};
+use dcc_avp::read_list;
+use dcc_credit::{Proxies, read_ccr, to_act};
+use dcc_message::{DiameterIdentity, Header, Identity, read_header};
+use dcc_samples::{ANSWER, DEBIT, PLAN};
+use dcc_tariff::Plan;
+use std::alloc::Global;
+use std::process::Abort;
+use std::test::Fail;
+
+fn shard(alloc: Global, plan: &Plan) -> Result<Shard, Fail> {
+    let identity = Identity {
+        host: DiameterIdentity::from_vec(b"ocs.example".to_vec(alloc)?).ok_or("a host")?,
+        realm: DiameterIdentity::from_vec(b"example".to_vec(alloc)?).ok_or("a realm")?,
+        address: [127, 0, 0, 1],
+    };
+    Ok(Shard::new(alloc, plan.terms(), &identity)?)
+}
+
+/// The sample's request, with the header that it is answered under.
+fn debit(alloc: Global, plan: &Plan) -> Result<(Header, Act), Fail> {
+    let octets = hex::decode(alloc, DEBIT)?;
+    let Ok(header) = read_header(&octets) else {
+        return Err("a header".into());
+    };
+    let list = octets.get(20..).ok_or("a list")?;
+    let avps = read_list(alloc, list)?;
+    let request = read_ccr(alloc, &header, &avps)?;
+    let moment = Moment::new(1_751_328_000).ok_or("a moment")?;
+    Ok((header, to_act(alloc, plan, &request, moment)?))
+}
+
+/// What the answer says: its octets in hex, its place, and whether it is fresh.
+fn told(alloc: Global, answer: &Answer) -> Result<(String, u64, bool), Fail> {
+    let (octets, place, fresh) = match answer {
+        Answer::Done {
+            octets,
+            place,
+            fresh,
+        } => (octets.as_slice(), *place, *fresh),
+        Answer::Unknown { octets } => (octets.as_slice(), 0, false),
+        Answer::Busy { .. } | Answer::Silent => return Err("a refusal".into()),
+    };
+    Ok((hex::encode(alloc, octets)?, place, fresh))
+}
+
+/// The debit of a subscriber, answered.
+fn step(
+    alloc: Global,
+    shard: &mut Shard,
+    plan: &Plan,
+    sub: Sub,
+) -> Result<(String, u64, bool), Fail> {
+    let (header, act) = debit(alloc, plan)?;
+    if !matches!(act.kind, Kind::Event(_)) {
+        return Err("a request".into());
+    }
+    let answer = shard.step(alloc, sub, act, &header, &Proxies::none(alloc));
+    told(alloc, &answer)
+}
+
+#[test]
+fn a_debit_is_made_once(rt: HostRuntime) -> Result<(), Fail> {
+    let alloc = rt.alloc();
+    let plan = Plan::read(alloc, PLAN)?;
+    let mut shard = shard(alloc, &plan)?;
+    let sub = Sub::new(0, b"491700000001").ok_or("a subscriber")?;
+    let moment = Moment::new(1_751_328_000).ok_or("a moment")?;
+    let (unknown, place, _) = step(alloc, &mut shard, &plan, sub)?;
+    assert!(rt; unknown.as_str().contains("000013a6"));
+    assert_eq!(rt; place, 0);
+    let added = shard.top_up(alloc, sub, moment, 1, 1000);
+    assert_eq!(rt;
+        added,
+        TopUpAnswer::Done {
+            place: 1,
+            fresh: true
+        }
+    );
+    for fresh in [true, false] {
+        let (octets, place, is_fresh) = step(alloc, &mut shard, &plan, sub)?;
+        assert_eq!(rt; octets.as_str(), ANSWER);
+        assert_eq!(rt; (place, is_fresh), (2, fresh));
+    }
+    let again = shard.top_up(alloc, sub, moment, 1, 5);
+    assert_eq!(rt;
+        again,
+        TopUpAnswer::Done {
+            place: 1,
+            fresh: false
+        }
+    );
+    assert_eq!(rt;
+        shard.top_up(alloc, sub, moment, 2, 0),
+        TopUpAnswer::BadAmount
+    );
+    let account = shard.account(sub).ok_or("an account")?;
+    assert_eq!(rt; account.funds(), 990);
+    Ok(())
+}
