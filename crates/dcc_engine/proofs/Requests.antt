@@ -15,14 +15,14 @@ use Rattle.dcc_shard.specs.Shards.{ShardView, held, held_after, AreOwn, IsStep}
 use Rattle.dcc_shard.specs.Answers.{answer_at, answer_after, busy_answer, session_of_act, IsToldApart, is_judged, octets_of}
 use Rattle.dcc_shard.specs.declared.answers.Answer.{Answer}
 use Rattle.dcc_shard.specs.declared.answers.Answer.TheVariants.{Silent}
-use Rattle.dcc_engine.specs.Asks.{Ask, request_ask, is_refusal, answer_to, busy_to, IsBusy, IsOfNobody, out_octets, own_with, moved_by}
+use Rattle.dcc_engine.specs.Asks.{Ask, request_ask, is_refusal, answer_to, busy_to, IsBusyOrNothing, IsOfNobody, out_octets, own_with, moved_by}
 use Rattle.dcc_engine.specs.Asks.Said.{Octets}
 use Rattle.dcc_engine.specs.Asks.Source.{Request}
 use Rattle.dcc_engine.specs.Engines.{EngineView, Setting, peer_of}
 use Rattle.dcc_engine.specs.Messages as messages
 use Rattle.dcc_engine.specs.Messages.{MessageView, received_on}
 use Rattle.dcc_engine.specs.Messages.Received.{Requested}
-use Rattle.dcc_engine.specs.inner.Done.{IsJudged, IsDone, IsTaken, IsServed}
+use Rattle.dcc_engine.specs.inner.Done.{IsJudged, IsDone, IsHandedOn, IsServed}
 use Rattle.dcc_engine.specs.declared.event.Event.TheVariants as events
 use Rattle.dcc_engine.specs.declared.event.Out.{Out}
 use Rattle.dcc_engine.specs.declared.peers.Peer.{Peer}
@@ -38,7 +38,7 @@ record IsMade (setting : Setting) (old new : ShardView) (moment : ℕ) (message 
 
 -- it was refused, and nothing is held otherwise than before
 record IsAway (setting : Setting) (old new : ShardView) (message : MessageView) (octets : List ℕ) : Type 0 where
-  busy : IsBusy setting.identity message octets
+  busy : IsBusyOrNothing setting.identity message octets
   refused : is_refusal octets ≡ true
   stays : (sub : Sub) → held new sub ≡ held old sub
 
@@ -66,7 +66,7 @@ answer_of : (setting : Setting) (identity : Identity) (terms : TermsView) (messa
 answer_of setting identity terms message before act is_one are_same = rw (is_one, are_same) refl
 
 taken_made : (setting : Setting) (old new : ShardView) (moment : ℕ) (message : MessageView) (octets : List ℕ) (request : RequestView) (answer : Answer)
-    → old.identity ≡ setting.identity → old.terms ≡ setting.plan.terms → IsTaken setting old new moment message octets request answer
+    → old.identity ≡ setting.identity → old.terms ≡ setting.plan.terms → IsHandedOn setting old new moment message octets request answer
     → answer ≡ answer_after old.identity old.terms message.header (messages.proxies message) (held old request.sub) (act_of setting.plan request moment)
     → IsMade setting old new moment message octets request
 taken_made setting old new moment message octets request answer identity terms taken is =
@@ -108,7 +108,7 @@ busy_of setting identity moment message request is_one session =
     ∙ ap (λ (i : Identity). busy_octets i (messages.session message) message.header (messages.proxies message)) is_one
 
 taken_busy : SameAreEqual → (setting : Setting) (old new : ShardView) (moment : ℕ) (message : MessageView) (octets : List ℕ) (request : RequestView) (answer : Answer)
-    → old.identity ≡ setting.identity → IsTaken setting old new moment message octets request answer
+    → old.identity ≡ setting.identity → IsHandedOn setting old new moment message octets request answer
     → answer ≡ busy_answer old.identity message.header (messages.proxies message) (session_of_act (act_of setting.plan request moment)) → IsAway setting old new message octets
 taken_busy law setting old new moment message octets request answer identity taken is =
     let given = busy_octets old.identity (session_of_act (act_of setting.plan request moment)) message.header (messages.proxies message) in
@@ -121,7 +121,7 @@ taken_busy law setting old new moment message octets request answer identity tak
     }
 
 taken_silent : SameAreEqual → (setting : Setting) (old new : ShardView) (moment : ℕ) (message : MessageView) (octets : List ℕ) (request : RequestView) (answer : Answer)
-    → IsTaken setting old new moment message octets request answer → answer ≡ Silent → IsAway setting old new message octets
+    → IsHandedOn setting old new moment message octets request answer → answer ≡ Silent → IsAway setting old new message octets
 taken_silent law setting old new moment message octets request answer taken is =
     let octets_are : octets ≡ [] = taken.octets_are ∙ ap octets_of is in
     record {
@@ -197,7 +197,7 @@ made_judged law setting peers old new id moment octets message given request own
           ∙ ap (λ (r : Option RequestView). acts terms (own_with (request_ask setting.plan moment message r sub) out sub (held old sub))) (sym made.request_is));
     }
 
-of_nobody : (identity : Identity) (message : MessageView) (request : Option RequestView) (octets : List ℕ) → IsBusy identity message octets → IsOfNobody identity message request octets
+of_nobody : (identity : Identity) (message : MessageView) (request : Option RequestView) (octets : List ℕ) → IsBusyOrNothing identity message octets → IsOfNobody identity message request octets
 of_nobody identity message None octets busy = busy
 of_nobody identity message (Some request) octets busy = tt
 

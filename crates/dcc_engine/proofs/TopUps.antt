@@ -10,7 +10,7 @@ use Rattle.dcc_act.specs.declared.outcome.Outcome.TheVariants as outcomes
 use Rattle.dcc_act.specs.declared.sub.Sub.{Sub}
 use Rattle.dcc_model.specs.Outcomes.{acts, after, place, is_new}
 use Rattle.dcc_shard.specs.Shards.{ShardView, held, held_after, AreOwn, IsStep}
-use Rattle.dcc_shard.specs.Answers.{told, told_after, top_up_act, is_taken, IsTold}
+use Rattle.dcc_shard.specs.Answers.{told, told_after, top_up_act, is_judged_top_up, IsTold}
 use Rattle.dcc_shard.specs.declared.answers.TopUpAnswer.{TopUpAnswer}
 use Rattle.dcc_shard.specs.declared.answers.TopUpAnswer.TheVariants.{Done, Ceiling, Refused, BadAmount}
 use Rattle.dcc_engine.specs.Asks.{Ask, out_top_up, is_refused_top_up}
@@ -22,10 +22,10 @@ use Rattle.dcc_engine.specs.declared.event.Event.TheVariants as events
 use Rattle.dcc_engine.specs.declared.peers.Peer.{Peer}
 
 -- what is told of an outcome is no refusal, and was judged
-told_counts : (outcome : Outcome) (at : Option ℕ) (fresh : Bool) (answer : TopUpAnswer) → Some answer ≡ told outcome at fresh → (is_refused_top_up (Some answer) ≡ false) × (is_taken answer ≡ true)
+told_counts : (outcome : Outcome) (at : Option ℕ) (fresh : Bool) (answer : TopUpAnswer) → Some answer ≡ told outcome at fresh → (is_refused_top_up (Some answer) ≡ false) × (is_judged_top_up answer ≡ true)
 told_counts outcome None fresh answer is = absurd cc
-told_counts outcomes.Added (Some at) fresh answer is = let one : answer ≡ Done at fresh = cc in (ap (λ (a : TopUpAnswer). is_refused_top_up (Some a)) one, ap is_taken one)
-told_counts outcomes.Ceiling (Some at) fresh answer is = let one : answer ≡ Ceiling at fresh = cc in (ap (λ (a : TopUpAnswer). is_refused_top_up (Some a)) one, ap is_taken one)
+told_counts outcomes.Added (Some at) fresh answer is = let one : answer ≡ Done at fresh = cc in (ap (λ (a : TopUpAnswer). is_refused_top_up (Some a)) one, ap is_judged_top_up one)
+told_counts outcomes.Ceiling (Some at) fresh answer is = let one : answer ≡ Ceiling at fresh = cc in (ap (λ (a : TopUpAnswer). is_refused_top_up (Some a)) one, ap is_judged_top_up one)
 told_counts (outcomes.Unknown request key) (Some at) fresh answer is = absurd cc
 told_counts (outcomes.Answered given) (Some at) fresh answer is = absurd cc
 
@@ -43,7 +43,7 @@ Judged setting peers old new moment sub ticket amount answer =
 
 told_judged : SameAreEqual → (setting : Setting) (peers : ℕ → Option Peer) (old new : ShardView) (moment : ℕ) (sub : Sub) (ticket amount : ℕ) (answer : TopUpAnswer) → is_amount amount ≡ true
     → old.terms ≡ setting.plan.terms → ((s : Sub) → acts setting.plan.terms (held old s) ≡ held old s)
-    → Some answer ≡ told_after old.terms (held old sub) (top_up_act moment ticket amount) → IsStep old new (is_taken answer) sub (top_up_act moment ticket amount)
+    → Some answer ≡ told_after old.terms (held old sub) (top_up_act moment ticket amount) → IsStep old new (is_judged_top_up answer) sub (top_up_act moment ticket amount)
     → Judged setting peers old new moment sub ticket amount answer
 told_judged law setting peers old new moment sub ticket amount answer may terms own is step =
     let act = top_up_act moment ticket amount in
@@ -64,7 +64,7 @@ told_judged law setting peers old new moment sub ticket amount answer may terms 
     }
 
 -- one that was not judged leaves everything as it was
-unjudged_stays : SameAreEqual → (old new : ShardView) (answer : TopUpAnswer) (sub : Sub) (act : Act) → is_taken answer ≡ false → IsStep old new (is_taken answer) sub act → (other : Sub) → held new other ≡ held old other
+unjudged_stays : SameAreEqual → (old new : ShardView) (answer : TopUpAnswer) (sub : Sub) (act : Act) → is_judged_top_up answer ≡ false → IsStep old new (is_judged_top_up answer) sub act → (other : Sub) → held new other ≡ held old other
 unjudged_stays law old new answer sub act not_taken step other =
     elim (cases_Bool (same_sub sub other)) [
       | inl t ↦ (let e = (law sub other).0 t in ap (held new) (sym e) ∙ step.own ∙ ap (λ b. held_after old.terms b (held old sub) act) not_taken ∙ ap (held old) e)
@@ -72,12 +72,12 @@ unjudged_stays law old new answer sub act not_taken step other =
     ]
 
 refused_judged : SameAreEqual → (setting : Setting) (peers : ℕ → Option Peer) (old new : ShardView) (moment : ℕ) (sub : Sub) (ticket amount : ℕ) (answer : TopUpAnswer) → is_amount amount ≡ true
-    → ((s : Sub) → acts setting.plan.terms (held old s) ≡ held old s) → answer ≡ Refused → IsStep old new (is_taken answer) sub (top_up_act moment ticket amount)
+    → ((s : Sub) → acts setting.plan.terms (held old s) ≡ held old s) → answer ≡ Refused → IsStep old new (is_judged_top_up answer) sub (top_up_act moment ticket amount)
     → Judged setting peers old new moment sub ticket amount answer
 refused_judged law setting peers old new moment sub ticket amount answer may own is step =
     let act = top_up_act moment ticket amount in
     let refused : is_refused_top_up (Some answer) ≡ true = ap (λ (a : TopUpAnswer). is_refused_top_up (Some a)) is in
-    let stays = unjudged_stays law old new answer sub act (ap is_taken is) step in
+    let stays = unjudged_stays law old new answer sub act (ap is_judged_top_up is) step in
     record {
       next = record {
         subscribers = λ other ask asks_it.
@@ -92,10 +92,10 @@ refused_judged law setting peers old new moment sub ticket amount answer may own
     }
 
 bad_judged : SameAreEqual → (setting : Setting) (peers : ℕ → Option Peer) (old new : ShardView) (moment : ℕ) (sub : Sub) (ticket amount : ℕ) (answer : TopUpAnswer) → is_amount amount ≡ false
-    → ((s : Sub) → acts setting.plan.terms (held old s) ≡ held old s) → answer ≡ BadAmount → IsStep old new (is_taken answer) sub (top_up_act moment ticket amount)
+    → ((s : Sub) → acts setting.plan.terms (held old s) ≡ held old s) → answer ≡ BadAmount → IsStep old new (is_judged_top_up answer) sub (top_up_act moment ticket amount)
     → Judged setting peers old new moment sub ticket amount answer
 bad_judged law setting peers old new moment sub ticket amount answer may_not own is step =
-    let stays = unjudged_stays law old new answer sub (top_up_act moment ticket amount) (ap is_taken is) step in
+    let stays = unjudged_stays law old new answer sub (top_up_act moment ticket amount) (ap is_judged_top_up is) step in
     record {
       next = record {
         subscribers = λ other ask asks_it. (let none = rw may_not at asks_it in absurd cc);
@@ -105,7 +105,7 @@ bad_judged law setting peers old new moment sub ticket amount answer may_not own
     }
 
 pub top_up_judged : SameAreEqual → (setting : Setting) (peers : ℕ → Option Peer) (old new : ShardView) (moment : ℕ) (sub : Sub) (ticket amount : ℕ) (answer : TopUpAnswer)
-    → old.terms ≡ setting.plan.terms → AreOwn old → IsTold old sub moment ticket amount answer → IsStep old new (is_taken answer) sub (top_up_act moment ticket amount)
+    → old.terms ≡ setting.plan.terms → AreOwn old → IsTold old sub moment ticket amount answer → IsStep old new (is_judged_top_up answer) sub (top_up_act moment ticket amount)
     → Judged setting peers old new moment sub ticket amount answer
 top_up_judged law setting peers old new moment sub ticket amount answer terms own is step =
     let own_acts : (s : Sub) → acts setting.plan.terms (held old s) ≡ held old s = subst (λ (t : TermsView). (s : Sub) → acts t (held old s) ≡ held old s) terms own in

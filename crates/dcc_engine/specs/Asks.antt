@@ -109,12 +109,13 @@ said_from setting before act TopUp outcome =
 abbrev pub said_of : Setting → List Act → Ask → Outcome → Said
 said_of setting before ask outcome = said_from setting before ask.act ask.source outcome
 
--- a request is refused by the busy answer or by none, a top-up by being told so
-abbrev pub IsBusy : Identity → MessageView → List ℕ → Type 0
-IsBusy identity message octets = (octets ≡ busy_to identity message) ⊎ (octets ≡ [])
+-- the busy answer, or nothing
+abbrev pub IsBusyOrNothing : Identity → MessageView → List ℕ → Type 0
+IsBusyOrNothing identity message octets = (octets ≡ busy_to identity message) ⊎ (octets ≡ [])
 
+-- what a refusal is: the busy answer or nothing of a request, and of a top-up that it's told so
 abbrev pub IsRefusal : Identity → Source → Out → Type 0
-IsRefusal identity (Request message) out = IsBusy identity message out.octets
+IsRefusal identity (Request message) out = IsBusyOrNothing identity message out.octets
 IsRefusal identity TopUp out = out.top_up ≡ Some Refused
 
 -- The subscriber's own event is answered by its outcome, or refused.
@@ -137,7 +138,7 @@ out_top_up answer = record { peer = None; octets = []; close = false; top_up = S
 
 -- a request that is nobody's is answered busy, or by nothing; what another is answered, its subscriber's clause says
 abbrev pub IsOfNobody : Identity → MessageView → Option RequestView → List ℕ → Type 0
-IsOfNobody identity message None octets = IsBusy identity message octets
+IsOfNobody identity message None octets = IsBusyOrNothing identity message octets
 IsOfNobody identity message (Some request) octets = Unit {0}
 
 abbrev pub IsMessageOut : Setting → Received → ℕ → Out → Type 0
@@ -196,9 +197,3 @@ after_turn setting turn before =
       peers = λ id. moved_by id turn (before.peers id);
       own = λ sub. own_with (ask_for setting before turn.event sub) turn.out sub (before.own sub);
     }
-
--- the host of an event that has one
-abbrev pub host_of : Event → List ℕ
-host_of (events.Connect peer host) = host
-host_of (events.Message peer moment octets) = []
-host_of (events.TopUp moment sub ticket amount) = []

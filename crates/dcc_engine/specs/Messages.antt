@@ -5,6 +5,7 @@ use Rattle.dcc_avp.specs.Reading.{FaultView, avps_of}
 use Rattle.dcc_message.specs.HeaderView.{HeaderView}
 use Rattle.dcc_message.specs.Headers.{header_of, is_request}
 use Rattle.dcc_message.specs.declared.header.HeaderFault.{HeaderFault}
+use Rattle.dcc_message.specs.declared.length.TheConstants.{HEADER_LENGTH}
 use Rattle.dcc_credit.specs.Requests.{RequestView, request_of}
 use Rattle.dcc_credit.specs.Answers.{proxies_of, session_of}
 use Rattle.dcc_engine.specs.Engines.{is_open}
@@ -15,9 +16,9 @@ pub record MessageView : Type 0 where
   pub header : HeaderView
   pub list : Result (List AvpView) FaultView
 
--- the list stands behind the twenty octets of the header
+-- the list stands behind the octets of the header
 abbrev pub message_view : HeaderView → List ℕ → MessageView
-message_view header octets = record { header = header; list = avps_of (drop 20 octets) }
+message_view header octets = record { header = header; list = avps_of (drop HEADER_LENGTH octets) }
 
 -- the debit that it asks for; a list that can't be read asks for none, and nothing is taken over from it
 

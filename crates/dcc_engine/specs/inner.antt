@@ -1,2 +1,3 @@
 pub mod Done
 pub mod Headings
+pub mod Hosts

@@ -5,7 +5,7 @@ ghost use Rattle.std.specs.Prelude.{IfOk, IfSome, IfNone, OnErr};
 ghost use Rattle.dcc_act.specs.declared.sub.Sub.{Sub};
 ghost use Rattle.dcc_model.specs.Outcomes.{acts, funds, free, overrun};
 ghost use Rattle.dcc_engine.specs.Engines.{held_of, peer_of, IsUnchanged};
-ghost use Rattle.dcc_engine.specs.Asks.{host_of as host_in};
+ghost use Rattle.dcc_engine.specs.inner.Hosts.{host_of as host_in};
 ghost use Rattle.dcc_engine.specs.Isolation.{turns, own, peers, IsRun};
 ghost use Rattle.dcc_engine.specs.inner.Done.{IsDone};
 ghost use Rattle.dcc_engine.specs.declared.event.Event.TheVariants.{Message};

@@ -3,6 +3,7 @@
 ghost use Rattle.std.specs.Prelude.{◌≡◌, ◌≢◌, ◌≤◌, length, Some, Option, Err, IfOk, OnOk};
 ghost use Rattle.dcc_avp.specs.declared.fault.AvpFault.TheVariants.{Memory};
 ghost use Rattle.dcc_message.specs.Headers.{is_request};
+ghost use Rattle.dcc_message.specs.declared.length.TheConstants.{HEADER_LENGTH, MAX_LENGTH};
 ghost use Rattle.dcc_credit.specs.Requests.{RequestView, act_of};
 ghost use Rattle.dcc_engine.specs.Engines.{is_open};
 ghost use Rattle.dcc_engine.specs.Messages.{message_view, request, session, received_on};
@@ -70,8 +71,8 @@ impl<'a> Message<'a> {
         header: Header,
         octets: &'a [u8],
     ) -> Result<Message<'a>, AllocError>
-        requires least { 20 ≤ length octets.now }
-        requires most { length octets.now ≤ 65_532 }
+        requires least { HEADER_LENGTH ≤ length octets.now }
+        requires most { length octets.now ≤ MAX_LENGTH }
         ensures { IfOk result (λ message. message ≡ message_view header octets.now) }
     {
         match read_list(alloc, &octets[HEADER_LENGTH..]) {

@@ -1,9 +1,10 @@
 //! The octets that answer a request.
 
 ghost use Rattle.std.specs.Prelude.{◌≡◌, ◌≤◌, true, length};
+ghost use Rattle.dcc_message.specs.declared.length.TheConstants.{HEADER_LENGTH, MAX_LENGTH};
 ghost use Rattle.dcc_shard.specs.Shards.{AreOwn};
 ghost use Rattle.dcc_shard.specs.Answers.{octets_of};
-ghost use Rattle.dcc_engine.specs.Asks.{IsBusy, is_refusal};
+ghost use Rattle.dcc_engine.specs.Asks.{IsBusyOrNothing, is_refusal};
 ghost use Rattle.dcc_engine.specs.Messages.{message_view};
 ghost use Rattle.dcc_engine.specs.inner.Done.{IsServed};
 
@@ -27,8 +28,8 @@ pub(crate) fn respond(
     header: Header,
     octets: &[u8],
 ) -> OctetString
-    requires least { 20 ≤ length octets.now }
-    requires most { length octets.now ≤ 65_532 }
+    requires least { HEADER_LENGTH ≤ length octets.now }
+    requires most { length octets.now ≤ MAX_LENGTH }
     requires identity { shard.old.identity ≡ identity.now }
     requires terms { shard.old.terms ≡ plan.now.terms }
     requires own { AreOwn shard.old }
@@ -63,7 +64,7 @@ fn octets_of(alloc: Global, answer: Answer) -> OctetString
 
 /// The busy answer to a request, or nothing where memory is short for it too.
 fn busy(alloc: Global, identity: &Identity, message: &Message<'_>) -> OctetString
-    ensures busy { IsBusy identity.now message.now result }
+    ensures busy { IsBusyOrNothing identity.now message.now result }
     ensures refused { is_refusal result ≡ true }
 {
     match write_busy(

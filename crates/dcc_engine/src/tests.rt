@@ -99,7 +99,7 @@ fn peers_come_again(rt: HostRuntime) -> Result<(), Fail> {
 }
 
 /// Where memory is refused within the run, an answer is the defined one or a refusal, and the funds are those of what was
-/// answered.
+/// answered; the test says then that memory was refused.
 #[test]
 fn a_refusal_changes_no_answer(rt: HostRuntime) -> Result<(), Fail> {
     let alloc = rt.alloc();
@@ -124,5 +124,8 @@ fn a_refusal_changes_no_answer(rt: HostRuntime) -> Result<(), Fail> {
         _ => 0,
     };
     assert_eq!(rt; funds, wanted);
+    if refused || !added {
+        return Err("memory was refused".into());
+    }
     Ok(())
 }

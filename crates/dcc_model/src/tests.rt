@@ -138,6 +138,19 @@ fn lists_of_acts(rt: HostRuntime) -> Result<(), Fail> {
     Ok(())
 }
 
+/// An act far behind the first comes to what it does, too.
+#[test]
+fn place_1001(rt: HostRuntime) -> Result<(), Fail> {
+    let alloc = rt.alloc();
+    let mut acts = Vec::new(alloc);
+    for ticket in 0..1_001u64 {
+        acts.push(top_up(ticket, 1)?)?;
+    }
+    assert_eq!(rt; acts.len(), 1001);
+    assert_eq!(rt; code(&plain_answer(alloc, &TERMS, &acts, 1001)?), (1, 0));
+    Ok(())
+}
+
 /// The amount and the units of the only entry.
 fn entry(entries: &[Entry]) -> (usize, i64, u64, bool) {
     match entries {

@@ -61,10 +61,10 @@ Asks words (Replay path) = IsUse words path.now
 Asks words Help = IsAmong kind.DisplayHelp (fault_of dcc_command words) ⊎ IsHelpCommand words
 Asks words Version = IsAmong kind.DisplayVersion (fault_of dcc_command words)
 
--- the words have a fault that asks for nothing, or name no command with what it needs
+-- the words have a fault that asks for nothing, or have none and name no command with what it needs
 abbrev pub IsNoUse : List Text → Type 0
 IsNoUse words = ((other : ErrorKind) × IsAmong other (fault_of dcc_command words) × (wish_of other ≡ Err Usage))
-    ⊎ ((IsSomeUse words → ⊥) × (IsHelpCommand words → ⊥))
+    ⊎ ((fault_of dcc_command words ≡ []) × (IsSomeUse words → ⊥) × (IsHelpCommand words → ⊥))
 
 -- the words ask for nothing, or memory was short
 abbrev pub IsTaskFailure : List Text → Failure → Type 0

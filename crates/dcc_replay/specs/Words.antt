@@ -6,6 +6,8 @@ use Rattle.std.specs.Char.{is_ascii_digit}
 use Rattle.std.specs.Str.Parse.{digits_value}
 use Rattle.hex.specs.Hex.{decode_of}
 use Rattle.hex.specs.declared.error.FromHexError.{FromHexError}
+use Rattle.dcc_octets.specs.Names.{is_short}
+use Rattle.dcc_tariff.specs.declared.limits.TheConstants.{LAST_SECOND}
 use Rattle.dcc_act.specs.Subs.{SubView, is_sub}
 use Rattle.dcc_credit.specs.Requests.{where_, ◌>>=◌}
 
@@ -34,11 +36,11 @@ any_u64 word = number (2 ^ 64 - 1) word
 
 -- a moment, in seconds since 1970-01-01T00:00:00Z
 abbrev pub moment : List ℕ → Option ℕ
-moment word = number 4_102_444_799 word
+moment word = number LAST_SECOND word
 
 -- a host's name: any word of 1 to 255 octets
 abbrev pub host : List ℕ → Option (List ℕ)
-host word = where_ (nat_le 1 (length word) && nat_le (length word) 255) word
+host word = where_ (is_short word) word
 
 -- octets of a message: 1 to 65,536
 abbrev pub sized : Result (List ℕ) FromHexError → Option (List ℕ)

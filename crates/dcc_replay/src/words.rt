@@ -6,15 +6,10 @@ ghost use Rattle.std.specs.Char.{is_ascii_digit};
 ghost use Rattle.dcc_replay.specs.Words.{number, peer, any_u64, moment, host, hex_octets, known_sub, sub};
 
 use dcc_act::{Moment, Sub};
-use dcc_octets::OctetString;
+use dcc_octets::{OctetString, is_short};
+use dcc_tariff::LAST_SECOND;
 use hex::FromHexError;
 use std::alloc::{AllocError, Global};
-
-/// The last moment, 2099-12-31T23:59:59Z.
-const LAST_MOMENT: u64 = 4_102_444_799;
-
-/// A host's name has at most as many octets.
-const LONGEST_HOST: usize = 255;
 
 /// A message of a script has at most as many octets.
 const MOST_OCTETS: usize = 65_536;
@@ -68,14 +63,14 @@ pub(crate) fn any_u64(word: &[u8]) -> Option<u64>
 pub(crate) fn moment(word: &[u8]) -> Option<Moment>
     ensures { result ≡ moment word.now }
 {
-    Moment::new(number(word, LAST_MOMENT)?)
+    Moment::new(number(word, LAST_SECOND)?)
 }
 
 /// A host's name: any word of 1 to 255 octets.
 pub(crate) fn host(alloc: Global, word: &[u8]) -> Result<Option<OctetString>, AllocError>
     ensures { IfOk result (λ name. name ≡ host word.now) }
 {
-    if word.is_empty() || word.len() > LONGEST_HOST {
+    if !is_short(word) {
         return Ok(None);
     }
     Ok(Some(OctetString::from_vec(Vec::from_slice(alloc, word)?)))

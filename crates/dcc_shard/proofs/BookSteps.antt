@@ -5,8 +5,8 @@ use Rattle.dcc_act.specs.declared.act.Act.{Act}
 use Rattle.dcc_act.specs.declared.sub.Sub.{Sub}
 use Rattle.dcc_act.specs.Subs.{SameAreEqual}
 use Rattle.dcc_account.specs.declared.account.Account.{Account}
-use Rattle.dcc_model.specs.Outcomes.{acts}
-use Rattle.dcc_model.specs.Laws.{ActsAreActs}
+use Rattle.dcc_model.specs.Outcomes.{acts, is_new}
+use Rattle.dcc_model.specs.Laws.{ActsAreActs, OneMoreAct}
 use Rattle.dcc_shard.specs.Shards.{account_in, held_in}
 use Rattle.dcc_shard.specs.inner.Books.{are_once, IsAt, IsAbsent, IsInstalled, IsAdded, AreBooks, Steps}
 use Rattle.dcc_shard.specs.inner.Pending.{step_of, HasTerms, IsPending}
@@ -31,15 +31,14 @@ pub next_found : {X : Type 0} (f : TermsView → List Act → X) (rows : List Ro
 next_found f rows terms sub account found = ap (λ (t : TermsView). f t account.acts) found.terms_are ∙ ap (λ (xs : List Act). f terms xs) found.acts_are
 
 -- with acts there are acts after one more
-still_some : (is_new : Bool) (xs : List Act) (act : Act) → xs ≢ [] → (if is_new then xs ++ act ∷ [] else xs) ≢ []
+still_some : (new : Bool) (xs : List Act) (act : Act) → xs ≢ [] → (if new then xs ++ act ∷ [] else xs) ≢ []
 still_some true [] act some none = cc
 still_some true (x ∷ xs) act some none = cc
 still_some false xs act some none = some none
 
-pub installed_steps : SameAreEqual → (old new : List Row) (terms : TermsView) (sub : Sub) (i : ℕ) (row : Row) (act : Act) (is_new : Bool) → ActsAreActs → AreBooks old terms → IsAt old sub i
-    → row ≡ get_or old i row → acts row.account.terms (row.account.acts ++ act ∷ []) ≡ (if is_new then row.account.acts ++ act ∷ [] else row.account.acts) → IsInstalled old new i row act
-    → Steps old new terms sub act
-installed_steps same old new terms sub i row act is_new law books at is adds installed =
+pub installed_steps : SameAreEqual → OneMoreAct → (old new : List Row) (terms : TermsView) (sub : Sub) (i : ℕ) (row : Row) (act : Act) → ActsAreActs → AreBooks old terms → IsAt old sub i
+    → row ≡ get_or old i row → IsInstalled old new i row act → Steps old new terms sub act
+installed_steps same more old new terms sub i row act law books at is installed =
     let account = installed.0 in
     let found = found_at old terms sub i row books at is in
     let named : row.sub ≡ sub = ap (λ (r : Row). r.sub) is ∙ at.named row in
@@ -50,9 +49,11 @@ installed_steps same old new terms sub i row act is_new law books at is adds ins
     } in
     let terms_are : account.terms ≡ terms = installed.2 ∙ found.terms_are in
     let here : account_in old sub ≡ Some row.account = at.here row ∙ ap (λ (r : Row). Some r.account) (sym is) in
-    let begun : account.acts ≢ [] = λ none. still_some is_new row.account.acts act (books.begun sub row.account here) (sym adds ∙ sym installed.3 ∙ none) in
     let acts_are : account.acts ≡ acts terms (held_in old sub ++ act ∷ []) =
     installed.3 ∙ next_found (λ (t : TermsView) (xs : List Act). acts t (xs ++ act ∷ [])) old terms sub row.account found in
+    let some : acts terms (held_in old sub) ≢ [] = λ none. books.begun sub row.account here (found.acts_are ∙ sym (books.own sub) ∙ none) in
+    let begun : account.acts ≢ [] = λ none.
+    still_some (is_new terms (held_in old sub) act) (acts terms (held_in old sub)) act some (sym (more terms (held_in old sub) act) ∙ sym acts_are ∙ none) in
     record {
       own = held_own old new sub account moves ∙ acts_are;
       others = held_others old new sub account moves;

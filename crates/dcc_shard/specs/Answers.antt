@@ -78,11 +78,11 @@ IsTold shard sub moment ticket amount answer =
     (answer ≡ BadAmount)
 
 -- whether the top-up was judged, and so may have been made
-abbrev pub is_taken : TopUpAnswer → Bool
-is_taken (Done at fresh) = true
-is_taken (Ceiling at fresh) = true
-is_taken BadAmount = false
-is_taken Refused = false
+abbrev pub is_judged_top_up : TopUpAnswer → Bool
+is_judged_top_up (Done at fresh) = true
+is_judged_top_up (Ceiling at fresh) = true
+is_judged_top_up BadAmount = false
+is_judged_top_up Refused = false
 
 -- the octets of an answer
 abbrev pub octets_of : Answer → List ℕ

@@ -21,9 +21,6 @@ abbrev pub account_in : List Row → Sub → Option Account
 account_in [] sub = None
 account_in (row ∷ rows) sub = if same_sub row.sub sub then Some row.account else account_in rows sub
 
-abbrev pub account_of : ShardView → Sub → Option Account
-account_of shard sub = account_in shard.rows sub
-
 -- the acts that are held for a subscriber, in order
 abbrev pub held_in : List Row → Sub → List Act
 held_in rows sub = option_map_or (λ (account : Account). account.acts) (account_in rows sub) []

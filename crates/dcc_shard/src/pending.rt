@@ -11,7 +11,7 @@ use crate::accounts::find;
 use crate::row::Row;
 use dcc_account::{Account, Step};
 use dcc_act::{Act, Sub, same_subscribers_are_equal};
-use dcc_model::leaving_out_changes_nothing;
+use dcc_model::{leaving_out_changes_nothing, one_more_act};
 use dcc_tariff::Terms;
 use std::alloc::{AllocError, Global};
 
@@ -72,6 +72,7 @@ pub(crate) fn install(rows: &mut Vec<Row>, sub: Sub, pending: Pending)
         → Steps rows.old.items rows.new.items terms sub (step_of pending).act }
 {
     leaving_out_changes_nothing();
+    one_more_act();
     same_subscribers_are_equal();
     match pending {
         Pending::Known { i, step } => {

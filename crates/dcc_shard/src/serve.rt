@@ -5,7 +5,7 @@ ghost use Rattle.dcc_message.specs.declared.length.TheConstants.{HEADER_LENGTH};
 ghost use Rattle.dcc_credit.specs.Answers.{is_busy};
 ghost use Rattle.dcc_model.specs.Keys.{ticket};
 ghost use Rattle.dcc_shard.specs.Shards.{held_in};
-ghost use Rattle.dcc_shard.specs.Answers.{answer_at, answer_after, session_of_act, IsRefusedBy, IsToldApart, is_judged, told, told_after, is_taken};
+ghost use Rattle.dcc_shard.specs.Answers.{answer_at, answer_after, session_of_act, IsRefusedBy, IsToldApart, is_judged, told, told_after, is_judged_top_up};
 ghost use Rattle.dcc_shard.specs.inner.Books.{AreBooks, Steps};
 
 use crate::answers::{Answer, TopUpAnswer};
@@ -128,7 +128,7 @@ pub(crate) fn add(
     requires books { AreBooks rows.old.items terms.now }
     requires top_up { is_some (ticket act.kind) ≡ true }
     ensures answer { IfOk result (λ answer. Some answer ≡ told_after terms.now (held_in rows.old.items sub) act) }
-    ensures taken { IfOk result (λ answer. is_taken answer ≡ true) }
+    ensures taken { IfOk result (λ answer. is_judged_top_up answer ≡ true) }
     ensures steps { OnOk result (Steps rows.old.items rows.new.items terms.now sub act) }
     ensures err { OnErr result (rows.new.items ≡ rows.old.items) }
 {

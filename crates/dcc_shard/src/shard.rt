@@ -4,7 +4,7 @@ ghost use Rattle.std.specs.Prelude.{◌≡◌, ◌≢◌, [], true, IfOk, IfSome
 ghost use Rattle.dcc_act.specs.declared.sub.Sub.{Sub};
 ghost use Rattle.dcc_model.specs.Keys.{request_key};
 ghost use Rattle.dcc_shard.specs.Shards.{held, AreOwn, IsStep};
-ghost use Rattle.dcc_shard.specs.Answers.{IsAnswer, IsToldApart, IsTold, is_judged, is_taken, top_up_act};
+ghost use Rattle.dcc_shard.specs.Answers.{IsAnswer, IsToldApart, IsTold, is_judged, is_judged_top_up, top_up_act};
 
 use crate::accounts::find;
 use crate::answers::{Answer, TopUpAnswer};
@@ -108,7 +108,7 @@ impl Shard {
         amount: u64,
     ) -> TopUpAnswer
         ensures answer { IsTold self.old sub moment ticket amount result }
-        ensures step { IsStep self.old self.new (is_taken result) sub (top_up_act moment ticket amount) }
+        ensures step { IsStep self.old self.new (is_judged_top_up result) sub (top_up_act moment ticket amount) }
         ensures own { AreOwn self.new }
     {
         let terms = &self.terms;

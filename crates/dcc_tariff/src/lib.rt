@@ -14,6 +14,7 @@
 
 mod fault;
 mod keys;
+mod laws;
 mod limits;
 mod moment;
 mod place;
@@ -26,11 +27,12 @@ mod terms;
 mod version;
 
 pub use fault::PlanFault;
+pub use laws::{best_grant_is_the_greatest_covered, prices_never_fall};
 pub use limits::{
     LAST_SECOND, MAX_BLOCK_PRICE, MAX_HOLD, MAX_PRICE, MAX_SHARDS, MAX_TABLES, MAX_UNITS,
 };
 pub use plan::Plan;
-pub use prices::{best_grant_is_the_greatest_covered, most_units, price_of, prices_never_fall};
+pub use prices::{most_units, price_of};
 pub use tariff::{Tariff, UnitKind};
 pub use terms::Terms;
 pub use version::Version;

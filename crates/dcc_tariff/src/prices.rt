@@ -1,8 +1,7 @@
 //! What units cost, and how many of them an amount of money affords.
 
-ghost use Rattle.std.specs.Prelude.{◌≡◌, ℕ, ◌≤◌, ◌<◌, ℤ, IsTrue, false, nat_le};
+ghost use Rattle.std.specs.Prelude.{◌≡◌, ℕ, ◌≤◌, ◌<◌, IsTrue, false, nat_le};
 ghost use Rattle.dcc_tariff.specs.Prices.{price, best, covers};
-ghost use Rattle.dcc_tariff.specs.Terms.{TariffView};
 
 use crate::limits::{MAX_PRICE, MAX_UNITS};
 use crate::tariff::Tariff;
@@ -37,16 +36,3 @@ fn money_for_prices(free: i128) -> u64
 {
     free.clamp(0, i128::from(MAX_PRICE)) as u64
 }
-
-/// More units never cost less.
-pub fn prices_never_fall()
-    ensures { (tariff : TariffView) (fewer more : ℕ) → fewer ≤ more → price tariff fewer ≤ price tariff more }
-{}
-
-/// The best grant is at most what was asked, the money covers it, and it covers no greater amount up to what was asked.
-pub fn best_grant_is_the_greatest_covered()
-    ensures up_to_asked { (tariff : TariffView) (asked : ℕ) (free : ℤ) → best tariff asked free ≤ asked }
-    ensures covered { (tariff : TariffView) (asked : ℕ) (free : ℤ) → IsTrue (covers free (price tariff (best tariff asked free))) }
-    ensures greatest { (tariff : TariffView) (asked : ℕ) (free : ℤ) (more : ℕ) →
-        best tariff asked free < more → more ≤ asked → covers free (price tariff more) ≡ false }
-{}

@@ -10,7 +10,7 @@ use Rattle.dcc_shard.specs.declared.answers.Answer.{Answer}
 use Rattle.dcc_engine.specs.Engines.{EngineView, Setting, peer_of, held_of}
 use Rattle.dcc_engine.specs.Messages as messages
 use Rattle.dcc_engine.specs.Messages.{MessageView}
-use Rattle.dcc_engine.specs.Asks.{Turn, Before, Ask, ask_for, own_with, moved_by, IsAnsweredFor, IsBusy, IsOut, is_refusal}
+use Rattle.dcc_engine.specs.Asks.{Turn, Before, Ask, ask_for, own_with, moved_by, IsAnsweredFor, IsBusyOrNothing, IsOut, is_refusal}
 
 -- what an engine holds is what was before its next event
 abbrev pub now_of : EngineView → Before
@@ -35,7 +35,7 @@ pub record IsDone (old new : EngineView) (turn : Turn) : Type 0 where
   pub setting : new.setting ≡ old.setting
 
 -- the request was handed to the shard, whose answer this is
-pub record IsTaken
+pub record IsHandedOn
     (setting : Setting) (old new : ShardView) (moment : ℕ) (message : MessageView) (octets : List ℕ) (request : RequestView) (answer : Answer)
     : Type 0 where
   pub request_is : messages.request message ≡ Some request
@@ -47,11 +47,11 @@ pub record IsTaken
 
 -- it was answered busy or not at all, and nothing changed
 pub record IsTurnedAway (setting : Setting) (old new : ShardView) (message : MessageView) (octets : List ℕ) : Type 0 where
-  pub answer_is : IsBusy setting.identity message octets
+  pub answer_is : IsBusyOrNothing setting.identity message octets
   pub refused : is_refusal octets ≡ true
   pub same : new ≡ old
 
 abbrev pub IsServed : Setting → ShardView → ShardView → ℕ → MessageView → List ℕ → Type 0
 IsServed setting old new moment message octets =
-    ((request : RequestView) × (answer : Answer) × IsTaken setting old new moment message octets request answer)
+    ((request : RequestView) × (answer : Answer) × IsHandedOn setting old new moment message octets request answer)
     ⊎ IsTurnedAway setting old new message octets

@@ -5,6 +5,7 @@ use Rattle.dcc_avp.specs.Reading.{FaultView}
 use Rattle.dcc_avp.specs.Reading.FaultView.{Short, LengthBelowHeader, LengthPastEnd}
 use Rattle.dcc_avp.specs.declared.fault.AvpFault.{AvpFault}
 use Rattle.dcc_avp.specs.declared.fault.AvpFault.TheVariants as faults
+use Rattle.dcc_message.specs.declared.length.TheConstants.{HEADER_LENGTH, MAX_LENGTH}
 use Rattle.dcc_engine.specs.Messages.{Received, message_view}
 use Rattle.dcc_engine.specs.Messages.Received.{Ignored, Broken, Requested}
 use Rattle.dcc_engine.specs.declared.message.Heading.{Heading}
@@ -20,7 +21,7 @@ received_as (headings.Requested header) octets = Requested (message_view header 
 abbrev pub IsWhole : Heading → List ℕ → Type 0
 IsWhole headings.Ignored octets = Unit {0}
 IsWhole headings.Broken octets = Unit {0}
-IsWhole (headings.Requested header) octets = (20 ≤ length octets) × (length octets ≤ 65_532)
+IsWhole (headings.Requested header) octets = (HEADER_LENGTH ≤ length octets) × (length octets ≤ MAX_LENGTH)
 
 -- the fault of a list's layout; the other two say nothing of a list
 abbrev pub layout_fault : AvpFault → FaultView

@@ -1,11 +1,11 @@
 -- A step that is prepared and not yet installed: in its subscriber's row, or in an account that is added with it.
-use Rattle.std.specs.Prelude.{◌≡◌, ℕ, ◌<◌, if◌then◌else◌, Option, List, [], ◌∷◌, ◌++◌, slice_index_or}
+use Rattle.std.specs.Prelude.{◌≡◌, ℕ, ◌<◌, List, [], slice_index_or}
 use Rattle.dcc_tariff.specs.Terms.{TermsView}
 use Rattle.dcc_act.specs.declared.act.Act.{Act}
 use Rattle.dcc_act.specs.declared.sub.Sub.{Sub}
 use Rattle.dcc_account.specs.Accounts.{AccountView}
 use Rattle.dcc_account.specs.Prepared.{StepView, IsPrepared}
-use Rattle.dcc_model.specs.Outcomes.{acts, after, place, is_new}
+use Rattle.dcc_model.specs.Outcomes.{after, place, is_new}
 use Rattle.dcc_shard.specs.Shards.{held_in}
 use Rattle.dcc_shard.specs.inner.Books.{IsAt, IsAbsent}
 use Rattle.dcc_shard.specs.declared.row.Row.{Row}
@@ -16,16 +16,10 @@ abbrev pub step_of : Pending → StepView
 step_of (Known i step) = step
 step_of (First account step) = step
 
--- its act comes behind the account's acts, or leaves them as they are
-abbrev pub Adds : AccountView → StepView → Type 0
-Adds account step =
-    acts account.terms (account.acts ++ step.act ∷ []) ≡ (if step.is_new then account.acts ++ step.act ∷ [] else account.acts)
-
 -- it is prepared for what stands in the rows
 abbrev pub Stands : List Row → Sub → Pending → Type 0
 Stands rows sub (Known i step) =
     IsAt rows sub i × ((none : Row) → IsPrepared (slice_index_or rows i none).account step)
-    × ((none : Row) → Adds (slice_index_or rows i none).account step)
 Stands rows sub (First account step) = IsAbsent rows sub × (account.acts ≡ []) × IsPrepared account step
 
 -- an account that is added is under the terms

@@ -1,5 +1,5 @@
 use Rattle.std.proofs.Common.{◌≡◌, ◌≤◌, length, map, take, vec_capacity}
-use Rattle.dcc_engine.specs.Asks.{host_of}
+use Rattle.dcc_engine.specs.inner.Hosts.{host_of}
 use Rattle.dcc_engine.proofs.engine.hosts_of.Given as goal
 
 abbrev pub invariant-loop-event : goal.invariant-loop-event

@@ -31,9 +31,12 @@ returns-in-Some-clause-failure c =
     let words = map string_bytes c.args.words.now in
     let named = found_rows words _ c.in-Ok.matches c.in-Some.replay.now _ c.in_ok-command.ensures c.in-Ok.ensures.matches
     (c.in-Some.ensures.found.0 refl) c.in-Some.ensures.rows in
+    let accepted = accepted_words words _ c.in_ok-command.ensures c.in-Ok.ensures.kinds in
     elim c.match-get_str.branch [
       | in-Some-get_str w ↦ rw w.result-is tt
-      | in-None w ↦ rw w.result-is (inr (no_path words (found_of c.in-Some.replay.now) c.get_str.result named c.get_str.ensures w.in-None.is))
+      | in-None w ↦
+          let none = no_path words (found_of c.in-Some.replay.now) c.get_str.result named c.get_str.ensures w.in-None.is in
+          rw w.result-is (inr (accepted, none.0, none.1))
     ]
 
 pub returns-in-Some-subcommand_matches-clause-task : goal.returns-in-Some-subcommand_matches-clause-task
@@ -50,6 +53,7 @@ returns-in-Some-subcommand_matches-clause-task c =
 pub returns-clause-failure : goal.returns-clause-failure
 returns-clause-failure c =
     let words = map string_bytes c.args.words.now in
-    inr (other_words words _ c.in-Ok.matches c.in_ok-command.ensures c.in-Ok.ensures.matches
+    let none = other_words words _ c.in-Ok.matches c.in_ok-command.ensures c.in-Ok.ensures.matches
     (λ name. (let some = c.in_default.ensures.found.1 name in cc))
-    (λ name. (let some = c.in-None-subcommand_matches.ensures.found.1 name in cc)))
+    (λ name. (let some = c.in-None-subcommand_matches.ensures.found.1 name in cc)) in
+    inr (accepted_words words _ c.in_ok-command.ensures c.in-Ok.ensures.kinds, none.0, none.1)

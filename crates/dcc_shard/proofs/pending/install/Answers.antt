@@ -1,7 +1,7 @@
-use Rattle.std.proofs.Common.{refl, sym, subst}
+use Rattle.std.proofs.Common.{refl, subst}
 use Rattle.dcc_shard.specs.inner.Books.{IsInstalled}
 use Rattle.std.specs.Prelude.{slice_set}
-use Rattle.dcc_shard.specs.inner.Pending.{Stands, HasTerms, Adds}
+use Rattle.dcc_shard.specs.inner.Pending.{Stands, HasTerms}
 use Rattle.dcc_shard.specs.declared.row.Row.{Row}
 use Rattle.dcc_shard.proofs.BookSteps.{installed_steps, added_steps, absent_found}
 use Rattle.dcc_shard.proofs.pending.install.Goals as goal
@@ -16,8 +16,7 @@ returns-in-Known c = λ terms books terms_are.
     let stands = subst (Stands old c.args.sub) c.in-Known.is c.requires.stands in
     let installed : IsInstalled old new i row act = (c.install.new.self, refl, c.install.ensures.terms, c.install.ensures.acts) in
     let is = c.index_mut-row.ensures.value in
-    let adds = subst (λ (r : Row). Adds r.account c.in-Known.step) (sym is) (stands.2 row) in
-    rw c.in-Known.is (installed_steps c.same_subscribers_are_equal.ensures old new terms c.args.sub i row act c.in-Known.step.is_new c.leaving_out_changes_nothing.ensures.whole books stands.0 is adds installed)
+    rw c.in-Known.is (installed_steps c.same_subscribers_are_equal.ensures c.one_more_act.ensures old new terms c.args.sub i row act c.leaving_out_changes_nothing.ensures.whole books stands.0 is installed)
 
 pub returns-in-First : goal.returns-in-First
 returns-in-First c = λ terms books terms_are.

@@ -1,5 +1,5 @@
 use Rattle.std.proofs.Common.{◌≡◌, ◌+◌, ◌≤◌, ℕ, [], length, map, take, reverse, get_or, vec_capacity}
-use Rattle.dcc_engine.specs.Asks.{host_of}
+use Rattle.dcc_engine.specs.inner.Hosts.{host_of}
 use Rattle.dcc_engine.specs.Isolation.{turns}
 use Rattle.dcc_engine.proofs.Pasts.{IsPast}
 use Rattle.dcc_engine.proofs.Runs.{StandsAt}

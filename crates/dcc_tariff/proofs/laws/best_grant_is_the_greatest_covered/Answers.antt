@@ -1,5 +1,5 @@
 use Rattle.dcc_tariff.proofs.PriceLemmas.{best_up_to_asked, best_affordable, best_greatest}
-use Rattle.dcc_tariff.proofs.prices.best_grant_is_the_greatest_covered.Goals as goal
+use Rattle.dcc_tariff.proofs.laws.best_grant_is_the_greatest_covered.Goals as goal
 
 pub returns-clause-up_to_asked : goal.returns-clause-up_to_asked
 returns-clause-up_to_asked c = best_up_to_asked
