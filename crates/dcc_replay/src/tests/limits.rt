@@ -16,7 +16,7 @@ const PROXIES: usize = 1_814;
 /// So often it comes, and is answered by 65,456 octets: more than 10 MB of hex digits.
 const TIMES: u32 = 80;
 
-const SUBSCRIBERS: u32 = 2_501;
+const SUBSCRIBERS: u32 = 2_000;
 
 const ACTS: u32 = 1_000;
 
@@ -88,7 +88,7 @@ fn answers_messages_of_65532_octets_by_more_than_10_megabytes(rt: HostRuntime) -
 }
 
 #[test]
-fn answers_each_of_2501_subscribers(rt: HostRuntime) -> Result<(), Fail> {
+fn answers_each_of_2000_subscribers(rt: HostRuntime) -> Result<(), Fail> {
     let alloc = rt.alloc();
     let granted = granted(alloc, 0, 1001)?;
     let mut script = String::from_str(alloc, "open 1 gw1.example\n")?;

@@ -3,7 +3,6 @@ use Rattle.std.specs.Prelude.{◌≡◌, ℕ, ◌<◌, List, [], slice_index_or}
 use Rattle.dcc_tariff.specs.Terms.{TermsView}
 use Rattle.dcc_act.specs.declared.act.Act.{Act}
 use Rattle.dcc_act.specs.declared.sub.Sub.{Sub}
-use Rattle.dcc_account.specs.Accounts.{AccountView}
 use Rattle.dcc_account.specs.Prepared.{StepView, IsPrepared}
 use Rattle.dcc_model.specs.Outcomes.{after, place, is_new}
 use Rattle.dcc_shard.specs.Shards.{held_in}

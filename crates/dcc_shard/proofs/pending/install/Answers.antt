@@ -2,7 +2,6 @@ use Rattle.std.proofs.Common.{refl, subst}
 use Rattle.dcc_shard.specs.inner.Books.{IsInstalled}
 use Rattle.std.specs.Prelude.{slice_set}
 use Rattle.dcc_shard.specs.inner.Pending.{Stands, HasTerms}
-use Rattle.dcc_shard.specs.declared.row.Row.{Row}
 use Rattle.dcc_shard.proofs.BookSteps.{installed_steps, added_steps, absent_found}
 use Rattle.dcc_shard.proofs.pending.install.Goals as goal
 
