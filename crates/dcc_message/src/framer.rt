@@ -91,9 +91,9 @@ fn missing(begun: &[u8], piece: &[u8]) -> Option<usize>
     }
     let field = [
         0,
-        byte_at(begun, piece, 1),
-        byte_at(begun, piece, 2),
-        byte_at(begun, piece, 3),
+        octet_at(begun, piece, 1),
+        octet_at(begun, piece, 2),
+        octet_at(begun, piece, 3),
     ];
     let stated = u32::from_be_bytes(field) as usize;
     if fault_of_length(stated).is_some() || held < stated {
@@ -102,8 +102,8 @@ fn missing(begun: &[u8], piece: &[u8]) -> Option<usize>
     Some(stated - begun.len())
 }
 
-/// A octet of two pieces, one after the other.
-fn byte_at(front: &[u8], back: &[u8], index: usize) -> u8
+/// An octet of two pieces, one after the other.
+fn octet_at(front: &[u8], back: &[u8], index: usize) -> u8
     requires { index < length front.now + length back.now }
     ensures { result ≡ slice_index (front.now ++ back.now) index }
 {
