@@ -92,6 +92,18 @@ impl<'a> Avp<'a> {
         }
     }
 
+    /// The same AVP once more, over the same octets. It takes no memory.
+    pub fn copy(&self) -> Self
+        ensures { result ≡ self.now }
+    {
+        Avp {
+            code: self.code,
+            flags: self.flags,
+            vendor: self.vendor,
+            value: self.value,
+        }
+    }
+
     /// The octets of header and data, without padding: what AVP Length counts.
     pub fn length(&self) -> usize
         ensures counted { result ≡ avp_len self.now }

@@ -110,7 +110,7 @@ pub fn read_header(octets: &[u8]) -> Result<Header, HeaderFault>
     ensures exact { result ≡ header_of octets.now }
 
     // What is read stands at the front, and states the length of the octets.
-    ensures found { IfOk result (λ h. IsHeader h × (octets.now ≡ spelled h ++ drop 20 octets.now) × (h.length ≡ length octets.now)) }
+    ensures found { IfOk result (λ h. IsHeader h × (octets.now ≡ spelled h ++ drop HEADER_LENGTH octets.now) × (h.length ≡ length octets.now)) }
 
     // A header that states the length of the octets is read.
     ensures only { (h : HeaderView) (rest : List ℕ) →
@@ -174,10 +174,10 @@ pub fn write_message(out: &mut Vec<u8>, header: &Header, avps: &[u8]) -> Result<
 /// Appends a header that states this length, for which there is room.
 #[tactic(auto, unfolding(crate::specs::Headers::header))]
 fn append_header(out: &mut Vec<u8>, header: &Header, len: u32)
-    requires room { vec_len out.old + 20 ≤ vec_capacity out.old }
+    requires room { vec_len out.old + HEADER_LENGTH ≤ vec_capacity out.old }
     requires fits { len < 2 ^ 24 }
     ensures items { out.new.items ≡ out.old.items ++ spelled (record header.now { length = len }) }
-    ensures len { vec_len out.new ≡ vec_len out.old + 20 }
+    ensures len { vec_len out.new ≡ vec_len out.old + HEADER_LENGTH }
     ensures capacity { vec_capacity out.old ≤ vec_capacity out.new }
 {
     out.extend_from_slice(&front_octets(header, len)).unwrap();
@@ -213,9 +213,9 @@ pub fn finish_message(out: &mut Vec<u8>, header: &Header)
 /// Writes a header that states this length over the first octets. In two pieces it is cheaper than in one.
 #[tactic(auto, unfolding(crate::specs::Headers::header))]
 fn put_header(all: &mut [u8], header: &Header, len: u32)
-    requires room { 20 ≤ length all.old }
+    requires room { HEADER_LENGTH ≤ length all.old }
     requires fits { len < 2 ^ 24 }
-    ensures { all.new ≡ spelled (record header.now { length = len }) ++ drop 20 all.old }
+    ensures { all.new ≡ spelled (record header.now { length = len }) ++ drop HEADER_LENGTH all.old }
 {
     put_over(all, 0, &front_octets(header, len));
     put_over(all, 12, &identifier_octets(header));

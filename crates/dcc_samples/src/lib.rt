@@ -7,5 +7,5 @@
 mod messages;
 mod plan;
 
-pub use messages::{ANSWER, BUSY, DEBIT, PROXY_INFO};
+pub use messages::{ANSWER, BUSY, COPIED_PROXIES, DEBIT, PROXIES, PROXY_INFO};
 pub use plan::PLAN;

@@ -23,3 +23,11 @@ pub const BUSY: &str = "\
 /// A Proxy-Info of 36 octets (RFC 6733, section 6.7.2).
 pub const PROXY_INFO: &str = "\
 0000011c40000024000001184000001072656c61792e6578000000214000000c01020304";
+
+/// Two Proxy-Info, the first with padding that isn't zero, and between them one of a vendor.
+pub const PROXIES: &str = "0000011c4000001d000001184000000a70310000000000214000000961ffffff\
+0000011c8000000c000028af0000011c00000008";
+
+/// How an answer copies them.
+pub const COPIED_PROXIES: &str =
+    "0000011c4000001d000001184000000a703100000000002140000009610000000000011c00000008";
