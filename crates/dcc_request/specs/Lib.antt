@@ -1,0 +1,10 @@
+pub mod Refusals
+pub mod Answers
+pub mod Layout
+pub mod Tables
+pub mod Commands
+pub mod Walk
+pub mod Checks
+pub mod Values
+pub mod Sizes
+pub mod inner

@@ -1,0 +1,122 @@
+//! Which command a request is of, and the check of a whole request.
+
+ghost use Rattle.std.specs.Prelude.{◌≡◌};
+ghost use Rattle.dcc_request.specs.Answers.{Gives};
+ghost use Rattle.dcc_request.specs.Commands.{served, command_of, is_event, table_for};
+ghost use Rattle.dcc_request.specs.Checks.{checked};
+
+use crate::cause::Cause;
+use crate::checks::first_fault;
+use crate::refused::clear;
+use crate::stop::Stop;
+use crate::table::{self, Row};
+use crate::values::first;
+use crate::walk::{Group, groups_of};
+use dcc_avp::{Avp, codes};
+use dcc_message::{Header, applications, commands};
+use dcc_octets::u32_in;
+use std::alloc::Global;
+
+/// The commands whose requests the server answers.
+#[derive(Clone, Copy, Debug, PartialEq, Eq)]
+pub enum Command {
+    /// Capabilities-Exchange (RFC 6733, section 5.3).
+    CapabilitiesExchange,
+    /// Device-Watchdog (RFC 6733, section 5.5).
+    DeviceWatchdog,
+    /// Disconnect-Peer (RFC 6733, section 5.4).
+    DisconnectPeer,
+    /// Credit-Control (RFC 8506, section 3.1).
+    CreditControl,
+}
+
+/// The command that a header names together with its application, if it is served.
+fn served(header: &Header) -> Option<Command>
+    ensures { result ≡ served header.now }
+{
+    if header.is_command(commands::CAPABILITIES_EXCHANGE, applications::BASE) {
+        Some(Command::CapabilitiesExchange)
+    } else if header.is_command(commands::DEVICE_WATCHDOG, applications::BASE) {
+        Some(Command::DeviceWatchdog)
+    } else if header.is_command(commands::DISCONNECT_PEER, applications::BASE) {
+        Some(Command::DisconnectPeer)
+    } else if header.is_command(commands::CREDIT_CONTROL, applications::CREDIT_CONTROL) {
+        Some(Command::CreditControl)
+    } else {
+        None
+    }
+}
+
+/// The command of a request, or what is wrong with its header (RFC 6733, section 7.1.3), in this order:
+/// `InvalidHeaderBits` where it has both R and E; `ApplicationUnsupported` where the application is neither the base
+/// protocol nor credit control; `CommandUnsupported` where that application doesn't have the command here. All other bits
+/// of the flags are as they may be. A message without R is an answer, and is not asked about.
+pub fn command_of(header: &Header) -> Result<Command, Cause>
+    ensures { result ≡ command_of header.now }
+{
+    if header.is_request() && header.is_error() {
+        return Err(Cause::InvalidHeaderBits);
+    }
+    if header.app != applications::BASE && header.app != applications::CREDIT_CONTROL {
+        return Err(Cause::ApplicationUnsupported);
+    }
+    served(header).ok_or(Cause::CommandUnsupported)
+}
+
+/// Whether the first CC-Request-Type has four octets that spell EVENT_REQUEST (RFC 8506, section 8.3).
+fn is_event(avps: &[Avp<'_>]) -> bool
+    ensures { result ≡ is_event avps.now }
+{
+    match first(avps, codes::CC_REQUEST_TYPE) {
+        Some(avp) => matches!(u32_in(avp.value()), Some(table::EVENT_TYPE)),
+        None => false,
+    }
+}
+
+impl Command {
+    /// What may and has to stand in the message's list, which for a Credit-Control request depends on its type.
+    #[tactic(auto, unfolding(crate::specs::Commands::table_for))]
+    pub(crate) fn table_for(self, avps: &[Avp<'_>]) -> &'static [Row]
+        ensures { result.now ≡ table_for self avps.now }
+    {
+        match self {
+            Command::CapabilitiesExchange => &table::CAPABILITIES,
+            Command::DeviceWatchdog => &table::WATCHDOG,
+            Command::DisconnectPeer => &table::DISCONNECT,
+            Command::CreditControl if is_event(avps) => &table::EVENT,
+            Command::CreditControl => &table::SESSION,
+        }
+    }
+}
+
+/// Checks the list of a message that is a request of this command: its walked groups in the order in which they stand,
+/// each read once, or the first fault.
+///
+/// Walked are, of a Credit-Control request, each Subscription-Id, Requested-Service-Unit, Used-Service-Unit and
+/// Multiple-Services-Credit-Control, and in this the units inside it; of a Capabilities-Exchange request each
+/// Vendor-Specific-Application-Id; of others nothing. No other group is looked into. AVPs of vendors count nowhere.
+///
+/// Each check is made over the message's list, and then over the walked groups as they stand, each before those inside it;
+/// and only then the next check:
+///
+/// - `InvalidAvpLength`, of a walked group: as `unread` tells it; but where fewer octets are left than a header has, of
+///   the code and flags of the innermost walked group whose list ends so;
+/// - `AvpUnsupported`: the first AVP with M, and of no vendor, that the dictionary doesn't have;
+/// - `AvpOccursTooManyTimes`: by the table's rows, the first AVP beyond the most that there may be;
+/// - `MissingAvp`: by the table's rows, an AVP that stands for the missing one, with M (Product-Name with no flag;
+///   RFC 6733, section 5.3.7) and the least data of its format in zeros.
+///
+/// What refusals show are the message's AVPs themselves, bare, without the groups round them. Where there is no memory for
+/// the groups, nothing is said of the request.
+#[tactic(auto, unfolding(crate::specs::Checks::checked))]
+pub fn check<'a>(
+    alloc: Global,
+    command: Command,
+    avps: &[Avp<'a>],
+) -> Result<Vec<Group<'a>>, Stop<'a>>
+    ensures { Gives (λ groups. groups.items) result (checked command avps.now) }
+{
+    let groups = groups_of(alloc, command, avps)?;
+    clear(first_fault(command.table_for(avps), avps, &groups))?;
+    Ok(groups)
+}

@@ -1,0 +1,24 @@
+//! The law of what checking finds. It is the contract of a function that does nothing.
+
+ghost use Rattle.std.specs.Prelude.{ℕ, ◌≤◌, List, IfOk, IfErr};
+ghost use Rattle.std.specs.List.{sum_by, AllByRecursion};
+ghost use Rattle.dcc_avp.specs.Spelling.{AvpView, padded_len};
+ghost use Rattle.dcc_avp.specs.Reading.{FaultView};
+ghost use Rattle.dcc_message.specs.declared.length.TheConstants.{MAX_LENGTH};
+ghost use Rattle.dcc_request.specs.declared.command.Command.{Command};
+ghost use Rattle.dcc_request.specs.Layout.{unread};
+ghost use Rattle.dcc_request.specs.Checks.{checked, missing_avp};
+ghost use Rattle.dcc_request.specs.Sizes.{AreWithin, IsGroupWithin};
+
+/// What checking finds has few octets where the message's list has: with their padding, the AVPs that a refusal shows have
+/// together at most the octets of a message, and so has each AVP of the list and of the walked groups. An AVP that stands for
+/// a broken or a missing one has at most 24 octets.
+pub fn shown_within()
+    ensures refused { (command : Command) (avps : List AvpView) → sum_by padded_len avps ≤ MAX_LENGTH →
+        IfErr (checked command avps) (λ refusal. sum_by padded_len refusal.failed ≤ MAX_LENGTH) }
+    ensures groups { (command : Command) (avps : List AvpView) → sum_by padded_len avps ≤ MAX_LENGTH →
+        IfOk (checked command avps) (λ groups. AllByRecursion (IsGroupWithin MAX_LENGTH) groups) }
+    ensures list { (avps : List AvpView) → sum_by padded_len avps ≤ MAX_LENGTH → AreWithin MAX_LENGTH avps }
+    ensures unread { (fault : FaultView) → sum_by padded_len (unread fault).failed ≤ 24 }
+    ensures missing { (code : ℕ) → padded_len (missing_avp code) ≤ 24 }
+{}

@@ -1,0 +1,40 @@
+//! Requests checked against tables: what is wrong with a request of any command, before its values are looked at.
+//!
+//! Stands on `dcc_message` for headers, on `dcc_avp` for lists of AVPs and the dictionary, and on `dcc_octets` for names.
+//! What AVPs a request has to have, and how often each may stand, are tables (`table`), and so is what stands in the groups
+//! that are walked. The contract that it gives: `check` answers the walked groups of a request, each read once, or the
+//! first fault, where each check is made over the whole message before the next one (RFC 6733, section 7.1):
+//!
+//! 1. the header: flags, application, command (`command_of`);
+//! 2. layout: the message's list (`read_message_list`), then the walked groups, each before those inside it;
+//! 3. AVPs that aren't known, and have to be;
+//! 4. AVPs that stand too often;
+//! 5. AVPs that are missing.
+//!
+//! Values come after, and are the business of the command's own crate: it reads them by `required`, `number` and the like.
+//! A refusal (`Refused`) lends its AVPs from the octets of the message, so that refusing takes no memory and never fails.
+#![tactic(auto)]
+
+mod cause;
+mod checks;
+mod command;
+mod fits;
+mod laws;
+mod layout;
+mod refused;
+mod stop;
+pub mod table;
+mod values;
+mod walk;
+
+pub use cause::Cause;
+pub use command::{Command, check, command_of};
+pub use laws::shown_within;
+pub use layout::{read_message_list, unread};
+pub use refused::{Failed, Refused, clear};
+pub use stop::Stop;
+pub use values::{first, long_number, name_octets, number, number_within, required};
+pub use walk::{Group, List};
+
+#[cfg(test)]
+mod tests;
