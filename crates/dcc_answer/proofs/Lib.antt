@@ -1,0 +1,4 @@
+pub mod Appended
+pub mod Spelled
+pub mod ReadBack
+pub mod Results

@@ -1,0 +1,7 @@
+pub mod Sizes
+pub mod Avps
+pub mod Sessions
+pub mod Proxies
+pub mod Answers
+pub mod Results
+pub mod Failed

@@ -1,0 +1,26 @@
+//! What the answers to all commands have in common: the AVPs that are sent, what an answer takes over from its request,
+//! its header, and the answer that reports a protocol error.
+//!
+//! Stands on `dcc_message`, `dcc_avp` and `dcc_octets`, and what answers a command stands on it. The contract that it
+//! gives: each call writes just the octets of its definition or, at want of memory, nothing that is used; an answer is read
+//! back as it was written; and whether it is the busy answer is told by its Result-Code alone.
+#![tactic(auto)]
+
+mod answer;
+mod avps;
+mod failed;
+mod laws;
+mod protocol_error;
+mod proxies;
+mod session;
+
+pub use answer::{MAX_OWN, begin_answer, finish_answer};
+pub use avps::{put, put_u32, put_u64};
+pub use failed::put_failed;
+pub use laws::{busy_by_result, proxies_are_spelled, read_back};
+pub use protocol_error::{TOO_BUSY, write_busy, write_error};
+pub use proxies::Proxies;
+pub use session::{Session, session_id};
+
+#[cfg(test)]
+mod tests;
