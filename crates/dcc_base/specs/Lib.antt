@@ -1,0 +1,4 @@
+pub mod Capabilities
+pub mod Requests
+pub mod Answers
+pub mod Peers

@@ -1,0 +1,64 @@
+//! The name of a peer's host.
+
+ghost use Rattle.std.specs.Prelude.{◌≡◌, true, if◌then◌else◌, Some, None, IfOk};
+ghost use Rattle.dcc_octets.specs.Names.{is_short};
+
+use dcc_octets::{OctetString, is_short};
+use std::alloc::{AllocError, Global};
+use std::marker::Model;
+
+/// The name of a peer's host, as its Origin-Host has it (RFC 6733, section 6.3): 1 to 255 octets, of any value.
+#[derive(Debug, Drop)]
+pub struct Host {
+    octets: OctetString,
+}
+
+impl Model for Host {
+    ghost use Rattle.std.specs.Prelude.{◌≡◌, List, ℕ, true};
+    ghost use Rattle.dcc_octets.specs.Names.{is_short};
+
+    ghost Value = { List ℕ };
+
+    ghost view = { λ h. h.octets };
+
+    ghost invariant = { λ h. is_short h.octets ≡ true };
+}
+
+impl Host {
+    /// The host of this name, or none where it isn't of 1 to 255 octets. It takes no memory.
+    pub fn from_octets(octets: OctetString) -> Option<Host>
+        ensures { result ≡ (if is_short octets then Some octets else None) }
+    {
+        if !is_short(octets.as_slice()) {
+            return None;
+        }
+        Some(Host { octets })
+    }
+
+    /// The host of a name that has 1 to 255 octets, where memory suffices.
+    pub(crate) fn of(alloc: Global, name: &[u8]) -> Result<Host, AllocError>
+        requires { is_short name.now ≡ true }
+        ensures { IfOk result (λ host. host ≡ name.now) }
+    {
+        Ok(Host {
+            octets: OctetString::from_vec(Vec::from_slice(alloc, name)?),
+        })
+    }
+
+    /// The octets of the name.
+    pub fn as_slice(&self) -> &[u8]
+        ensures value { result.now ≡ self.now }
+        ensures limits { is_short self.now ≡ true }
+    {
+        self.octets.as_slice()
+    }
+
+    /// An equal name, where memory suffices; the only error is want of it.
+    pub fn copy(&self) -> Result<Host, AllocError>
+        ensures { IfOk result (λ copy. copy ≡ self.now) }
+    {
+        Ok(Host {
+            octets: self.octets.copy()?,
+        })
+    }
+}
