@@ -1,6 +1,5 @@
 pub mod Answers
 pub mod Grants
-pub mod Limits
 pub mod Numbers
 pub mod OneTimeEvents
 pub mod Services

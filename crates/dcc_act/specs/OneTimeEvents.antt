@@ -10,5 +10,6 @@ pub record OneTimeEventView : Type 0 where
   pub action : Action
   pub service : ServiceView
 
-abbrev pub Asks : ServiceView → Type 0
-Asks service = is_some service.asked ≡ true
+-- a service says how many units it asks for
+abbrev pub AsksUnits : ServiceView → Type 0
+AsksUnits service = is_some service.asked ≡ true

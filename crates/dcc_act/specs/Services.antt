@@ -22,8 +22,8 @@ pub record ServiceView : Type 0 where
 -- and there is no tariff
 pub record IsService (asked used : Option ℕ) (unit : Option UnitKind) (tariff : Option TariffView) : Type 0 where
   pub asked_in_range : ForSome asked (λ units. units ≤ MAX_UNITS)
-  pub asked_not_none : is_some unit ≡ true → ForSome asked (λ units. 1 ≤ units)
-  pub asked_time : unit ≡ Some Time → ForSome asked (λ units. units ≤ MAX_SECONDS)
+  pub asked_not_zero : is_some unit ≡ true → ForSome asked (λ units. 1 ≤ units)
+  pub asked_seconds_in_range : unit ≡ Some Time → ForSome asked (λ units. units ≤ MAX_SECONDS)
   pub used_in_range : ForSome used (λ units. units ≤ MAX_UNITS)
   pub unrated_asks_nothing : is_none unit ≡ true → ForSome asked (λ units. units ≡ 0)
   pub unrated_uses_nothing : is_none unit ≡ true → ForSome used (λ units. units ≡ 0)

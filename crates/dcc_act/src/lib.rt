@@ -1,9 +1,9 @@
 //! Who has an account, when something happens to it, and what: the acts of a subscriber, what they come to, and the
 //! entries that they leave in the books.
 //!
-//! Stands on `dcc_tariff`, and on `dcc_octets` for what is visible. The contract that it gives: each type keeps its
-//! limits, so that whoever holds a value knows them, a copy equals what was copied, and two subscribers are told apart by
-//! type and data alone.
+//! Stands on `dcc_tariff`, and on `dcc_octets` for what is visible and what is short. The contract that it gives: each
+//! type keeps its limits, so that whoever holds a value knows them, a copy equals what was copied, and two subscribers are
+//! told apart by type and data alone.
 #![tactic(auto)]
 
 mod act;

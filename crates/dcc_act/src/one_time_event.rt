@@ -23,13 +23,13 @@ pub struct OneTimeEvent {
 }
 
 impl Model for OneTimeEvent {
-    ghost use Rattle.dcc_act.specs.OneTimeEvents.{OneTimeEventView, Asks};
+    ghost use Rattle.dcc_act.specs.OneTimeEvents.{OneTimeEventView, AsksUnits};
 
     ghost Value = { OneTimeEventView };
 
     ghost view = { λ e. record { key = e.key; action = e.action; service = e.service } };
 
-    ghost invariant = { λ e. Asks e.service };
+    ghost invariant = { λ e. AsksUnits e.service };
 
     ghost inverse = { λ v. record { key = v.key; action = v.action; service = v.service } };
 }

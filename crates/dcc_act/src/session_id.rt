@@ -1,10 +1,11 @@
 //! Names of sessions.
 
-ghost use Rattle.std.specs.Prelude.{◌≡◌, ◌≤◌, ◌↔◌, length, IsSome, IfSome, IfOk, nat_eq};
+ghost use Rattle.std.specs.Prelude.{◌≡◌, ◌↔◌, true, IsSome, IfSome, IfOk, nat_eq};
 ghost use Rattle.std.specs.Cmp.{on_equiv, on_per, partial_equiv_from_equiv};
 ghost use Rattle.std.specs.Cmp.Lexicographic.{pointwise, nat_list_eq_equiv};
-ghost use Rattle.dcc_act.specs.Limits.{IsSessionId};
+ghost use Rattle.dcc_octets.specs.Names.{is_short};
 
+use dcc_octets::is_short;
 use std::alloc::AllocError;
 use std::marker::Model;
 
@@ -15,23 +16,23 @@ pub struct SessionId {
 }
 
 impl Model for SessionId {
-    ghost use Rattle.std.specs.Prelude.{List, ℕ};
-    ghost use Rattle.dcc_act.specs.Limits.{IsSessionId};
+    ghost use Rattle.std.specs.Prelude.{◌≡◌, true, List, ℕ};
+    ghost use Rattle.dcc_octets.specs.Names.{is_short};
 
     ghost Value = { List ℕ };
 
     ghost view = { λ s. s.octets.items };
 
-    ghost invariant = { λ s. IsSessionId s.octets.items };
+    ghost invariant = { λ s. is_short s.octets.items ≡ true };
 }
 
 impl SessionId {
     /// The name of these octets, or none where they aren't 1 to 255.
     pub fn from_vec(octets: Vec<u8>) -> Option<SessionId>
-        ensures limit { IsSome result ↔ IsSessionId octets.items }
+        ensures limit { IsSome result ↔ (is_short octets.items ≡ true) }
         ensures value { IfSome result (λ sid. sid ≡ octets.items) }
     {
-        if octets.is_empty() || octets.len() > 255 {
+        if !is_short(&octets) {
             return None;
         }
         Some(SessionId { octets })
@@ -40,7 +41,7 @@ impl SessionId {
     /// The octets, moved out.
     pub fn into_vec(self) -> Vec<u8>
         ensures value { result.items ≡ self }
-        ensures limit { IsSessionId self }
+        ensures limit { is_short self ≡ true }
     {
         self.octets
     }
@@ -48,7 +49,7 @@ impl SessionId {
     /// The octets.
     pub fn as_slice(&self) -> &[u8]
         ensures value { result.now ≡ self.now }
-        ensures limit { IsSessionId self.now }
+        ensures limit { is_short self.now ≡ true }
     {
         &self.octets
     }
