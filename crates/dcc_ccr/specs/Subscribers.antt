@@ -1,0 +1,45 @@
+-- Whose account a request is for (RFC 8506, sections 8.46 to 8.48).
+use Rattle.std.specs.Prelude.{ℕ, ◌==◌, if◌then◌else◌, List, filter, find, slice_get, Option, Result, Ok, Err}
+use Rattle.std.specs.Option.{option_or, ok_or}
+use Rattle.dcc_avp.specs.Spelling.{AvpView, has_code}
+use Rattle.dcc_avp.specs.declared.codes.TheConstants.{SUBSCRIPTION_ID, SUBSCRIPTION_ID_TYPE, SUBSCRIPTION_ID_DATA}
+use Rattle.dcc_act.specs.Subs.{SubView, is_sub}
+use Rattle.dcc_request.specs.declared.cause.Cause.TheVariants.{InvalidAvpValue, MissingAvp}
+use Rattle.dcc_request.specs.Refusals.{Refusal, refusal, bare, each, ◌>>=◌}
+use Rattle.dcc_request.specs.Layout.{message_list}
+use Rattle.dcc_request.specs.Values.{required, number, number_within}
+use Rattle.dcc_ccr.specs.declared.subscription.TheConstants.{E164}
+
+-- a Subscription-Id: the number of its type, and the AVPs of its type and its data
+pub record SubscriptionView : Type 0 where
+  pub kind : ℕ
+  pub type : AvpView
+  pub name : AvpView
+
+-- the size of its type; that its data is there was checked
+unfoldable pub subscription_of : AvpView → Result SubscriptionView Refusal
+subscription_of avp = do
+  avps ← message_list avp.value
+  type ← required avps SUBSCRIPTION_ID_TYPE
+  kind ← number type
+  name ← required avps SUBSCRIPTION_ID_DATA
+  Ok (record { kind = kind; type = type; name = name })
+
+-- the first of type E164, or else the first
+abbrev pub chosen : List SubscriptionView → Option SubscriptionView
+chosen subscriptions = option_or (find (λ s. s.kind == E164) subscriptions) (slice_get subscriptions 0)
+
+-- the type of the one that is chosen, and then its data
+unfoldable pub sub_of : SubscriptionView → Result SubView Refusal
+sub_of subscription = do
+  kind ← number_within subscription.type 0 4
+  if is_sub kind subscription.name.value
+      then Ok (record { kind = kind; name = subscription.name.value })
+      else Err (refusal InvalidAvpValue subscription.name)
+
+-- the sizes of all Subscription-Ids, as they stand, and then the one that is chosen; that there is one was checked
+unfoldable pub subscriber_of : List AvpView → Result SubView Refusal
+subscriber_of avps = do
+  subscriptions ← each subscription_of (filter (has_code SUBSCRIPTION_ID) avps)
+  subscription ← ok_or (chosen subscriptions) (bare MissingAvp)
+  sub_of subscription

@@ -1,0 +1,34 @@
+//! Credit-control requests, read whole: the request that a message holds, or its first fault (RFC 8506, section 3.1).
+//!
+//! Stands on `dcc_request` for the checks that all commands share and for how a request is refused, on `dcc_act` for
+//! subscribers and the two forms of a service, and on `dcc_avp`, `dcc_message` and `dcc_octets` for what a message is. The
+//! contract that it gives: `read_ccr` answers what `request_of` (in `specs/Requests.antt`) gives for the list of a message,
+//! or there was no memory. Each of these steps is made over the whole message before the next:
+//!
+//! 1. the checks of lists (`dcc_request::check`): layout, AVPs that aren't known, that stand too often, that are missing;
+//! 2. values, in this order: Session-Id, Auth-Application-Id, CC-Request-Type, CC-Request-Number, Requested-Action in events,
+//!    Subscription-Id, Service-Identifier, Requested-Service-Unit, Used-Service-Unit, Multiple-Services-Credit-Control;
+//! 3. contradictions between AVPs.
+//!
+//! A `Request` keeps its limits: a Session-Id of 1 to 255 octets, amounts of at most 10^12, at most 16 services, and no two of
+//! one key. That its Service-Identifiers are at most 5,460 follows from the length of its message, and isn't said here.
+//! What a request asks for is kept in each unit that it may be counted in: which of them counts is the plan's business.
+#![tactic(auto)]
+
+mod amounts;
+mod contradiction;
+mod read;
+mod request;
+mod request_type;
+mod service;
+mod steps;
+mod subscription;
+
+pub use amounts::Amounts;
+pub use read::read_ccr;
+pub use request::{Request, subscriber};
+pub use request_type::{RequestType, RequestedAction};
+pub use service::Service;
+
+#[cfg(test)]
+mod tests;
