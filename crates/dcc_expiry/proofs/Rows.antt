@@ -1,0 +1,107 @@
+-- One row less, or one more, and the first of the rows.
+use Rattle.std.proofs.Common.{◌≡◌, ◌≤◌, ◌<◌, ℕ, zero, suc, true, false, not, cond, List, [], ◌∷◌, length, get_or, nat_le, Option, Some, None, refl, sym, ap, ◌∙◌, arith, inl, inr}
+use Rattle.std.specs.Prelude.{filter, is_none, slice_get, unwrap_or, IfSome}
+use Rattle.std.specs.List.{insert}
+use Rattle.std.specs.List.Sorted.{IsNonDecreasingBy, IsPartitionedBy}
+use Rattle.std.specs.Cmp.Lexicographic.{nat_list_eq_equiv}
+use Rattle.std.proofs.lemmas.Bool.{cases_Bool, and_parts, and_from}
+use Rattle.std.proofs.lemmas.Bool.Decides.{nat_tests}
+use Rattle.dcc_expiry.specs.Deadlines.{deadline_in, same_session}
+use Rattle.dcc_expiry.specs.declared.row.Row.{Row}
+use Rattle.dcc_expiry.specs.inner.Rows.{are_once}
+
+-- Of two sessions that are one, one is a third exactly where the other is.
+alike : (a b c : List ℕ) → same_session a b ≡ true → same_session a c ≡ same_session b c
+alike a b c h = nat_list_eq_equiv.congr a b c h
+
+turned : (a b : List ℕ) → same_session a b ≡ same_session b a
+turned a b = nat_list_eq_equiv.symm a b
+
+-- a row of another session stays in front
+past : (row : Row) (rows : List Row) (sid : List ℕ) → same_session row.session sid ≡ false → deadline_in (row ∷ rows) sid ≡ deadline_in rows sid
+past row rows sid h = rw h refl
+
+-- what a filter that lets a session's rows go leaves
+pub deadline_without : (rows : List Row) (sid q : List ℕ)
+    → deadline_in (filter (λ row. not (same_session row.session sid)) rows) q ≡ cond (same_session sid q) None (deadline_in rows q)
+deadline_without [] sid q = elim (cases_Bool (same_session sid q)) [ inl t ↦ rw t refl | inr f ↦ rw f refl ]
+deadline_without (row ∷ rows) sid q =
+    let later = deadline_without rows sid q in
+    elim (cases_Bool (same_session row.session sid)) [
+      | inl own ↦ (let e = alike row.session sid q own in grind (arith, later, own, e))
+      | inr other ↦ elim (cases_Bool (same_session row.session q)) [
+        | inl here ↦ (let e = alike row.session q sid here in let t = turned q sid in grind (arith, later, other, here, e, t))
+        | inr gone ↦ grind (arith, later, other, gone)
+      ]
+    ]
+
+pub once_without : (rows : List Row) (sid : List ℕ) → are_once rows ≡ true → are_once (filter (λ row. not (same_session row.session sid)) rows) ≡ true
+once_without [] sid once = refl
+once_without (row ∷ rows) sid once =
+    let parts = and_parts (is_none (deadline_in rows row.session)) (are_once rows) once in
+    let later = once_without rows sid parts.1 in
+    let left = deadline_without rows sid row.session in
+    elim (cases_Bool (same_session row.session sid)) [
+      | inl own ↦ grind (arith, later, own)
+      | inr other ↦ (let t = turned row.session sid in grind (arith, later, other, left, parts.0, t))
+    ]
+
+head_apart : (row : Row) (rows : List Row) (sid : List ℕ)
+    → deadline_in (row ∷ rows) sid ≡ None → (same_session row.session sid ≡ false) × (deadline_in rows sid ≡ None)
+head_apart row rows sid none = grind (arith, none)
+
+-- what is in with one more row, at any place
+pub deadline_with : (rows : List Row) (at : ℕ) (row : Row) (q : List ℕ) → deadline_in rows row.session ≡ None
+    → deadline_in (insert rows at row) q ≡ cond (same_session row.session q) (Some row.deadline) (deadline_in rows q)
+deadline_with rows zero row q none = refl
+deadline_with [] (suc at) row q none = refl
+deadline_with (first ∷ rows) (suc at) row q none =
+    let apart = head_apart first rows row.session none in
+    let later = deadline_with rows at row q apart.1 in
+    elim (cases_Bool (same_session first.session q)) [
+      | inl here ↦ (let e = alike first.session q row.session here in let t = turned q row.session in grind (arith, later, here, apart.0, e, t))
+      | inr gone ↦ grind (arith, later, gone)
+    ]
+
+pub once_with : (rows : List Row) (at : ℕ) (row : Row) → deadline_in rows row.session ≡ None → are_once rows ≡ true → are_once (insert rows at row) ≡ true
+once_with rows zero row none once = and_from _ _ (ap is_none none) once
+once_with [] (suc at) row none once = refl
+once_with (first ∷ rows) (suc at) row none once =
+    let apart = head_apart first rows row.session none in
+    let parts = and_parts (is_none (deadline_in rows first.session)) (are_once rows) once in
+    let later = once_with rows at row apart.1 parts.1 in
+    let left = deadline_with rows at row first.session apart.1 in
+    let t = turned first.session row.session in
+    grind (arith, later, left, parts.0, apart.0, t)
+
+-- rows in order are parted by any deadline
+pub parted : (rows : List Row) (deadline : ℕ) → IsNonDecreasingBy (λ (row : Row). row.deadline) rows
+    → IsPartitionedBy (λ (row : Row). nat_le row.deadline deadline) rows
+parted rows deadline ordered i j d up within h =
+    let below = ordered i j d up within in
+    grind (arith, nat_tests, below, h)
+
+-- where no row is below a bound, no session's deadline is
+pub none_below : (rows : List Row) (low : ℕ) → ((k : ℕ) (d : Row) → k < length rows → low ≤ (get_or rows k d).deadline)
+    → (sid : List ℕ) → IfSome (deadline_in rows sid) (λ deadline. low ≤ deadline)
+none_below [] low above sid = tt
+none_below (row ∷ rows) low above sid =
+    elim (cases_Bool (same_session row.session sid)) [
+      | inl here ↦ rw here (above 0 row (omega arith))
+      | inr gone ↦ rw gone (none_below rows low (λ k d lt. above (suc k) d (omega arith)) sid)
+    ]
+
+-- the first of rows in order is its session's, and none is below it
+pub first_own : (rows : List Row) (row : Row) → slice_get rows 0 ≡ Some row → deadline_in rows row.session ≡ Some row.deadline
+first_own [] row first = absurd cc
+first_own (head ∷ rows) row first =
+    let same : head ≡ row = ap (λ (found : Option Row). unwrap_or found row) first in
+    let here : same_session head.session row.session ≡ true = ap (λ (r : Row). same_session head.session r.session) (sym same) ∙ nat_list_eq_equiv.refl head.session in
+    rw here (ap (λ (r : Row). Some r.deadline) same)
+
+pub first_least : (rows : List Row) (row : Row) (low : ℕ) → slice_get rows 0 ≡ Some row → IsNonDecreasingBy (λ (row : Row). row.deadline) rows → low ≤ row.deadline
+    → (sid : List ℕ) → IfSome (deadline_in rows sid) (λ deadline. low ≤ deadline)
+first_least [] row low first ordered below sid = tt
+first_least (head ∷ rows) row low first ordered below sid =
+    let same : head.deadline ≡ row.deadline = ap (λ (found : Option Row). (unwrap_or found row).deadline) first in
+    none_below (head ∷ rows) low (λ k d lt. let up = ordered 0 k d (omega arith) lt in omega (arith, up, same, below)) sid
