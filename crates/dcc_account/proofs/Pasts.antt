@@ -11,7 +11,7 @@ use Rattle.dcc_act.specs.declared.outcome.Outcome.{Outcome}
 use Rattle.dcc_act.specs.declared.request_key.RequestKey.{RequestKey}
 use Rattle.dcc_model.specs.Keys.{request_key, same_request, same_key}
 use Rattle.dcc_model.specs.declared.done.Done.{Done}
-use Rattle.dcc_model.specs.Outcomes.{is_top_up, has_account, counts, first_of, kept_of, act_of, outcome_of, place_of_key}
+use Rattle.dcc_model.specs.Outcomes.{is_top_up, has_account, counts, first_of, kept_of, act_made, outcome_of, place_of_key}
 use Rattle.dcc_model.specs.Entries.{sum_of}
 use Rattle.dcc_account.specs.inner.Kept.{dones, past_of}
 
@@ -42,22 +42,22 @@ past_more acts outcomes i act outcome same within act_is outcome_is =
     ∙ ap (λ (o : Outcome). past_of (take i acts ++ act ∷ []) (take i outcomes ++ o ∷ [])) (sym outcome_is)
     ∙ past_push (take i acts) (take i outcomes) act outcome (omega arith)
 
-acts_of_dones : (acts : List Act) (outcomes : List Outcome) → length outcomes ≡ length acts → map act_of (dones acts outcomes) ≡ acts
+acts_of_dones : (acts : List Act) (outcomes : List Outcome) → length outcomes ≡ length acts → map act_made (dones acts outcomes) ≡ acts
 acts_of_dones [] [] same = refl
 acts_of_dones [] (o ∷ outcomes) same = refl
 acts_of_dones (a ∷ acts) [] same = absurd (omega arith)
 acts_of_dones (a ∷ acts) (o ∷ outcomes) same = ap (λ (rest : List Act). a ∷ rest) (acts_of_dones acts outcomes (omega arith))
 
-map_reverse : (past : List Done) → map act_of (reverse past) ≡ reverse (map act_of past)
+map_reverse : (past : List Done) → map act_made (reverse past) ≡ reverse (map act_made past)
 map_reverse [] = refl
 map_reverse (d ∷ past) =
-    ap (map act_of) (reverse-append (d ∷ []) past) ∙ map-append act_of (reverse past) (d ∷ [])
-    ∙ ap (λ (xs : List Act). xs ++ d.act ∷ []) (map_reverse past) ∙ sym (reverse-append (d.act ∷ []) (map act_of past))
+    ap (map act_made) (reverse-append (d ∷ []) past) ∙ map-append act_made (reverse past) (d ∷ [])
+    ∙ ap (λ (xs : List Act). xs ++ d.act ∷ []) (map_reverse past) ∙ sym (reverse-append (d.act ∷ []) (map act_made past))
 
-pub acts_of_past : (acts : List Act) (outcomes : List Outcome) → length outcomes ≡ length acts → map act_of (past_of acts outcomes) ≡ reverse acts
+pub acts_of_past : (acts : List Act) (outcomes : List Outcome) → length outcomes ≡ length acts → map act_made (past_of acts outcomes) ≡ reverse acts
 acts_of_past acts outcomes same = map_reverse (dones acts outcomes) ∙ ap reverse (acts_of_dones acts outcomes same)
 
-has_account_map : (past : List Done) → has_account past ≡ list_any (λ (act : Act). is_top_up act.kind) (map act_of past)
+has_account_map : (past : List Done) → has_account past ≡ list_any (λ (act : Act). is_top_up act.kind) (map act_made past)
 has_account_map [] = refl
 has_account_map (d ∷ past) = ap (λ (b : Bool). is_top_up d.act.kind || b) (has_account_map past)
 

@@ -8,19 +8,20 @@ use Rattle.dcc_act.specs.declared.entry.Entry.{Entry}
 use Rattle.dcc_act.specs.declared.outcome.Outcome.{Outcome}
 use Rattle.dcc_model.specs.declared.done.Done.{Done}
 use Rattle.dcc_model.specs.Money.{funds_of}
-use Rattle.dcc_model.specs.Outcomes.{after, judged, history, is_first, is_made, is_new, place_of_key, place, act_of, acts, funds}
+use Rattle.dcc_model.specs.Outcomes.{after, judged, history, is_made, is_new, place_of_key, place, act_made, acts, funds}
 use Rattle.dcc_model.specs.Entries.{entries_of_kind, entries_of, entries, sum_of}
 use Rattle.dcc_model.specs.Laws.{OneMoreAct, EntriesAddUp}
 use Rattle.dcc_account.specs.Accounts.{AccountView}
 use Rattle.dcc_account.specs.inner.Kept.{past_of, IsKept}
-use Rattle.dcc_account.specs.Prepared.{StepView, Fits, IsPrepared}
+use Rattle.dcc_account.specs.inner.Fits.{HasMemory}
+use Rattle.dcc_account.specs.Prepared.{StepView, IsPrepared}
 use Rattle.dcc_account.proofs.Pasts.{past_push, acts_of_past, length-past}
 
 -- the acts of an account are their own
 pub own_acts : (terms : TermsView) (all : List Act) (outcomes : List Outcome) (posted : List Entry) → IsKept terms all outcomes posted → acts terms all ≡ all
 unfolding acts
 own_acts terms all outcomes posted kept =
-    ap (λ (past : List Done). reverse (map act_of past)) (sym kept.made) ∙ ap reverse (acts_of_past all outcomes kept.as_many) ∙ reverse-reverse all
+    ap (λ (past : List Done). reverse (map act_made past)) (sym kept.made) ∙ ap reverse (acts_of_past all outcomes kept.as_many) ∙ reverse-reverse all
 
 history_push : (terms : TermsView) (all : List Act) (act : Act) → history terms (reverse (all ++ act ∷ [])) ≡ history terms (act ∷ reverse all)
 history_push terms all act = ap (history terms) (reverse-append all (act ∷ []))
@@ -82,7 +83,7 @@ unfolding place is_new
 place_at terms all all' outcomes posted act new found kept a new_is found_is =
     let past = history terms (reverse all) in
     let long : length past ≡ length all = ap length (sym kept.made) ∙ length-past all outcomes kept.as_many in
-    let mapped : map act_of past ≡ reverse all = ap (map act_of) (sym kept.made) ∙ acts_of_past all outcomes kept.as_many in
+    let mapped : map act_made past ≡ reverse all = ap (map act_made) (sym kept.made) ∙ acts_of_past all outcomes kept.as_many in
     found_is
     ∙ ap (λ (xs : List Act). cond new (Some (length xs + 1)) (place_of_key (reverse xs) act.kind)) a
     ∙ ap (λ (b : Bool). cond b (Some (length all + 1)) (place_of_key (reverse all) act.kind)) new_is
@@ -105,17 +106,17 @@ judged_at add_up terms all all' outcomes outcomes' posted posted' act outcome ke
     judges (money ∙ ap (funds_of terms) (sym past)) ∙ ap (λ (past : List Done). judged terms past act) past
 
 pub new_at : (terms : TermsView) (all all' : List Act) (outcomes outcomes' : List Outcome) (posted : List Entry) (act : Act) (new : Bool) → IsKept terms all outcomes posted
-    → all' ≡ all → outcomes' ≡ outcomes → new ≡ is_first (past_of all' outcomes') act.kind → new ≡ is_new terms all act
+    → all' ≡ all → outcomes' ≡ outcomes → new ≡ is_made terms (past_of all' outcomes') act → new ≡ is_new terms all act
 unfolding is_new
 new_at terms all all' outcomes outcomes' posted act new kept a o is =
     let past : past_of all' outcomes' ≡ history terms (reverse all) = ap (λ (xs : List Act). past_of xs outcomes') a ∙ ap (past_of all) o ∙ kept.made in
-    is ∙ ap (λ (past : List Done). is_first past act.kind) past
+    is ∙ ap (λ (past : List Done). is_made terms past act) past
 
 pub prepared_at : (a b : AccountView) (s t : StepView) → IsPrepared b t → a ≡ b → s ≡ t → IsPrepared a s
 prepared_at a b s t is e f = rw (e, f) is
 
 -- there is memory for more where the larger vector is made for it
 pub fits_of : {X : Type 0} (size : X → ℕ) (larger : Option X) (held more capacity count wanted : ℕ) → count ≡ held → wanted ≡ more
-    → MatchOption larger (held + more ≤ capacity) (λ v. held + more ≤ size v) → Fits count wanted (capacity - held) (option_map size larger)
+    → MatchOption larger (held + more ≤ capacity) (λ v. held + more ≤ size v) → HasMemory count wanted (capacity - held) (option_map size larger)
 fits_of size None held more capacity count wanted c w h = omega arith
 fits_of size (Some v) held more capacity count wanted c w h = omega arith

@@ -1,17 +1,13 @@
 -- A step that is prepared and not yet installed.
-use Rattle.std.specs.Prelude.{ℕ, ◌≡◌, ◌+◌, ◌≤◌, Bool, true, List, [], ◌∷◌, ◌++◌, length, Option, MatchOption}
+use Rattle.std.specs.Prelude.{ℕ, ◌≡◌, Bool, true, List, [], ◌∷◌, ◌++◌, length, Option}
 use Rattle.dcc_act.specs.declared.act.Act.{Act}
 use Rattle.dcc_act.specs.declared.entry.Entry.{Entry}
 use Rattle.dcc_act.specs.declared.outcome.Outcome.{Outcome}
 use Rattle.dcc_model.specs.Outcomes.{after, is_new, place}
 use Rattle.dcc_model.specs.Entries.{entries}
 use Rattle.dcc_account.specs.Accounts.{AccountView}
-
--- the sizes of the larger vectors that a step brings
-pub record Space : Type 0 where
-  pub acts : Option ℕ
-  pub outcomes : Option ℕ
-  pub entries : Option ℕ
+use Rattle.dcc_account.specs.inner.Memory.{Space}
+use Rattle.dcc_account.specs.inner.Fits.{Fits}
 
 -- an act, what it comes to, whether it is made, its place, the entries that it adds, and the memory for all that
 pub record StepView : Type 0 where
@@ -22,17 +18,10 @@ pub record StepView : Type 0 where
   pub entries : List Entry
   pub space : Space
 
--- there is memory for more: in the room that is left, or in a larger vector
-abbrev pub Fits : ℕ → ℕ → ℕ → Option ℕ → Type 0
-Fits count more room larger = MatchOption larger (more ≤ room) (λ capacity. count + more ≤ capacity)
-
 -- the step is that of its act after the acts of this account, with memory for it
 pub record IsPrepared (account : AccountView) (step : StepView) : Type 0 where
   pub outcome_is : step.outcome ≡ after account.terms account.acts step.act
   pub new_is : step.is_new ≡ is_new account.terms account.acts step.act
   pub place_is : step.place ≡ place account.terms account.acts step.act
   pub entries_are : entries account.terms (account.acts ++ step.act ∷ []) ≡ entries account.terms account.acts ++ step.entries
-  pub acts_fit : step.is_new ≡ true → Fits (length account.acts) 1 account.room.acts step.space.acts
-  pub outcomes_fit : step.is_new ≡ true → Fits (length account.acts) 1 account.room.outcomes step.space.outcomes
-  pub entries_fit : step.is_new ≡ true
-      → Fits (length (entries account.terms account.acts)) (length step.entries) account.room.entries step.space.entries
+  pub fits : step.is_new ≡ true → Fits account step.space (length step.entries)

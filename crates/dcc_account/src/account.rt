@@ -2,7 +2,7 @@
 
 ghost use Rattle.std.specs.Prelude.{◌≡◌, [], ◌∷◌, ◌++◌, pos, if◌then◌else◌, IfOk};
 ghost use Rattle.std.specs.Option.{option_copied};
-ghost use Rattle.dcc_model.specs.Outcomes.{after, is_new, place, acts, funds, overrun, free, kept};
+ghost use Rattle.dcc_model.specs.Outcomes.{acts, funds, overrun, free, kept};
 ghost use Rattle.dcc_model.specs.Entries.{entries};
 
 use crate::growth::{append, grow, larger};
@@ -113,22 +113,18 @@ impl Account {
         outcome_of_request(&self.acts, &self.outcomes, key)
     }
 
-    /// What the act comes to after those that were made, with all the memory that it takes to install it.
+    /// The step of the act: what it comes to after those that were made, whether it is made, its place and its entries,
+    /// with all the memory that it takes to install it. The only error is want of memory.
     pub fn prepare(&self, act: Act) -> Result<Step, AllocError>
         ensures act { IfOk result (λ step. step.act ≡ act) }
-        ensures outcome { IfOk result (λ step. step.outcome ≡ after self.now.terms self.now.acts act) }
-        ensures is_new { IfOk result (λ step. step.is_new ≡ is_new self.now.terms self.now.acts act) }
-        ensures place { IfOk result (λ step. step.place ≡ place self.now.terms self.now.acts act) }
+        ensures prepared { IfOk result (λ step. IsPrepared self.now step) }
         ensures acts { IfOk result (λ step. acts self.now.terms (self.now.acts ++ act ∷ [])
             ≡ (if step.is_new then self.now.acts ++ act ∷ [] else self.now.acts)) }
-        ensures entries { IfOk result (λ step. entries self.now.terms (self.now.acts ++ act ∷ [])
-            ≡ entries self.now.terms self.now.acts ++ step.entries) }
-        ensures prepared { IfOk result (λ step. IsPrepared self.now step) }
     {
         one_more_act();
         funds_are_accounted_for();
         let alloc = *self.acts.allocator();
-        let is_new = is_made(&self.acts, &self.outcomes, &act.kind);
+        let is_new = is_made(&self.acts, &self.outcomes, &act);
         let outcome = judge(alloc, &self.acts, &self.outcomes, &self.entries, &act)?;
         let entries = post(alloc, is_new, self.acts.len(), &act, &outcome)?;
         let place = place(&self.acts, is_new, &act.kind);

@@ -4,11 +4,11 @@ ghost use Rattle.std.specs.Prelude.{◌≡◌, ◌+◌, ◌<◌, ◌^◌, List, 
 ghost use Rattle.dcc_tariff.specs.Terms.{TermsView};
 ghost use Rattle.dcc_model.specs.declared.done.Done.{Done};
 ghost use Rattle.dcc_model.specs.Money.{funds_of};
-ghost use Rattle.dcc_model.specs.Outcomes.{counts, is_first, settled, judged, decided, place_of_key};
+ghost use Rattle.dcc_model.specs.Outcomes.{counts, is_made, settled, judged, decided, place_of_key};
 ghost use Rattle.dcc_model.specs.Entries.{entries_of_kind, sum_of};
 ghost use Rattle.dcc_account.specs.inner.Kept.{past_of};
 
-use crate::walk::{has_top_up, outcome_of, place_of_key, sum};
+use crate::walk::{has_top_up, outcome_of_key, place_of_key, sum};
 use dcc_act::{Act, Entry, Kind, Outcome, RequestType};
 use dcc_model::{decide_event, decide_top_up, entries_by, is_top_up, nothing_is_reserved};
 use std::alloc::{AllocError, Global};
@@ -49,18 +49,18 @@ fn settle(
     ensures { IfOk result (λ outcome. (terms : TermsView) → sum_of entries.now ≡ funds_of terms (past_of acts.now outcomes.now)
         → outcome ≡ settled terms (past_of acts.now outcomes.now) kind.now) }
 {
-    match outcome_of(acts, outcomes, kind) {
+    match outcome_of_key(acts, outcomes, kind) {
         Some(outcome) => outcome.copy(),
         None => decide(alloc, acts, outcomes, entries, kind),
     }
 }
 
-/// Whether an act of this kind is made after these.
-pub(crate) fn is_made(acts: &[Act], outcomes: &[Outcome], kind: &Kind) -> bool
+/// Whether an act is made after these.
+pub(crate) fn is_made(acts: &[Act], outcomes: &[Outcome], act: &Act) -> bool
     requires { length outcomes.now ≡ length acts.now }
-    ensures { result ≡ is_first (past_of acts.now outcomes.now) kind.now }
+    ensures { (terms : TermsView) → result ≡ is_made terms (past_of acts.now outcomes.now) act.now }
 {
-    is_counted(acts, outcomes, kind) && outcome_of(acts, outcomes, kind).is_none()
+    is_counted(acts, outcomes, &act.kind) && outcome_of_key(acts, outcomes, &act.kind).is_none()
 }
 
 /// Whether an act of this kind counts: a request does once there is an account.

@@ -12,7 +12,7 @@ use dcc_act::{Act, Entry, Kind, Outcome, RequestKey};
 use dcc_model::{is_same_key, is_top_up};
 
 /// The outcome of the act of this key.
-pub(crate) fn outcome_of<'a>(
+pub(crate) fn outcome_of_key<'a>(
     acts: &[Act],
     outcomes: &'a [Outcome],
     kind: &Kind,

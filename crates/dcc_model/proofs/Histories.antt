@@ -12,7 +12,7 @@ use Rattle.dcc_act.specs.declared.act.Kind.TheVariants as kind
 use Rattle.dcc_act.specs.declared.outcome.Outcome.{Outcome}
 use Rattle.dcc_model.specs.declared.done.Done.{Done}
 use Rattle.dcc_model.specs.Keys.{request_key}
-use Rattle.dcc_model.specs.Outcomes.{is_new, counts, first_of, is_made, decided, unknown_of, settled, has_account, judged, history, act_of, after, outcome, acts}
+use Rattle.dcc_model.specs.Outcomes.{is_new, counts, first_of, is_made, decided, unknown_of, settled, has_account, judged, history, act_made, after, outcome, acts}
 
 settled_where : (account : Bool) (k : Kind) (outcome : Outcome) → (account || is_none (request_key k)) ≡ true → cond account outcome (unwrap_or (unknown_of k) outcome) ≡ outcome
 settled_where true k outcome h = refl
@@ -33,7 +33,7 @@ judged_new terms past act new =
     let parts = and_parts (counts past act.kind) (is_none (first_of past act.kind)) new in
     judged_counted terms past act parts.0 ∙ from_none (first_of past act.kind) (decided terms past act.kind) parts.1
 
-pub history_of_made : (terms : TermsView) (all : List Act) → history terms (map act_of (history terms all)) ≡ history terms all
+pub history_of_made : (terms : TermsView) (all : List Act) → history terms (map act_made (history terms all)) ≡ history terms all
 history_of_made terms [] = refl
 history_of_made terms (act ∷ all) =
     elim (cases_Bool (is_made terms (history terms all) act)) [
@@ -42,7 +42,7 @@ history_of_made terms (act ∷ all) =
     ]
 
 -- whatever comes later
-pub history_after : (terms : TermsView) (later all : List Act) → history terms (later ++ map act_of (history terms all)) ≡ history terms (later ++ all)
+pub history_after : (terms : TermsView) (later all : List Act) → history terms (later ++ map act_made (history terms all)) ≡ history terms (later ++ all)
 history_after terms [] all = history_of_made terms all
 history_after terms (act ∷ later) all = rw (history_after terms later all) refl
 
@@ -50,13 +50,13 @@ history_after terms (act ∷ later) all = rw (history_after terms later all) ref
 pub history-acts : (terms : TermsView) (all more : List Act) → history terms (reverse (acts terms all ++ more)) ≡ history terms (reverse (all ++ more))
 unfolding acts
 history-acts terms all more =
-    let made = map act_of (history terms (reverse all)) in
+    let made = map act_made (history terms (reverse all)) in
     let turned : reverse (reverse made ++ more) ≡ reverse more ++ made = reverse-append (reverse made) more ∙ ap (λ (zs : List Act). reverse more ++ zs) (reverse-reverse made) in
     ap (history terms) turned ∙ history_after terms (reverse more) (reverse all) ∙ ap (history terms) (sym (reverse-append all more))
 
 pub acts_by_history : (terms : TermsView) (xs ys : List Act) → history terms (reverse xs) ≡ history terms (reverse ys) → acts terms xs ≡ acts terms ys
 unfolding acts
-acts_by_history terms xs ys same = ap (λ (past : List Done). reverse (map act_of past)) same
+acts_by_history terms xs ys same = ap (λ (past : List Done). reverse (map act_made past)) same
 
 pub slice_get-behind : (xs ys : List Act) (k : ℕ) → slice_get (xs ++ ys) (length xs + k) ≡ slice_get ys k
 slice_get-behind [] ys k = ap (slice_get ys) (omega arith)
@@ -98,11 +98,11 @@ outcome_before terms xs ys (suc k) within =
 
 -- one more act stands behind the others where it is made
 one_more_made : (terms : TermsView) (before : List Act) (act : Act)
-    → reverse (map act_of (history terms (act ∷ before)))
-    ≡ cond (is_made terms (history terms before) act) (reverse (map act_of (history terms before)) ++ act ∷ []) (reverse (map act_of (history terms before)))
+    → reverse (map act_made (history terms (act ∷ before)))
+    ≡ cond (is_made terms (history terms before) act) (reverse (map act_made (history terms before)) ++ act ∷ []) (reverse (map act_made (history terms before)))
 one_more_made terms before act =
     elim (cases_Bool (is_made terms (history terms before) act)) [
-      | inl t ↦ rw t (reverse-append (act ∷ []) (map act_of (history terms before)))
+      | inl t ↦ rw t (reverse-append (act ∷ []) (map act_made (history terms before)))
       | inr f ↦ rw f refl
     ]
 
@@ -110,7 +110,7 @@ pub one_more : (terms : TermsView) (xs : List Act) (act : Act) → acts terms (x
 unfolding acts is_new
 one_more terms xs act =
     let turned : reverse (xs ++ act ∷ []) ≡ act ∷ reverse xs = reverse-append xs (act ∷ []) in
-    ap (λ (all : List Act). reverse (map act_of (history terms all))) turned ∙ one_more_made terms (reverse xs) act
+    ap (λ (all : List Act). reverse (map act_made (history terms all))) turned ∙ one_more_made terms (reverse xs) act
 
 -- the history of the acts is that of the list
 pub history_of_acts : (terms : TermsView) (xs : List Act) → history terms (reverse (acts terms xs)) ≡ history terms (reverse xs)

@@ -18,7 +18,7 @@ use Rattle.dcc_model.specs.declared.done.Done.{Done}
 use Rattle.dcc_model.specs.declared.decide.TheConstants.{CEILING}
 use Rattle.dcc_model.specs.Keys.{request_key, same_key}
 use Rattle.dcc_model.specs.Money.{funds_of, free_of}
-use Rattle.dcc_model.specs.Outcomes.{is_top_up, has_account, counts, first_of, is_made, place_of_key, action_outcome, decided, unknown_of, is_unknown, settled, judged, history, act_of, after, is_new, place, outcome, acts}
+use Rattle.dcc_model.specs.Outcomes.{is_top_up, has_account, counts, first_of, is_made, place_of_key, action_outcome, decided, unknown_of, is_unknown, settled, judged, history, act_made, after, is_new, place, outcome, acts}
 use Rattle.dcc_model.specs.Laws.{NewIsLast, StandsAt, PlaceHolds, UnknownHasNoPlace}
 use Rattle.dcc_model.proofs.Histories.{judged_new, history_of_made, history_of_acts, after_by_history, slice_get-behind, slice_get-before, outcome_last, outcome_before, one_more}
 
@@ -55,18 +55,18 @@ pub record Found (terms : TermsView) (past : List Done) (k : Kind) (n : ℕ) : T
   pub first : first_of past k ≡ Some done
   pub from_one : 1 ≤ n
   pub within : n ≤ length past
-  pub same : IsSomeAnd (slice_get (reverse (map act_of past)) (n - 1)) (λ there. same_key k there.kind ≡ true)
-  pub outcome_is : outcome terms (reverse (map act_of past)) n ≡ Some done.outcome
+  pub same : IsSomeAnd (slice_get (reverse (map act_made past)) (n - 1)) (λ there. same_key k there.kind ≡ true)
+  pub outcome_is : outcome terms (reverse (map act_made past)) n ≡ Some done.outcome
 
 -- what an act comes to after the acts of a history
-after_made : (terms : TermsView) (all : List Act) (act : Act) → after terms (reverse (map act_of (history terms all))) act ≡ judged terms (history terms all) act
+after_made : (terms : TermsView) (all : List Act) (act : Act) → after terms (reverse (map act_made (history terms all))) act ≡ judged terms (history terms all) act
 unfolding after
 after_made terms all act =
-    ap (λ (acts : List Act). judged terms (history terms acts) act) (reverse-reverse (map act_of (history terms all)))
+    ap (λ (acts : List Act). judged terms (history terms acts) act) (reverse-reverse (map act_made (history terms all)))
     ∙ ap (λ (past : List Done). judged terms past act) (history_of_made terms all)
 
-made_length : (past : List Done) → length (reverse (map act_of past)) ≡ length past
-made_length past = length-reverse (map act_of past) ∙ length-map past act_of
+made_length : (past : List Done) → length (reverse (map act_made past)) ≡ length past
+made_length past = length-reverse (map act_made past) ∙ length-map past act_made
 
 -- the last of a list
 last_at : (made : List Act) (act : Act) (n : ℕ) → n ≡ length made → slice_get (made ++ act ∷ []) n ≡ Some act
@@ -74,16 +74,16 @@ last_at made act n is =
     let at : n ≡ length made + 0 = omega arith in
     ap (slice_get (made ++ act ∷ [])) at ∙ slice_get-behind made (act ∷ []) 0
 
-found_here : (terms : TermsView) (earlier : List Act) (act : Act) (k : Kind) (n : ℕ) → same_key k act.kind ≡ true → length (map act_of (history terms earlier)) + 1 ≡ n
+found_here : (terms : TermsView) (earlier : List Act) (act : Act) (k : Kind) (n : ℕ) → same_key k act.kind ≡ true → length (map act_made (history terms earlier)) + 1 ≡ n
     → Found terms (record { act = act; outcome = judged terms (history terms earlier) act } ∷ history terms earlier) k n
 found_here terms earlier act k n same at =
     let past = history terms earlier in
-    let made = reverse (map act_of past) in
-    let turned : reverse (act ∷ map act_of past) ≡ made ++ act ∷ [] = reverse-append (act ∷ []) (map act_of past) in
+    let made = reverse (map act_made past) in
+    let turned : reverse (act ∷ map act_made past) ≡ made ++ act ∷ [] = reverse-append (act ∷ []) (map act_made past) in
     let long : length made ≡ length past = made_length past in
-    let mapped : length (map act_of past) ≡ length past = length-map past act_of in
+    let mapped : length (map act_made past) ≡ length past = length-map past act_made in
     let place : n ≡ length made + 1 = omega arith in
-    let there : slice_get (reverse (act ∷ map act_of past)) (n - 1) ≡ Some act = ap (λ (zs : List Act). slice_get zs (n - 1)) turned ∙ last_at made act (n - 1) (omega arith) in
+    let there : slice_get (reverse (act ∷ map act_made past)) (n - 1) ≡ Some act = ap (λ (zs : List Act). slice_get zs (n - 1)) turned ∙ last_at made act (n - 1) (omega arith) in
     record {
       done = record { act = act; outcome = judged terms past act };
       first = rw same refl;
@@ -97,12 +97,12 @@ found_here terms earlier act k n same at =
 
 found_there : (terms : TermsView) (past : List Done) (one : Done) (k : Kind) (n : ℕ) → same_key k one.act.kind ≡ false → Found terms past k n → Found terms (one ∷ past) k n
 found_there terms past one k n other found =
-    let made = reverse (map act_of past) in
-    let turned : reverse (one.act ∷ map act_of past) ≡ made ++ one.act ∷ [] = reverse-append (one.act ∷ []) (map act_of past) in
+    let made = reverse (map act_made past) in
+    let turned : reverse (one.act ∷ map act_made past) ≡ made ++ one.act ∷ [] = reverse-append (one.act ∷ []) (map act_made past) in
     let long : length made ≡ length past = made_length past in
     let some = found.from_one in
     let few = found.within in
-    let there : slice_get (reverse (one.act ∷ map act_of past)) (n - 1) ≡ slice_get made (n - 1) =
+    let there : slice_get (reverse (one.act ∷ map act_made past)) (n - 1) ≡ slice_get made (n - 1) =
     ap (λ (zs : List Act). slice_get zs (n - 1)) turned ∙ slice_get-before made (one.act ∷ []) (n - 1) (omega arith) in
     record {
       done = found.done;
@@ -114,7 +114,7 @@ found_there terms past one k n other found =
     }
 
 -- where a key has a place, there it is found
-pub found_at : (terms : TermsView) (all : List Act) (k : Kind) (n : ℕ) → place_of_key (map act_of (history terms all)) k ≡ Some n → Found terms (history terms all) k n
+pub found_at : (terms : TermsView) (all : List Act) (k : Kind) (n : ℕ) → place_of_key (map act_made (history terms all)) k ≡ Some n → Found terms (history terms all) k n
 found_at terms [] k n h = absurd cc
 found_at terms (act ∷ earlier) k n h =
     let past = history terms earlier in
@@ -227,7 +227,7 @@ all_known terms (act ∷ earlier) =
 
 -- one key, found both ways
 kept_known : (past : List Done) (k : Kind) (rest : Outcome) → AllKnown past → (true && is_none (first_of past k)) ≡ false
-    → is_none (place_of_key (map act_of past) k) ≡ is_unknown (option_map_or (λ (done : Done). done.outcome) (first_of past k) rest)
+    → is_none (place_of_key (map act_made past) k) ≡ is_unknown (option_map_or (λ (done : Done). done.outcome) (first_of past k) rest)
 unfolding AllKnown
 kept_known [] k rest known h = absurd cc
 kept_known (done ∷ past) k rest known h =
@@ -241,7 +241,7 @@ unknown_kind (kind.TopUp top_up) rest h = absurd cc
 unknown_kind (kind.Event event) rest h = refl
 
 -- a request before all others
-unknown_first : (terms : TermsView) (past : List Done) (act : Act) → past ≡ [] → is_made terms past act ≡ false → is_none (place_of_key (map act_of past) act.kind) ≡ is_unknown (judged terms past act)
+unknown_first : (terms : TermsView) (past : List Done) (act : Act) → past ≡ [] → is_made terms past act ≡ false → is_none (place_of_key (map act_made past) act.kind) ≡ is_unknown (judged terms past act)
 unknown_first terms [] act none old = unknown_kind act.kind (settled terms [] act.kind) old
 unknown_first terms (done ∷ past) act none old = absurd cc
 

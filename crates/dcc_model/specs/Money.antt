@@ -31,6 +31,7 @@ abbrev pub is_added : Outcome → Bool
 is_added Added = true
 is_added _ = false
 
+-- so many units of a kind at a tariff, where there is each of the three
 abbrev pub rated : Option UnitKind → Option ℕ → Option TariffView → Option Grant
 rated (Some unit) (Some units) (Some tariff) = Some (record { unit = unit; units = units; tariff = tariff })
 rated _ _ _ = None
@@ -39,6 +40,7 @@ rated _ _ _ = None
 abbrev pub asked_units : ServiceView → Option Grant
 asked_units service = rated service.unit service.asked service.tariff
 
+-- what granted units cost, in minor units
 abbrev pub grant_price : Grant → ℕ
 grant_price grant = price grant.tariff grant.units
 

@@ -59,13 +59,13 @@ abbrev pub debit_result : ℤ → Option Grant → ResultCode
 debit_result free None = RatingFailed
 debit_result free (Some grant) = if covers free (grant_price grant) then Success else CreditLimitReached
 
--- one that is made grants what it asks
-abbrev pub granted : ResultCode → Option Grant → Option Grant
-granted Success asked = asked
-granted _ asked = None
+-- one that succeeds grants what it asks, and another nothing
+abbrev pub granted_on_success : ResultCode → Option Grant → Option Grant
+granted_on_success Success asked = asked
+granted_on_success _ asked = None
 
 abbrev pub debit_outcome : ℤ → OneTimeEvent → Option Grant → Outcome
-debit_outcome free event asked = event_answer event (debit_result free asked) (granted (debit_result free asked) asked)
+debit_outcome free event asked = event_answer event (debit_result free asked) (granted_on_success (debit_result free asked) asked)
 
 abbrev pub action_outcome : ℤ → OneTimeEvent → Action → Outcome
 action_outcome free event DirectDebiting = debit_outcome free event (asked_units event.service)
@@ -96,13 +96,9 @@ abbrev pub judged : TermsView → List Done → Act → Outcome
 judged terms past act =
     if has_account past then settled terms past act.kind else unwrap_or (unknown_of act.kind) (settled terms past act.kind)
 
--- an act of this kind is the first of its key, and counts
-abbrev pub is_first : List Done → Kind → Bool
-is_first past kind = counts past kind && is_none (first_of past kind)
-
 -- what is made is each act that counts and whose key is new
 abbrev pub is_made : TermsView → List Done → Act → Bool
-is_made terms past act = is_first past act.kind
+is_made terms past act = counts past act.kind && is_none (first_of past act.kind)
 
 -- the acts that were made, each with what it came to, the latest first; so is the list that it looks at
 abbrev pub history : TermsView → List Act → List Done
@@ -111,8 +107,9 @@ history terms (act ∷ earlier) =
     let past = history terms earlier in
     if is_made terms past act then record { act = act; outcome = judged terms past act } ∷ past else past
 
-abbrev pub act_of : Done → Act
-act_of done = done.act
+-- of an act that was made, the act, and what it came to
+abbrev pub act_made : Done → Act
+act_made done = done.act
 
 abbrev pub outcome_of : Done → Outcome
 outcome_of done = done.outcome
@@ -128,7 +125,7 @@ place_of_key (act ∷ earlier) kind = if same_key kind act.kind then Some (lengt
 
 -- the place of one more act: a new one stands behind all others, and another where that of its key stands
 abbrev pub place_of : TermsView → List Done → Act → Option ℕ
-place_of terms past act = if is_made terms past act then Some (length past + 1) else place_of_key (map act_of past) act.kind
+place_of terms past act = if is_made terms past act then Some (length past + 1) else place_of_key (map act_made past) act.kind
 
 -- what one more act comes to after a list of acts in order
 unfoldable pub after : TermsView → List Act → Act → Outcome
@@ -151,7 +148,7 @@ outcome terms all (suc before) = option_map (after terms (take before all)) (sli
 
 -- the acts of a list, in order
 unfoldable pub acts : TermsView → List Act → List Act
-acts terms all = reverse (map act_of (history terms (reverse all)))
+acts terms all = reverse (map act_made (history terms (reverse all)))
 
 -- the account after the whole list
 unfoldable pub funds : TermsView → List Act → ℤ

@@ -15,7 +15,7 @@ use std::alloc::{AllocError, Global};
 /// The most that funds may be, in minor units; the least is its negative.
 pub const CEILING: i128 = MAX_AMOUNT as i128;
 
-/// What a new top-up comes to at these funds.
+/// What a new top-up comes to at these funds, in minor units.
 pub fn decide_top_up(funds: i128, top_up: &TopUp) -> Outcome
     ensures { result ≡ top_up_outcome funds top_up.now }
 {
@@ -26,7 +26,7 @@ pub fn decide_top_up(funds: i128, top_up: &TopUp) -> Outcome
     }
 }
 
-/// What a new event comes to where so much is free.
+/// What a new event comes to where so much is free, in minor units. The only error is want of memory.
 pub fn decide_event(alloc: Global, free: i128, event: &OneTimeEvent) -> Result<Outcome, AllocError>
     ensures { IfOk result (λ outcome. outcome ≡ event_outcome free event.now) }
 {
@@ -39,7 +39,7 @@ pub fn decide_event(alloc: Global, free: i128, event: &OneTimeEvent) -> Result<O
 fn decide_debit(alloc: Global, free: i128, event: &OneTimeEvent) -> Result<Outcome, AllocError>
     ensures { IfOk result (λ outcome. outcome ≡ debit_outcome free event.now (asked_units event.now.service)) }
 {
-    let asked = units_asked(&event.service);
+    let asked = asked_units(&event.service);
     match debit_result(free, &asked) {
         ResultCode::Success => answer(alloc, event, ResultCode::Success, asked),
         code => answer(alloc, event, code, None),
@@ -90,7 +90,7 @@ fn answer(
 }
 
 /// The units that a service asks for, at the tariff of its moment, where there is one.
-pub(crate) fn units_asked(service: &Service) -> Option<Grant>
+pub(crate) fn asked_units(service: &Service) -> Option<Grant>
     ensures { result ≡ asked_units service.now }
 {
     Some(Grant {

@@ -5,7 +5,7 @@ ghost use Rattle.std.specs.Option.{option_copied};
 ghost use Rattle.dcc_tariff.specs.Terms.{TermsView};
 ghost use Rattle.dcc_model.specs.declared.done.Done.{Done};
 ghost use Rattle.dcc_model.specs.Money.{funds_of, free_of, credit, debit};
-ghost use Rattle.dcc_model.specs.Outcomes.{has_account, counts, first_of, decided, settled, judged, is_first, history, outcome};
+ghost use Rattle.dcc_model.specs.Outcomes.{has_account, counts, first_of, decided, settled, judged, is_made, history, outcome};
 
 use crate::decide::{decide_event, decide_top_up, price};
 use crate::done::Done;
@@ -15,8 +15,8 @@ use dcc_act::{Act, Kind, MAX_AMOUNT, Outcome, RequestType};
 use dcc_tariff::{MAX_PRICE, Terms};
 use std::alloc::{AllocError, Global};
 
-/// What the act at this place of a subscriber's list comes to, counted from 1. It is slow: it goes through all acts
-/// before, and at each through all that were made before.
+/// What the act at this place of a subscriber's list comes to, counted from 1. The only error is want of memory. It is
+/// slow: it goes through all acts before, and at each through all that were made before.
 pub fn plain_answer(
     alloc: Global,
     terms: &Terms,
@@ -37,7 +37,7 @@ fn made(alloc: Global, acts: &[Act]) -> Result<Vec<Done>, AllocError>
 {
     let mut past = Vec::new(alloc);
     for act in acts {
-        if is_first(&past, &act.kind) {
+        if is_made(&past, act) {
             let outcome = judge(alloc, &past, act)?;
             let act = act.copy()?;
             past.push(Done { act, outcome })?;
@@ -73,10 +73,10 @@ fn settle(alloc: Global, past: &[Done], kind: &Kind) -> Result<Outcome, AllocErr
 }
 
 /// Whether an act is made after these.
-fn is_first(past: &[Done], kind: &Kind) -> bool
-    ensures { result ≡ is_first (reverse past.now) kind.now }
+fn is_made(past: &[Done], act: &Act) -> bool
+    ensures { (terms : TermsView) → result ≡ is_made terms (reverse past.now) act.now }
 {
-    is_counted(past, kind) && first(past, kind).is_none()
+    is_counted(past, &act.kind) && first(past, &act.kind).is_none()
 }
 
 /// Whether an act counts: a request does once there is an account.

@@ -7,14 +7,15 @@ ghost use Rattle.dcc_model.specs.Entries.{top_up_entry, debit_entry, entries_of_
 ghost use Rattle.dcc_act.specs.declared.act.Kind.TheVariants.{Event as event_kind};
 ghost use Rattle.dcc_model.specs.declared.done.Done.{Done};
 
-use crate::decide::{price, units_asked};
+use crate::decide::{asked_units, price};
 use dcc_act::{
     Act, Action, Entry, EntryKind, EntryName, Grant, Kind, Moment, OneTimeEvent, Outcome,
     ResultCode, TopUp,
 };
 use std::alloc::{AllocError, Global};
 
-/// The entries of an act that came to this outcome at this place among the acts of its subscriber, from 1.
+/// The entries of an act that came to this outcome at this place among the acts of its subscriber, from 1. The only error
+/// is want of memory.
 pub fn entries_by(
     alloc: Global,
     place: u64,
@@ -29,17 +30,17 @@ pub fn entries_by(
             if !matches!(outcome, Outcome::Added) {
                 return Ok(Vec::new(alloc));
             }
-            Ok(vec![in alloc; credited(place, act.moment, top_up)]?)
+            Ok(vec![in alloc; top_up_entry(place, act.moment, top_up)]?)
         }
         Kind::Event(event) => match charged_units(event, outcome) {
             None => Ok(Vec::new(alloc)),
-            Some(grant) => Ok(vec![in alloc; debited(place, act.moment, event, &grant)?]?),
+            Some(grant) => Ok(vec![in alloc; debit_entry(place, act.moment, event, &grant)?]?),
         },
     }
 }
 
 /// A top-up's entry.
-fn credited(place: u64, moment: Moment, top_up: &TopUp) -> Entry
+fn top_up_entry(place: u64, moment: Moment, top_up: &TopUp) -> Entry
     ensures { result ≡ top_up_entry place moment top_up.now }
 {
     Entry {
@@ -54,7 +55,7 @@ fn credited(place: u64, moment: Moment, top_up: &TopUp) -> Entry
 }
 
 /// A direct debit's entry.
-fn debited(
+fn debit_entry(
     place: u64,
     moment: Moment,
     event: &OneTimeEvent,
@@ -81,7 +82,7 @@ pub(crate) fn charged_units(event: &OneTimeEvent, outcome: &Outcome) -> Option<G
         return None;
     }
     match event.action {
-        Action::DirectDebiting => units_asked(&event.service),
+        Action::DirectDebiting => asked_units(&event.service),
     }
 }
 

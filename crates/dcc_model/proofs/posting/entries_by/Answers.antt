@@ -15,4 +15,4 @@ pub returns-in_ok-vec-in-Some : goal.returns-in_ok-vec-in-Some
 returns-in_ok-vec-in-Some c =
     λ terms past.
     let entered : Option Grant → List Entry = λ charged. option_map_or (λ grant. debit_entry c.args.place c.args.act.now.moment c.in-Event.event grant ∷ []) charged [] in
-    rw c.in-Event.is (c.in_ok-vec-in-Some.ensures.items ∙ ap (λ (entry : Entry). entry ∷ []) c.in_ok-debited-in-Some.ensures ∙ ap entered (c.in-Some.ensures terms past))
+    rw c.in-Event.is (c.in_ok-vec-in-Some.ensures.items ∙ ap (λ (entry : Entry). entry ∷ []) c.in_ok-debit_entry-in-Some.ensures ∙ ap entered (c.in-Some.ensures terms past))

@@ -4,8 +4,8 @@ use Rattle.dcc_model.specs.declared.done.Done.{Done}
 use Rattle.dcc_model.specs.Outcomes.{outcome_of, first_of}
 use Rattle.dcc_account.specs.inner.Kept.{past_of}
 use Rattle.dcc_account.proofs.Pasts.{past_more, first_here, first_there}
-use Rattle.dcc_account.proofs.walk.outcome_of.Goals as goal
-use Rattle.dcc_account.proofs.walk.outcome_of.Goals.{then-is_same_key, else-is_same_key}
+use Rattle.dcc_account.proofs.walk.outcome_of_key.Goals as goal
+use Rattle.dcc_account.proofs.walk.outcome_of_key.Goals.{then-is_same_key, else-is_same_key}
 
 pub loop-i-preserved : goal.loop-i-preserved
 loop-i-preserved c =
