@@ -1,7 +1,7 @@
 pub mod ServiceSizes
 pub mod Appended
 pub mod Messages
+pub mod Refusals
 pub mod Spelled
-pub mod ReadBack
 pub mod SlotLemmas
 pub mod Sessions

@@ -2,6 +2,7 @@
 use Rattle.std.proofs.Common.{◌≡◌, ℕ, ◌+◌, ◌*◌, ◌≤◌, List, [], ◌∷◌, length, arith}
 use Rattle.std.specs.List.{sum_by}
 use Rattle.std.proofs.lemmas.List.Sums.{sum_by-cons}
+use Rattle.dcc_act.specs.declared.limits.TheConstants.{MAX_IDS}
 use Rattle.dcc_act.specs.Answers.{AreAnswers}
 use Rattle.dcc_act.specs.declared.outcome.ServiceAnswer.{ServiceAnswer}
 
@@ -23,5 +24,5 @@ pub most_of_answers : (services : List ServiceAnswer) → AreAnswers services �
 most_of_answers services h =
     let all = sum_of_most services in
     let few = h.few in
-    let ids : sum_by ids_of services ≤ 5460 = h.few_ids in
+    let ids : sum_by ids_of services ≤ MAX_IDS = h.few_ids in
     omega arith

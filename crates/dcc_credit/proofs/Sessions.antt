@@ -6,8 +6,8 @@ use Rattle.std.proofs.lemmas.Bool.{cases_Bool, and_parts}
 use Rattle.dcc_octets.specs.Names.{is_short}
 use Rattle.dcc_avp.specs.Spelling.{AvpView, has_code}
 use Rattle.dcc_avp.specs.declared.codes.TheConstants.{SESSION_ID}
-use Rattle.dcc_credit.specs.Requests.{only, data_of, the, is_of, are_of, where_}
-use Rattle.dcc_credit.specs.Answers.{session_of}
+use Rattle.dcc_credit.specs.Requests.{only, data_of, the, is_of, are_of}
+use Rattle.dcc_answer.specs.Sessions.{session_named, session_of}
 
 only_head : {X : Type 0} (x : X) (xs : List X) (v : X) → only (x ∷ xs) ≡ Some v → x ≡ v
 only_head x [] v is = cc
@@ -28,11 +28,11 @@ first_is_only codes (avp ∷ avps) v are is =
     ]
 
 taken_over : (found : Option AvpView) (v : List ℕ) → is_short v ≡ true → option_map (λ (avp : AvpView). avp.value) found ≡ Some v
-    → option_and_then (λ (avp : AvpView). where_ (is_short avp.value) avp.value) found ≡ Some v
+    → option_and_then (λ (avp : AvpView). session_named avp.value) found ≡ Some v
 taken_over None v short is = absurd cc
 taken_over (Some avp) v short is =
     let e : avp.value ≡ v = cc in
-    ap (λ (x : List ℕ). where_ (is_short x) x) e ∙ rw short refl
+    ap session_named e ∙ rw short refl
 
 pub session_of-only : (codes : List ℕ) (avps : List AvpView) (v : List ℕ) → are_of codes avps ≡ true → the SESSION_ID avps ≡ Some v → is_short v ≡ true → session_of avps ≡ Some v
 unfolding session_of

@@ -1,23 +1,24 @@
--- Each AVP of an answer has a spelling, and the octets of AVPs are whole words.
+-- Each AVP of an answer has a spelling.
 use Rattle.std.proofs.Common.{◌≡◌, ℕ, ◌+◌, ◌-◌, ◌*◌, ◌%◌, ◌^◌, ◌<◌, ◌≤◌, List, [], ◌∷◌, ◌++◌, length, map, Option, Some, None, true, refl, ap, ◌∙◌, arith, lit<}
 use Rattle.std.specs.Prelude.{option_map}
 use Rattle.std.specs.Int.{w32, w64, to_be_bytes}
 use Rattle.std.specs.List.{flat_map, sum_by, AllByRecursion}
-use Rattle.std.specs.Option.{option_to_list, ForSome}
+use Rattle.std.specs.Option.{option_to_list}
 use Rattle.std.proofs.lemmas.List.{length-append}
 use Rattle.std.proofs.lemmas.List.Concat.{flat_map-append}
 use Rattle.std.proofs.lemmas.List.Sums.{sum_by-cons}
 use Rattle.std.proofs.lemmas.Bool.Decides.{nat_tests}
-use Rattle.dcc_avp.specs.Spelling.{AvpView, avp_len, padded_len, padded, HasSpelling}
+use Rattle.dcc_avp.specs.Spelling.{AvpView, padded_len, padded, HasSpelling}
 use Rattle.dcc_avp.specs.declared.codes.TheConstants.{SESSION_ID, RESULT_CODE, ORIGIN_HOST, ORIGIN_REALM, AUTH_APPLICATION_ID, CC_REQUEST_TYPE, CC_REQUEST_NUMBER, GRANTED_SERVICE_UNIT, CC_TOTAL_OCTETS, CC_TIME, CC_SERVICE_SPECIFIC_UNITS, MULTIPLE_SERVICES_CREDIT_CONTROL, SERVICE_IDENTIFIER, RATING_GROUP}
 use Rattle.dcc_octets.specs.Names.{is_name, is_short}
 use Rattle.dcc_message.specs.declared.applications.TheConstants.{CREDIT_CONTROL}
-use Rattle.dcc_credit.specs.declared.result_codes.TheConstants.{TOO_BUSY, USER_UNKNOWN}
+use Rattle.dcc_credit.specs.declared.answer.TheConstants.{USER_UNKNOWN}
 use Rattle.dcc_credit.specs.inner.Limits.{IsAnswerable}
 use Rattle.dcc_message.specs.declared.identity.Identity.{Identity}
 use Rattle.dcc_tariff.specs.Terms.{TermsView}
 use Rattle.dcc_tariff.specs.declared.tariff.UnitKind.{UnitKind}
 use Rattle.dcc_tariff.specs.declared.tariff.UnitKind.TheVariants.{Octets, Time, Units}
+use Rattle.dcc_act.specs.declared.limits.TheConstants.{MAX_IDS}
 use Rattle.dcc_act.specs.declared.grant.Grant.{Grant}
 use Rattle.dcc_act.specs.declared.outcome.Outcome.{Outcome}
 use Rattle.dcc_act.specs.declared.outcome.Outcome.TheVariants.{Unknown, Answered, Added, Ceiling}
@@ -27,7 +28,9 @@ use Rattle.dcc_act.specs.declared.request_key.RequestKey.{RequestKey}
 use Rattle.dcc_act.specs.declared.service.Form.{Form}
 use Rattle.dcc_act.specs.declared.service.Form.TheVariants.{Single, Multi}
 use Rattle.dcc_act.specs.Numbers.{request_type_number, result_number}
-use Rattle.dcc_credit.specs.Answers.{sent, sent32, sent64, amount_avp, granted, service_parts, service_avps, head_avps, answer_avps, busy_avps, IsServer, HasLimits}
+use Rattle.dcc_answer.specs.Avps.{sent, sent32, sent64}
+use Rattle.dcc_answer.specs.Answers.{IsServer}
+use Rattle.dcc_credit.specs.Answers.{amount_avp, granted, service_parts, service_avps, head_avps, answer_avps, HasLimits}
 use Rattle.dcc_credit.proofs.ServiceSizes.{ids_of}
 
 abbrev pub AllSpelled : List AvpView → Type 0
@@ -39,21 +42,8 @@ AllSpelled avps = AllByRecursion HasSpelling avps
 abbrev pub AreSizes : Type 0
 AreSizes = (avp : AvpView) → HasSpelling avp → length (padded avp) ≡ padded_len avp
 
-rounded : (n : ℕ) → (n + (4 - n % 4) % 4) % 4 ≡ 0
-rounded n = omega arith
-
 rounded_few : (n : ℕ) → n + (4 - n % 4) % 4 ≤ n + 3
 rounded_few n = omega arith
-
--- the octets of AVPs are whole words
-pub whole_words : AreSizes → (avps : List AvpView) → AllSpelled avps → length (flat_map padded avps) % 4 ≡ 0
-whole_words sizes [] h = refl
-whole_words sizes (avp ∷ avps) h =
-    let size = sizes avp h.0 in
-    let whole = rounded (avp_len avp) in
-    let others = whole_words sizes avps h.1 in
-    let parts : length (padded avp ++ flat_map padded avps) ≡ length (padded avp) + length (flat_map padded avps) = length-append (padded avp) (flat_map padded avps) in
-    omega arith
 
 -- ---- AVPs that are sent
 
@@ -61,7 +51,7 @@ pub sent_spelled : (code : ℕ) (value : List ℕ) → code < 2 ^ 32 → 8 + len
 sent_spelled code value small few =
     record { is_avp = record { code = small; flags = lit< tt; vendor = tt; flagged = refl }; length = few }
 
-sent32_spelled : (code n : ℕ) → code < 2 ^ 32 → HasSpelling (sent32 code n)
+pub sent32_spelled : (code n : ℕ) → code < 2 ^ 32 → HasSpelling (sent32 code n)
 sent32_spelled code n small = sent_spelled code (to_be_bytes w32 n) small (lit< tt)
 
 sent64_spelled : (code n : ℕ) → code < 2 ^ 32 → HasSpelling (sent64 code n)
@@ -151,27 +141,27 @@ parts_take sizes service =
     (both_take grant ids 30 (15 * length service.ids) (grant_takes sizes service.grant) (ids_take sizes service.ids)) (group_takes sizes service.group))
     (sent32_takes sizes RESULT_CODE code (lit< tt))
 
-service_spelled : AreSizes → (form : Form) (service : ServiceAnswer) → length service.ids ≤ 5460 → AllSpelled (service_avps form service)
+service_spelled : AreSizes → (form : Form) (service : ServiceAnswer) → length service.ids ≤ MAX_IDS → AllSpelled (service_avps form service)
 service_spelled sizes Single service few = (grant_takes sizes service.grant).spelled
 service_spelled sizes Multi service few =
     let parts = parts_take sizes service in
     let size = parts.few in
     (sent_spelled MULTIPLE_SERVICES_CREDIT_CONTROL (flat_map padded (service_parts service)) (lit< tt) (omega arith), tt)
 
-services_spelled : AreSizes → (services : List ServiceAnswer) → sum_by ids_of services ≤ 5460 → AllSpelled (flat_map (λ service. service_avps service.form service) services)
+services_spelled : AreSizes → (services : List ServiceAnswer) → sum_by ids_of services ≤ MAX_IDS → AllSpelled (flat_map (λ service. service_avps service.form service) services)
 services_spelled sizes [] few = tt
 services_spelled sizes (service ∷ services) few =
     let all = sum_by-cons ids_of service services in
-    let here : length service.ids ≤ 5460 = omega arith in
+    let here : length service.ids ≤ MAX_IDS = omega arith in
     append_spelled (service_avps service.form service) (flat_map (λ service. service_avps service.form service) services)
     (service_spelled sizes service.form service here) (services_spelled sizes services (omega arith))
 
 -- ---- answers
 
-few_octets : (octets : List ℕ) → is_short octets ≡ true → length octets ≤ 255
+pub few_octets : (octets : List ℕ) → is_short octets ≡ true → length octets ≤ 255
 few_octets octets h = grind (arith, nat_tests)
 
-few_of : (name : List ℕ) → is_name name ≡ true → length name ≤ 255
+pub few_of : (name : List ℕ) → is_name name ≡ true → length name ≤ 255
 few_of name h = grind (arith, nat_tests)
 
 head_spelled : (identity : Identity) (type : RequestType) (key : RequestKey) (code : ℕ) → IsServer identity → length key.sid ≤ 255 → AllSpelled (head_avps identity type key code)
@@ -196,10 +186,10 @@ head_spelled identity type key code server few =
 
 pub answer_spelled : AreSizes → (identity : Identity) (terms : TermsView) (outcome : Outcome) → IsAnswerable identity outcome → AllSpelled (answer_avps identity terms outcome)
 unfolding answer_avps
-answer_spelled sizes identity terms (Unknown type key) limits = head_spelled identity type key USER_UNKNOWN limits.0 limits.1.not_long
+answer_spelled sizes identity terms (Unknown type key) limits = head_spelled identity type key USER_UNKNOWN limits.0 (few_octets _ limits.1)
 answer_spelled sizes identity terms (Answered answer) limits =
     append_spelled (head_avps identity answer.request answer.key (result_number answer.result)) (flat_map (λ service. service_avps service.form service) answer.services)
-    (head_spelled identity answer.request answer.key (result_number answer.result) limits.0 limits.1.not_long)
+    (head_spelled identity answer.request answer.key (result_number answer.result) limits.0 (few_octets _ limits.1))
     (services_spelled sizes answer.services limits.2.few_ids)
 answer_spelled sizes identity terms Added limits = tt
 answer_spelled sizes identity terms Ceiling limits = tt
@@ -209,17 +199,3 @@ answerable identity (Unknown type key) server limits = (server, limits)
 answerable identity (Answered answer) server limits = (server, limits.0, limits.1)
 answerable identity Added server limits = tt
 answerable identity Ceiling server limits = tt
-
-rest_spelled : (identity : Identity) → IsServer identity → AllSpelled (sent32 RESULT_CODE TOO_BUSY ∷ sent ORIGIN_HOST identity.host ∷ sent ORIGIN_REALM identity.realm ∷ [])
-rest_spelled identity server =
-    let host = few_of identity.host server.host in
-    let realm = few_of identity.realm server.realm in (
-      sent32_spelled RESULT_CODE TOO_BUSY (lit< tt),
-      (sent_spelled ORIGIN_HOST identity.host (lit< tt) (omega arith), (sent_spelled ORIGIN_REALM identity.realm (lit< tt) (omega arith), tt)),
-    )
-
-pub busy_spelled : (identity : Identity) (session : Option (List ℕ)) → IsServer identity → ForSome session (λ octets. is_short octets ≡ true) → AllSpelled (busy_avps identity session)
-busy_spelled identity None server few = rest_spelled identity server
-busy_spelled identity (Some octets) server few =
-    let short = few_octets octets (few octets refl) in
-    (sent_spelled SESSION_ID octets (lit< tt) (omega arith), rest_spelled identity server)

@@ -1,3 +1,4 @@
 pub mod Requests
 pub mod Answers
+pub mod Refusals
 pub mod inner

@@ -1,14 +1,15 @@
 //! From a request to the act that it asks for.
 
-ghost use Rattle.std.specs.Prelude.{◌≡◌, ◌≤◌, ◌<◌, ◌^◌, true, Some, is_some, is_none, IfOk};
+ghost use Rattle.std.specs.Prelude.{◌≡◌, ◌≤◌, true, Some, is_some, is_none, IfOk};
 ghost use Rattle.dcc_tariff.specs.declared.tariff.UnitKind.TheVariants.{Time as Seconds};
 ghost use Rattle.dcc_credit.specs.Requests.{RequestView, is_askable, asked_in, service_of, act_of};
 
 use crate::request::Request;
 use dcc_act::{
-    Act, Action, Form, Kind, Moment, OneTimeEvent, RequestKey, Service, ServiceIds, SessionId,
+    Act, Action, Form, Kind, MAX_SECONDS, Moment, OneTimeEvent, RequestKey, Service, ServiceIds,
+    SessionId,
 };
-use dcc_tariff::{Plan, UnitKind};
+use dcc_tariff::{MAX_UNITS, Plan, UnitKind};
 use std::alloc::{AllocError, Global};
 
 /// The act that a request asks for at a moment: a direct debit (RFC 8506, section 6.3) of a service that names no
@@ -67,9 +68,9 @@ fn service_of(alloc: Global, plan: &Plan, request: &Request<'_>, moment: Moment)
 fn asked_in(unit: Option<UnitKind>, octets: u64) -> u64
     requires { is_askable octets ≡ true }
     ensures value { result ≡ asked_in unit octets }
-    ensures in_range { result ≤ 10 ^ 12 }
+    ensures in_range { result ≤ MAX_UNITS }
     ensures some { is_some unit ≡ true → 1 ≤ result }
-    ensures short { unit ≡ Some Seconds → result < 2 ^ 32 }
+    ensures short { unit ≡ Some Seconds → result ≤ MAX_SECONDS }
     ensures none { is_none unit ≡ true → result ≡ 0 }
 {
     match unit {

@@ -1,28 +1,26 @@
 //! The answer to a request.
 
-ghost use Rattle.std.specs.Prelude.{◌≡◌, ◌≤◌, ◌+◌, ◌*◌, ◌<◌, ◌%◌, ◌^◌, ◌++◌, false, length, drop, vec_len, IfOk, OnOk};
+ghost use Rattle.std.specs.Prelude.{◌≡◌, ◌≤◌, ◌++◌, true, false, length, vec_len, IfOk, OnOk};
 ghost use Rattle.std.specs.List.{flat_map};
+ghost use Rattle.dcc_octets.specs.Names.{is_short};
 ghost use Rattle.dcc_avp.specs.Spelling.{padded};
-ghost use Rattle.dcc_message.specs.Headers.{message};
-ghost use Rattle.dcc_credit.specs.Answers.{head_avps, answer_avps, answer_header as header_of_answer, answer_octets, is_busy, IsServer, SpellProxies};
-ghost use Rattle.dcc_act.specs.Limits.{IsSessionId};
+ghost use Rattle.dcc_answer.specs.Answers.{IsServer};
+ghost use Rattle.dcc_answer.specs.Proxies.{SpellProxies};
+ghost use Rattle.dcc_answer.specs.Results.{is_busy};
+ghost use Rattle.dcc_answer.specs.Sizes.{Grows};
+ghost use Rattle.dcc_credit.specs.Answers.{head_avps, answer_avps, answer_octets};
 ghost use Rattle.dcc_credit.specs.inner.Limits.{IsAnswerable};
-ghost use Rattle.dcc_credit.specs.inner.Sizes.{Grows};
 
-use crate::proxies::Proxies;
-use crate::put::{put, put_u32};
-use crate::result_codes::USER_UNKNOWN;
 use crate::services::put_services;
 use dcc_act::{Outcome, RequestKey, RequestType};
+use dcc_answer::{MAX_OWN, Proxies, begin_answer, busy_by_result, finish_answer, put, put_u32};
 use dcc_avp::codes;
-use dcc_message::{
-    HEADER_LENGTH, Header, Identity, applications, begin_message, command_flags, finish_message,
-};
+use dcc_message::{HEADER_LENGTH, Header, Identity, applications};
 use dcc_tariff::Terms;
 use std::alloc::{AllocError, Global};
 
-/// The octets that are taken for an answer at first, which most answers fit.
-pub(crate) const ROOM: usize = 256;
+/// DIAMETER_USER_UNKNOWN (RFC 8506, section 9.2): there is no account.
+pub const USER_UNKNOWN: u32 = 5030;
 
 /// Writes the answer of an outcome to a request, under the request's identifiers and P bit, with its Proxy-Info at the
 /// end. It is no busy answer. At want of memory there is no message.
@@ -39,6 +37,7 @@ pub fn write_cca(
     ensures some { IfOk result (λ answer. HEADER_LENGTH ≤ length answer.items) }
 {
     dcc_avp::read_back();
+    busy_by_result();
     answer_within(alloc, identity, terms, request, proxies, outcome)
 }
 
@@ -56,42 +55,9 @@ fn answer_within(
     ensures limits { OnOk result (IsAnswerable identity.now outcome.now) }
     ensures spelled { OnOk result (SpellProxies proxies.now) }
 {
-    let mut answer = begin_message(alloc, ROOM)?;
+    let mut answer = begin_answer(alloc)?;
     put_answer(&mut answer, identity, terms, outcome)?;
-    finished(answer, request, 0, proxies)
-}
-
-/// The message of AVPs that stand behind room for a header, and of a request's proxies, under the request's header with
-/// these bits.
-#[tactic(auto, using(crate::proofs::Appended::behind_header))]
-pub(crate) fn finished(
-    mut begun: Vec<u8>,
-    request: &Header,
-    bits: u8,
-    proxies: &Proxies,
-) -> Result<Vec<u8>, AllocError>
-    requires { Grows 20 (vec_len begun) 100_000 }
-    ensures octets { IfOk result (λ answer. answer.items
-        ≡ message (header_of_answer request.now bits) (drop 20 begun.items ++ proxies.now)) }
-    ensures spelled { SpellProxies proxies.now }
-{
-    begun.extend_from_slice(proxies.as_slice())?;
-    finish_message(&mut begun, &answer_header(request, bits));
-    Ok(begun)
-}
-
-/// The header of an answer: of the request's flags P alone, and these bits.
-fn answer_header(request: &Header, bits: u8) -> Header
-    ensures { result ≡ header_of_answer request.now bits }
-{
-    Header {
-        length: request.length,
-        flags: request.flags & command_flags::PROXIABLE | bits,
-        code: request.code,
-        app: request.app,
-        hop: request.hop,
-        end_to_end: request.end_to_end,
-    }
+    finish_answer(answer, request, 0, proxies)
 }
 
 /// Appends the AVPs of an answer.
@@ -104,7 +70,7 @@ fn put_answer(
 ) -> Result<(), AllocError>
     ensures ok { OnOk result (out.new.items ≡ out.old.items ++ flat_map padded (answer_avps identity.now _terms.now outcome.now)) }
     ensures limits { OnOk result (IsAnswerable identity.now outcome.now) }
-    ensures grows { OnOk result (Grows (vec_len out.old) (vec_len out.new) 100_000) }
+    ensures grows { OnOk result (Grows (vec_len out.old) (vec_len out.new) MAX_OWN) }
 {
     match outcome {
         Outcome::Unknown { request, key } => put_head(out, identity, *request, key, USER_UNKNOWN),
@@ -132,7 +98,7 @@ fn put_head(
 ) -> Result<(), AllocError>
     ensures ok { OnOk result (out.new.items ≡ out.old.items ++ flat_map padded (head_avps identity.now request key.now code)) }
     ensures server { OnOk result (IsServer identity.now) }
-    ensures session { OnOk result (IsSessionId key.now.sid) }
+    ensures session { OnOk result (is_short key.now.sid ≡ true) }
     ensures grows { OnOk result (Grows (vec_len out.old) (vec_len out.new) 900) }
 {
     put(out, codes::SESSION_ID, key.sid.as_slice())?;

@@ -7,11 +7,12 @@ ghost use Rattle.dcc_avp.specs.Spelling.{padded};
 ghost use Rattle.dcc_avp.specs.declared.codes.TheConstants.{SERVICE_IDENTIFIER, MULTIPLE_SERVICES_CREDIT_CONTROL};
 ghost use Rattle.dcc_tariff.specs.declared.tariff.UnitKind.TheVariants.{Time as Seconds};
 ghost use Rattle.dcc_act.specs.Answers.{AreAnswers};
-ghost use Rattle.dcc_credit.specs.Answers.{amount_avp, granted, grouped, sent32, service_parts, service_avps};
-ghost use Rattle.dcc_credit.specs.inner.Sizes.{Grows};
+ghost use Rattle.dcc_credit.specs.Answers.{amount_avp, granted, service_parts, service_avps};
+ghost use Rattle.dcc_answer.specs.Avps.{grouped, sent32};
+ghost use Rattle.dcc_answer.specs.Sizes.{Grows};
 
-use crate::put::{put_u32, put_u64};
-use dcc_act::{Form, Grant, ServiceAnswer, ServiceAnswers};
+use dcc_act::{Form, Grant, MAX_IDS, ServiceAnswer, ServiceAnswers};
+use dcc_answer::{put_u32, put_u64};
 use dcc_avp::{begin_group, codes, end_group, flags};
 use dcc_tariff::UnitKind;
 use std::alloc::AllocError;
@@ -31,7 +32,7 @@ pub(crate) fn put_services(out: &mut Vec<u8>, services: &ServiceAnswers) -> Resu
 
 /// Appends one service: at the message's level its grant alone, else a group of its own.
 fn put_service(out: &mut Vec<u8>, service: &ServiceAnswer) -> Result<(), AllocError>
-    requires { length service.now.ids ≤ 5460 }
+    requires { length service.now.ids ≤ MAX_IDS }
     ensures ok { OnOk result (out.new.items ≡ out.old.items ++ flat_map padded (service_avps service.now.form service.now)) }
     ensures grows { OnOk result (Grows (vec_len out.old) (vec_len out.new) (100 + 15 * length service.now.ids)) }
 {
@@ -43,7 +44,7 @@ fn put_service(out: &mut Vec<u8>, service: &ServiceAnswer) -> Result<(), AllocEr
 
 /// Appends a service's group (RFC 8506, section 8.16).
 fn put_group(out: &mut Vec<u8>, service: &ServiceAnswer) -> Result<(), AllocError>
-    requires { length service.now.ids ≤ 5460 }
+    requires { length service.now.ids ≤ MAX_IDS }
     ensures ok { OnOk result (out.new.items
         ≡ out.old.items ++ padded (grouped MULTIPLE_SERVICES_CREDIT_CONTROL (service_parts service.now))) }
     ensures grows { OnOk result (Grows (vec_len out.old) (vec_len out.new) (100 + 15 * length service.now.ids)) }

@@ -2,4 +2,5 @@
 
 mod answers;
 mod octets;
+mod refusals;
 mod requests;

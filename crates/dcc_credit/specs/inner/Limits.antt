@@ -5,9 +5,8 @@ use Rattle.dcc_message.specs.declared.identity.Identity.{Identity}
 use Rattle.dcc_act.specs.declared.outcome.Outcome.{Outcome}
 use Rattle.dcc_act.specs.declared.outcome.Outcome.TheVariants.{Unknown, Answered, Added, Ceiling}
 use Rattle.dcc_act.specs.Answers.{AreAnswers}
-use Rattle.dcc_act.specs.Limits.{IsSessionId}
 use Rattle.dcc_credit.specs.Requests.{is_askable}
-use Rattle.dcc_credit.specs.Answers.{IsServer}
+use Rattle.dcc_answer.specs.Answers.{IsServer}
 
 -- what holds of every request
 pub record IsRequest (session : List ℕ) (octets : ℕ) : Type 0 where
@@ -16,7 +15,7 @@ pub record IsRequest (session : List ℕ) (octets : ℕ) : Type 0 where
 
 -- what an answer holds is within its limits; a top-up's has nothing
 abbrev pub IsAnswerable : Identity → Outcome → Type 0
-IsAnswerable identity (Unknown type key) = IsServer identity × IsSessionId key.sid
-IsAnswerable identity (Answered answer) = IsServer identity × IsSessionId answer.key.sid × AreAnswers answer.services
+IsAnswerable identity (Unknown type key) = IsServer identity × (is_short key.sid ≡ true)
+IsAnswerable identity (Answered answer) = IsServer identity × (is_short answer.key.sid ≡ true) × AreAnswers answer.services
 IsAnswerable identity Added = Unit {0}
 IsAnswerable identity Ceiling = Unit {0}

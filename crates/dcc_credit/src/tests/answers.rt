@@ -1,11 +1,12 @@
-use super::octets::{COPIED, PROXIES, decoded, edited, header, identity, list_in};
-use crate::{Proxies, Session, read_ccr, session_id, write_busy, write_cca};
+use super::octets::{decoded, edited, header, identity, list_in};
+use crate::{lend_session, read_ccr, write_cca};
 use dcc_act::{
     Answer, Form, Grant, Outcome, RequestKey, RequestType, ResultCode, ServiceAnswer,
     ServiceAnswers, ServiceIds, SessionId,
 };
+use dcc_answer::{Proxies, session_id, write_busy};
 use dcc_avp::read_list;
-use dcc_samples::{ANSWER, BUSY, DEBIT, PROXY_INFO};
+use dcc_samples::{ANSWER, COPIED_PROXIES, DEBIT, PROXIES, PROXY_INFO};
 use dcc_tariff::{Tariff, Terms, UnitKind};
 use std::alloc::Global;
 use std::process::Abort;
@@ -124,7 +125,9 @@ fn refused(rt: HostRuntime) -> Result<(), Fail> {
     let want = format!(in alloc; "0100008040{SESSION}0000010c4000000c00000fac{MIDDLE}")?;
     check(&rt, 0xc0, "", &little, want.as_str())?;
     let unrated = outcome(alloc, Form::Single, ResultCode::RatingFailed, None)?;
-    let want = format!(in alloc; "010000a800{SESSION}0000010c4000000c000013a7{MIDDLE}{COPIED}")?;
+    let want = format!(in alloc;
+        "010000a800{SESSION}0000010c4000000c000013a7{MIDDLE}{COPIED_PROXIES}"
+    )?;
     check(&rt, 0x80, PROXIES, &unrated, want.as_str())
 }
 
@@ -136,7 +139,9 @@ fn unknown(rt: HostRuntime) -> Result<(), Fail> {
         request,
         key: key(alloc)?,
     };
-    let want = format!(in alloc; "010000a840{SESSION}0000010c4000000c000013a6{MIDDLE}{COPIED}")?;
+    let want = format!(in alloc;
+        "010000a840{SESSION}0000010c4000000c000013a6{MIDDLE}{COPIED_PROXIES}"
+    )?;
     check(&rt, 0xc0, PROXIES, &nobody, want.as_str())
 }
 
@@ -149,50 +154,6 @@ fn granted_in_a_group(rt: HostRuntime) -> Result<(), Fail> {
 000001b74000000c00000007000001b74000000c00000001000001b04000000c0000000a0000010c4000000c000007d1";
     let want = format!(in alloc; "010000d040{SESSION}0000010c4000000c000007d1{MIDDLE}{group}")?;
     check(&rt, 0xc0, "", &service, want.as_str())
-}
-
-/// Compares the busy answer to a request with these flags.
-fn check_busy(
-    rt: &(impl Abort + AllocGlobal),
-    flags: u8,
-    request: &str,
-    want: &str,
-) -> Result<(), Fail> {
-    let identity = identity(rt.alloc())?;
-    let octets = list_in(rt.alloc(), request)?;
-    assert!(rt; octets.len() <= 65_512);
-    let avps = read_list(rt.alloc(), &octets)?;
-    let copied = Proxies::of(rt.alloc(), &avps)?;
-    let busy = write_busy(
-        rt.alloc(),
-        &identity,
-        session_id(&avps),
-        &header(flags),
-        &copied,
-    )?;
-    let text = hex::encode(rt.alloc(), &busy)?;
-    assert_eq!(rt; text.as_str(), want);
-    Ok(())
-}
-
-#[test]
-fn busy(rt: HostRuntime) -> Result<(), Fail> {
-    let alloc = rt.alloc();
-    check_busy(&rt, 0xc0, DEBIT, BUSY)?;
-    let request = format!(in alloc; "{DEBIT}{PROXIES}")?;
-    let want = format!(in alloc;
-        "0100008420{SESSION}0000010c4000000c00000bbc00000108400000136f63732e6578616d706c6500000001284000000f6578616d706c6500{COPIED}"
-    )?;
-    check_busy(&rt, 0x80, request.as_str(), want.as_str())?;
-    let nameless = "0100004460000110000000040000001100000021\
-0000010c4000000c00000bbc00000108400000136f63732e6578616d706c6500000001284000000f6578616d706c6500";
-    let empty = edited(
-        alloc,
-        DEBIT,
-        "00000107400000176777312e6578616d706c653b313b3100",
-        "0000010740000008",
-    )?;
-    check_busy(&rt, 0xd0, empty.as_str(), nameless)
 }
 
 /// The longest name of a session is read and answered, and so is a message that is filled with proxies.
@@ -222,7 +183,7 @@ fn greatest_requests(rt: HostRuntime) -> Result<(), Fail> {
     assert_eq!(rt; session.as_slice(), sid.as_slice());
     let copied = Proxies::of(alloc, &avps)?;
     let identity = identity(alloc)?;
-    let of_name = Some(Session::of(&sid));
+    let of_name = Some(lend_session(&sid));
     let busy = write_busy(alloc, &identity, of_name, &header(0xc0), &copied)?;
     assert_eq!(rt; busy.len(), 332 + 65_052);
     let outcome = Outcome::Unknown {
@@ -235,9 +196,4 @@ fn greatest_requests(rt: HostRuntime) -> Result<(), Fail> {
     assert_eq!(rt; answer.get(368..), octets.get(448..));
     assert_eq!(rt; busy.get(332..), octets.get(448..));
     Ok(())
-}
-
-#[test]
-fn no_proxies(rt: HostRuntime) {
-    assert!(rt; Proxies::none(rt.alloc()).as_slice().is_empty());
 }

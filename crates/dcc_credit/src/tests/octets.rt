@@ -4,14 +4,6 @@ use dcc_message::{DiameterIdentity, Header, Identity, applications, commands};
 use std::alloc::Global;
 use std::test::Fail;
 
-/// Two Proxy-Info, the first with padding that isn't zero, and between them one of a vendor.
-pub(crate) const PROXIES: &str = "0000011c4000001d000001184000000a70310000000000214000000961ffffff\
-0000011c8000000c000028af0000011c00000008";
-
-/// How an answer copies them.
-pub(crate) const COPIED: &str =
-    "0000011c4000001d000001184000000a703100000000002140000009610000000000011c00000008";
-
 /// The header of a message with these flags.
 pub(crate) fn header(flags: u8) -> Header {
     Header {

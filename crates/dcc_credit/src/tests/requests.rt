@@ -1,9 +1,9 @@
-use super::octets::{PROXIES, edited, header, list_in};
+use super::octets::{edited, header, list_in};
 use crate::{CcrFault, read_ccr, subscriber, to_act};
 use dcc_act::{Act, Action, Form, Kind, Moment};
 use dcc_avp::read_list;
 use dcc_message::{Header, applications, commands};
-use dcc_samples::{DEBIT, PLAN};
+use dcc_samples::{DEBIT, PLAN, PROXIES};
 use dcc_tariff::{Plan, Tariff, UnitKind};
 use std::alloc::Global;
 use std::process::Abort;

@@ -2,8 +2,8 @@ use Rattle.std.proofs.Common.{◌≡◌, ◌++◌, ◌*◌, drop, map, vec_len}
 use Rattle.std.specs.List.{flat_map}
 use Rattle.dcc_avp.specs.Spelling.{padded}
 use Rattle.dcc_avp.specs.declared.codes.TheConstants.{SERVICE_IDENTIFIER}
-use Rattle.dcc_credit.specs.Answers.{sent32}
-use Rattle.dcc_credit.specs.inner.Sizes.{Grows}
+use Rattle.dcc_answer.specs.Avps.{sent32}
+use Rattle.dcc_answer.specs.Sizes.{Grows}
 use Rattle.dcc_credit.proofs.services.put_identifiers.Given as goal
 
 abbrev pub invariant-loop-id : goal.invariant-loop-id

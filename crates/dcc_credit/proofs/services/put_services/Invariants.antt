@@ -2,7 +2,7 @@ use Rattle.std.proofs.Common.{◌≡◌, ◌++◌, drop, take, vec_len}
 use Rattle.std.specs.List.{flat_map, sum_by}
 use Rattle.dcc_avp.specs.Spelling.{padded}
 use Rattle.dcc_credit.specs.Answers.{service_avps}
-use Rattle.dcc_credit.specs.inner.Sizes.{Grows}
+use Rattle.dcc_answer.specs.Sizes.{Grows}
 use Rattle.dcc_credit.proofs.ServiceSizes.{most_of}
 use Rattle.dcc_credit.proofs.services.put_services.Given as goal
 
