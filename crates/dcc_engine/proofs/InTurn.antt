@@ -9,7 +9,7 @@ use Rattle.dcc_model.specs.Outcomes.{acts}
 use Rattle.dcc_engine.specs.Asks.{Turn, Ask, Said, ask_for, is_refused_for, own_with, moved_by, said_by}
 use Rattle.dcc_engine.specs.Engines.{EngineView, Setting}
 use Rattle.dcc_engine.specs.Isolation.{before_of, asked, own, peers, IsRun, Follows, with_own, asks_after, answers_after, own_asks, answers}
-use Rattle.dcc_engine.specs.inner.Done.{IsNext}
+use Rattle.dcc_engine.specs.inner.Turns.{IsNext}
 use Rattle.dcc_engine.specs.declared.event.Out.{Out}
 use Rattle.dcc_engine.proofs.Moves.{AreStable, ask_moved, next_moved}
 use Rattle.dcc_engine.proofs.Pasts.{IsPast}

@@ -11,10 +11,10 @@ use Rattle.dcc_model.specs.Outcomes.{acts, after, place, is_new}
 use Rattle.dcc_shard.specs.Answers.{told}
 use Rattle.dcc_engine.specs.Asks.{Turn, Before, Ask, Source, Said, ask_for, received_ask, is_refused_for, IsAnsweredFor, IsOut, IsMessageOut, said_from}
 use Rattle.dcc_engine.specs.Asks.Said.{Told}
-use Rattle.dcc_engine.specs.Asks.Source.{Request, TopUp}
+use Rattle.dcc_engine.specs.Asks.Source.{Message, TopUp}
 use Rattle.dcc_engine.specs.Engines.{Setting}
 use Rattle.dcc_engine.specs.Messages.{received_on}
-use Rattle.dcc_engine.specs.inner.Done.{IsNext}
+use Rattle.dcc_engine.specs.inner.Turns.{IsNext}
 use Rattle.dcc_engine.specs.declared.event.Event.{Event}
 use Rattle.dcc_engine.specs.declared.event.Event.TheVariants as events
 use Rattle.dcc_engine.specs.declared.event.Out.{Out}
@@ -37,8 +37,8 @@ same_after stable terms act xs ys e = same_of terms (λ zs. after terms zs act) 
 
 same_said : AreStable → (setting : Setting) (act : Act) (source : Source) (xs ys : List Act) → acts setting.plan.terms xs ≡ acts setting.plan.terms ys
     → said_from setting xs act source (after setting.plan.terms xs act) ≡ said_from setting ys act source (after setting.plan.terms ys act)
-same_said stable setting act (Request message) xs ys e =
-    ap (λ (o : Outcome). said_from setting xs act (Request message) o) (same_after stable setting.plan.terms act xs ys e)
+same_said stable setting act (Message message) xs ys e =
+    ap (λ (o : Outcome). said_from setting xs act (Message message) o) (same_after stable setting.plan.terms act xs ys e)
 same_said stable setting act TopUp xs ys e =
     let terms = setting.plan.terms in
     ap (λ (o : Outcome). Told (told o (place terms xs act) (is_new terms xs act))) (same_after stable terms act xs ys e)
@@ -76,5 +76,5 @@ next_moved stable setting a b turn same alike next =
 -- what is said is by who answers and by the terms
 pub said_setting : (a b : Setting) (before : List Act) (act : Act) (source : Source) (o : Outcome) → a.identity ≡ b.identity → a.plan.terms ≡ b.plan.terms
     → said_from a before act source o ≡ said_from b before act source o
-said_setting a b before act (Request message) o identity terms = rw (identity, terms) refl
+said_setting a b before act (Message message) o identity terms = rw (identity, terms) refl
 said_setting a b before act TopUp o identity terms = rw terms refl

@@ -1,7 +1,7 @@
 -- Which octets are a refusal.
 use Rattle.std.proofs.Common.{◌≡◌, ℕ, ◌≤◌, ◌==◌, true, false, List, [], length, refl, arith}
 use Rattle.std.proofs.lemmas.Bool.{eqb-true, false_from_ne_true}
-use Rattle.dcc_credit.specs.Answers.{is_busy}
+use Rattle.dcc_answer.specs.Results.{is_busy}
 use Rattle.dcc_message.specs.declared.length.TheConstants.{HEADER_LENGTH}
 use Rattle.dcc_engine.specs.Asks.{is_refusal}
 

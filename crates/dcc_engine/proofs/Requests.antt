@@ -10,19 +10,20 @@ use Rattle.dcc_act.specs.declared.act.Act.{Act}
 use Rattle.dcc_act.specs.declared.sub.Sub.{Sub}
 use Rattle.dcc_model.specs.Outcomes.{acts, after, place, is_new}
 use Rattle.dcc_credit.specs.Requests.{RequestView, act_of}
-use Rattle.dcc_credit.specs.Answers.{answer_octets, busy_octets, is_busy}
+use Rattle.dcc_answer.specs.Answers.{busy_octets}
+use Rattle.dcc_answer.specs.Results.{is_busy}
+use Rattle.dcc_credit.specs.Answers.{answer_octets}
 use Rattle.dcc_shard.specs.Shards.{ShardView, held, held_after, AreOwn, IsStep}
 use Rattle.dcc_shard.specs.Answers.{answer_at, answer_after, busy_answer, session_of_act, IsToldApart, is_judged, octets_of}
-use Rattle.dcc_shard.specs.declared.answers.Answer.{Answer}
-use Rattle.dcc_shard.specs.declared.answers.Answer.TheVariants.{Silent}
+use Rattle.dcc_shard.specs.declared.answers.RequestAnswer.{RequestAnswer}
+use Rattle.dcc_shard.specs.declared.answers.RequestAnswer.TheVariants.{Silent}
 use Rattle.dcc_engine.specs.Asks.{Ask, request_ask, is_refusal, answer_to, busy_to, IsBusyOrNothing, IsOfNobody, out_octets, own_with, moved_by}
 use Rattle.dcc_engine.specs.Asks.Said.{Octets}
-use Rattle.dcc_engine.specs.Asks.Source.{Request}
+use Rattle.dcc_engine.specs.Asks.Source.{Message}
 use Rattle.dcc_engine.specs.Engines.{EngineView, Setting, peer_of}
 use Rattle.dcc_engine.specs.Messages as messages
-use Rattle.dcc_engine.specs.Messages.{MessageView, received_on}
-use Rattle.dcc_engine.specs.Messages.Received.{Requested}
-use Rattle.dcc_engine.specs.inner.Done.{IsJudged, IsDone, IsHandedOn, IsServed}
+use Rattle.dcc_engine.specs.Messages.{MessageView, Received, received_on}
+use Rattle.dcc_engine.specs.inner.Turns.{IsJudged, IsTurnDone, IsHandedOn, IsServed}
 use Rattle.dcc_engine.specs.declared.event.Event.TheVariants as events
 use Rattle.dcc_engine.specs.declared.event.Out.{Out}
 use Rattle.dcc_engine.specs.declared.peers.Peer.{Peer}
@@ -65,7 +66,7 @@ answer_of : (setting : Setting) (identity : Identity) (terms : TermsView) (messa
     → answer_octets identity terms message.header (messages.proxies message) (after terms before act) ≡ answer_to setting message (after setting.plan.terms before act)
 answer_of setting identity terms message before act is_one are_same = rw (is_one, are_same) refl
 
-taken_made : (setting : Setting) (old new : ShardView) (moment : ℕ) (message : MessageView) (octets : List ℕ) (request : RequestView) (answer : Answer)
+taken_made : (setting : Setting) (old new : ShardView) (moment : ℕ) (message : MessageView) (octets : List ℕ) (request : RequestView) (answer : RequestAnswer)
     → old.identity ≡ setting.identity → old.terms ≡ setting.plan.terms → IsHandedOn setting old new moment message octets request answer
     → answer ≡ answer_after old.identity old.terms message.header (messages.proxies message) (held old request.sub) (act_of setting.plan request moment)
     → IsMade setting old new moment message octets request
@@ -107,7 +108,7 @@ busy_of setting identity moment message request is_one session =
     ap (λ (s : Option (List ℕ)). busy_octets identity s message.header (messages.proxies message)) (session_is setting.plan request moment ∙ sym session)
     ∙ ap (λ (i : Identity). busy_octets i (messages.session message) message.header (messages.proxies message)) is_one
 
-taken_busy : SameAreEqual → (setting : Setting) (old new : ShardView) (moment : ℕ) (message : MessageView) (octets : List ℕ) (request : RequestView) (answer : Answer)
+taken_busy : SameAreEqual → (setting : Setting) (old new : ShardView) (moment : ℕ) (message : MessageView) (octets : List ℕ) (request : RequestView) (answer : RequestAnswer)
     → old.identity ≡ setting.identity → IsHandedOn setting old new moment message octets request answer
     → answer ≡ busy_answer old.identity message.header (messages.proxies message) (session_of_act (act_of setting.plan request moment)) → IsAway setting old new message octets
 taken_busy law setting old new moment message octets request answer identity taken is =
@@ -120,7 +121,7 @@ taken_busy law setting old new moment message octets request answer identity tak
       stays = stays_unjudged law old new (is_judged answer) request.sub (act_of setting.plan request moment) (ap is_judged is) taken.step;
     }
 
-taken_silent : SameAreEqual → (setting : Setting) (old new : ShardView) (moment : ℕ) (message : MessageView) (octets : List ℕ) (request : RequestView) (answer : Answer)
+taken_silent : SameAreEqual → (setting : Setting) (old new : ShardView) (moment : ℕ) (message : MessageView) (octets : List ℕ) (request : RequestView) (answer : RequestAnswer)
     → IsHandedOn setting old new moment message octets request answer → answer ≡ Silent → IsAway setting old new message octets
 taken_silent law setting old new moment message octets request answer taken is =
     let octets_are : octets ≡ [] = taken.octets_are ∙ ap octets_of is in
@@ -151,7 +152,7 @@ either law setting old new moment message octets identity terms (inl served) =
 
 -- whose the ask is, and that it is the request's
 request_asks : SameAreEqual → (plan : PlanView) (moment : ℕ) (message : MessageView) (request : RequestView) (sub : Sub) (ask : Ask) → request_ask plan moment message (Some request) sub ≡ Some ask
-    → (request.sub ≡ sub) × (ask ≡ record { act = act_of plan request moment; source = Request message })
+    → (request.sub ≡ sub) × (ask ≡ record { act = act_of plan request moment; source = Message message })
 request_asks law plan moment message request sub ask is =
     elim (cases_Bool (same_sub request.sub sub)) [
       | inl t ↦ (let e = rw t at is in ((law request.sub sub).0 t, cc))
@@ -159,12 +160,12 @@ request_asks law plan moment message request sub ask is =
     ]
 
 source_is : (plan : PlanView) (moment : ℕ) (message : MessageView) (request : Option RequestView) (sub : Sub) (ask : Ask) → request_ask plan moment message request sub ≡ Some ask
-    → ask.source ≡ Request message
+    → ask.source ≡ Message message
 source_is plan moment message None sub ask is = absurd cc
 source_is plan moment message (Some request) sub ask is =
     elim (cases_Bool (same_sub request.sub sub)) [
-      | inl t ↦ (let e : Some (record { act = act_of plan request moment; source = Request message }) ≡ Some ask = rw t at is in
-          let one : ask ≡ record { act = act_of plan request moment; source = Request message } = cc in ap (λ (a : Ask). a.source) one)
+      | inl t ↦ (let e : Some (record { act = act_of plan request moment; source = Message message }) ≡ Some ask = rw t at is in
+          let one : ask ≡ record { act = act_of plan request moment; source = Message message } = cc in ap (λ (a : Ask). a.source) one)
       | inr f ↦ (let e = rw f at is in absurd cc)
     ]
 
@@ -179,7 +180,7 @@ made_held law setting old new moment message octets request out sub own is made 
     ]
 
 made_judged : SameAreEqual → (setting : Setting) (peers : ℕ → Option Peer) (old new : ShardView) (id moment : ℕ) (octets : List ℕ) (message : MessageView) (given : List ℕ) (request : RequestView)
-    → ((s : Sub) → acts setting.plan.terms (held old s) ≡ held old s) → received_on (peers id) octets ≡ Requested message → IsMade setting old new moment message given request
+    → ((s : Sub) → acts setting.plan.terms (held old s) ≡ held old s) → received_on (peers id) octets ≡ Received.Message message → IsMade setting old new moment message given request
     → IsJudged setting (record { peers = peers; own = held old }) (held new) (record { event = events.Message id moment octets; out = out_octets (Some id) given })
 made_judged law setting peers old new id moment octets message given request own received made =
     let act = act_of setting.plan request moment in
@@ -211,7 +212,7 @@ refused_own plan moment message (Some request) sub out before refused =
     ]
 
 away_judged : (setting : Setting) (peers : ℕ → Option Peer) (old new : ShardView) (id moment : ℕ) (octets : List ℕ) (message : MessageView) (given : List ℕ)
-    → ((s : Sub) → acts setting.plan.terms (held old s) ≡ held old s) → received_on (peers id) octets ≡ Requested message → IsAway setting old new message given
+    → ((s : Sub) → acts setting.plan.terms (held old s) ≡ held old s) → received_on (peers id) octets ≡ Received.Message message → IsAway setting old new message given
     → IsJudged setting (record { peers = peers; own = held old }) (held new) (record { event = events.Message id moment octets; out = out_octets (Some id) given })
 away_judged setting peers old new id moment octets message given own received away =
     let out = out_octets (Some id) given in
@@ -226,7 +227,7 @@ away_judged setting peers old new id moment octets message given own received aw
     }
 
 pub served_judged : SameAreEqual → (setting : Setting) (peers : ℕ → Option Peer) (old new : ShardView) (id moment : ℕ) (octets : List ℕ) (message : MessageView) (given : List ℕ)
-    → old.identity ≡ setting.identity → old.terms ≡ setting.plan.terms → AreOwn old → received_on (peers id) octets ≡ Requested message → IsServed setting old new moment message given
+    → old.identity ≡ setting.identity → old.terms ≡ setting.plan.terms → AreOwn old → received_on (peers id) octets ≡ Received.Message message → IsServed setting old new moment message given
     → IsJudged setting (record { peers = peers; own = held old }) (held new) (record { event = events.Message id moment octets; out = out_octets (Some id) given })
 served_judged law setting peers old new id moment octets message given identity terms own received served =
     let own_acts : (s : Sub) → acts setting.plan.terms (held old s) ≡ held old s = subst (λ (t : TermsView). (s : Sub) → acts t (held old s) ≡ held old s) terms own in
@@ -241,19 +242,19 @@ left_where true peer = refl
 left_where false peer = refl
 
 -- a request leaves its peer where it is
-request_moves_nothing : (rows : ℕ → Option Peer) (id moment : ℕ) (octets : List ℕ) (message : MessageView) (out : Out) → received_on (rows id) octets ≡ Requested message
+request_moves_nothing : (rows : ℕ → Option Peer) (id moment : ℕ) (octets : List ℕ) (message : MessageView) (out : Out) → received_on (rows id) octets ≡ Received.Message message
     → (q : ℕ) → rows q ≡ moved_by q (record { event = events.Message id moment octets; out = out }) (rows q)
 request_moves_nothing rows id moment octets message out received q =
     elim (cases_Bool (id == q)) [
       | inl t ↦ (let e : id ≡ q = eqb-true id q t in
-          let here : received_on (rows q) octets ≡ Requested message = ap (λ (n : ℕ). received_on (rows n) octets) (sym e) ∙ received in
+          let here : received_on (rows q) octets ≡ Received.Message message = ap (λ (n : ℕ). received_on (rows n) octets) (sym e) ∙ received in
           rw (t, here) (sym (left_where (is_refusal out.octets) (rows q))))
       | inr f ↦ rw f refl
     ]
 
 -- one turn of a request, whose engine keeps its setting and its peers
-pub stays_put : (old : EngineView) (new : ShardView) (id moment : ℕ) (octets : List ℕ) (message : MessageView) (given : List ℕ) → received_on (peer_of old id) octets ≡ Requested message
+pub stays_put : (old : EngineView) (new : ShardView) (id moment : ℕ) (octets : List ℕ) (message : MessageView) (given : List ℕ) → received_on (peer_of old id) octets ≡ Received.Message message
     → IsJudged old.setting (record { peers = peer_of old; own = held old.shard }) (held new) (record { event = events.Message id moment octets; out = out_octets (Some id) given })
-    → IsDone old (record { setting = old.setting; peers = old.peers; shard = new }) (record { event = events.Message id moment octets; out = out_octets (Some id) given })
+    → IsTurnDone old (record { setting = old.setting; peers = old.peers; shard = new }) (record { event = events.Message id moment octets; out = out_octets (Some id) given })
 stays_put old new id moment octets message given received judged =
     record { judged = judged; peers = request_moves_nothing (peer_of old) id moment octets message (out_octets (Some id) given) received; setting = refl }

@@ -13,7 +13,7 @@ use Rattle.dcc_model.specs.Outcomes.{acts, outcome, after}
 use Rattle.dcc_engine.specs.Asks.{Turn, Ask, ask_for, is_refused_for, IsAnsweredFor, said_of, own_with, moved_by}
 use Rattle.dcc_engine.specs.Engines.{EngineView, Setting, held_of, peer_of}
 use Rattle.dcc_engine.specs.Isolation.{turns, before_of, asked, own, entry_place, IsRun}
-use Rattle.dcc_engine.specs.inner.Done.{IsNext, IsDone, now_of}
+use Rattle.dcc_engine.specs.inner.Turns.{IsNext, IsTurnDone, now_of}
 use Rattle.dcc_engine.specs.declared.event.Event.{Event}
 use Rattle.dcc_engine.specs.declared.event.Out.{Out}
 use Rattle.dcc_engine.proofs.Moves.{AreStable, ask_moved, next_moved}
@@ -59,7 +59,7 @@ pub record StandsAt (engine now : EngineView) (past : List Turn) : Type 0 where
   pub peers_are : (id : ℕ) → peer_of now id ≡ (before_of engine past).peers id
 
 -- one turn from where a past has led
-pub turn_next : AreStable → (engine now new : EngineView) (past : List Turn) (turn : Turn) → StandsAt engine now past → IsDone now new turn → IsNext engine.setting (before_of engine past) turn
+pub turn_next : AreStable → (engine now new : EngineView) (past : List Turn) (turn : Turn) → StandsAt engine now past → IsTurnDone now new turn → IsNext engine.setting (before_of engine past) turn
 turn_next stable engine now new past turn stands done =
     let terms = engine.setting.plan.terms in
     let before = before_of engine past in
@@ -67,7 +67,7 @@ turn_next stable engine now new past turn stands done =
     (λ sub. ap (acts terms) (stands.held sub) ∙ stable.whole terms (before.own sub))
     (subst (λ (s : Setting). IsNext s (now_of now) turn) stands.setting done.judged.next)
 
-pub turn_stands : AreStable → (engine now new : EngineView) (past : List Turn) (turn : Turn) → StandsAt engine now past → IsDone now new turn → StandsAt engine new (turn ∷ past)
+pub turn_stands : AreStable → (engine now new : EngineView) (past : List Turn) (turn : Turn) → StandsAt engine now past → IsTurnDone now new turn → StandsAt engine new (turn ∷ past)
 turn_stands stable engine now new past turn stands done =
     let terms = engine.setting.plan.terms in
     let before = before_of engine past in

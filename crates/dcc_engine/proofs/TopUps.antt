@@ -17,7 +17,7 @@ use Rattle.dcc_engine.specs.Asks.{Ask, out_top_up, is_refused_top_up}
 use Rattle.dcc_engine.specs.Asks.Said.{Told}
 use Rattle.dcc_engine.specs.Asks.Source.{TopUp}
 use Rattle.dcc_engine.specs.Engines.{Setting}
-use Rattle.dcc_engine.specs.inner.Done.{IsJudged}
+use Rattle.dcc_engine.specs.inner.Turns.{IsJudged}
 use Rattle.dcc_engine.specs.declared.event.Event.TheVariants as events
 use Rattle.dcc_engine.specs.declared.peers.Peer.{Peer}
 

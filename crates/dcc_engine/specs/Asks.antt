@@ -10,14 +10,15 @@ use Rattle.dcc_act.specs.Subs.{same_sub}
 use Rattle.dcc_act.specs.TopUps.{is_amount}
 use Rattle.dcc_model.specs.Outcomes.{place, is_new}
 use Rattle.dcc_credit.specs.Requests.{RequestView, act_of}
-use Rattle.dcc_credit.specs.Answers.{answer_octets, busy_octets, is_busy}
+use Rattle.dcc_answer.specs.Answers.{busy_octets}
+use Rattle.dcc_answer.specs.Results.{is_busy}
+use Rattle.dcc_credit.specs.Answers.{answer_octets}
 use Rattle.dcc_shard.specs.Answers.{top_up_act, told}
 use Rattle.dcc_shard.specs.declared.answers.TopUpAnswer.{TopUpAnswer}
 use Rattle.dcc_shard.specs.declared.answers.TopUpAnswer.TheVariants.{Done, Ceiling, Refused, BadAmount}
 use Rattle.dcc_engine.specs.Engines.{Setting}
 use Rattle.dcc_engine.specs.Messages as messages
 use Rattle.dcc_engine.specs.Messages.{MessageView, Received, received_on}
-use Rattle.dcc_engine.specs.Messages.Received.{Ignored, Broken, Requested}
 use Rattle.dcc_engine.specs.declared.event.Event.{Event}
 use Rattle.dcc_engine.specs.declared.event.Event.TheVariants as events
 use Rattle.dcc_engine.specs.declared.event.Out.{Out}
@@ -36,7 +37,7 @@ pub record Before : Type 0 where
 
 -- what brought an ask
 pub data Source : Type 0 where
-  Request : MessageView → Source
+  Message : MessageView → Source
   TopUp : Source
 
 -- what an event asks of a subscriber's account, and what brought it
@@ -48,12 +49,12 @@ pub record Ask : Type 0 where
 abbrev pub request_ask : PlanView → ℕ → MessageView → Option RequestView → Sub → Option Ask
 request_ask plan moment message None sub = None
 request_ask plan moment message (Some request) sub =
-    if same_sub request.sub sub then Some (record { act = act_of plan request moment; source = Request message }) else None
+    if same_sub request.sub sub then Some (record { act = act_of plan request moment; source = Message message }) else None
 
 abbrev pub received_ask : PlanView → ℕ → Received → Sub → Option Ask
-received_ask plan moment Ignored sub = None
-received_ask plan moment Broken sub = None
-received_ask plan moment (Requested message) sub = request_ask plan moment message (messages.request message) sub
+received_ask plan moment Received.Ignored sub = None
+received_ask plan moment Received.Broken sub = None
+received_ask plan moment (Received.Message message) sub = request_ask plan moment message (messages.request message) sub
 
 -- What an event asks of a subscriber: a request on a peer that is open is its subscriber's, a top-up of an amount that
 -- may be is its subscriber's, and all others are nobody's.
@@ -76,7 +77,7 @@ is_refused_top_up (Some (Ceiling at fresh)) = false
 is_refused_top_up None = false
 
 abbrev pub is_refused_by : Source → Out → Sub → Bool
-is_refused_by (Request message) out sub = is_refusal out.octets
+is_refused_by (Message message) out sub = is_refusal out.octets
 is_refused_by TopUp out sub = is_refused_top_up out.top_up
 
 -- whether an out refuses what the event asked of this subscriber
@@ -97,12 +98,12 @@ pub data Said : Type 0 where
   Told : Option TopUpAnswer → Said
 
 abbrev pub said_by : Source → Out → Said
-said_by (Request message) out = Octets out.octets
+said_by (Message message) out = Octets out.octets
 said_by TopUp out = Told out.top_up
 
 -- what is said of what an act comes to that is asked after these entries
 abbrev pub said_from : Setting → List Act → Act → Source → Outcome → Said
-said_from setting before act (Request message) outcome = Octets (answer_to setting message outcome)
+said_from setting before act (Message message) outcome = Octets (answer_to setting message outcome)
 said_from setting before act TopUp outcome =
     Told (told outcome (place setting.plan.terms before act) (is_new setting.plan.terms before act))
 
@@ -114,14 +115,14 @@ abbrev pub IsBusyOrNothing : Identity → MessageView → List ℕ → Type 0
 IsBusyOrNothing identity message octets = (octets ≡ busy_to identity message) ⊎ (octets ≡ [])
 
 -- what a refusal is: the busy answer or nothing of a request, and of a top-up that it's told so
-abbrev pub IsRefusal : Identity → Source → Out → Type 0
-IsRefusal identity (Request message) out = IsBusyOrNothing identity message out.octets
-IsRefusal identity TopUp out = out.top_up ≡ Some Refused
+abbrev pub IsRefusalOfAsk : Identity → Source → Out → Type 0
+IsRefusalOfAsk identity (Message message) out = IsBusyOrNothing identity message out.octets
+IsRefusalOfAsk identity TopUp out = out.top_up ≡ Some Refused
 
 -- The subscriber's own event is answered by its outcome, or refused.
 abbrev pub IsAnsweredFor : Setting → List Act → Ask → Sub → Out → Option Outcome → Type 0
 IsAnsweredFor setting before ask sub out outcome =
-    MatchBool (is_refused_for ask out sub) (IsRefusal setting.identity ask.source out)
+    MatchBool (is_refused_for ask out sub) (IsRefusalOfAsk setting.identity ask.source out)
     (Some (said_by ask.source out) ≡ option_map (said_of setting before ask) outcome)
 
 -- an out of nothing but octets, or of nothing at all
@@ -142,9 +143,9 @@ IsOfNobody identity message None octets = IsBusyOrNothing identity message octet
 IsOfNobody identity message (Some request) octets = Unit {0}
 
 abbrev pub IsMessageOut : Setting → Received → ℕ → Out → Type 0
-IsMessageOut setting Ignored peer out = out ≡ out_octets (Some peer) []
-IsMessageOut setting Broken peer out = out ≡ out_close peer
-IsMessageOut setting (Requested message) peer out =
+IsMessageOut setting Received.Ignored peer out = out ≡ out_octets (Some peer) []
+IsMessageOut setting Received.Broken peer out = out ≡ out_close peer
+IsMessageOut setting (Received.Message message) peer out =
     (out ≡ out_octets (Some peer) out.octets) × IsOfNobody setting.identity message (messages.request message) out.octets
 
 -- The whole out of an event: its form, and what is in it that is no subscriber's.
@@ -163,15 +164,15 @@ is_from id (events.TopUp moment sub ticket amount) = false
 
 -- a message is refused that was to be answered, and is answered busy or by nothing
 abbrev pub is_refused_message : Received → Out → Bool
-is_refused_message Ignored out = false
-is_refused_message Broken out = false
-is_refused_message (Requested message) out = is_refusal out.octets
+is_refused_message Received.Ignored out = false
+is_refused_message Received.Broken out = false
+is_refused_message (Received.Message message) out = is_refusal out.octets
 
 -- where a message leaves its peer that is not refused
 abbrev pub left_by : Received → Option Peer → Option Peer
-left_by Ignored peer = peer
-left_by Broken peer = Some Closed
-left_by (Requested message) peer = peer
+left_by Received.Ignored peer = peer
+left_by Received.Broken peer = Some Closed
+left_by (Received.Message message) peer = peer
 
 abbrev pub left_with : Received → Out → Option Peer → Option Peer
 left_with received out peer = if is_refused_message received out then peer else left_by received peer

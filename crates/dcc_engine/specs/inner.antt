@@ -1,3 +1,3 @@
-pub mod Done
+pub mod Turns
 pub mod Headings
 pub mod Hosts

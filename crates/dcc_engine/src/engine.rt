@@ -7,14 +7,13 @@ ghost use Rattle.dcc_model.specs.Outcomes.{acts, funds, free, overrun};
 ghost use Rattle.dcc_engine.specs.Engines.{held_of, peer_of, IsUnchanged};
 ghost use Rattle.dcc_engine.specs.inner.Hosts.{host_of as host_in};
 ghost use Rattle.dcc_engine.specs.Isolation.{turns, own, peers, IsRun};
-ghost use Rattle.dcc_engine.specs.inner.Done.{IsDone};
+ghost use Rattle.dcc_engine.specs.inner.Turns.{IsTurnDone};
 ghost use Rattle.dcc_engine.specs.declared.event.Event.TheVariants.{Message};
 
 use crate::event::{Event, Out};
 use crate::message::{Heading, receive};
 use crate::outs::{closing, quiet, sending, telling};
 use crate::peers::{Peer, Peers};
-use crate::respond::respond;
 use dcc_account::Account;
 use dcc_act::{Moment, Sub, same_subscribers_are_equal};
 use dcc_message::Identity;
@@ -31,10 +30,10 @@ use std::mem;
 /// The peers and the accounts, under one plan.
 #[derive(Drop)]
 pub struct Engine {
-    plan: Plan,
-    identity: Identity,
+    pub(crate) plan: Plan,
+    pub(crate) identity: Identity,
     peers: Peers,
-    shard: Shard,
+    pub(crate) shard: Shard,
 }
 
 impl Model for Engine {
@@ -126,7 +125,7 @@ impl Engine {
     fn step(&mut self, alloc: Global, event: &Event, host: OctetString) -> Out
         requires room { 0 < self.old.peers.room }
         requires host { host ≡ host_in event.now }
-        ensures done { IsDone self.old self.new (record { event = event.now; out = result }) }
+        ensures done { IsTurnDone self.old self.new (record { event = event.now; out = result }) }
         ensures room { self.old.peers.room ≤ self.new.peers.room + 1 }
     {
         same_subscribers_are_equal();
@@ -155,7 +154,7 @@ impl Engine {
     /// Answers a message of a peer.
     fn hear(&mut self, alloc: Global, peer: u32, moment: Moment, octets: &OctetString) -> Out
         requires room { 0 < self.old.peers.room }
-        ensures done { IsDone self.old self.new (record { event = Message peer moment octets.now; out = result }) }
+        ensures done { IsTurnDone self.old self.new (record { event = Message peer moment octets.now; out = result }) }
         ensures room { self.old.peers.room ≤ self.new.peers.room + 1 }
     {
         same_subscribers_are_equal();
@@ -166,16 +165,8 @@ impl Engine {
                 self.peers.set(peer, Peer::Closed);
                 closing(alloc, peer)
             }
-            Heading::Requested(header) => {
-                let answer = respond(
-                    &mut self.shard,
-                    alloc,
-                    &self.plan,
-                    &self.identity,
-                    moment,
-                    header,
-                    octets.as_slice(),
-                );
+            Heading::Message(header) => {
+                let answer = self.respond(alloc, moment, header, octets.as_slice());
                 sending(peer, answer)
             }
         }

@@ -1,4 +1,4 @@
-//! A message that is a request: its header, its list, and what an answer copies of it.
+//! A message that brings a request: its header, its list, and what an answer takes over.
 
 ghost use Rattle.std.specs.Prelude.{◌≡◌, ◌≢◌, ◌≤◌, length, Some, Option, Err, IfOk, OnOk};
 ghost use Rattle.dcc_avp.specs.declared.fault.AvpFault.TheVariants.{Memory};
@@ -11,14 +11,15 @@ ghost use Rattle.dcc_engine.specs.inner.Headings.{received_as, layout_fault, IsW
 ghost use Rattle.dcc_engine.specs.declared.peers.Peer.{Peer};
 
 use dcc_act::{Act, Moment, Sub};
+use dcc_answer::{Proxies, Session, session_id};
 use dcc_avp::{Avp, AvpFault, read_list};
-use dcc_credit::{CcrFault, Proxies, Session, read_ccr, session_id, subscriber, to_act};
+use dcc_credit::{CcrFault, read_ccr, subscriber, to_act};
 use dcc_message::{HEADER_LENGTH, Header, read_header};
 use dcc_tariff::Plan;
 use std::alloc::{AllocError, Global};
 use std::marker::Model;
 
-/// A request as its message brings it: the header, and the list behind it or why that can't be read.
+/// A message that brings a request: the header, and the list behind it or why that can't be read.
 #[derive(Drop)]
 pub(crate) struct Message<'a> {
     pub(crate) header: Header,
@@ -28,14 +29,14 @@ pub(crate) struct Message<'a> {
 
 impl<'a> Model for Message<'a> {
     ghost use Rattle.std.specs.Prelude.{◌≡◌, Ok, Err};
-    ghost use Rattle.dcc_engine.specs.Messages.{MessageView, proxies_in};
+    ghost use Rattle.dcc_engine.specs.Messages.{MessageView, proxies_of_list};
     ghost use Rattle.dcc_engine.specs.inner.Headings.{list_with};
 
     ghost Value = { MessageView };
 
     ghost view = { λ m. record { header = m.header; list = list_with (λ avps. avps.items) m.list } };
 
-    ghost invariant = { λ m. m.proxies ≡ proxies_in (list_with (λ avps. avps.items) m.list) };
+    ghost invariant = { λ m. m.proxies ≡ proxies_of_list (list_with (λ avps. avps.items) m.list) };
 }
 
 /// What the first octets of a message say of it.
@@ -44,8 +45,8 @@ pub(crate) enum Heading {
     Ignored,
     /// It is no message.
     Broken,
-    /// It is a request with this header.
-    Requested(Header),
+    /// It brings a request, under this header.
+    Message(Header),
 }
 
 /// What a message of a peer is, who is heard only where it is open.
@@ -59,13 +60,13 @@ pub(crate) fn receive(is_heard: bool, octets: &[u8]) -> Heading
     }
     match read_header(octets) {
         Err(_) => Heading::Broken,
-        Ok(header) if header.is_request() => Heading::Requested(header),
+        Ok(header) if header.is_request() => Heading::Message(header),
         Ok(_) => Heading::Ignored,
     }
 }
 
 impl<'a> Message<'a> {
-    /// Reads a request behind its header, from all octets of the message.
+    /// Reads a message behind its header, from all its octets.
     pub(crate) fn read(
         alloc: Global,
         header: Header,
@@ -88,7 +89,7 @@ impl<'a> Message<'a> {
         }
     }
 
-    /// A request whose list can't be read, or want of memory where that was the fault.
+    /// A message whose list can't be read, or want of memory where that was the fault.
     fn unread(alloc: Global, header: Header, fault: AvpFault) -> Result<Message<'a>, AllocError>
         ensures message { IfOk result (λ message. message ≡ record { header = header; list = Err (layout_fault fault) }) }
         ensures memory { OnOk result (fault ≢ Memory) }

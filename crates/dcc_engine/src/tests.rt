@@ -48,8 +48,8 @@ fn events(alloc: Global) -> Result<Vec<Event>, Fail> {
     Ok(vec![in alloc; connect, top_up, message]?)
 }
 
-/// What a top-up and a debit were told: whether the first was added, and the second's answer in hex.
-fn told(alloc: Global, outs: &[Out]) -> Result<(bool, String), Fail> {
+/// What a top-up and a debit were answered: whether the first was added, and the second's answer in hex.
+fn answers_of(alloc: Global, outs: &[Out]) -> Result<(bool, String), Fail> {
     let [_, first, second] = outs else {
         return Err("three outs".into());
     };
@@ -77,18 +77,21 @@ fn wanted(added: bool, answer: &str) -> i128 {
 }
 
 /// Where memory is refused within the run, an answer is the defined one, busy or none, and the funds are those of what was
-/// answered; the test says then that memory was refused.
+/// answered; the test says then that memory was refused, and whether busy was told.
 #[test]
 fn a_refusal_changes_no_answer(rt: HostRuntime) -> Result<(), Fail> {
     let alloc = rt.alloc();
     let mut engine = engine(alloc)?;
     let outs = engine.run(alloc, &events(alloc)?)?;
-    let (added, answer) = told(alloc, &outs)?;
+    let (added, answer) = answers_of(alloc, &outs)?;
     assert_eq!(rt; funds(&engine)?, wanted(added, answer.as_str()));
     if added && answer.as_str() == ANSWER {
         return Ok(());
     }
     let is_refusal = !added || answer.is_empty() || answer.as_str() == BUSY;
     assert!(rt; is_refusal);
+    if answer.as_str() == BUSY {
+        return Err("memory was refused, and told busy".into());
+    }
     Err("memory was refused".into())
 }

@@ -1,5 +1,5 @@
 -- The books after one act of one subscriber.
-use Rattle.std.proofs.Common.{◌≡◌, ◌≢◌, ℕ, Bool, true, false, if◌then◌else◌, List, [], ◌∷◌, ◌++◌, get_or, set, Some, sym, ap, subst, ◌∙◌, inl, inr}
+use Rattle.std.proofs.Common.{◌≡◌, ◌≢◌, ℕ, Bool, true, false, if◌then◌else◌, List, [], ◌∷◌, ◌++◌, get_or, set, Some, sym, ap, ◌∙◌, inl, inr}
 use Rattle.dcc_tariff.specs.Terms.{TermsView}
 use Rattle.dcc_act.specs.declared.act.Act.{Act}
 use Rattle.dcc_act.specs.declared.sub.Sub.{Sub}
@@ -8,9 +8,7 @@ use Rattle.dcc_account.specs.declared.account.Account.{Account}
 use Rattle.dcc_model.specs.Outcomes.{acts, is_new}
 use Rattle.dcc_model.specs.Laws.{ActsAreActs, OneMoreAct}
 use Rattle.dcc_shard.specs.Shards.{account_in, held_in}
-use Rattle.dcc_shard.specs.inner.Books.{are_once, IsAt, IsAbsent, IsInstalled, IsAdded, AreBooks, Steps}
-use Rattle.dcc_shard.specs.inner.Pending.{step_of, HasTerms, IsPending}
-use Rattle.dcc_shard.specs.declared.pending.Pending.{Pending}
+use Rattle.dcc_shard.specs.inner.Books.{BooksView, are_once, IsAt, IsAbsent, IsAdded, AreBooks, IsStepOfBooks}
 use Rattle.dcc_shard.specs.declared.row.Row.{Row}
 use Rattle.dcc_shard.proofs.Subs.{one_or_other}
 use Rattle.dcc_shard.proofs.BookRows.{acts_held, Moves, held_own, held_others, books_moved}
@@ -36,21 +34,29 @@ still_some true [] act some none = cc
 still_some true (x ∷ xs) act some none = cc
 still_some false xs act some none = some none
 
-pub installed_steps : SameAreEqual → OneMoreAct → (old new : List Row) (terms : TermsView) (sub : Sub) (i : ℕ) (row : Row) (act : Act) → ActsAreActs → AreBooks old terms → IsAt old sub i
-    → row ≡ get_or old i row → IsInstalled old new i row act → Steps old new terms sub act
-installed_steps same more old new terms sub i row act law books at is installed =
-    let account = installed.0 in
+-- the rows after one more act of a subscriber are books again
+pub record IsStepOfRows (old new : List Row) (terms : TermsView) (sub : Sub) (act : Act) : Type 0 where
+  pub own : held_in new sub ≡ acts terms (held_in old sub ++ act ∷ [])
+  pub others : (other : Sub) → other ≢ sub → held_in new other ≡ held_in old other
+  pub books : AreBooks new terms
+
+-- the account that was found has one more act
+pub installed_steps : SameAreEqual → OneMoreAct → ActsAreActs → (old : List Row) (terms : TermsView) (sub : Sub) (i : ℕ) (row : Row) (account : Account) (act : Act) → AreBooks old terms → IsAt old sub i
+    → row ≡ get_or old i row → account.terms ≡ row.account.terms → account.acts ≡ acts row.account.terms (row.account.acts ++ act ∷ [])
+    → IsStepOfRows old (set old i (record { sub = row.sub; account = account })) terms sub act
+installed_steps same more law old terms sub i row account act books at is stays more_acts =
+    let new = set old i (record { sub = row.sub; account = account }) in
     let found = found_at old terms sub i row books at is in
     let named : row.sub ≡ sub = ap (λ (r : Row). r.sub) is ∙ at.named row in
-    let new_is : new ≡ set old i (record { sub = sub; account = account }) = installed.1 ∙ ap (λ (s : Sub). set old i (record { sub = s; account = account })) named in
+    let new_is : new ≡ set old i (record { sub = sub; account = account }) = ap (λ (s : Sub). set old i (record { sub = s; account = account })) named in
     let moves : Moves old new sub account = record {
       own = ap (λ (rows : List Row). account_in rows sub) new_is ∙ at.own account;
       others = λ other apart. ap (λ (rows : List Row). account_in rows other) new_is ∙ at.others account other apart;
     } in
-    let terms_are : account.terms ≡ terms = installed.2 ∙ found.terms_are in
+    let terms_are : account.terms ≡ terms = stays ∙ found.terms_are in
     let here : account_in old sub ≡ Some row.account = at.here row ∙ ap (λ (r : Row). Some r.account) (sym is) in
     let acts_are : account.acts ≡ acts terms (held_in old sub ++ act ∷ []) =
-    installed.3 ∙ next_found (λ (t : TermsView) (xs : List Act). acts t (xs ++ act ∷ [])) old terms sub row.account found in
+    more_acts ∙ next_found (λ (t : TermsView) (xs : List Act). acts t (xs ++ act ∷ [])) old terms sub row.account found in
     let some : acts terms (held_in old sub) ≢ [] = λ none. books.begun sub row.account here (found.acts_are ∙ sym (books.own sub) ∙ none) in
     let begun : account.acts ≢ [] = λ none.
     still_some (is_new terms (held_in old sub) act) (acts terms (held_in old sub)) act some (sym (more terms (held_in old sub) act) ∙ sym acts_are ∙ none) in
@@ -64,9 +70,9 @@ installed_steps same more old new terms sub i row act law books at is installed 
 pub absent_found : (rows : List Row) (terms : TermsView) (sub : Sub) (account : Account) → IsAbsent rows sub → account.terms ≡ terms → account.acts ≡ [] → Found rows terms sub account
 absent_found rows terms sub account absent terms_are none = record { terms_are = terms_are; acts_are = none ∙ sym (ap acts_held absent.nothing) }
 
-pub added_steps : SameAreEqual → (old new : List Row) (terms : TermsView) (sub : Sub) (account : Account) (act : Act) → ActsAreActs → AreBooks old terms → Found old terms sub account
-    → IsAdded old new sub account act → Steps old new terms sub act
-added_steps same old new terms sub account act law books found added =
+pub added_steps : SameAreEqual → ActsAreActs → (old new : List Row) (terms : TermsView) (sub : Sub) (account : Account) (act : Act) → AreBooks old terms → Found old terms sub account
+    → IsAdded old new sub account act → IsStepOfRows old new terms sub act
+added_steps same law old new terms sub account act books found added =
     let own : held_in new sub ≡ acts terms (held_in old sub ++ act ∷ []) =
     added.0 ∙ next_found (λ (t : TermsView) (xs : List Act). acts t (xs ++ act ∷ [])) old terms sub account found in
     let others : (other : Sub) → other ≢ sub → held_in new other ≡ held_in old other = λ other apart. ap acts_held (added.1 other apart) in
@@ -90,9 +96,12 @@ added_steps same old new terms sub account act law books found added =
       };
     }
 
--- a step that was pending of the rows as they were, and is installed in the same rows
-pub pending_steps : (old now new : List Row) (terms : TermsView) (sub : Sub) (act : Act) (pending : Pending) → now ≡ old → AreBooks old terms → IsPending old terms sub act pending
-    → ((t : TermsView) → AreBooks now t → HasTerms t pending → Steps now new t sub (step_of pending).act) → Steps old new terms sub act
-pending_steps old now new terms sub act pending stays books is taken =
-    let steps = taken terms (subst (λ (rows : List Row). AreBooks rows terms) (sym stays) books) is.has_terms in
-    subst (λ (rows : List Row). Steps rows new terms sub act) stays (subst (λ (a : Act). Steps now new terms sub a) is.act_is steps)
+-- a step of books in which what is held stands as it did before
+pub step_from : (old now new : BooksView) (sub : Sub) (asked act : Act) → now.rows ≡ old.rows → now.terms ≡ old.terms → act ≡ asked → IsStepOfBooks now new sub act
+    → IsStepOfBooks old new sub asked
+step_from old now new sub asked act rows terms act_is step = record {
+  own = step.own ∙ ap (λ (t : TermsView). acts t (held_in now.rows sub ++ act ∷ [])) terms
+      ∙ ap (λ (rs : List Row). acts old.terms (held_in rs sub ++ act ∷ [])) rows ∙ ap (λ (a : Act). acts old.terms (held_in old.rows sub ++ a ∷ [])) act_is;
+  others = λ other apart. step.others other apart ∙ ap (λ (rs : List Row). held_in rs other) rows;
+  terms = step.terms ∙ terms;
+}

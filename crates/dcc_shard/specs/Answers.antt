@@ -13,20 +13,22 @@ use Rattle.dcc_act.specs.declared.sub.Sub.{Sub}
 use Rattle.dcc_act.specs.TopUps.{is_amount}
 use Rattle.dcc_model.specs.Keys.{request_key}
 use Rattle.dcc_model.specs.Outcomes.{after, place, is_new}
-use Rattle.dcc_credit.specs.Answers.{answer_octets, busy_octets, is_busy}
+use Rattle.dcc_answer.specs.Answers.{busy_octets}
+use Rattle.dcc_answer.specs.Results.{is_busy}
+use Rattle.dcc_credit.specs.Answers.{answer_octets}
 use Rattle.dcc_shard.specs.Shards.{ShardView, held}
-use Rattle.dcc_shard.specs.declared.answers.Answer.{Answer}
-use Rattle.dcc_shard.specs.declared.answers.Answer.TheVariants as answers
+use Rattle.dcc_shard.specs.declared.answers.RequestAnswer.{RequestAnswer}
+use Rattle.dcc_shard.specs.declared.answers.RequestAnswer.TheVariants as answers
 use Rattle.dcc_shard.specs.declared.answers.TopUpAnswer.{TopUpAnswer}
 use Rattle.dcc_shard.specs.declared.answers.TopUpAnswer.TheVariants.{Done, Ceiling, BadAmount, Refused}
 
 -- these octets, with the act's place if it has one; without, the subscriber is unknown
-abbrev pub answer_at : List ℕ → Option ℕ → Bool → Answer
+abbrev pub answer_at : List ℕ → Option ℕ → Bool → RequestAnswer
 answer_at octets (Some at) fresh = answers.Done octets at fresh
 answer_at octets None fresh = answers.Unknown octets
 
 -- the answer to a request that comes after these acts: the octets of what its act comes to, and its place
-abbrev pub answer_after : Identity → TermsView → HeaderView → List ℕ → List Act → Act → Answer
+abbrev pub answer_after : Identity → TermsView → HeaderView → List ℕ → List Act → Act → RequestAnswer
 answer_after identity terms header proxies before act =
     answer_at (answer_octets identity terms header proxies (after terms before act)) (place terms before act) (is_new terms before act)
 
@@ -34,22 +36,22 @@ answer_after identity terms header proxies before act =
 abbrev pub session_of_act : Act → Option (List ℕ)
 session_of_act act = option_map (λ (key : RequestKey). key.sid) (request_key act.kind)
 
-abbrev pub busy_answer : Identity → HeaderView → List ℕ → Option (List ℕ) → Answer
+abbrev pub busy_answer : Identity → HeaderView → List ℕ → Option (List ℕ) → RequestAnswer
 busy_answer identity header proxies session = answers.Busy (busy_octets identity session header proxies)
 
 -- a request is refused by the busy answer, or by none
-abbrev pub IsRefusedBy : Identity → HeaderView → List ℕ → Option (List ℕ) → Answer → Type 0
+abbrev pub IsRefusedBy : Identity → HeaderView → List ℕ → Option (List ℕ) → RequestAnswer → Type 0
 IsRefusedBy identity header proxies session answer =
     (answer ≡ busy_answer identity header proxies session) ⊎ (answer ≡ answers.Silent)
 
 -- what a request may be answered
-abbrev pub IsAnswer : ShardView → Sub → Act → HeaderView → List ℕ → Answer → Type 0
+abbrev pub IsAnswer : ShardView → Sub → Act → HeaderView → List ℕ → RequestAnswer → Type 0
 IsAnswer shard sub act header proxies answer =
     (answer ≡ answer_after shard.identity shard.terms header proxies (held shard sub) act)
     ⊎ IsRefusedBy shard.identity header proxies (session_of_act act) answer
 
 -- whether the request's act was judged, and so may have been made
-abbrev pub is_judged : Answer → Bool
+abbrev pub is_judged : RequestAnswer → Bool
 is_judged (answers.Done octets at fresh) = true
 is_judged (answers.Unknown octets) = true
 is_judged (answers.Busy octets) = false
@@ -85,14 +87,14 @@ is_judged_top_up BadAmount = false
 is_judged_top_up Refused = false
 
 -- the octets of an answer
-abbrev pub octets_of : Answer → List ℕ
+abbrev pub octets_of : RequestAnswer → List ℕ
 octets_of (answers.Done octets at fresh) = octets
 octets_of (answers.Unknown octets) = octets
 octets_of (answers.Busy octets) = octets
 octets_of answers.Silent = []
 
 -- an answer to what was judged is there and not busy, and the busy answer is
-abbrev pub IsToldApart : Answer → Type 0
+abbrev pub IsToldApart : RequestAnswer → Type 0
 IsToldApart (answers.Done octets at fresh) = (is_busy octets ≡ false) × (HEADER_LENGTH ≤ length octets)
 IsToldApart (answers.Unknown octets) = (is_busy octets ≡ false) × (HEADER_LENGTH ≤ length octets)
 IsToldApart (answers.Busy octets) = (is_busy octets ≡ true) × (HEADER_LENGTH ≤ length octets)

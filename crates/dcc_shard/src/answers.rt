@@ -4,7 +4,7 @@ use dcc_octets::OctetString;
 
 /// What a request is answered.
 #[derive(Debug, Drop)]
-pub enum Answer {
+pub enum RequestAnswer {
     /// Its act comes to this answer. Its place counts from 1 in the subscriber's list of acts: its own where it is fresh,
     /// else that of the act which came first with its key.
     Done {

@@ -6,14 +6,14 @@
 //! as it was. In each step what can be refused comes before what changes.
 #![tactic(auto)]
 
-mod accounts;
 mod answers;
+mod books;
 mod pending;
 mod row;
 mod serve;
 mod shard;
 
-pub use answers::{Answer, TopUpAnswer};
+pub use answers::{RequestAnswer, TopUpAnswer};
 pub use row::Row;
 pub use shard::Shard;
 

@@ -6,36 +6,30 @@ ghost use Rattle.dcc_model.specs.Keys.{request_key};
 ghost use Rattle.dcc_shard.specs.Shards.{held, AreOwn, IsStep};
 ghost use Rattle.dcc_shard.specs.Answers.{IsAnswer, IsToldApart, IsTold, is_judged, is_judged_top_up, top_up_act};
 
-use crate::accounts::find;
-use crate::answers::{Answer, TopUpAnswer};
-use crate::row::Row;
-use crate::serve::{Asked, add, answer, busy, copied, session_in};
+use crate::answers::{RequestAnswer, TopUpAnswer};
+use crate::books::Books;
+use crate::serve::{Envelope, answer, busy, copied, session_of_act, tell};
 use dcc_account::Account;
 use dcc_act::{Act, Kind, Moment, Sub, TopUp};
-use dcc_credit::Proxies;
+use dcc_answer::Proxies;
 use dcc_message::{Header, Identity};
-use dcc_model::leaving_out_changes_nothing;
 use dcc_tariff::Terms;
 use std::alloc::{AllocError, Global};
 use std::marker::Model;
 
-/// The accounts of the subscribers that are kept here, under one plan's terms.
+/// The accounts of the subscribers that are kept here, under one plan's terms, and who answers for them.
 #[derive(Drop)]
 pub struct Shard {
-    terms: Terms,
     identity: Identity,
-    rows: Vec<Row>,
+    books: Books,
 }
 
 impl Model for Shard {
     ghost use Rattle.dcc_shard.specs.Shards.{ShardView};
-    ghost use Rattle.dcc_shard.specs.inner.Books.{AreBooks};
 
     ghost Value = { ShardView };
 
-    ghost view = { λ s. record { terms = s.terms; identity = s.identity; rows = s.rows.items } };
-
-    ghost invariant = { λ s. AreBooks s.rows.items s.terms };
+    ghost view = { λ s. record { terms = s.books.terms; identity = s.identity; rows = s.books.rows } };
 }
 
 impl Shard {
@@ -46,11 +40,11 @@ impl Shard {
         ensures nothing { IfOk result (λ shard. (sub : Sub) → held shard sub ≡ []) }
         ensures own { IfOk result AreOwn }
     {
-        leaving_out_changes_nothing();
+        let books = Books::new(alloc, terms);
+        books.acts_are_own();
         Ok(Shard {
-            terms: *terms,
             identity: identity.copy()?,
-            rows: Vec::new(alloc),
+            books,
         })
     }
 
@@ -61,8 +55,7 @@ impl Shard {
         ensures some { IfSome result (λ account. account.now.acts ≢ []) }
         ensures none { IfNone result (held self.now sub ≡ []) }
     {
-        let i = find(&self.rows, &sub)?;
-        Some(&self.rows[i].account)
+        self.books.account(&sub)
     }
 
     /// Makes a request's act, and answers it under the request's header and with its proxies: with what the act comes to, or
@@ -72,28 +65,30 @@ impl Shard {
         alloc: Global,
         sub: Sub,
         act: Act,
-        request: &Header,
+        header: &Header,
         proxies: &Proxies,
-    ) -> Answer
+    ) -> RequestAnswer
         requires { is_some (request_key act.kind) ≡ true }
-        ensures answer { IsAnswer self.old sub act request.now proxies.now result }
+        ensures answer { IsAnswer self.old sub act header.now proxies.now result }
         ensures step { IsStep self.old self.new (is_judged result) sub act }
         ensures own { AreOwn self.new }
         ensures apart { IsToldApart result }
     {
-        let asked = Asked {
+        self.books.acts_are_own();
+        let envelope = Envelope {
             identity: &self.identity,
-            terms: &self.terms,
-            request,
+            header,
             proxies,
         };
         // The act is gone once it is prepared, and a busy answer needs its session.
-        let Ok(session) = copied(session_in(&act)) else {
-            return busy(alloc, &asked, session_in(&act));
+        let Ok(session) = copied(session_of_act(&act)) else {
+            return busy(alloc, &envelope, session_of_act(&act));
         };
-        match answer(&mut self.rows, alloc, &asked, sub, act) {
+        let answered = answer(&mut self.books, alloc, &envelope, sub, act);
+        self.books.acts_are_own();
+        match answered {
             Ok(answer) => answer,
-            Err(_) => busy(alloc, &asked, session.as_ref()),
+            Err(_) => busy(alloc, &envelope, session.as_ref()),
         }
     }
 
@@ -111,7 +106,7 @@ impl Shard {
         ensures step { IsStep self.old self.new (is_judged_top_up result) sub (top_up_act moment ticket amount) }
         ensures own { AreOwn self.new }
     {
-        let terms = &self.terms;
+        self.books.acts_are_own();
         let Some(top_up) = TopUp::new(ticket, amount) else {
             return TopUpAnswer::BadAmount;
         };
@@ -119,7 +114,9 @@ impl Shard {
             moment,
             kind: Kind::TopUp(top_up),
         };
-        match add(&mut self.rows, alloc, terms, sub, act) {
+        let told = tell(&mut self.books, alloc, sub, act);
+        self.books.acts_are_own();
+        match told {
             Ok(answer) => answer,
             Err(_) => TopUpAnswer::Refused,
         }

@@ -2,8 +2,9 @@
 
 use super::*;
 use dcc_act::{Act, Kind, Moment, Sub};
+use dcc_answer::Proxies;
 use dcc_avp::read_list;
-use dcc_credit::{Proxies, read_ccr, to_act};
+use dcc_credit::{read_ccr, to_act};
 use dcc_message::{DiameterIdentity, Header, Identity, read_header};
 use dcc_samples::{ANSWER, DEBIT, PLAN};
 use dcc_tariff::Plan;
@@ -34,15 +35,15 @@ fn debit(alloc: Global, plan: &Plan) -> Result<(Header, Act), Fail> {
 }
 
 /// What the answer says: its octets in hex, its place, and whether it is fresh.
-fn told(alloc: Global, answer: &Answer) -> Result<(String, u64, bool), Fail> {
+fn parts_of(alloc: Global, answer: &RequestAnswer) -> Result<(String, u64, bool), Fail> {
     let (octets, place, fresh) = match answer {
-        Answer::Done {
+        RequestAnswer::Done {
             octets,
             place,
             fresh,
         } => (octets.as_slice(), *place, *fresh),
-        Answer::Unknown { octets } => (octets.as_slice(), 0, false),
-        Answer::Busy { .. } | Answer::Silent => return Err("a refusal".into()),
+        RequestAnswer::Unknown { octets } => (octets.as_slice(), 0, false),
+        RequestAnswer::Busy { .. } | RequestAnswer::Silent => return Err("a refusal".into()),
     };
     Ok((hex::encode(alloc, octets)?, place, fresh))
 }
@@ -59,7 +60,7 @@ fn step(
         return Err("a request".into());
     }
     let answer = shard.step(alloc, sub, act, &header, &Proxies::none(alloc));
-    told(alloc, &answer)
+    parts_of(alloc, &answer)
 }
 
 #[test]

@@ -7,7 +7,7 @@ use Rattle.dcc_avp.specs.declared.fault.AvpFault.{AvpFault}
 use Rattle.dcc_avp.specs.declared.fault.AvpFault.TheVariants as faults
 use Rattle.dcc_message.specs.declared.length.TheConstants.{HEADER_LENGTH, MAX_LENGTH}
 use Rattle.dcc_engine.specs.Messages.{Received, message_view}
-use Rattle.dcc_engine.specs.Messages.Received.{Ignored, Broken, Requested}
+use Rattle.dcc_engine.specs.Messages.Received.{Ignored, Broken, Message}
 use Rattle.dcc_engine.specs.declared.message.Heading.{Heading}
 use Rattle.dcc_engine.specs.declared.message.Heading.TheVariants as headings
 
@@ -15,13 +15,13 @@ use Rattle.dcc_engine.specs.declared.message.Heading.TheVariants as headings
 abbrev pub received_as : Heading → List ℕ → Received
 received_as headings.Ignored octets = Ignored
 received_as headings.Broken octets = Broken
-received_as (headings.Requested header) octets = Requested (message_view header octets)
+received_as (headings.Message header) octets = Message (message_view header octets)
 
--- a request has a header at least, and is no longer than a message may be
+-- a message that brings a request has a header at least, and is no longer than a message may be
 abbrev pub IsWhole : Heading → List ℕ → Type 0
 IsWhole headings.Ignored octets = Unit {0}
 IsWhole headings.Broken octets = Unit {0}
-IsWhole (headings.Requested header) octets = (HEADER_LENGTH ≤ length octets) × (length octets ≤ MAX_LENGTH)
+IsWhole (headings.Message header) octets = (HEADER_LENGTH ≤ length octets) × (length octets ≤ MAX_LENGTH)
 
 -- the fault of a list's layout; the other two say nothing of a list
 abbrev pub layout_fault : AvpFault → FaultView

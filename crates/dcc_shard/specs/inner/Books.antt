@@ -1,4 +1,4 @@
--- The rows of a shard, and what a look-up and a step leave of them.
+-- The books of a shard: its rows under their terms, and what a look-up and a step leave of them.
 use Rattle.std.specs.Prelude.{◌≡◌, ◌≢◌, ℕ, ◌<◌, Bool, true, ◌&&◌, List, [], ◌∷◌, ◌++◌, length, slice_index_or, slice_set, Some, None, is_none}
 use Rattle.dcc_tariff.specs.Terms.{TermsView}
 use Rattle.dcc_act.specs.declared.act.Act.{Act}
@@ -7,6 +7,12 @@ use Rattle.dcc_account.specs.declared.account.Account.{Account}
 use Rattle.dcc_model.specs.Outcomes.{acts}
 use Rattle.dcc_shard.specs.Shards.{account_in, held_in}
 use Rattle.dcc_shard.specs.declared.row.Row.{Row}
+
+-- by what terms accounts are judged, the accounts, and for how many more memory is there
+pub record BooksView : Type 0 where
+  pub terms : TermsView
+  pub rows : List Row
+  pub room : ℕ
 
 -- whether each subscriber has one row at most
 abbrev pub are_once : List Row → Bool
@@ -38,12 +44,6 @@ pub record IsAbsent (rows : List Row) (sub : Sub) : Type 0 where
       → account_in (rows ++ record { sub = sub; account = given } ∷ []) other ≡ account_in rows other
   pub once : (given : Account) → are_once rows ≡ true → are_once (rows ++ record { sub = sub; account = given } ∷ []) ≡ true
 
--- the row at i has the acts after one more act, under the same terms
-abbrev pub IsInstalled : List Row → List Row → ℕ → Row → Act → Type 0
-IsInstalled old new i row act =
-    (account : Account) × (new ≡ slice_set old i (record { sub = row.sub; account = account }))
-    × (account.terms ≡ row.account.terms) × (account.acts ≡ acts row.account.terms (row.account.acts ++ act ∷ []))
-
 -- the acts after the first act are held, under the account's terms; where there are none, no account is
 abbrev pub IsAdded : List Row → List Row → Sub → Account → Act → Type 0
 IsAdded old new sub account act =
@@ -53,7 +53,7 @@ IsAdded old new sub account act =
     × (are_once old ≡ true → are_once new ≡ true)
 
 -- the books after one more act of a subscriber, which leaves the others as they were
-pub record Steps (old new : List Row) (terms : TermsView) (sub : Sub) (act : Act) : Type 0 where
-  pub own : held_in new sub ≡ acts terms (held_in old sub ++ act ∷ [])
-  pub others : (other : Sub) → other ≢ sub → held_in new other ≡ held_in old other
-  pub books : AreBooks new terms
+pub record IsStepOfBooks (old new : BooksView) (sub : Sub) (act : Act) : Type 0 where
+  pub own : held_in new.rows sub ≡ acts old.terms (held_in old.rows sub ++ act ∷ [])
+  pub others : (other : Sub) → other ≢ sub → held_in new.rows other ≡ held_in old.rows other
+  pub terms : new.terms ≡ old.terms

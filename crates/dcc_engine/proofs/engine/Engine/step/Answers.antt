@@ -1,7 +1,7 @@
 use Rattle.std.proofs.Common.{refl, subst}
 use Rattle.dcc_engine.specs.Asks.{out_top_up}
 use Rattle.dcc_engine.specs.Engines.{EngineView, Setting, peer_in}
-use Rattle.dcc_engine.specs.inner.Done.{IsDone}
+use Rattle.dcc_engine.specs.inner.Turns.{IsTurnDone}
 use Rattle.dcc_engine.specs.declared.event.Event.TheVariants.{TopUp}
 use Rattle.dcc_engine.proofs.TopUps.{top_up_judged}
 use Rattle.dcc_engine.proofs.engine.Engine.step.Goals as goal
@@ -18,6 +18,6 @@ returns-in-TopUp-clause-done c =
     let judged = top_up_judged c.same_subscribers_are_equal.ensures setting (peer_in inside.peers.rows) old new t.moment t.sub t.ticket t.amount answer
     c.self-in-TopUp.invariant.0 c.self-in-TopUp.invariant.2 c.top_up-answer.ensures.answer c.top_up-answer.ensures.step in
     let before : EngineView = record { setting = setting; peers = inside.peers; shard = old } in
-    let done : IsDone before after (record { event = TopUp t.moment t.sub t.ticket t.amount; out = out_top_up answer }) = record { judged = judged; peers = λ id. refl; setting = refl } in
-    let whole = subst (λ (engine : EngineView). IsDone engine after (record { event = TopUp t.moment t.sub t.ticket t.amount; out = c.telling.result })) c.self-in-TopUp.view_is (rw c.telling.ensures done) in
+    let done : IsTurnDone before after (record { event = TopUp t.moment t.sub t.ticket t.amount; out = out_top_up answer }) = record { judged = judged; peers = λ id. refl; setting = refl } in
+    let whole = subst (λ (engine : EngineView). IsTurnDone engine after (record { event = TopUp t.moment t.sub t.ticket t.amount; out = c.telling.result })) c.self-in-TopUp.view_is (rw c.telling.ensures done) in
     rw t.is whole

@@ -6,7 +6,7 @@ use Rattle.dcc_tariff.specs.Plans.{PlanView}
 use Rattle.dcc_credit.specs.Requests.{RequestView, act_of}
 use Rattle.dcc_engine.specs.Asks.{is_refusal}
 use Rattle.dcc_engine.proofs.Refusals.{nothing_is_one}
-use Rattle.dcc_engine.proofs.respond.respond.Goals as goal
+use Rattle.dcc_engine.proofs.engine.Engine.respond.Goals as goal
 
 -- a request's act has its key
 has_key : (plan : PlanView) (request : RequestView) (moment : ℕ) → is_some (request_key (act_of plan request moment).kind) ≡ true
@@ -23,4 +23,4 @@ returns-in_default-clause-served c = inr (record {
 pub step-answer-requires : goal.step-answer-requires
 step-answer-requires c =
     let asked = c.in-Ok-ask.ensures in
-    ap (λ (a : Act). is_some (request_key a.kind)) asked.4 ∙ has_key c.args.plan.now asked.0 c.args.moment
+    ap (λ (a : Act). is_some (request_key a.kind)) asked.4 ∙ has_key c.self.inside.plan asked.0 c.args.moment

@@ -1,7 +1,7 @@
 use Rattle.std.proofs.Common.{sym, ap, ◌∙◌, arith}
 use Rattle.dcc_shard.specs.declared.row.Row.{Row}
 use Rattle.dcc_shard.proofs.BookRows.{is_at, is_absent}
-use Rattle.dcc_shard.proofs.accounts.find.Goals as goal
+use Rattle.dcc_shard.proofs.row.find.Goals as goal
 
 pub returns-then-eq-clause-found : goal.returns-then-eq-clause-found
 returns-then-eq-clause-found c =

@@ -6,7 +6,7 @@ use Rattle.dcc_model.specs.Outcomes.{after, acts}
 use Rattle.dcc_credit.specs.Requests.{RequestView, act_of}
 use Rattle.dcc_shard.specs.Shards.{ShardView, IsStep}
 use Rattle.dcc_shard.specs.Answers.{IsAnswer, IsToldApart, is_judged, octets_of}
-use Rattle.dcc_shard.specs.declared.answers.Answer.{Answer}
+use Rattle.dcc_shard.specs.declared.answers.RequestAnswer.{RequestAnswer}
 use Rattle.dcc_engine.specs.Engines.{EngineView, Setting, peer_of, held_of}
 use Rattle.dcc_engine.specs.Messages as messages
 use Rattle.dcc_engine.specs.Messages.{MessageView}
@@ -29,14 +29,14 @@ pub record IsJudged (setting : Setting) (before : Before) (then_held : Sub → L
       ≡ acts setting.plan.terms (own_with (ask_for setting before turn.event sub) turn.out sub (before.own sub))
 
 -- and the peers are where it leaves them
-pub record IsDone (old new : EngineView) (turn : Turn) : Type 0 where
+pub record IsTurnDone (old new : EngineView) (turn : Turn) : Type 0 where
   pub judged : IsJudged old.setting (now_of old) (held_of new) turn
   pub peers : (id : ℕ) → peer_of new id ≡ moved_by id turn (peer_of old id)
   pub setting : new.setting ≡ old.setting
 
 -- the request was handed to the shard, whose answer this is
 pub record IsHandedOn
-    (setting : Setting) (old new : ShardView) (moment : ℕ) (message : MessageView) (octets : List ℕ) (request : RequestView) (answer : Answer)
+    (setting : Setting) (old new : ShardView) (moment : ℕ) (message : MessageView) (octets : List ℕ) (request : RequestView) (answer : RequestAnswer)
     : Type 0 where
   pub request_is : messages.request message ≡ Some request
   pub session_is : messages.session message ≡ Some request.key.sid
@@ -53,5 +53,5 @@ pub record IsTurnedAway (setting : Setting) (old new : ShardView) (message : Mes
 
 abbrev pub IsServed : Setting → ShardView → ShardView → ℕ → MessageView → List ℕ → Type 0
 IsServed setting old new moment message octets =
-    ((request : RequestView) × (answer : Answer) × IsHandedOn setting old new moment message octets request answer)
+    ((request : RequestView) × (answer : RequestAnswer) × IsHandedOn setting old new moment message octets request answer)
     ⊎ IsTurnedAway setting old new message octets
