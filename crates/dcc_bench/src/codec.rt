@@ -10,8 +10,9 @@ use dcc_act::{
     Answer, Form, Grant, Outcome, RequestKey, RequestType, ResultCode, ServiceAnswer,
     ServiceAnswers, ServiceIds, SessionId,
 };
+use dcc_answer::Proxies;
 use dcc_avp::read_list;
-use dcc_credit::{Proxies, read_ccr, write_cca};
+use dcc_credit::{read_ccr, write_cca};
 use dcc_message::{DiameterIdentity, Header, Identity, read_header};
 use dcc_tariff::{Tariff, Terms, UnitKind};
 use std::alloc::Global;

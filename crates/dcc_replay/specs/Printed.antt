@@ -28,8 +28,8 @@ closed out = elim out.peer [
 ]
 
 -- what a top-up is told
-unfoldable pub told : Out → List (List ℕ)
-told out = elim out.top_up [ None ↦ [] | Some answer ↦ (codes "topup " ++ word_of answer) ∷ [] ]
+unfoldable pub topped_up : Out → List (List ℕ)
+topped_up out = elim out.top_up [ None ↦ [] | Some answer ↦ (codes "topup " ++ word_of answer) ∷ [] ]
 
 -- a dash stands for nothing
 abbrev pub or_dash : List (List ℕ) → List (List ℕ)
@@ -43,7 +43,7 @@ numbered n (phrase ∷ phrases) = (decimal n ++ codes " " ++ phrase ++ 10 ∷ []
 
 -- the lines of event n
 abbrev pub lines_of_out : ℕ → Out → List ℕ
-lines_of_out n out = numbered n (or_dash (answered out ++ closed out ++ told out))
+lines_of_out n out = numbered n (or_dash (answered out ++ closed out ++ topped_up out))
 
 -- the lines of outs of which the first is event n's
 unfoldable pub lines_from : ℕ → List Out → List ℕ

@@ -1,7 +1,7 @@
 //! What is printed of the outs of a run.
 
 ghost use Rattle.std.specs.Prelude.{◌≡◌, ◌++◌, ◌==◌, OnOk, IfOk, string_bytes, is_some, not, length};
-ghost use Rattle.dcc_replay.specs.Printed.{word_of, answered, closed, told, numbered, lines_of_out, printed};
+ghost use Rattle.dcc_replay.specs.Printed.{word_of, answered, closed, topped_up, numbered, lines_of_out, printed};
 
 use dcc_engine::Out;
 use dcc_shard::TopUpAnswer;
@@ -67,10 +67,10 @@ fn put_closing(text: &mut String, n: u64, out: &Out) -> Result<bool, AllocError>
 }
 
 /// Appends the line of what a top-up is told, if the event was one, and says whether it was.
-#[tactic(auto, unfolding(crate::specs::Printed::told))]
+#[tactic(auto, unfolding(crate::specs::Printed::topped_up))]
 fn put_top_up(text: &mut String, n: u64, out: &Out) -> Result<bool, AllocError>
-    ensures line { OnOk result (string_bytes text.new ≡ string_bytes text.old ++ numbered n (told out.now)) }
-    ensures some { IfOk result (λ some. some ≡ not (length (told out.now) == 0)) }
+    ensures line { OnOk result (string_bytes text.new ≡ string_bytes text.old ++ numbered n (topped_up out.now)) }
+    ensures some { IfOk result (λ some. some ≡ not (length (topped_up out.now) == 0)) }
 {
     let Some(answer) = out.top_up else {
         return Ok(false);

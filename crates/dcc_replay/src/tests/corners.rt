@@ -2,10 +2,10 @@
 //!
 //! In the rows a word such as `debit/0/1001` stands for octets in hex: a request's number and its octets, or an answer's.
 
-use super::octets::{bare_busy, broken, busy, debit_for, debit_of, granted, refused};
+use super::octets::{bare_busy, broken, debit, debit_for, granted, refused};
 use super::replayed;
 use super::rows::MIDNIGHT;
-use dcc_samples::PROXY_INFO;
+use dcc_samples::{BUSY, PROXY_INFO};
 use dcc_tariff::Plan;
 use std::alloc::Global;
 use std::test::Fail;
@@ -149,10 +149,10 @@ fn octets_of(alloc: Global, word: &str) -> Result<String, Fail> {
     let number = number_of(parts.next());
     let amount = amount_of(parts.next());
     match kind {
-        "debit" => debit_of(alloc, number, amount),
+        "debit" => debit(alloc, number, amount),
         "granted" => granted(alloc, number, amount),
         "refused" => refused(alloc, number, amount),
-        "busy" => busy(alloc),
+        "busy" => Ok(String::from_str(alloc, BUSY)?),
         "bare" => bare_busy(alloc, "60000110000000040000001100000021"),
         "asleep" => bare_busy(alloc, "20000118000000000000000100000002"),
         "broken" => broken(alloc, ""),

@@ -1,13 +1,11 @@
 //! Rows at the limits. Each is answered: a body that says it is out of memory there doesn't pass them.
 
 use super::octets::{
-    SESSION, SUBSCRIPTION, avp, debit, debit_for, debit_under, granted, granted_under, repeated,
+    avp, debit, debit_for, debit_under, granted, granted_under, repeated, session, subscription,
 };
-use super::replayed;
-use dcc_samples::{PLAN, PROXY_INFO};
-use dcc_tariff::Plan;
+use super::prints;
+use dcc_samples::{ANSWER, DEBIT, PROXY_INFO};
 use std::fmt::Write;
-use std::process::Abort;
 use std::test::Fail;
 
 /// So many Proxy-Infos fill a request up to 65,532 octets: 228 and 1,814 times 36.
@@ -20,19 +18,14 @@ const SUBSCRIBERS: u32 = 2_000;
 
 const ACTS: u32 = 1_000;
 
-fn prints<R: Abort + AllocGlobal>(rt: &R, script: &str, printed: &str) -> Result<(), Fail> {
-    let alloc = rt.alloc();
-    let text = replayed(alloc, Plan::read(alloc, PLAN)?, script.as_bytes())?;
-    assert!(rt; text.as_str() == printed, "other lines are printed");
-    Ok(())
-}
+/// The event that is answered behind a peer, a top-up and then peers alone.
+const LAST_EVENT: u32 = 5_001;
 
 #[test]
 fn answers_each_type_of_subscriber_and_data_of_1_and_64_octets(
     rt: HostRuntime,
 ) -> Result<(), Fail> {
     let alloc = rt.alloc();
-    let granted = granted(alloc, 0, 1001)?;
     let mut script = String::from_str(alloc, "open 1 gw1.example\n")?;
     let mut printed = String::from_str(alloc, "1 -\n")?;
     let mut event = 2u64;
@@ -49,7 +42,7 @@ fn answers_each_type_of_subscriber_and_data_of_1_and_64_octets(
             let answered = event.wrapping_add(1);
             write!(
                 printed,
-                "{event} topup done\n{answered} answer 1 {granted}\n"
+                "{event} topup done\n{answered} answer 1 {ANSWER}\n"
             )?;
             event = event.wrapping_add(2);
         }
@@ -61,7 +54,7 @@ fn answers_each_type_of_subscriber_and_data_of_1_and_64_octets(
 fn answers_under_a_session_id_of_255_octets(rt: HostRuntime) -> Result<(), Fail> {
     let alloc = rt.alloc();
     let session = avp(alloc, 263, repeated(alloc, "ff", 255)?.as_str())?;
-    let request = debit_under(alloc, session.as_str(), 0, SUBSCRIPTION, "")?;
+    let request = debit_under(alloc, session.as_str(), 0, subscription()?, "")?;
     let granted = granted_under(alloc, session.as_str(), 0, "")?;
     let script = format!(in alloc;
         "open 1 gw1.example\ntopup 0 0:491700000001 1 10\nmessage 1 1748736000 {request}\n"
@@ -74,8 +67,8 @@ fn answers_under_a_session_id_of_255_octets(rt: HostRuntime) -> Result<(), Fail>
 fn answers_messages_of_65532_octets_by_more_than_10_megabytes(rt: HostRuntime) -> Result<(), Fail> {
     let alloc = rt.alloc();
     let proxies = repeated(alloc, PROXY_INFO, PROXIES)?;
-    let request = debit_under(alloc, SESSION, 0, SUBSCRIPTION, proxies.as_str())?;
-    let granted = granted_under(alloc, SESSION, 0, proxies.as_str())?;
+    let request = debit_under(alloc, session()?, 0, subscription()?, proxies.as_str())?;
+    let granted = granted_under(alloc, session()?, 0, proxies.as_str())?;
     assert_eq!(&rt; request.len(), 2 * 65_532);
     assert_eq!(&rt; granted.len(), 2 * 65_456);
     let mut script = String::from_str(alloc, "open 1 gw1.example\ntopup 0 0:491700000001 1 10\n")?;
@@ -90,7 +83,6 @@ fn answers_messages_of_65532_octets_by_more_than_10_megabytes(rt: HostRuntime) -
 #[test]
 fn answers_each_of_2000_subscribers(rt: HostRuntime) -> Result<(), Fail> {
     let alloc = rt.alloc();
-    let granted = granted(alloc, 0, 1001)?;
     let mut script = String::from_str(alloc, "open 1 gw1.example\n")?;
     let mut printed = String::from_str(alloc, "1 -\n")?;
     for i in 0..SUBSCRIBERS {
@@ -107,7 +99,7 @@ fn answers_each_of_2000_subscribers(rt: HostRuntime) -> Result<(), Fail> {
             )?.as_str(),
         )?;
         write!(script, "message 1 1748736000 {request}\n")?;
-        write!(printed, "{} answer 1 {granted}\n", SUBSCRIBERS + i + 2)?;
+        write!(printed, "{} answer 1 {ANSWER}\n", SUBSCRIBERS + i + 2)?;
     }
     prints(&rt, script.as_str(), printed.as_str())
 }
@@ -121,10 +113,24 @@ fn answers_each_of_1000_requests_of_one_subscriber(rt: HostRuntime) -> Result<()
     )?;
     let mut printed = String::from_str(alloc, "1 -\n2 topup done\n")?;
     for i in 0..ACTS {
-        let request = debit(alloc, i)?;
+        let request = debit(alloc, i, 1001)?;
         let granted = granted(alloc, i, 1001)?;
         write!(script, "message 1 1748736000 {request}\n")?;
         write!(printed, "{} answer 1 {granted}\n", i + 3)?;
     }
+    prints(&rt, script.as_str(), printed.as_str())
+}
+
+#[test]
+fn answers_the_5001st_event(rt: HostRuntime) -> Result<(), Fail> {
+    let alloc = rt.alloc();
+    let mut script = String::from_str(alloc, "open 1 gw1.example\ntopup 0 0:491700000001 1 10\n")?;
+    let mut printed = String::from_str(alloc, "1 -\n2 topup done\n")?;
+    for i in 3..LAST_EVENT {
+        write!(script, "open {i} gw1.example\n")?;
+        write!(printed, "{i} -\n")?;
+    }
+    write!(script, "message 1 1748736000 {DEBIT}\n")?;
+    write!(printed, "{LAST_EVENT} answer 1 {ANSWER}\n")?;
     prints(&rt, script.as_str(), printed.as_str())
 }

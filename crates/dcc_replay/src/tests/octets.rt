@@ -1,47 +1,67 @@
-//! Messages of a gateway and their answers, in hex: header and AVPs as RFC 6733, sections 3 and 4.1, lay them out.
+//! Messages of a gateway and their answers, in hex: the samples, and others in what differs from a sample. Header and AVPs are
+//! laid out as RFC 6733, sections 3 and 4.1, say.
 
-use dcc_samples::PROXY_INFO;
+use dcc_samples::{ANSWER, BUSY, DEBIT, PROXY_INFO};
 use std::alloc::Global;
 use std::test::Fail;
 
-/// The Session-Id `gw1.example;1;1`.
-pub(crate) const SESSION: &str = "00000107400000176777312e6578616d706c653b313b3100";
+/// Where the identifiers of a message begin, and behind them its AVPs, in hex digits.
+const IDS: usize = 24;
 
-/// The Subscription-Id of the subscriber 0:491700000001.
-pub(crate) const SUBSCRIPTION: &str =
-    "000001bb40000028000001c24000000c00000000000001bc40000014343931373030303030303031";
+const AVPS: usize = 40;
 
-/// A request for a direct debit, behind its Session-Id: from Origin-Host to the head of CC-Request-Number.
-const NAMED: &str =
-    "00000108400000136777312e6578616d706c6500000001284000000f6578616d706c65000000011b4000000f\
-6578616d706c6500000001024000000c00000004000001cd4000001464617461406578616d706c65000001a04000000c\
-000000040000019f4000000c";
+/// Behind the Session-Id of a sample.
+const NAMES: usize = 88;
 
-/// Behind its number: Requested-Action.
-const DEBITED: &str = "000001b44000000c00000000";
+/// In the sample's request: its CC-Request-Number, what is behind that, the Subscription-Id, what is behind that, and the octets that it
+/// asks for.
+const NUMBER: usize = 296;
 
-/// A Requested-Service-Unit up to its number of octets.
-const UNITS: &str = "000001b540000018000001a540000010";
+const ACTION: usize = 304;
 
-/// The head of a Result-Code.
-const RESULT: &str = "0000010c4000000c";
+const SUBSCRIPTION: usize = 328;
 
-/// Behind the result: Origin-Host and Origin-Realm.
-const ORIGIN: &str = "00000108400000136f63732e6578616d706c6500000001284000000f6578616d706c6500";
+const UNITS: usize = 408;
 
-/// Behind the names: from Auth-Application-Id to the head of CC-Request-Number.
-const NUMBERED: &str = "000001024000000c00000004000001a04000000c000000040000019f4000000c";
+const ASKED: usize = 440;
 
-/// A Granted-Service-Unit up to its number of octets.
-const GRANTED: &str = "000001af40000018000001a540000010";
+/// In the sample's answer: its Result-Code, what is behind that, its CC-Request-Number, what is behind that, and the octets that it
+/// grants.
+const CODE: usize = 104;
 
-/// The identifiers of the requests, and others.
-const IDS: &str = "0000001100000021";
+const ORIGIN: usize = 112;
 
+const ANSWERED: usize = 248;
+
+const GRANT: usize = 256;
+
+const GRANTED: usize = 288;
+
+/// Other identifiers than the samples'.
 const OTHER_IDS: &str = "0000003100000041";
 
 /// What pads an AVP whose data passes a multiple of 4 octets by so many.
 const PADDINGS: [&str; 4] = ["", "000000", "0000", "00"];
+
+/// A sample from one digit on up to another.
+fn part(sample: &'static str, from: usize, to: usize) -> Result<&'static str, Fail> {
+    Ok(sample.get(from..to).ok_or("a longer sample")?)
+}
+
+/// A sample from one digit on.
+fn rest(sample: &'static str, from: usize) -> Result<&'static str, Fail> {
+    part(sample, from, sample.len())
+}
+
+/// The samples' Session-Id, `gw1.example;1;1`.
+pub(crate) fn session() -> Result<&'static str, Fail> {
+    part(DEBIT, AVPS, NAMES)
+}
+
+/// The Subscription-Id of the samples' subscriber, 0:491700000001.
+pub(crate) fn subscription() -> Result<&'static str, Fail> {
+    part(DEBIT, SUBSCRIPTION, UNITS)
+}
 
 /// The text, so often.
 pub(crate) fn repeated(alloc: Global, text: &str, times: usize) -> Result<String, Fail> {
@@ -66,8 +86,12 @@ fn message(alloc: Global, flags: &str, ids: &str, avps: &str) -> Result<String, 
     Ok(format!(in alloc; "01{length:06x}{flags}00011000000004{ids}{avps}")?)
 }
 
-/// The request with this number for so many octets, of the subscriber and under the Session-Id that these AVPs say, with more AVPs
-/// behind.
+/// The same, under the samples' identifiers.
+fn under_one(alloc: Global, flags: &str, avps: &str) -> Result<String, Fail> {
+    message(alloc, flags, part(DEBIT, IDS, AVPS)?, avps)
+}
+
+/// The sample's request with another Session-Id, number and Subscription-Id, and with more AVPs behind.
 pub(crate) fn debit_under(
     alloc: Global,
     session: &str,
@@ -75,86 +99,74 @@ pub(crate) fn debit_under(
     subscription: &str,
     more: &str,
 ) -> Result<String, Fail> {
+    let names = part(DEBIT, NAMES, NUMBER)?;
+    let action = part(DEBIT, ACTION, SUBSCRIPTION)?;
+    let units = rest(DEBIT, UNITS)?;
     let avps = format!(in alloc;
-        "{session}{NAMED}{number:08x}{DEBITED}{subscription}{UNITS}00000000000003e9{more}"
+        "{session}{names}{number:08x}{action}{subscription}{units}{more}"
     )?;
-    message(alloc, "c0", IDS, avps.as_str())
+    under_one(alloc, "c0", avps.as_str())
 }
 
-/// The answer that grants 1,001 octets to the request with this number, with its Session-Id and with more AVPs behind.
+/// The sample's answer with another Session-Id and number, and with more AVPs behind.
 pub(crate) fn granted_under(
     alloc: Global,
     session: &str,
     number: u32,
     more: &str,
 ) -> Result<String, Fail> {
-    let avps = format!(in alloc;
-        "{session}{RESULT}000007d1{ORIGIN}{NUMBERED}{number:08x}{GRANTED}00000000000003e9{more}"
-    )?;
-    message(alloc, "40", IDS, avps.as_str())
+    let names = part(ANSWER, NAMES, ANSWERED)?;
+    let grant = rest(ANSWER, GRANT)?;
+    let avps = format!(in alloc; "{session}{names}{number:08x}{grant}{more}")?;
+    under_one(alloc, "40", avps.as_str())
 }
 
-/// The request for 1,001 octets with this number.
-pub(crate) fn debit(alloc: Global, number: u32) -> Result<String, Fail> {
-    debit_of(alloc, number, 1001)
+/// The sample's request with this number, for so many octets.
+pub(crate) fn debit(alloc: Global, number: u32, octets: u64) -> Result<String, Fail> {
+    let head = part(DEBIT, 0, NUMBER)?;
+    let middle = part(DEBIT, ACTION, ASKED)?;
+    Ok(format!(in alloc; "{head}{number:08x}{middle}{octets:016x}")?)
 }
 
-/// The request with this number for so many octets.
-pub(crate) fn debit_of(alloc: Global, number: u32, octets: u64) -> Result<String, Fail> {
-    let avps = format!(in alloc;
-        "{SESSION}{NAMED}{number:08x}{DEBITED}{SUBSCRIPTION}{UNITS}{octets:016x}"
-    )?;
-    message(alloc, "c0", IDS, avps.as_str())
+/// The sample's answer to the request with this number, which grants so many octets.
+pub(crate) fn granted(alloc: Global, number: u32, octets: u64) -> Result<String, Fail> {
+    let head = part(ANSWER, 0, ANSWERED)?;
+    let middle = part(ANSWER, GRANT, GRANTED)?;
+    Ok(format!(in alloc; "{head}{number:08x}{middle}{octets:016x}")?)
 }
 
-/// The request again, under other identifiers, with a Proxy-Info.
+/// The sample's request again, under other identifiers, with a Proxy-Info.
 pub(crate) fn debit_through_proxy(alloc: Global) -> Result<String, Fail> {
-    let avps = format!(in alloc;
-        "{SESSION}{NAMED}00000000{DEBITED}{SUBSCRIPTION}{UNITS}00000000000003e9{PROXY_INFO}"
-    )?;
+    let avps = format!(in alloc; "{}{PROXY_INFO}", rest(DEBIT, AVPS)?)?;
     message(alloc, "c0", OTHER_IDS, avps.as_str())
 }
 
-/// The request for 1,001 octets with this Subscription-Id.
-pub(crate) fn debit_for(alloc: Global, subscription: &str) -> Result<String, Fail> {
-    debit_under(alloc, SESSION, 0, subscription, "")
-}
-
-/// The answer that grants so many octets to the request with this number.
-pub(crate) fn granted(alloc: Global, number: u32, octets: u64) -> Result<String, Fail> {
-    let avps = format!(in alloc;
-        "{SESSION}{RESULT}000007d1{ORIGIN}{NUMBERED}{number:08x}{GRANTED}{octets:016x}"
-    )?;
-    message(alloc, "40", IDS, avps.as_str())
-}
-
-/// The answer that grants 1,001 octets to the request through the proxy.
+/// The answer to it.
 pub(crate) fn granted_through_proxy(alloc: Global) -> Result<String, Fail> {
-    let avps = format!(in alloc;
-        "{SESSION}{RESULT}000007d1{ORIGIN}{NUMBERED}00000000{GRANTED}00000000000003e9{PROXY_INFO}"
-    )?;
+    let avps = format!(in alloc; "{}{PROXY_INFO}", rest(ANSWER, AVPS)?)?;
     message(alloc, "40", OTHER_IDS, avps.as_str())
+}
+
+/// The sample's request with this Subscription-Id.
+pub(crate) fn debit_for(alloc: Global, subscription: &str) -> Result<String, Fail> {
+    debit_under(alloc, session()?, 0, subscription, "")
 }
 
 /// The answer with this result, and no units, to the request with this number.
 pub(crate) fn refused(alloc: Global, number: u32, code: u64) -> Result<String, Fail> {
-    let avps = format!(in alloc; "{SESSION}{RESULT}{code:08x}{ORIGIN}{NUMBERED}{number:08x}")?;
-    message(alloc, "40", IDS, avps.as_str())
-}
-
-/// The busy answer, DIAMETER_TOO_BUSY (3004).
-pub(crate) fn busy(alloc: Global) -> Result<String, Fail> {
-    let avps = format!(in alloc; "{SESSION}{RESULT}00000bbc{ORIGIN}")?;
-    message(alloc, "60", IDS, avps.as_str())
+    let result = part(ANSWER, AVPS, CODE)?;
+    let names = part(ANSWER, ORIGIN, ANSWERED)?;
+    let avps = format!(in alloc; "{result}{code:08x}{names}{number:08x}")?;
+    under_one(alloc, "40", avps.as_str())
 }
 
 /// The busy answer without anything of its request, behind its length.
 pub(crate) fn bare_busy(alloc: Global, header: &str) -> Result<String, Fail> {
-    Ok(format!(in alloc; "01000044{header}{RESULT}00000bbc{ORIGIN}")?)
+    Ok(format!(in alloc; "01000044{header}{}", rest(BUSY, NAMES)?)?)
 }
 
 /// A request with these AVPs and then a Session-Id that ends behind the message.
 pub(crate) fn broken(alloc: Global, avps: &str) -> Result<String, Fail> {
     let avps = format!(in alloc; "{avps}0000010740000064")?;
-    message(alloc, "c0", IDS, avps.as_str())
+    under_one(alloc, "c0", avps.as_str())
 }

@@ -1,9 +1,9 @@
 //! A replay with memory refused.
 
-use super::octets::{busy, debit, granted, refused};
+use super::octets::refused;
 use super::replayed;
 use crate::ReplayFault;
-use dcc_samples::PLAN;
+use dcc_samples::{ANSWER, BUSY, DEBIT, PLAN};
 use dcc_tariff::{Plan, PlanFault};
 use std::process::Abort;
 use std::test::Fail;
@@ -13,9 +13,8 @@ use std::test::Fail;
 #[test]
 fn a_refusal_changes_no_line(rt: HostRuntime) -> Result<(), Fail> {
     let alloc = rt.alloc();
-    let request = debit(alloc, 0)?;
     let script = format!(in alloc;
-        "open 1 gw1.example\ntopup 0 0:491700000001 1 1000\nmessage 1 1748736000 {request}\n"
+        "open 1 gw1.example\ntopup 0 0:491700000001 1 1000\nmessage 1 1748736000 {DEBIT}\n"
     )?;
     let plan = match Plan::read(alloc, PLAN) {
         Ok(plan) => plan,
@@ -36,9 +35,9 @@ fn a_refusal_changes_no_line(rt: HostRuntime) -> Result<(), Fail> {
 /// Whether the lines are those of the script, or of a refusal.
 fn judge<R: Abort + AllocGlobal>(rt: &R, text: &str) -> Result<(), Fail> {
     let alloc = rt.alloc();
-    let granted = format!(in alloc; "3 answer 1 {}", granted(alloc, 0, 1001)?)?;
+    let granted = format!(in alloc; "3 answer 1 {ANSWER}")?;
     let unknown = format!(in alloc; "3 answer 1 {}", refused(alloc, 0, 5030)?)?;
-    let busy = format!(in alloc; "3 answer 1 {}", busy(alloc)?)?;
+    let busy = format!(in alloc; "3 answer 1 {BUSY}")?;
     let mut lines = text.lines();
     assert_eq!(rt; lines.next(), Some("1 -"));
     let topped_up = lines.next().unwrap_or("");

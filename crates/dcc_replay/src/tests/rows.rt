@@ -1,10 +1,9 @@
 //! Worked examples: what is printed of a script.
 
-use super::octets::{debit, debit_through_proxy, granted, granted_through_proxy, refused};
-use super::replayed;
-use dcc_samples::PLAN;
+use super::octets::{debit, debit_through_proxy, granted_through_proxy, refused};
+use super::{prints, replayed};
+use dcc_samples::{ANSWER, DEBIT};
 use dcc_tariff::Plan;
-use std::process::Abort;
 use std::test::Fail;
 
 /// 2025-06-01T00:00:00Z.
@@ -34,56 +33,31 @@ tariff = [
 ]
 "#;
 
-fn prints<R: Abort + AllocGlobal>(
-    rt: &R,
-    plan: Plan,
-    script: &str,
-    printed: &str,
-) -> Result<(), Fail> {
-    let text = replayed(rt.alloc(), plan, script.as_bytes())?;
-    assert_eq!(rt; text.as_str(), printed);
-    Ok(())
-}
-
 #[test]
 fn debits_1001_octets(rt: HostRuntime) -> Result<(), Fail> {
     let alloc = rt.alloc();
-    let request = debit(alloc, 0)?;
-    let granted = granted(alloc, 0, 1001)?;
     let script = format!(in alloc;
-        "# remark\nopen 1 gw1.example\n\ntopup {JUNE} {SUB} 1 1000\nmessage 1 {JUNE} {request}"
+        "# remark\nopen 1 gw1.example\n\ntopup {JUNE} {SUB} 1 1000\nmessage 1 {JUNE} {DEBIT}"
     )?;
-    let printed = format!(in alloc; "1 -\n2 topup done\n3 answer 1 {granted}\n")?;
-    prints(
-        &rt,
-        Plan::read(alloc, PLAN)?,
-        script.as_str(),
-        printed.as_str(),
-    )
+    let printed = format!(in alloc; "1 -\n2 topup done\n3 answer 1 {ANSWER}\n")?;
+    prints(&rt, script.as_str(), printed.as_str())
 }
 
 #[test]
 fn answers_an_unknown_account_and_then_repeats(rt: HostRuntime) -> Result<(), Fail> {
     let alloc = rt.alloc();
-    let request = debit(alloc, 0)?;
     let again = debit_through_proxy(alloc)?;
     let unknown = refused(alloc, 0, 5030)?;
-    let granted = granted(alloc, 0, 1001)?;
     let repeated = granted_through_proxy(alloc)?;
     // The funds stay 990: with them a top-up of 10^18 - 989 passes the ceiling, and one of 10^18 - 990 doesn't.
     let script = format!(in alloc;
-        "open 1 gw1.example\nmessage 1 {JUNE} {request}\ntopup {JUNE} {SUB} 1 1000\nmessage 1 {JUNE} {request}\n\
+        "open 1 gw1.example\nmessage 1 {JUNE} {DEBIT}\ntopup {JUNE} {SUB} 1 1000\nmessage 1 {JUNE} {DEBIT}\n\
 message 1 {JUNE} {again}\ntopup {JUNE} {SUB} 2 999999999999999011\ntopup {JUNE} {SUB} 3 999999999999999010\n"
     )?;
     let printed = format!(in alloc;
-        "1 -\n2 answer 1 {unknown}\n3 topup done\n4 answer 1 {granted}\n5 answer 1 {repeated}\n6 topup ceiling\n7 topup done\n"
+        "1 -\n2 answer 1 {unknown}\n3 topup done\n4 answer 1 {ANSWER}\n5 answer 1 {repeated}\n6 topup ceiling\n7 topup done\n"
     )?;
-    prints(
-        &rt,
-        Plan::read(alloc, PLAN)?,
-        script.as_str(),
-        printed.as_str(),
-    )
+    prints(&rt, script.as_str(), printed.as_str())
 }
 
 #[test]
@@ -95,17 +69,16 @@ topup {JUNE} {SUB} 3 0\ntopup {JUNE} {SUB} 1 1000000000000000000\ntopup {JUNE} {
     )?;
     let printed =
         "1 topup done\n2 topup ceiling\n3 topup ceiling\n4 topup bad\n5 topup done\n6 topup ceiling\n";
-    prints(&rt, Plan::read(alloc, PLAN)?, script.as_str(), printed)
+    prints(&rt, script.as_str(), printed)
 }
 
 #[test]
 fn charges_by_the_tariff_of_the_moment(rt: HostRuntime) -> Result<(), Fail> {
     let alloc = rt.alloc();
-    let before = debit(alloc, 0)?;
-    let after = debit(alloc, 1)?;
+    let second = debit(alloc, 1, 1001)?;
     let last = JULY - 1;
     // After the first debit the funds are 990, after the second 976.
-    for (debits, passes, fits, told) in [
+    for (debits, passes, fits, end) in [
         (
             1,
             "999999999999999011",
@@ -120,18 +93,18 @@ fn charges_by_the_tariff_of_the_moment(rt: HostRuntime) -> Result<(), Fail> {
         ),
     ] {
         let mut script = format!(in alloc;
-            "open 1 gw1.example\ntopup {last} {SUB} 1 1000\nmessage 1 {last} {before}\n"
+            "open 1 gw1.example\ntopup {last} {SUB} 1 1000\nmessage 1 {last} {DEBIT}\n"
         )?;
         if debits == 2 {
-            let line = format!(in alloc; "message 1 {JULY} {after}\n")?;
+            let line = format!(in alloc; "message 1 {JULY} {second}\n")?;
             script.push_str(line.as_str())?;
         }
-        let end = format!(in alloc;
+        let lines = format!(in alloc;
             "topup {JULY} {SUB} 2 {passes}\ntopup {JULY} {SUB} 3 {fits}\n"
         )?;
-        script.push_str(end.as_str())?;
+        script.push_str(lines.as_str())?;
         let printed = replayed(alloc, Plan::read(alloc, MIDNIGHT)?, script.as_bytes())?;
-        assert!(&rt; printed.as_str().ends_with(told), "{printed}");
+        assert!(&rt; printed.as_str().ends_with(end), "{printed}");
     }
     Ok(())
 }
@@ -139,7 +112,6 @@ fn charges_by_the_tariff_of_the_moment(rt: HostRuntime) -> Result<(), Fail> {
 #[test]
 fn closes_at_a_bad_header(rt: HostRuntime) -> Result<(), Fail> {
     let alloc = rt.alloc();
-    let request = debit(alloc, 0)?;
     let unknown = refused(alloc, 0, 5030)?;
     // A length of 22, of 65,536, another version; each closes, and what a closed peer or none sends gives nothing.
     for header in [
@@ -148,16 +120,11 @@ fn closes_at_a_bad_header(rt: HostRuntime) -> Result<(), Fail> {
         "02000014c0000110000000040000001100000021",
     ] {
         let script = format!(in alloc;
-            "open 1 gw1.example\nmessage 1 {JUNE} {header}\nmessage 1 {JUNE} {request}\nmessage 2 {JUNE} {request}\n\
-open 1 gw1.example\nmessage 1 {JUNE} {request}\n"
+            "open 1 gw1.example\nmessage 1 {JUNE} {header}\nmessage 1 {JUNE} {DEBIT}\nmessage 2 {JUNE} {DEBIT}\n\
+open 1 gw1.example\nmessage 1 {JUNE} {DEBIT}\n"
         )?;
         let printed = format!(in alloc; "1 -\n2 close 1\n3 -\n4 -\n5 -\n6 answer 1 {unknown}\n")?;
-        prints(
-            &rt,
-            Plan::read(alloc, PLAN)?,
-            script.as_str(),
-            printed.as_str(),
-        )?;
+        prints(&rt, script.as_str(), printed.as_str())?;
     }
     Ok(())
 }
