@@ -1,6 +1,5 @@
 pub mod Sizes
 pub mod Avps
-pub mod Sessions
 pub mod Proxies
 pub mod Answers
 pub mod Results

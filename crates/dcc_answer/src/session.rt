@@ -2,7 +2,7 @@
 
 ghost use Rattle.std.specs.Prelude.{◌≡◌, true};
 ghost use Rattle.dcc_octets.specs.Names.{is_short};
-ghost use Rattle.dcc_answer.specs.Sessions.{session_named, session_of};
+ghost use Rattle.dcc_request.specs.Sessions.{session_named, session_of};
 
 use dcc_avp::{Avp, codes};
 use dcc_octets::is_short;
@@ -46,7 +46,7 @@ impl<'a> Session<'a> {
 }
 
 /// The session of a list: its first Session-Id that is no vendor's, where that has 1 to 255 octets.
-#[tactic(auto, unfolding(crate::specs::Sessions::session_of))]
+#[tactic(auto, unfolding(dcc_request::specs::Sessions::session_of))]
 pub fn session_id<'a>(avps: &[Avp<'a>]) -> Option<Session<'a>>
     ensures { result ≡ session_of avps.now }
 {

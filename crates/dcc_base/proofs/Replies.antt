@@ -9,7 +9,7 @@ use Rattle.dcc_message.specs.declared.identity.Identity.{Identity}
 use Rattle.dcc_request.specs.declared.command.Command.{Command}
 use Rattle.dcc_request.specs.Refusals.{Refusal}
 use Rattle.dcc_request.specs.Layout.{unread}
-use Rattle.dcc_answer.specs.Sessions.{session_of}
+use Rattle.dcc_request.specs.Sessions.{session_of}
 use Rattle.dcc_answer.specs.Proxies.{proxies_of}
 use Rattle.dcc_base.specs.declared.effect.Effect.{Effect}
 use Rattle.dcc_base.specs.declared.peer.Peer.{Peer}

@@ -7,7 +7,7 @@ use Rattle.dcc_message.specs.declared.applications.TheConstants as applications
 use Rattle.dcc_message.specs.declared.commands.TheConstants as commands
 use Rattle.dcc_message.specs.declared.identity.Identity.{Identity}
 use Rattle.dcc_request.specs.Refusals.{Refusal}
-use Rattle.dcc_answer.specs.Sessions.{session_of}
+use Rattle.dcc_request.specs.Sessions.{session_of}
 use Rattle.dcc_answer.specs.Proxies.{proxies_of}
 use Rattle.dcc_base.specs.declared.effect.Effect.{Effect}
 use Rattle.dcc_base.specs.declared.effect.Effect.TheVariants.{Opens, Stays, Closes}

@@ -7,7 +7,7 @@ use Rattle.dcc_octets.specs.Names.{is_short}
 use Rattle.dcc_avp.specs.Spelling.{AvpView, has_code}
 use Rattle.dcc_avp.specs.declared.codes.TheConstants.{SESSION_ID}
 use Rattle.dcc_credit.specs.Requests.{only, data_of, the, is_of, are_of}
-use Rattle.dcc_answer.specs.Sessions.{session_named, session_of}
+use Rattle.dcc_request.specs.Sessions.{session_named, session_of}
 
 only_head : {X : Type 0} (x : X) (xs : List X) (v : X) → only (x ∷ xs) ≡ Some v → x ≡ v
 only_head x [] v is = cc

@@ -16,7 +16,7 @@ use Rattle.dcc_request.specs.Layout.{unread}
 use Rattle.dcc_answer.specs.Avps.{sent, sent32}
 use Rattle.dcc_answer.specs.Answers.{answer_with}
 use Rattle.dcc_answer.specs.Failed.{failed_avps}
-use Rattle.dcc_answer.specs.Sessions.{session_of}
+use Rattle.dcc_request.specs.Sessions.{session_of}
 
 -- the number of the first AVP of a code, where it has four octets
 abbrev pub number_of : ℕ → List AvpView → Option ℕ

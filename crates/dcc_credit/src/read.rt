@@ -1,7 +1,7 @@
 //! Reading a request: checks over the whole message, one after another, and then its groups.
 
 ghost use Rattle.std.specs.Prelude.{◌≡◌, ◌↔◌, Some, None, Err, option_map, IfOk, IfErr, IfSome};
-ghost use Rattle.dcc_answer.specs.Sessions.{session_of};
+ghost use Rattle.dcc_request.specs.Sessions.{session_of};
 ghost use Rattle.dcc_credit.specs.Requests.{Plain, plain_of, is_credit_control, request_of};
 ghost use Rattle.dcc_credit.specs.declared.read.CcrFault.TheVariants.{Later, Memory};
 

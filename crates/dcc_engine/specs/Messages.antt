@@ -8,7 +8,7 @@ use Rattle.dcc_message.specs.declared.header.HeaderFault.{HeaderFault}
 use Rattle.dcc_message.specs.declared.length.TheConstants.{HEADER_LENGTH}
 use Rattle.dcc_credit.specs.Requests.{RequestView, request_of}
 use Rattle.dcc_answer.specs.Proxies.{proxies_of}
-use Rattle.dcc_answer.specs.Sessions.{session_of}
+use Rattle.dcc_request.specs.Sessions.{session_of}
 use Rattle.dcc_engine.specs.Engines.{is_open}
 use Rattle.dcc_engine.specs.declared.peers.Peer.{Peer}
 

@@ -6,5 +6,6 @@ pub mod Commands
 pub mod Walk
 pub mod Checks
 pub mod Values
+pub mod Sessions
 pub mod Sizes
 pub mod inner

@@ -1,5 +1,5 @@
 use Rattle.std.proofs.Common.{Ok, Err, refl, sym, ◌∙◌}
-use Rattle.dcc_answer.specs.Sessions.{session_of}
+use Rattle.dcc_request.specs.Sessions.{session_of}
 use Rattle.dcc_base.proofs.Replies.{passed, read_is}
 use Rattle.dcc_base.proofs.Results.{none_busy}
 use Rattle.dcc_base.proofs.Sizes.{shown_few}

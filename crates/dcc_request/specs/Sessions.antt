@@ -1,4 +1,4 @@
--- The session that an answer takes over from its request.
+-- The session that a request names.
 use Rattle.std.specs.Prelude.{ℕ, if◌then◌else◌, List, Option, Some, None, option_and_then}
 use Rattle.std.specs.List.{find}
 use Rattle.dcc_octets.specs.Names.{is_short}
