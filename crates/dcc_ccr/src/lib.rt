@@ -11,17 +11,15 @@
 //! 3. contradictions between AVPs.
 //!
 //! A `Request` keeps its limits: a Session-Id of 1 to 255 octets, amounts of at most 10^12, at most 16 services, and no two of
-//! one key. That its Service-Identifiers are at most 5,460 follows from the length of its message, and isn't said here.
+//! one key, with at most 5,460 Service-Identifiers together.
 //! What a request asks for is kept in each unit that it may be counted in: which of them counts is the plan's business.
 #![tactic(auto)]
 
 mod amounts;
-mod contradiction;
 mod read;
 mod request;
 mod request_type;
 mod service;
-mod steps;
 mod subscription;
 
 pub use amounts::Amounts;
@@ -29,6 +27,3 @@ pub use read::read_ccr;
 pub use request::{Request, subscriber};
 pub use request_type::{RequestType, RequestedAction};
 pub use service::Service;
-
-#[cfg(test)]
-mod tests;

@@ -1,4 +1,4 @@
-pub mod Requests
+pub mod Acts
 pub mod Answers
 pub mod Refusals
 pub mod inner

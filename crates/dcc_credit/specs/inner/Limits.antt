@@ -1,17 +1,11 @@
--- What types keep, and what is known where an answer was written.
-use Rattle.std.specs.Prelude.{◌≡◌, ℕ, true, List}
+-- What is known where an answer was written.
+use Rattle.std.specs.Prelude.{◌≡◌, true}
 use Rattle.dcc_octets.specs.Names.{is_short}
 use Rattle.dcc_message.specs.declared.identity.Identity.{Identity}
 use Rattle.dcc_act.specs.declared.outcome.Outcome.{Outcome}
 use Rattle.dcc_act.specs.declared.outcome.Outcome.TheVariants.{Unknown, Answered, Added, Ceiling}
 use Rattle.dcc_act.specs.Answers.{AreAnswers}
-use Rattle.dcc_credit.specs.Requests.{is_askable}
 use Rattle.dcc_answer.specs.Answers.{IsServer}
-
--- what holds of every request
-pub record IsRequest (session : List ℕ) (octets : ℕ) : Type 0 where
-  pub is_session : is_short session ≡ true
-  pub is_amount : is_askable octets ≡ true
 
 -- what an answer holds is within its limits; a top-up's has nothing
 abbrev pub IsAnswerable : Identity → Outcome → Type 0
