@@ -2,8 +2,10 @@
 use Rattle.std.specs.Prelude.{ℕ}
 use Rattle.dcc_act.specs.declared.outcome.RequestType.{RequestType}
 use Rattle.dcc_act.specs.declared.outcome.RequestType.TheVariants as request
+use Rattle.dcc_act.specs.declared.outcome.Balance.{Balance}
+use Rattle.dcc_act.specs.declared.outcome.Balance.TheVariants.{EnoughCredit, NoCredit}
 use Rattle.dcc_act.specs.declared.outcome.ResultCode.{ResultCode}
-use Rattle.dcc_act.specs.declared.outcome.ResultCode.TheVariants.{Success, CreditLimitReached, RatingFailed}
+use Rattle.dcc_act.specs.declared.outcome.ResultCode.TheVariants.{Success, CreditLimitReached, UnableToComply, RatingFailed}
 
 -- CC-Request-Type (RFC 8506, section 8.3)
 abbrev pub request_type_number : RequestType → ℕ
@@ -13,4 +15,10 @@ request_type_number request.Event = 4
 abbrev pub result_number : ResultCode → ℕ
 result_number Success = 2001
 result_number CreditLimitReached = 4012
+result_number UnableToComply = 5012
 result_number RatingFailed = 5031
+
+-- Check-Balance-Result (RFC 8506, section 8.6)
+abbrev pub balance_number : Balance → ℕ
+balance_number EnoughCredit = 0
+balance_number NoCredit = 1

@@ -13,6 +13,8 @@ pub enum EntryKind {
     TopUp,
     /// A direct debit.
     Debit,
+    /// A refund.
+    Refund,
 }
 
 /// By what an entry is known.

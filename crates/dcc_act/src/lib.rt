@@ -30,7 +30,7 @@ pub use laws::same_subscribers_are_equal;
 pub use limits::{MAX_AMOUNT, MAX_IDS, MAX_SECONDS, MAX_SERVICES};
 pub use moment::Moment;
 pub use one_time_event::{Action, OneTimeEvent};
-pub use outcome::{Answer, Outcome, RequestType, ResultCode, ServiceAnswer};
+pub use outcome::{Answer, Balance, Outcome, RequestType, ResultCode, ServiceAnswer};
 pub use request_key::RequestKey;
 pub use service::{Form, Service};
 pub use service_answers::ServiceAnswers;

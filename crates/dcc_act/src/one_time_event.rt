@@ -10,8 +10,14 @@ use std::marker::Model;
 /// What a one-time event asks for (Requested-Action, RFC 8506, section 8.41).
 #[derive(Clone, Copy, Debug, PartialEq, Eq)]
 pub enum Action {
-    /// That the price of the units is charged at once.
+    /// DIRECT_DEBITING, 0: that the price of the units is charged at once.
     DirectDebiting,
+    /// REFUND_ACCOUNT, 1: that the price of the units is given back.
+    RefundAccount,
+    /// CHECK_BALANCE, 2: whether what is free covers the price of the units.
+    CheckBalance,
+    /// PRICE_ENQUIRY, 3: what the units cost.
+    PriceEnquiry,
 }
 
 /// A one-time event (RFC 8506, section 6), which has one service, and that asks for units.

@@ -36,6 +36,8 @@ pub enum ResultCode {
     Success,
     /// DIAMETER_CREDIT_LIMIT_REACHED (RFC 8506, section 9.1): the free funds don't reach.
     CreditLimitReached,
+    /// DIAMETER_UNABLE_TO_COMPLY (RFC 6733, section 7.1.5): the funds would pass a limit.
+    UnableToComply,
     /// DIAMETER_RATING_FAILED (RFC 8506, section 9.2): there is no tariff.
     RatingFailed,
 }
@@ -50,7 +52,31 @@ impl ResultCode {
         match self {
             ResultCode::Success => 2001,
             ResultCode::CreditLimitReached => 4012,
+            ResultCode::UnableToComply => 5012,
             ResultCode::RatingFailed => 5031,
+        }
+    }
+}
+
+/// Whether what is free covers the price of the units (Check-Balance-Result, RFC 8506, section 8.6).
+#[derive(Clone, Copy, Debug, PartialEq, Eq)]
+pub enum Balance {
+    /// ENOUGH_CREDIT: it does.
+    EnoughCredit,
+    /// NO_CREDIT: it doesn't.
+    NoCredit,
+}
+
+impl Balance {
+    ghost use Rattle.dcc_act.specs.Numbers.{balance_number};
+
+    /// The number, as in a Check-Balance-Result.
+    pub fn number(self) -> u32
+        ensures { result ≡ balance_number self }
+    {
+        match self {
+            Balance::EnoughCredit => 0,
+            Balance::NoCredit => 1,
         }
     }
 }
@@ -92,6 +118,10 @@ pub struct Answer {
     pub result: ResultCode,
     /// The services, in the order of the request.
     pub services: ServiceAnswers,
+    /// What the units cost, in minor units, where that was asked (Cost-Information, RFC 8506, section 8.7).
+    pub cost: Option<u64>,
+    /// Whether what is free covers their price, where that was asked.
+    pub balance: Option<Balance>,
 }
 
 impl Answer {
@@ -104,6 +134,8 @@ impl Answer {
             key: self.key.copy()?,
             result: self.result,
             services: self.services.copy()?,
+            cost: self.cost,
+            balance: self.balance,
         })
     }
 }

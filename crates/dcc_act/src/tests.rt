@@ -112,6 +112,8 @@ fn outcomes(rt: HostRuntime) -> Result<(), Fail> {
         key: key(rt.alloc())?,
         result: ResultCode::Success,
         services,
+        cost: None,
+        balance: None,
     });
     let unknown = Outcome::Unknown {
         request: RequestType::Event,
@@ -123,6 +125,7 @@ fn outcomes(rt: HostRuntime) -> Result<(), Fail> {
     };
     assert_eq!(rt; (copy.request.number(), copy.result.number()), (4, 2001));
     assert_eq!(rt; ResultCode::CreditLimitReached.number(), 4012);
+    assert_eq!(rt; ResultCode::UnableToComply.number(), 5012);
     assert_eq!(rt; ResultCode::RatingFailed.number(), 5031);
     assert_eq!(rt; copy.services.as_slice().len(), 1);
     assert_eq!(rt; copy.services.into_vec().len(), 1);

@@ -18,7 +18,7 @@ use Rattle.dcc_model.specs.declared.done.Done.{Done}
 use Rattle.dcc_model.specs.declared.decide.TheConstants.{CEILING}
 use Rattle.dcc_model.specs.Keys.{request_key, same_key}
 use Rattle.dcc_model.specs.Money.{funds_of, free_of}
-use Rattle.dcc_model.specs.Outcomes.{is_top_up, has_account, counts, first_of, is_made, place_of_key, action_outcome, decided, unknown_of, is_unknown, settled, judged, history, act_made, after, is_new, place, outcome, acts}
+use Rattle.dcc_model.specs.Outcomes.{is_top_up, has_account, counts, first_of, is_made, place_of_key, decided, unknown_of, is_unknown, settled, judged, history, act_made, after, is_new, place, outcome, acts}
 use Rattle.dcc_model.specs.Laws.{NewIsLast, StandsAt, PlaceHolds, UnknownHasNoPlace}
 use Rattle.dcc_model.proofs.Histories.{judged_new, history_of_made, history_of_acts, after_by_history, slice_get-behind, slice_get-before, outcome_last, outcome_before, one_more}
 
@@ -203,13 +203,10 @@ place_holds terms xs act n h =
     ]
 
 -- what is made has an account, or makes one
-action_known : (free : ℤ) (event : OneTimeEvent) (action : Action) → is_unknown (action_outcome free event action) ≡ false
-action_known free event DirectDebiting = refl
-
 decided_known : (terms : TermsView) (past : List Done) (k : Kind) → is_unknown (decided terms past k) ≡ false
 decided_known terms past (kind.TopUp top_up) =
     cond_both (int_lt CEILING (funds_of terms past +ℤ pos top_up.amount)) Ceiling Added (λ (o : Outcome). is_unknown o ≡ false) (λ _. refl) (λ _. refl)
-decided_known terms past (kind.Event event) = action_known (free_of terms past) event event.action
+decided_known terms past (kind.Event event) = refl
 
 AllKnown : List Done → Type 0
 AllKnown [] = Unit {0}

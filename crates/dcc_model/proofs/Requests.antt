@@ -19,21 +19,18 @@ use Rattle.dcc_model.specs.declared.done.Done.{Done}
 use Rattle.dcc_model.specs.declared.decide.TheConstants.{CEILING}
 use Rattle.dcc_model.specs.Keys.{request_key, same_key}
 use Rattle.dcc_model.specs.Money.{funds_of, free_of}
-use Rattle.dcc_model.specs.Outcomes.{is_top_up, has_account, has_top_up, counts, first_of, is_made, action_outcome, top_up_outcome, decided, unknown_of, settled, judged, history, after, is_new, IsOfRequest, IsOfTopUp}
+use Rattle.dcc_model.specs.Outcomes.{is_top_up, has_account, has_top_up, counts, first_of, is_made, top_up_outcome, decided, unknown_of, settled, judged, history, after, is_new, IsOfRequest, IsOfTopUp}
 
 abbrev pub IsOf : Kind → Outcome → Type 0
 IsOf (kind.TopUp top_up) outcome = IsOfTopUp outcome
 IsOf (kind.Event event) outcome = IsOfRequest outcome
-
-action_of_request : (free : ℤ) (event : OneTimeEvent) (action : Action) → IsOfRequest (action_outcome free event action)
-action_of_request free event DirectDebiting = tt
 
 top_up_of_top_up : (funds : ℤ) (top_up : TopUp) → IsOfTopUp (top_up_outcome funds top_up)
 top_up_of_top_up funds top_up = cond_both (int_lt CEILING (funds +ℤ pos top_up.amount)) Ceiling Added IsOfTopUp (λ _. tt) (λ _. tt)
 
 decided_is_of : (terms : TermsView) (past : List Done) (k : Kind) → IsOf k (decided terms past k)
 decided_is_of terms past (kind.TopUp top_up) = top_up_of_top_up (funds_of terms past) top_up
-decided_is_of terms past (kind.Event event) = action_of_request (free_of terms past) event event.action
+decided_is_of terms past (kind.Event event) = tt
 
 -- one key, one kind
 same_kind : (a b : Kind) (outcome : Outcome) → same_key a b ≡ true → IsOf b outcome → IsOf a outcome

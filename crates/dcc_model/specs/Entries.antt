@@ -1,6 +1,6 @@
 -- The entries that the acts of one subscriber leave in the books.
-use Rattle.std.specs.Prelude.{ℕ, ◌+◌, ℤ, pos, neg_ℤ, ◌+ℤ◌, if◌then◌else◌, List, [], ◌∷◌, ◌++◌, length, reverse, None}
-use Rattle.std.specs.Option.{option_map_or}
+use Rattle.std.specs.Prelude.{ℕ, ◌+◌, ℤ, pos, neg_ℤ, ◌+ℤ◌, if◌then◌else◌, List, [], ◌∷◌, ◌++◌, length, reverse, None, option_map}
+use Rattle.std.specs.Option.{option_to_list}
 use Rattle.dcc_tariff.specs.Terms.{TermsView}
 use Rattle.dcc_act.specs.declared.act.Act.{Act}
 use Rattle.dcc_act.specs.declared.one_time_event.OneTimeEvent.{OneTimeEvent}
@@ -13,7 +13,7 @@ use Rattle.dcc_act.specs.declared.entry.EntryName.TheVariants.{Ticket, Session}
 use Rattle.dcc_act.specs.declared.grant.Grant.{Grant}
 use Rattle.dcc_act.specs.declared.outcome.Outcome.{Outcome}
 use Rattle.dcc_model.specs.declared.done.Done.{Done}
-use Rattle.dcc_model.specs.Money.{is_added, charged, grant_price}
+use Rattle.dcc_model.specs.Money.{is_added, charged_event, refunded_event, grant_price}
 use Rattle.dcc_model.specs.Outcomes.{history}
 
 -- a top-up's entry, which charges no units
@@ -42,11 +42,25 @@ debit_entry place moment event grant =
       name = Session event.key.sid;
     }
 
+-- a refund's entry, also where it gave back nothing
+abbrev pub refund_entry : ℕ → ℕ → OneTimeEvent → Grant → Entry
+refund_entry place moment event grant =
+    record {
+      place = place;
+      moment = moment;
+      kind = entry.Refund;
+      group = event.service.group;
+      units = grant.units;
+      amount = pos (grant_price grant);
+      name = Session event.key.sid;
+    }
+
 -- the entries of an act at this place, after the acts that were made before it
 abbrev pub entries_of_kind : TermsView → List Done → ℕ → ℕ → Kind → Outcome → List Entry
 entries_of_kind terms past place moment (kind.TopUp top_up) outcome = if is_added outcome then top_up_entry place moment top_up ∷ [] else []
 entries_of_kind terms past place moment (kind.Event event) outcome =
-    option_map_or (λ grant. debit_entry place moment event grant ∷ []) (charged terms past (kind.Event event) outcome) []
+    option_to_list (option_map (debit_entry place moment event) (charged_event event outcome)) ++
+    option_to_list (option_map (refund_entry place moment event) (refunded_event event outcome))
 
 -- places count from 1
 abbrev pub entries_by : TermsView → List Done → Done → List Entry

@@ -10,7 +10,8 @@ use Rattle.dcc_act.specs.declared.act.Kind.{Kind}
 use Rattle.dcc_act.specs.declared.act.Kind.TheVariants.{TopUp, Event}
 use Rattle.dcc_act.specs.declared.grant.Grant.{Grant}
 use Rattle.dcc_act.specs.declared.one_time_event.Action.{Action}
-use Rattle.dcc_act.specs.declared.one_time_event.Action.TheVariants.{DirectDebiting}
+use Rattle.dcc_act.specs.declared.one_time_event.OneTimeEvent.{OneTimeEvent}
+use Rattle.dcc_act.specs.declared.one_time_event.Action.TheVariants.{DirectDebiting, RefundAccount, CheckBalance, PriceEnquiry}
 use Rattle.dcc_act.specs.declared.outcome.Outcome.{Outcome}
 use Rattle.dcc_act.specs.declared.outcome.Outcome.TheVariants.{Answered, Added}
 use Rattle.dcc_act.specs.declared.outcome.ResultCode.{ResultCode}
@@ -44,19 +45,36 @@ asked_units service = rated service.unit service.asked service.tariff
 abbrev pub grant_price : Grant → ℕ
 grant_price grant = price grant.tariff grant.units
 
--- what an event charges that succeeds (RFC 8506, section 6.3)
-abbrev pub charged_by : Action → ServiceView → Option Grant
-charged_by DirectDebiting service = asked_units service
+-- of the units that it asks for, what an event charges that succeeds (RFC 8506, section 6.3)
+abbrev pub charged_by : Action → Option Grant → Option Grant
+charged_by DirectDebiting asked = asked
+charged_by RefundAccount asked = None
+charged_by CheckBalance asked = None
+charged_by PriceEnquiry asked = None
+
+-- and what it gives back (section 6.4)
+abbrev pub refunded_by : Action → Option Grant → Option Grant
+refunded_by DirectDebiting asked = None
+refunded_by RefundAccount asked = asked
+refunded_by CheckBalance asked = None
+refunded_by PriceEnquiry asked = None
+
+-- what an event charged that came to this outcome, and what it gave back
+abbrev pub charged_event : OneTimeEvent → Outcome → Option Grant
+charged_event event outcome = if succeeded outcome then charged_by event.action (asked_units event.service) else None
+
+abbrev pub refunded_event : OneTimeEvent → Outcome → Option Grant
+refunded_event event outcome = if succeeded outcome then refunded_by event.action (asked_units event.service) else None
 
 -- what an act charged: a direct debit the units that it asked for
 abbrev pub charged : TermsView → List Done → Kind → Outcome → Option Grant
 charged terms past (TopUp top_up) outcome = None
-charged terms past (Event event) outcome = if succeeded outcome then charged_by event.action event.service else None
+charged terms past (Event event) outcome = charged_event event outcome
 
--- what an act added to the funds: a top-up its amount
+-- what an act added to the funds: a top-up its amount, and a refund the price of the units that it asked for
 abbrev pub credit : TermsView → List Done → Kind → Outcome → ℕ
 credit terms past (TopUp top_up) outcome = if is_added outcome then top_up.amount else 0
-credit terms past (Event event) outcome = 0
+credit terms past (Event event) outcome = option_map_or grant_price (refunded_event event outcome) 0
 
 -- what an act took from the funds: the price of what it charged
 abbrev pub debit : TermsView → List Done → Kind → Outcome → ℕ

@@ -6,7 +6,7 @@ use Rattle.dcc_tariff.specs.Prices.{covers}
 use Rattle.dcc_tariff.specs.Terms.{TermsView}
 use Rattle.dcc_act.specs.declared.act.Act.{Act}
 use Rattle.dcc_act.specs.declared.one_time_event.Action.{Action}
-use Rattle.dcc_act.specs.declared.one_time_event.Action.TheVariants.{DirectDebiting}
+use Rattle.dcc_act.specs.declared.one_time_event.Action.TheVariants.{DirectDebiting, RefundAccount, CheckBalance, PriceEnquiry}
 use Rattle.dcc_act.specs.declared.one_time_event.OneTimeEvent.{OneTimeEvent}
 use Rattle.dcc_act.specs.declared.act.Kind.{Kind}
 use Rattle.dcc_act.specs.declared.act.Kind.TheVariants as kind
@@ -16,12 +16,15 @@ use Rattle.dcc_act.specs.declared.outcome.Outcome.{Outcome}
 use Rattle.dcc_act.specs.declared.outcome.Outcome.TheVariants.{Unknown, Answered, Added, Ceiling}
 use Rattle.dcc_act.specs.declared.outcome.RequestType.TheVariants as request
 use Rattle.dcc_act.specs.declared.outcome.ResultCode.{ResultCode}
-use Rattle.dcc_act.specs.declared.outcome.ResultCode.TheVariants.{Success, CreditLimitReached, RatingFailed}
+use Rattle.dcc_act.specs.declared.outcome.ResultCode.TheVariants.{Success, CreditLimitReached, UnableToComply, RatingFailed}
+use Rattle.dcc_act.specs.declared.outcome.Balance.{Balance}
+use Rattle.dcc_act.specs.declared.outcome.Balance.TheVariants.{EnoughCredit, NoCredit}
 use Rattle.dcc_act.specs.declared.outcome.ServiceAnswer.{ServiceAnswer}
 use Rattle.dcc_act.specs.declared.request_key.RequestKey.{RequestKey}
 use Rattle.dcc_act.specs.declared.service.Service.{Service}
 use Rattle.dcc_model.specs.declared.done.Done.{Done}
 use Rattle.dcc_model.specs.declared.decide.TheConstants.{CEILING}
+use Rattle.dcc_model.specs.declared.decide.EventResult.{EventResult}
 use Rattle.dcc_model.specs.Keys.{request_key, same_key, same_request}
 use Rattle.dcc_model.specs.Money.{asked_units, grant_price, funds_of, overrun_of, free_of}
 
@@ -49,38 +52,69 @@ abbrev pub answer_with : Service → ResultCode → Option Grant → ServiceAnsw
 answer_with service code grant = record { group = service.group; ids = service.ids; form = service.form; result = code; grant = grant }
 
 -- an event's answer has one service, whose result is the command's
-abbrev pub event_answer : OneTimeEvent → ResultCode → Option Grant → Outcome
-event_answer event code grant =
-    Answered (record { request = request.Event; key = event.key; result = code; services = answer_with event.service code grant ∷ [] })
+abbrev pub event_answer : OneTimeEvent → EventResult → Outcome
+event_answer event found =
+    Answered (record {
+      request = request.Event;
+      key = event.key;
+      result = found.result;
+      services = answer_with event.service found.result found.grant ∷ [];
+      cost = found.cost;
+      balance = found.balance;
+    })
 
--- a direct debit is made where its price is nothing or within what is free (RFC 8506, section 6.3); without a tariff
--- there is no price
-abbrev pub debit_result : ℤ → Option Grant → ResultCode
-debit_result free None = RatingFailed
-debit_result free (Some grant) = if covers free (grant_price grant) then Success else CreditLimitReached
+-- a result alone
+abbrev pub result_of : ResultCode → EventResult
+result_of code = record { result = code; grant = None; cost = None; balance = None }
 
--- one that succeeds grants what it asks, and another nothing
-abbrev pub granted_on_success : ResultCode → Option Grant → Option Grant
-granted_on_success Success asked = asked
-granted_on_success _ asked = None
+-- this much more in the funds would lift them above the ceiling
+abbrev pub is_over : ℤ → ℕ → Bool
+is_over funds amount = int_lt CEILING (funds +ℤ pos amount)
 
-abbrev pub debit_outcome : ℤ → OneTimeEvent → Option Grant → Outcome
-debit_outcome free event asked = event_answer event (debit_result free asked) (granted_on_success (debit_result free asked) asked)
+-- a direct debit is made where its price is nothing or within what is free, and then grants what it asks (RFC 8506, section 6.3)
+abbrev pub debited : ℤ → Grant → EventResult
+debited free asked =
+    if covers free (grant_price asked) then record { result = Success; grant = Some asked; cost = None; balance = None }
+    else result_of CreditLimitReached
 
-abbrev pub action_outcome : ℤ → OneTimeEvent → Action → Outcome
-action_outcome free event DirectDebiting = debit_outcome free event (asked_units event.service)
+-- a refund is made unless it would lift the funds above the ceiling (section 6.4)
+abbrev pub refund_made : ℤ → Grant → EventResult
+refund_made funds asked = if is_over funds (grant_price asked) then result_of UnableToComply else result_of Success
 
-abbrev pub event_outcome : ℤ → OneTimeEvent → Outcome
-event_outcome free event = action_outcome free event event.action
+-- whether a direct debit would be made is told, and nothing reserved (section 6.2)
+abbrev pub balance_for : ℤ → Grant → Balance
+balance_for free asked = if covers free (grant_price asked) then EnoughCredit else NoCredit
+
+abbrev pub checked : ℤ → Grant → EventResult
+checked free asked = record { result = Success; grant = None; cost = None; balance = Some (balance_for free asked) }
+
+-- the price is told (section 6.1)
+abbrev pub enquired : Grant → EventResult
+enquired asked = record { result = Success; grant = None; cost = Some (grant_price asked); balance = None }
+
+abbrev pub acted : ℤ → ℤ → Action → Grant → EventResult
+acted funds free DirectDebiting asked = debited free asked
+acted funds free RefundAccount asked = refund_made funds asked
+acted funds free CheckBalance asked = checked free asked
+acted funds free PriceEnquiry asked = enquired asked
+
+-- where there is no tariff there is no price, whatever is asked
+abbrev pub event_result : ℤ → ℤ → Action → Option Grant → EventResult
+event_result funds free action None = result_of RatingFailed
+event_result funds free action (Some asked) = acted funds free action asked
+
+-- what an event comes to at these funds, of which so much is free
+abbrev pub event_outcome : ℤ → ℤ → OneTimeEvent → Outcome
+event_outcome funds free event = event_answer event (event_result funds free event.action (asked_units event.service))
 
 -- a top-up is added unless it would lift the funds above the ceiling
 abbrev pub top_up_outcome : ℤ → TopUp → Outcome
-top_up_outcome funds top_up = if int_lt CEILING (funds +ℤ pos top_up.amount) then Ceiling else Added
+top_up_outcome funds top_up = if is_over funds top_up.amount then Ceiling else Added
 
 -- what an act comes to that is made
 abbrev pub decided : TermsView → List Done → Kind → Outcome
 decided terms past (kind.TopUp top_up) = top_up_outcome (funds_of terms past) top_up
-decided terms past (kind.Event event) = event_outcome (free_of terms past) event
+decided terms past (kind.Event event) = event_outcome (funds_of terms past) (free_of terms past) event
 
 -- what a request comes to that has no account, under its own type and key; a top-up needs none
 abbrev pub unknown_of : Kind → Option Outcome

@@ -3,10 +3,10 @@
 ghost use Rattle.std.specs.Prelude.{◌≡◌, ◌≤◌, IfOk};
 ghost use Rattle.dcc_tariff.specs.Prices.{covers};
 ghost use Rattle.dcc_model.specs.Money.{asked_units, grant_price};
-ghost use Rattle.dcc_model.specs.Outcomes.{top_up_outcome, event_outcome, debit_outcome, debit_result, event_answer};
+ghost use Rattle.dcc_model.specs.Outcomes.{is_over, top_up_outcome, result_of, debited, refund_made, checked, enquired, event_result, event_answer, event_outcome};
 
 use dcc_act::{
-    Action, Answer, Grant, MAX_AMOUNT, OneTimeEvent, Outcome, RequestType, ResultCode, Service,
+    Action, Answer, Balance, Grant, MAX_AMOUNT, OneTimeEvent, Outcome, RequestType, ResultCode, Service,
     ServiceAnswer, ServiceAnswers, TopUp,
 };
 use dcc_tariff::{MAX_PRICE, price_of};
@@ -19,73 +19,138 @@ pub const CEILING: i128 = MAX_AMOUNT as i128;
 pub fn decide_top_up(funds: i128, top_up: &TopUp) -> Outcome
     ensures { result ≡ top_up_outcome funds top_up.now }
 {
-    if funds > CEILING - i128::from(top_up.amount) {
+    if is_over(funds, top_up.amount) {
         Outcome::Ceiling
     } else {
         Outcome::Added
     }
 }
 
-/// What a new event comes to where so much is free, in minor units. The only error is want of memory.
-pub fn decide_event(alloc: Global, free: i128, event: &OneTimeEvent) -> Result<Outcome, AllocError>
-    ensures { IfOk result (λ outcome. outcome ≡ event_outcome free event.now) }
+/// What a new event comes to at these funds, of which so much is free, both in minor units. The only error is want of
+/// memory.
+pub fn decide_event(
+    alloc: Global,
+    funds: i128,
+    free: i128,
+    event: &OneTimeEvent,
+) -> Result<Outcome, AllocError>
+    ensures { IfOk result (λ outcome. outcome ≡ event_outcome funds free event.now) }
 {
+    answer(alloc, event, event_result(funds, free, event))
+}
+
+/// What the answer to an event says beside its service.
+#[derive(Clone, Copy, Debug)]
+struct EventResult {
+    result: ResultCode,
+    grant: Option<Grant>,
+    cost: Option<u64>,
+    balance: Option<Balance>,
+}
+
+/// A result alone.
+fn alone(code: ResultCode) -> EventResult
+    ensures { result ≡ result_of code }
+{
+    EventResult {
+        result: code,
+        grant: None,
+        cost: None,
+        balance: None,
+    }
+}
+
+/// What an event comes to.
+fn event_result(funds: i128, free: i128, event: &OneTimeEvent) -> EventResult
+    ensures { result ≡ event_result funds free event.now.action (asked_units event.now.service) }
+{
+    let Some(asked) = asked_units(&event.service) else {
+        return alone(ResultCode::RatingFailed);
+    };
     match event.action {
-        Action::DirectDebiting => decide_debit(alloc, free, event),
+        Action::DirectDebiting => debited(free, asked),
+        Action::RefundAccount => refund_made(funds, &asked),
+        Action::CheckBalance => checked(free, &asked),
+        Action::PriceEnquiry => enquired(&asked),
     }
 }
 
-/// What a new direct debit comes to.
-fn decide_debit(alloc: Global, free: i128, event: &OneTimeEvent) -> Result<Outcome, AllocError>
-    ensures { IfOk result (λ outcome. outcome ≡ debit_outcome free event.now (asked_units event.now.service)) }
+/// What a direct debit comes to.
+fn debited(free: i128, asked: Grant) -> EventResult
+    ensures { result ≡ debited free asked }
 {
-    let asked = asked_units(&event.service);
-    match debit_result(free, &asked) {
-        ResultCode::Success => answer(alloc, event, ResultCode::Success, asked),
-        code => answer(alloc, event, code, None),
+    if !is_covered(free, price(&asked)) {
+        return alone(ResultCode::CreditLimitReached);
+    }
+    EventResult {
+        result: ResultCode::Success,
+        grant: Some(asked),
+        cost: None,
+        balance: None,
     }
 }
 
-/// The result of a direct debit of these units where so much is free.
-fn debit_result(free: i128, asked: &Option<Grant>) -> ResultCode
-    ensures { result ≡ debit_result free asked.now }
+/// What a refund comes to.
+fn refund_made(funds: i128, asked: &Grant) -> EventResult
+    ensures { result ≡ refund_made funds asked.now }
 {
-    match asked {
-        None => ResultCode::RatingFailed,
-        Some(grant) => {
-            if is_covered(free, price(grant)) {
-                ResultCode::Success
-            } else {
-                ResultCode::CreditLimitReached
-            }
-        }
+    if is_over(funds, price(asked)) {
+        alone(ResultCode::UnableToComply)
+    } else {
+        alone(ResultCode::Success)
+    }
+}
+
+/// What a balance check comes to.
+fn checked(free: i128, asked: &Grant) -> EventResult
+    ensures { result ≡ checked free asked.now }
+{
+    let balance = if is_covered(free, price(asked)) {
+        Balance::EnoughCredit
+    } else {
+        Balance::NoCredit
+    };
+    EventResult {
+        result: ResultCode::Success,
+        grant: None,
+        cost: None,
+        balance: Some(balance),
+    }
+}
+
+/// What a price enquiry comes to.
+fn enquired(asked: &Grant) -> EventResult
+    ensures { result ≡ enquired asked.now }
+{
+    EventResult {
+        result: ResultCode::Success,
+        grant: None,
+        cost: Some(price(asked)),
+        balance: None,
     }
 }
 
 /// The answer to an event, with its one service.
-fn answer(
-    alloc: Global,
-    event: &OneTimeEvent,
-    code: ResultCode,
-    grant: Option<Grant>,
-) -> Result<Outcome, AllocError>
-    ensures { IfOk result (λ outcome. outcome ≡ event_answer event.now code grant) }
+fn answer(alloc: Global, event: &OneTimeEvent, found: EventResult) -> Result<Outcome, AllocError>
+    ensures { IfOk result (λ outcome. outcome ≡ event_answer event.now found) }
 {
     let service = &event.service;
     let answer = ServiceAnswer {
         group: service.group,
         ids: service.ids.copy()?,
         form: service.form,
-        result: code,
-        grant,
+        result: found.result,
+        grant: found.grant,
     };
     let key = event.key.copy()?;
     let services = ServiceAnswers::from_vec(vec![in alloc; answer]?).unwrap();
     Ok(Outcome::Answered(Answer {
         request: RequestType::Event,
         key,
-        result: code,
+        result: found.result,
         services,
+        cost: found.cost,
+        balance: found.balance,
     }))
 }
 
@@ -106,6 +171,13 @@ pub(crate) fn price(grant: &Grant) -> u64
     ensures bound { result ≤ MAX_PRICE }
 {
     price_of(grant.tariff, grant.units)
+}
+
+/// Whether so much more would lift the funds above the ceiling.
+fn is_over(funds: i128, amount: u64) -> bool
+    ensures { result ≡ is_over funds amount }
+{
+    funds > CEILING - i128::from(amount)
 }
 
 /// Whether what is free covers a price: what costs nothing is always covered.

@@ -10,7 +10,7 @@ ghost use Rattle.dcc_model.specs.Outcomes.{has_account, counts, first_of, decide
 use crate::decide::{decide_event, decide_top_up, price};
 use crate::done::Done;
 use crate::keys::{is_same_key, is_top_up};
-use crate::posting::charged_units;
+use crate::posting::{charged_units, refunded_units};
 use dcc_act::{Act, Kind, MAX_AMOUNT, Outcome, RequestType};
 use dcc_tariff::{MAX_PRICE, Terms};
 use std::alloc::{AllocError, Global};
@@ -108,7 +108,7 @@ fn decide(alloc: Global, past: &[Done], kind: &Kind) -> Result<Outcome, AllocErr
 {
     match kind {
         Kind::TopUp(top_up) => Ok(decide_top_up(funds(past), top_up)),
-        Kind::Event(event) => decide_event(alloc, free(past), event),
+        Kind::Event(event) => decide_event(alloc, funds(past), free(past), event),
     }
 }
 
@@ -135,9 +135,15 @@ fn credited(done: &Done) -> u64
     ensures value { (terms : TermsView) (before : List Done) → result ≡ credit terms before done.now.act.kind done.now.outcome }
     ensures bound { result ≤ MAX_AMOUNT }
 {
-    match (&done.act.kind, &done.outcome) {
-        (Kind::TopUp(top_up), Outcome::Added) => top_up.amount,
-        _ => 0,
+    match &done.act.kind {
+        Kind::TopUp(top_up) => match done.outcome {
+            Outcome::Added => top_up.amount,
+            _ => 0,
+        },
+        Kind::Event(event) => match refunded_units(event, &done.outcome) {
+            None => 0,
+            Some(grant) => price(&grant),
+        },
     }
 }
 

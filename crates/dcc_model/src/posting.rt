@@ -1,10 +1,10 @@
 //! What an act leaves in the books.
 
-ghost use Rattle.std.specs.Prelude.{◌≡◌, List, IfOk};
+ghost use Rattle.std.specs.Prelude.{◌≡◌, ◌++◌, List, option_map, IfOk, OnOk};
+ghost use Rattle.std.specs.Option.{option_to_list};
 ghost use Rattle.dcc_tariff.specs.Terms.{TermsView};
-ghost use Rattle.dcc_model.specs.Money.{charged, charged_by, succeeded};
-ghost use Rattle.dcc_model.specs.Entries.{top_up_entry, debit_entry, entries_of_kind};
-ghost use Rattle.dcc_act.specs.declared.act.Kind.TheVariants.{Event as event_kind};
+ghost use Rattle.dcc_model.specs.Money.{asked_units, charged_by, charged_event, refunded_by, refunded_event, succeeded};
+ghost use Rattle.dcc_model.specs.Entries.{top_up_entry, debit_entry, refund_entry, entries_of_kind};
 ghost use Rattle.dcc_model.specs.declared.done.Done.{Done};
 
 use crate::decide::{asked_units, price};
@@ -32,10 +32,22 @@ pub fn entries_by(
             }
             Ok(vec![in alloc; top_up_entry(place, act.moment, top_up)]?)
         }
-        Kind::Event(event) => match charged_units(event, outcome) {
-            None => Ok(Vec::new(alloc)),
-            Some(grant) => Ok(vec![in alloc; debit_entry(place, act.moment, event, &grant)?]?),
-        },
+        Kind::Event(event) => {
+            let mut entries = Vec::new(alloc);
+            append(&mut entries, debit_entry(place, act.moment, event, outcome)?)?;
+            append(&mut entries, refund_entry(place, act.moment, event, outcome)?)?;
+            Ok(entries)
+        }
+    }
+}
+
+/// Appends an entry, where there is one.
+fn append(entries: &mut Vec<Entry>, entry: Option<Entry>) -> Result<(), AllocError>
+    ensures { OnOk result (entries.new.items ≡ entries.old.items ++ option_to_list entry) }
+{
+    match entry {
+        None => Ok(()),
+        Some(entry) => Ok(entries.push(entry)?),
     }
 }
 
@@ -54,35 +66,77 @@ fn top_up_entry(place: u64, moment: Moment, top_up: &TopUp) -> Entry
     }
 }
 
-/// A direct debit's entry.
+/// The entry of an event that charged something.
 fn debit_entry(
     place: u64,
     moment: Moment,
     event: &OneTimeEvent,
-    grant: &Grant,
-) -> Result<Entry, AllocError>
-    ensures { IfOk result (λ entry. entry ≡ debit_entry place moment event.now grant.now) }
+    outcome: &Outcome,
+) -> Result<Option<Entry>, AllocError>
+    ensures { IfOk result (λ entry. entry
+        ≡ option_map (debit_entry place moment event.now) (charged_event event.now outcome.now)) }
 {
-    Ok(Entry {
+    let Some(grant) = charged_units(event, outcome) else {
+        return Ok(None);
+    };
+    Ok(Some(Entry {
         place,
         moment,
         kind: EntryKind::Debit,
         group: event.service.group,
         units: grant.units,
-        amount: -(price(grant) as i64),
+        amount: -(price(&grant) as i64),
         name: EntryName::Session(event.key.sid.copy()?),
-    })
+    }))
+}
+
+/// The entry of an event that gave something back.
+fn refund_entry(
+    place: u64,
+    moment: Moment,
+    event: &OneTimeEvent,
+    outcome: &Outcome,
+) -> Result<Option<Entry>, AllocError>
+    ensures { IfOk result (λ entry. entry
+        ≡ option_map (refund_entry place moment event.now) (refunded_event event.now outcome.now)) }
+{
+    let Some(grant) = refunded_units(event, outcome) else {
+        return Ok(None);
+    };
+    Ok(Some(Entry {
+        place,
+        moment,
+        kind: EntryKind::Refund,
+        group: event.service.group,
+        units: grant.units,
+        amount: price(&grant) as i64,
+        name: EntryName::Session(event.key.sid.copy()?),
+    }))
 }
 
 /// What an event charged that came to this outcome.
 pub(crate) fn charged_units(event: &OneTimeEvent, outcome: &Outcome) -> Option<Grant>
-    ensures { (terms : TermsView) (past : List Done) → result ≡ charged terms past (event_kind event.now) outcome.now }
+    ensures { result ≡ charged_event event.now outcome.now }
 {
     if !has_succeeded(outcome) {
         return None;
     }
     match event.action {
         Action::DirectDebiting => asked_units(&event.service),
+        Action::RefundAccount | Action::CheckBalance | Action::PriceEnquiry => None,
+    }
+}
+
+/// What an event gave back that came to this outcome.
+pub(crate) fn refunded_units(event: &OneTimeEvent, outcome: &Outcome) -> Option<Grant>
+    ensures { result ≡ refunded_event event.now outcome.now }
+{
+    if !has_succeeded(outcome) {
+        return None;
+    }
+    match event.action {
+        Action::RefundAccount => asked_units(&event.service),
+        Action::DirectDebiting | Action::CheckBalance | Action::PriceEnquiry => None,
     }
 }
 

@@ -1,7 +1,7 @@
 use Rattle.std.proofs.Common.{ℤ, reverse, to_z, of_z, ap, ◌∙◌, arith}
 use Rattle.std.proofs.lemmas.Int.{ints}
 use Rattle.std.proofs.lemmas.Result.{IfOk-weaker}
-use Rattle.dcc_model.specs.Money.{free_of}
+use Rattle.dcc_model.specs.Money.{funds_of, free_of}
 use mir.Syntax.{w128}
 use Rattle.dcc_model.specs.Outcomes.{top_up_outcome}
 use Rattle.dcc_model.proofs.Funds.{event_at}
@@ -18,6 +18,8 @@ returns-in-Event c =
     IfOk-weaker c.decide_event.result _ _
     (λ outcome is.
     λ terms.
+    let funds = c.funds-in-Event.ensures terms in
     let free = c.free.ensures terms in
-    rw c.in-Event.is (event_at c.in-Event.event (to_z w128 (of_z w128 c.free.result)) (free_of terms (reverse c.args.past.now)) outcome is (omega (arith, ints))))
+    rw c.in-Event.is
+    (event_at c.in-Event.event (to_z w128 (of_z w128 c.funds-in-Event.result)) (to_z w128 (of_z w128 c.free.result)) (funds_of terms (reverse c.args.past.now)) (free_of terms (reverse c.args.past.now)) outcome is (omega (arith, ints)) (omega (arith, ints))))
     c.decide_event.ensures
