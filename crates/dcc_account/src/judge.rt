@@ -83,9 +83,10 @@ fn decide(
         → outcome ≡ decided terms (past_of acts.now outcomes.now) kind.now) }
 {
     nothing_is_reserved();
+    let funds = sum(entries);
     match kind {
-        Kind::TopUp(top_up) => Ok(decide_top_up(sum(entries), top_up)),
-        Kind::Event(event) => decide_event(alloc, sum(entries), event),
+        Kind::TopUp(top_up) => Ok(decide_top_up(funds, top_up)),
+        Kind::Event(event) => decide_event(alloc, funds, funds, event),
     }
 }
 

@@ -1,6 +1,6 @@
 -- Where one more act stands among the acts, and which has no place.
 use Rattle.std.proofs.Common.{◌≡◌, ℕ, ◌+◌, ◌-◌, ◌≤◌, true, false, ◌&&◌, ◌==◌, List, [], ◌∷◌, ◌++◌, length, map, reverse, refl, sym, ap, ◌∙◌, arith, inl, inr, Some, is_none, slice_get}
-use Rattle.std.specs.Prelude.{ℤ, int_lt, pos, ◌+ℤ◌, bytes_eq, unwrap_or, IsSomeAnd}
+use Rattle.std.specs.Prelude.{int_lt, pos, ◌+ℤ◌, bytes_eq, unwrap_or, IsSomeAnd}
 use Rattle.std.specs.Option.{option_map_or}
 use Rattle.std.proofs.lemmas.Bool.{cases_Bool, cond_both, and_parts, and_from, or_parts, or_from, eq-eqb}
 use Rattle.std.proofs.lemmas.List.{reverse-append, reverse-reverse, length-reverse, length-map}
@@ -9,15 +9,12 @@ use Rattle.dcc_tariff.specs.Terms.{TermsView}
 use Rattle.dcc_act.specs.declared.act.Act.{Act}
 use Rattle.dcc_act.specs.declared.act.Kind.{Kind}
 use Rattle.dcc_act.specs.declared.act.Kind.TheVariants as kind
-use Rattle.dcc_act.specs.declared.one_time_event.Action.{Action}
-use Rattle.dcc_act.specs.declared.one_time_event.Action.TheVariants.{DirectDebiting}
-use Rattle.dcc_act.specs.declared.one_time_event.OneTimeEvent.{OneTimeEvent}
 use Rattle.dcc_act.specs.declared.outcome.Outcome.{Outcome}
 use Rattle.dcc_act.specs.declared.outcome.Outcome.TheVariants.{Added, Ceiling}
 use Rattle.dcc_model.specs.declared.done.Done.{Done}
 use Rattle.dcc_model.specs.declared.decide.TheConstants.{CEILING}
 use Rattle.dcc_model.specs.Keys.{request_key, same_key}
-use Rattle.dcc_model.specs.Money.{funds_of, free_of}
+use Rattle.dcc_model.specs.Money.{funds_of}
 use Rattle.dcc_model.specs.Outcomes.{is_top_up, has_account, counts, first_of, is_made, place_of_key, decided, unknown_of, is_unknown, settled, judged, history, act_made, after, is_new, place, outcome, acts}
 use Rattle.dcc_model.specs.Laws.{NewIsLast, StandsAt, PlaceHolds, UnknownHasNoPlace}
 use Rattle.dcc_model.proofs.Histories.{judged_new, history_of_made, history_of_acts, after_by_history, slice_get-behind, slice_get-before, outcome_last, outcome_before, one_more}

@@ -7,9 +7,6 @@ use Rattle.std.proofs.lemmas.List.{reverse-append}
 use Rattle.std.proofs.lemmas.List.Folds.{list_any-append}
 use Rattle.dcc_tariff.specs.Terms.{TermsView}
 use Rattle.dcc_act.specs.declared.act.Act.{Act}
-use Rattle.dcc_act.specs.declared.one_time_event.Action.{Action}
-use Rattle.dcc_act.specs.declared.one_time_event.Action.TheVariants.{DirectDebiting}
-use Rattle.dcc_act.specs.declared.one_time_event.OneTimeEvent.{OneTimeEvent}
 use Rattle.dcc_act.specs.declared.act.Kind.{Kind}
 use Rattle.dcc_act.specs.declared.act.Kind.TheVariants as kind
 use Rattle.dcc_act.specs.declared.top_up.TopUp.{TopUp}
@@ -18,7 +15,7 @@ use Rattle.dcc_act.specs.declared.outcome.Outcome.TheVariants.{Added, Ceiling}
 use Rattle.dcc_model.specs.declared.done.Done.{Done}
 use Rattle.dcc_model.specs.declared.decide.TheConstants.{CEILING}
 use Rattle.dcc_model.specs.Keys.{request_key, same_key}
-use Rattle.dcc_model.specs.Money.{funds_of, free_of}
+use Rattle.dcc_model.specs.Money.{funds_of}
 use Rattle.dcc_model.specs.Outcomes.{is_top_up, has_account, has_top_up, counts, first_of, is_made, top_up_outcome, decided, unknown_of, settled, judged, history, after, is_new, IsOfRequest, IsOfTopUp}
 
 abbrev pub IsOf : Kind → Outcome → Type 0

@@ -6,8 +6,8 @@ ghost use Rattle.dcc_model.specs.Money.{asked_units, grant_price};
 ghost use Rattle.dcc_model.specs.Outcomes.{is_over, top_up_outcome, result_of, debited, refund_made, checked, enquired, event_result, event_answer, event_outcome};
 
 use dcc_act::{
-    Action, Answer, Balance, Grant, MAX_AMOUNT, OneTimeEvent, Outcome, RequestType, ResultCode, Service,
-    ServiceAnswer, ServiceAnswers, TopUp,
+    Action, Answer, Balance, Grant, MAX_AMOUNT, OneTimeEvent, Outcome, RequestType, ResultCode,
+    Service, ServiceAnswer, ServiceAnswers, TopUp,
 };
 use dcc_tariff::{MAX_PRICE, price_of};
 use std::alloc::{AllocError, Global};

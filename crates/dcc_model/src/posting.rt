@@ -34,8 +34,14 @@ pub fn entries_by(
         }
         Kind::Event(event) => {
             let mut entries = Vec::new(alloc);
-            append(&mut entries, debit_entry(place, act.moment, event, outcome)?)?;
-            append(&mut entries, refund_entry(place, act.moment, event, outcome)?)?;
+            append(
+                &mut entries,
+                debit_entry(place, act.moment, event, outcome)?,
+            )?;
+            append(
+                &mut entries,
+                refund_entry(place, act.moment, event, outcome)?,
+            )?;
             Ok(entries)
         }
     }

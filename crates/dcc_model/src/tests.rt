@@ -24,8 +24,18 @@ fn top_up(ticket: u64, amount: u64) -> Result<Act, Fail> {
     })
 }
 
-/// A direct debit of octets at 5 minor units per 1,000, in single form.
+/// A direct debit of octets.
 fn debit(alloc: Global, number: u32, octets: u64) -> Result<Act, Fail> {
+    event(alloc, Action::DirectDebiting, number, octets)
+}
+
+/// A refund of octets.
+fn refund(alloc: Global, number: u32, octets: u64) -> Result<Act, Fail> {
+    event(alloc, Action::RefundAccount, number, octets)
+}
+
+/// An event for octets at 5 minor units per 1,000, in single form.
+fn event(alloc: Global, action: Action, number: u32, octets: u64) -> Result<Act, Fail> {
     if octets == 0 || octets > 1_000_000_000_000 {
         return Err("an amount past its limits".into());
     }
@@ -46,13 +56,14 @@ fn debit(alloc: Global, number: u32, octets: u64) -> Result<Act, Fail> {
         moment: Moment::new(1_748_736_000).ok_or("a moment")?,
         kind: Kind::Event(OneTimeEvent {
             key: RequestKey { sid, number },
-            action: Action::DirectDebiting,
+            action,
             service,
         }),
     })
 }
 
-/// The result of a request, with what was granted; 1 for an added top-up, 2 for one past the ceiling.
+/// The result of a request, with what was granted, what was told of a price, or 100 with the number of a balance; 1 for an
+/// added top-up, 2 for one past the ceiling.
 fn code(outcome: &Outcome) -> (u32, u64) {
     match outcome {
         Outcome::Unknown { .. } => (5030, 0),
@@ -64,6 +75,12 @@ fn code(outcome: &Outcome) -> (u32, u64) {
                 if let Some(grant) = &service.grant {
                     units = grant.units;
                 }
+            }
+            if let Some(cost) = answer.cost {
+                units = cost;
+            }
+            if let Some(balance) = answer.balance {
+                units = 100 + balance.number() as u64;
             }
             (answer.result.number(), units)
         }
@@ -77,12 +94,15 @@ enum Ask {
     TopUp(u64, u64),
     /// Number and octets.
     Debit(u32, u64),
+    /// Action, number and octets.
+    Event(Action, u32, u64),
 }
 
 fn act(alloc: Global, ask: Ask) -> Result<Act, Fail> {
     match ask {
         Ask::TopUp(ticket, amount) => top_up(ticket, amount),
         Ask::Debit(number, octets) => debit(alloc, number, octets),
+        Ask::Event(action, number, octets) => event(alloc, action, number, octets),
     }
 }
 
@@ -100,7 +120,7 @@ fn codes(alloc: Global, asks: &[Ask]) -> Result<Vec<(u32, u64)>, Fail> {
 }
 
 /// Lists of acts, each with what its acts come to.
-const ROWS: [(&[Ask], &[(u32, u64)]); 3] = [
+const ROWS: [(&[Ask], &[(u32, u64)]); 6] = [
     // A direct debit of 1,001 octets.
     (
         &[Ask::TopUp(1, 1000), Ask::Debit(0, 1001)],
@@ -126,6 +146,59 @@ const ROWS: [(&[Ask], &[(u32, u64)]); 3] = [
             Ask::TopUp(1, MAX_AMOUNT),
         ],
         &[(1, 0), (2, 0), (2, 0), (1, 0)],
+    ),
+    // A price enquired, and a balance that covers one price and not another.
+    (
+        &[
+            Ask::TopUp(1, 5),
+            Ask::Event(Action::PriceEnquiry, 0, 1001),
+            Ask::Event(Action::CheckBalance, 1, 1000),
+            Ask::Event(Action::CheckBalance, 2, 1001),
+            Ask::Debit(3, 1000),
+            Ask::Event(Action::CheckBalance, 1, 1000),
+            Ask::Event(Action::CheckBalance, 4, 1),
+        ],
+        &[
+            (1, 0),
+            (2001, 10),
+            (2001, 100),
+            (2001, 101),
+            (2001, 1000),
+            (2001, 100),
+            (2001, 101),
+        ],
+    ),
+    // A refund, which comes again and counts once.
+    (
+        &[
+            Ask::Event(Action::RefundAccount, 0, 1),
+            Ask::TopUp(1, 4),
+            Ask::Debit(1, 1),
+            Ask::Event(Action::RefundAccount, 0, 1),
+            Ask::Event(Action::RefundAccount, 0, 1),
+            Ask::Debit(2, 1000),
+            Ask::Debit(3, 1000),
+        ],
+        &[
+            (5030, 0),
+            (1, 0),
+            (4012, 0),
+            (2001, 0),
+            (2001, 0),
+            (2001, 1000),
+            (4012, 0),
+        ],
+    ),
+    // A refund at the ceiling.
+    (
+        &[
+            Ask::TopUp(1, MAX_AMOUNT - 5),
+            Ask::Event(Action::RefundAccount, 0, 1001),
+            Ask::Event(Action::RefundAccount, 1, 1000),
+            Ask::TopUp(2, 1),
+            Ask::Event(Action::RefundAccount, 0, 1),
+        ],
+        &[(1, 0), (5012, 0), (2001, 0), (2, 0), (5012, 0)],
     ),
 ];
 
@@ -173,10 +246,16 @@ fn entries(rt: HostRuntime) -> Result<(), Fail> {
     let Kind::Event(event) = &act.kind else {
         return Err("a debit".into());
     };
-    let made = entries_by(alloc, 2, &act, &decide_event(alloc, 10, event)?)?;
+    let made = entries_by(alloc, 2, &act, &decide_event(alloc, 10, 10, event)?)?;
     assert_eq!(rt; entry(&made), (1, -10, 1001, false));
-    let refused = entries_by(alloc, 2, &act, &decide_event(alloc, 9, event)?)?;
+    let refused = entries_by(alloc, 2, &act, &decide_event(alloc, 10, 9, event)?)?;
     assert_eq!(rt; refused.len(), 0);
+    let act = refund(alloc, 0, 1001)?;
+    let Kind::Event(event) = &act.kind else {
+        return Err("a refund".into());
+    };
+    let refunded = entries_by(alloc, 2, &act, &decide_event(alloc, -5, -5, event)?)?;
+    assert_eq!(rt; entry(&refunded), (1, 10, 1001, false));
     Ok(())
 }
 
