@@ -14,11 +14,11 @@ use Rattle.dcc_act.specs.declared.outcome.Outcome.{Outcome}
 use Rattle.dcc_act.specs.declared.outcome.Outcome.TheVariants.{Unknown, Answered, Added, Ceiling}
 use Rattle.dcc_act.specs.declared.outcome.ServiceAnswer.{ServiceAnswer}
 use Rattle.dcc_act.specs.declared.outcome.ResultCode.{ResultCode}
-use Rattle.dcc_act.specs.declared.outcome.ResultCode.TheVariants.{Success, CreditLimitReached, RatingFailed}
+use Rattle.dcc_act.specs.declared.outcome.ResultCode.TheVariants.{Success, CreditLimitReached, UnableToComply, RatingFailed}
 use Rattle.dcc_act.specs.declared.outcome.RequestType.{RequestType}
 use Rattle.dcc_act.specs.declared.request_key.RequestKey.{RequestKey}
 use Rattle.dcc_act.specs.Numbers.{result_number}
-use Rattle.dcc_credit.specs.Answers.{head_avps, service_avps, answer_avps, answer_octets}
+use Rattle.dcc_credit.specs.Answers.{head_avps, told_avps, answer_avps, answer_octets}
 use Rattle.dcc_credit.specs.inner.Limits.{IsAnswerable}
 use Rattle.dcc_credit.proofs.Spelled.{AreSizes, answer_spelled}
 
@@ -34,13 +34,14 @@ no_result_is_busy : (identity : Identity) (type : RequestType) (key : RequestKey
     are_busy (head_avps identity type key (result_number code) ++ services) ≡ false
 no_result_is_busy identity type key Success services = refl
 no_result_is_busy identity type key CreditLimitReached services = refl
+no_result_is_busy identity type key UnableToComply services = refl
 no_result_is_busy identity type key RatingFailed services = refl
 
 -- no outcome says that the server is too busy
 not_busy : (identity : Identity) (terms : TermsView) (outcome : Outcome) → are_busy (answer_avps identity terms outcome) ≡ false
 unfolding answer_avps
 not_busy identity terms (Unknown type key) = refl
-not_busy identity terms (Answered answer) = no_result_is_busy identity answer.request answer.key answer.result (flat_map (λ (service : ServiceAnswer). service_avps service.form service) answer.services)
+not_busy identity terms (Answered answer) = no_result_is_busy identity answer.request answer.key answer.result (told_avps terms answer)
 not_busy identity terms Added = refl
 not_busy identity terms Ceiling = refl
 

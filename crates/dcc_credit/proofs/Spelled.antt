@@ -1,7 +1,7 @@
 -- Each AVP of an answer has a spelling.
 use Rattle.std.proofs.Common.{◌≡◌, ℕ, ◌+◌, ◌-◌, ◌*◌, ◌%◌, ◌^◌, ◌<◌, ◌≤◌, List, [], ◌∷◌, ◌++◌, length, map, Option, Some, None, true, refl, ap, ◌∙◌, arith, lit<}
 use Rattle.std.specs.Prelude.{option_map}
-use Rattle.std.specs.Int.{w32, w64, to_be_bytes}
+use Rattle.std.specs.Int.{w32, w64, to_be_bytes, cast_unsigned}
 use Rattle.std.specs.List.{flat_map, sum_by, AllByRecursion}
 use Rattle.std.specs.Option.{option_to_list}
 use Rattle.std.proofs.lemmas.List.{length-append}
@@ -9,7 +9,7 @@ use Rattle.std.proofs.lemmas.List.Concat.{flat_map-append}
 use Rattle.std.proofs.lemmas.List.Sums.{sum_by-cons}
 use Rattle.std.proofs.lemmas.Bool.Decides.{nat_tests}
 use Rattle.dcc_avp.specs.Spelling.{AvpView, padded_len, padded, HasSpelling}
-use Rattle.dcc_avp.specs.declared.codes.TheConstants.{SESSION_ID, RESULT_CODE, ORIGIN_HOST, ORIGIN_REALM, AUTH_APPLICATION_ID, CC_REQUEST_TYPE, CC_REQUEST_NUMBER, GRANTED_SERVICE_UNIT, CC_TOTAL_OCTETS, CC_TIME, CC_SERVICE_SPECIFIC_UNITS, MULTIPLE_SERVICES_CREDIT_CONTROL, SERVICE_IDENTIFIER, RATING_GROUP}
+use Rattle.dcc_avp.specs.declared.codes.TheConstants.{SESSION_ID, RESULT_CODE, ORIGIN_HOST, ORIGIN_REALM, AUTH_APPLICATION_ID, CC_REQUEST_TYPE, CC_REQUEST_NUMBER, GRANTED_SERVICE_UNIT, CC_TOTAL_OCTETS, CC_TIME, CC_SERVICE_SPECIFIC_UNITS, MULTIPLE_SERVICES_CREDIT_CONTROL, SERVICE_IDENTIFIER, RATING_GROUP, COST_INFORMATION, UNIT_VALUE, VALUE_DIGITS, EXPONENT, CURRENCY_CODE, CHECK_BALANCE_RESULT}
 use Rattle.dcc_octets.specs.Names.{is_name, is_short}
 use Rattle.dcc_message.specs.declared.applications.TheConstants.{CREDIT_CONTROL}
 use Rattle.dcc_credit.specs.declared.answer.TheConstants.{USER_UNKNOWN}
@@ -20,6 +20,8 @@ use Rattle.dcc_tariff.specs.declared.tariff.UnitKind.{UnitKind}
 use Rattle.dcc_tariff.specs.declared.tariff.UnitKind.TheVariants.{Octets, Time, Units}
 use Rattle.dcc_act.specs.declared.limits.TheConstants.{MAX_IDS}
 use Rattle.dcc_act.specs.declared.grant.Grant.{Grant}
+use Rattle.dcc_act.specs.declared.outcome.Answer.{Answer}
+use Rattle.dcc_act.specs.declared.outcome.Balance.{Balance}
 use Rattle.dcc_act.specs.declared.outcome.Outcome.{Outcome}
 use Rattle.dcc_act.specs.declared.outcome.Outcome.TheVariants.{Unknown, Answered, Added, Ceiling}
 use Rattle.dcc_act.specs.declared.outcome.RequestType.{RequestType}
@@ -27,10 +29,10 @@ use Rattle.dcc_act.specs.declared.outcome.ServiceAnswer.{ServiceAnswer}
 use Rattle.dcc_act.specs.declared.request_key.RequestKey.{RequestKey}
 use Rattle.dcc_act.specs.declared.service.Form.{Form}
 use Rattle.dcc_act.specs.declared.service.Form.TheVariants.{Single, Multi}
-use Rattle.dcc_act.specs.Numbers.{request_type_number, result_number}
+use Rattle.dcc_act.specs.Numbers.{request_type_number, result_number, balance_number}
 use Rattle.dcc_answer.specs.Avps.{sent, sent32, sent64}
 use Rattle.dcc_answer.specs.Answers.{IsServer}
-use Rattle.dcc_credit.specs.Answers.{amount_avp, granted, service_parts, service_avps, head_avps, answer_avps, HasLimits}
+use Rattle.dcc_credit.specs.Answers.{amount_avp, granted, service_parts, service_avps, unit_value, cost_avp, balance_avp, told_avps, head_avps, answer_avps, HasLimits}
 use Rattle.dcc_credit.proofs.ServiceSizes.{ids_of}
 
 abbrev pub AllSpelled : List AvpView → Type 0
@@ -156,6 +158,40 @@ services_spelled sizes (service ∷ services) few =
     append_spelled (service_avps service.form service) (flat_map (λ service. service_avps service.form service) services)
     (service_spelled sizes service.form service here) (services_spelled sizes services (omega arith))
 
+-- ---- prices and balances
+
+unit_value_takes : AreSizes → (terms : TermsView) (cost : ℕ) → Takes (unit_value terms cost ∷ []) 45
+unit_value_takes sizes terms cost =
+    let parts =
+    both_take (sent64 VALUE_DIGITS cost ∷ []) (sent32 EXPONENT (cast_unsigned w32 terms.exponent) ∷ []) 19 15
+    (sent64_takes sizes VALUE_DIGITS cost (lit< tt)) (sent32_takes sizes EXPONENT (cast_unsigned w32 terms.exponent) (lit< tt)) in
+    let few = parts.few in
+    let octets = flat_map padded (sent64 VALUE_DIGITS cost ∷ sent32 EXPONENT (cast_unsigned w32 terms.exponent) ∷ []) in
+    let h : HasSpelling (sent UNIT_VALUE octets) = sent_spelled UNIT_VALUE octets (lit< tt) (omega arith) in
+    let size = sent_few sizes UNIT_VALUE octets h in
+    one_takes (unit_value terms cost) 45 h (omega arith)
+
+cost_spelled : AreSizes → (terms : TermsView) (cost : Option ℕ) → AllSpelled (option_to_list (option_map (cost_avp terms) cost))
+cost_spelled sizes terms None = tt
+cost_spelled sizes terms (Some cost) =
+    let parts =
+    both_take (unit_value terms cost ∷ []) (sent32 CURRENCY_CODE terms.currency ∷ []) 45 15 (unit_value_takes sizes terms cost)
+    (sent32_takes sizes CURRENCY_CODE terms.currency (lit< tt)) in
+    let few = parts.few in
+    (sent_spelled COST_INFORMATION (flat_map padded (unit_value terms cost ∷ sent32 CURRENCY_CODE terms.currency ∷ [])) (lit< tt) (omega arith), tt)
+
+balance_spelled : (balance : Option Balance) → AllSpelled (option_to_list (option_map balance_avp balance))
+balance_spelled None = tt
+balance_spelled (Some balance) = (sent32_spelled CHECK_BALANCE_RESULT (balance_number balance) (lit< tt), tt)
+
+told_spelled : AreSizes → (terms : TermsView) (answer : Answer) → sum_by ids_of answer.services ≤ MAX_IDS → AllSpelled (told_avps terms answer)
+told_spelled sizes terms answer few =
+    let services = flat_map (λ service. service_avps service.form service) answer.services in
+    let cost = option_to_list (option_map (cost_avp terms) answer.cost) in
+    let balance = option_to_list (option_map balance_avp answer.balance) in
+    append_spelled (services ++ cost) balance
+    (append_spelled services cost (services_spelled sizes answer.services few) (cost_spelled sizes terms answer.cost)) (balance_spelled answer.balance)
+
 -- ---- answers
 
 pub few_octets : (octets : List ℕ) → is_short octets ≡ true → length octets ≤ 255
@@ -188,9 +224,9 @@ pub answer_spelled : AreSizes → (identity : Identity) (terms : TermsView) (out
 unfolding answer_avps
 answer_spelled sizes identity terms (Unknown type key) limits = head_spelled identity type key USER_UNKNOWN limits.0 (few_octets _ limits.1)
 answer_spelled sizes identity terms (Answered answer) limits =
-    append_spelled (head_avps identity answer.request answer.key (result_number answer.result)) (flat_map (λ service. service_avps service.form service) answer.services)
+    append_spelled (head_avps identity answer.request answer.key (result_number answer.result)) (told_avps terms answer)
     (head_spelled identity answer.request answer.key (result_number answer.result) limits.0 (few_octets _ limits.1))
-    (services_spelled sizes answer.services limits.2.few_ids)
+    (told_spelled sizes terms answer limits.2.few_ids)
 answer_spelled sizes identity terms Added limits = tt
 answer_spelled sizes identity terms Ceiling limits = tt
 

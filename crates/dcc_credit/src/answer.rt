@@ -4,15 +4,17 @@ ghost use Rattle.std.specs.Prelude.{◌≡◌, ◌≤◌, ◌++◌, true, false,
 ghost use Rattle.std.specs.List.{flat_map};
 ghost use Rattle.dcc_octets.specs.Names.{is_short};
 ghost use Rattle.dcc_avp.specs.Spelling.{padded};
+ghost use Rattle.dcc_act.specs.Answers.{AreAnswers};
 ghost use Rattle.dcc_answer.specs.Answers.{IsServer};
 ghost use Rattle.dcc_answer.specs.Proxies.{SpellProxies};
 ghost use Rattle.dcc_answer.specs.Results.{is_busy};
 ghost use Rattle.dcc_answer.specs.Sizes.{Grows};
-ghost use Rattle.dcc_credit.specs.Answers.{head_avps, answer_avps, answer_octets};
+ghost use Rattle.dcc_credit.specs.Answers.{head_avps, told_avps, answer_avps, answer_octets};
 ghost use Rattle.dcc_credit.specs.inner.Limits.{IsAnswerable};
 
 use crate::services::put_services;
-use dcc_act::{Outcome, RequestKey, RequestType};
+use crate::told::{put_balance, put_cost};
+use dcc_act::{Answer, Outcome, RequestKey, RequestType};
 use dcc_answer::{MAX_OWN, Proxies, begin_answer, busy_by_result, finish_answer, put, put_u32};
 use dcc_avp::codes;
 use dcc_message::{HEADER_LENGTH, Header, Identity, applications};
@@ -65,10 +67,10 @@ fn answer_within(
 fn put_answer(
     out: &mut Vec<u8>,
     identity: &Identity,
-    _terms: &Terms,
+    terms: &Terms,
     outcome: &Outcome,
 ) -> Result<(), AllocError>
-    ensures ok { OnOk result (out.new.items ≡ out.old.items ++ flat_map padded (answer_avps identity.now _terms.now outcome.now)) }
+    ensures ok { OnOk result (out.new.items ≡ out.old.items ++ flat_map padded (answer_avps identity.now terms.now outcome.now)) }
     ensures limits { OnOk result (IsAnswerable identity.now outcome.now) }
     ensures grows { OnOk result (Grows (vec_len out.old) (vec_len out.new) MAX_OWN) }
 {
@@ -82,10 +84,21 @@ fn put_answer(
                 &answer.key,
                 answer.result.number(),
             )?;
-            put_services(out, &answer.services)
+            put_told(out, terms, answer)
         }
         Outcome::Added | Outcome::Ceiling => Ok(()),
     }
+}
+
+/// Appends what an answer tells behind its beginning.
+fn put_told(out: &mut Vec<u8>, terms: &Terms, answer: &Answer) -> Result<(), AllocError>
+    ensures ok { OnOk result (out.new.items ≡ out.old.items ++ flat_map padded (told_avps terms.now answer.now)) }
+    ensures limits { AreAnswers answer.now.services }
+    ensures grows { OnOk result (Grows (vec_len out.old) (vec_len out.new) 99_095) }
+{
+    put_services(out, &answer.services)?;
+    put_cost(out, terms, answer.cost)?;
+    put_balance(out, answer.balance)
 }
 
 /// Appends what each answer to a request begins with.

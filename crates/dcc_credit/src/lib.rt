@@ -13,6 +13,7 @@ mod laws;
 mod refusal;
 mod services;
 mod session;
+mod told;
 
 pub use act::{ActFault, to_act};
 pub use answer::{USER_UNKNOWN, write_cca};
