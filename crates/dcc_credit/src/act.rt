@@ -3,13 +3,12 @@
 ghost use Rattle.std.specs.Prelude.{◌≡◌, ◌≤◌, true, Some, None, Err, is_some, is_none, length, option_map, IfOk};
 ghost use Rattle.std.specs.Option.{ForSome};
 ghost use Rattle.dcc_tariff.specs.declared.tariff.UnitKind.TheVariants.{Time as Seconds};
-ghost use Rattle.dcc_act.specs.declared.limits.TheConstants.{MAX_IDS as MOST_IDS};
 ghost use Rattle.dcc_ccr.specs.Services.{FitsSeconds};
 ghost use Rattle.dcc_credit.specs.Acts.{amount_in, asked_in, service_of, debit_of, act_of};
 ghost use Rattle.dcc_credit.specs.declared.act.ActFault.TheVariants.{Later, Memory};
 
 use dcc_act::{
-    Act, Action, Kind, MAX_SECONDS, Moment, OneTimeEvent, RequestKey, Service, ServiceIds,
+    Act, Action, Kind, MAX_IDS, MAX_SECONDS, Moment, OneTimeEvent, RequestKey, Service, ServiceIds,
     SessionId,
 };
 use dcc_ccr::{Amounts, Request, RequestType, RequestedAction};
@@ -106,7 +105,7 @@ fn service_of(
     service: &dcc_ccr::Service,
     moment: Moment,
 ) -> Result<Service, AllocError>
-    requires { length service.now.ids ≤ MOST_IDS }
+    requires { length service.now.ids ≤ MAX_IDS }
     ensures asks { IfOk result (λ made. is_some made.asked ≡ true) }
     ensures value { IfOk result (λ made. made ≡ service_of plan.now moment service.now) }
 {
