@@ -1,12 +1,18 @@
 //! From a request to the act that it asks for.
 
-ghost use Rattle.std.specs.Prelude.{◌≡◌, Some, None, Err, IfOk};
-ghost use Rattle.dcc_credit.specs.Acts.{act_of};
+ghost use Rattle.std.specs.Prelude.{◌≡◌, ◌≤◌, true, Some, None, Err, is_some, is_none, length, option_map, IfOk};
+ghost use Rattle.std.specs.Option.{ForSome};
+ghost use Rattle.dcc_tariff.specs.declared.tariff.UnitKind.TheVariants.{Time as Seconds};
+ghost use Rattle.dcc_ccr.specs.Services.{FitsSeconds};
+ghost use Rattle.dcc_credit.specs.Acts.{amount_in, asked_in, service_of, debit_of, act_of};
 ghost use Rattle.dcc_credit.specs.declared.act.ActFault.TheVariants.{Later, Memory};
 
-use dcc_act::{Act, Moment};
-use dcc_ccr::Request;
-use dcc_tariff::Plan;
+use dcc_act::{
+    Act, Action, Kind, MAX_IDS, MAX_SECONDS, Moment, OneTimeEvent, RequestKey, Service, ServiceIds,
+    SessionId,
+};
+use dcc_ccr::{Amounts, Request, RequestType, RequestedAction};
+use dcc_tariff::{MAX_UNITS, Plan, UnitKind};
 use std::alloc::{AllocError, Global};
 use thiserror::Error;
 
@@ -35,14 +41,126 @@ impl From<AllocError> for ActFault {
 /// doesn't have there is no unit and no tariff, and the amounts are 0.
 ///
 /// Requests of sessions, refunds, balance checks and price enquiries are `Later`.
+#[tactic(auto, unfolding(crate::specs::Acts::act_of))]
 pub fn to_act(
-    _alloc: Global,
-    _plan: &Plan,
-    _request: &Request<'_>,
-    _moment: Moment,
+    alloc: Global,
+    plan: &Plan,
+    request: &Request<'_>,
+    moment: Moment,
 ) -> Result<Act, ActFault>
-    ensures ok { IfOk result (λ act. act_of _plan.now _request.now _moment ≡ Some act) }
-    ensures later { result ≡ Err Later → act_of _plan.now _request.now _moment ≡ None }
+    ensures ok { IfOk result (λ act. act_of plan.now request.now moment ≡ Some act) }
+    ensures later { result ≡ Err Later → act_of plan.now request.now moment ≡ None }
 {
-    Err(ActFault::Memory)
+    match request.request_type() {
+        RequestType::Event(RequestedAction::DirectDebiting) => {
+            debit_of(alloc, plan, request, moment)
+        }
+        RequestType::Initial
+        | RequestType::Update
+        | RequestType::Termination
+        | RequestType::Event(_) => Err(ActFault::Later),
+    }
+}
+
+/// The act of a direct debit, which has one service.
+fn debit_of(
+    alloc: Global,
+    plan: &Plan,
+    request: &Request<'_>,
+    moment: Moment,
+) -> Result<Act, ActFault>
+    ensures ok { IfOk result (λ act. debit_of plan.now moment request.now request.now.services ≡ Some act) }
+    ensures later { result ≡ Err Later → debit_of plan.now moment request.now request.now.services ≡ None }
+{
+    let [service] = request.services() else {
+        return Err(ActFault::Later);
+    };
+    let key = key_of(alloc, request)?;
+    let service = service_of(alloc, plan, service, moment)?;
+    Ok(Act {
+        moment,
+        kind: Kind::Event(OneTimeEvent {
+            key,
+            action: Action::DirectDebiting,
+            service,
+        }),
+    })
+}
+
+/// The session and the number of a request.
+fn key_of(alloc: Global, request: &Request<'_>) -> Result<RequestKey, AllocError>
+    ensures { IfOk result (λ key. key ≡ record { sid = request.now.session; number = request.now.number }) }
+{
+    let octets = request.session().to_vec(alloc)?;
+    Ok(RequestKey {
+        sid: SessionId::from_vec(octets).unwrap(),
+        number: request.number(),
+    })
+}
+
+/// The service of a one-time event, with what the plan says of its group at a moment.
+fn service_of(
+    alloc: Global,
+    plan: &Plan,
+    service: &dcc_ccr::Service,
+    moment: Moment,
+) -> Result<Service, AllocError>
+    requires { length service.now.ids ≤ MAX_IDS }
+    ensures asks { IfOk result (λ made. is_some made.asked ≡ true) }
+    ensures value { IfOk result (λ made. made ≡ service_of plan.now moment service.now) }
+{
+    let group = service.group().unwrap_or(plan.default_group());
+    let unit = plan.unit(group);
+    let ids = service.ids().to_vec(alloc)?;
+    Ok(Service {
+        group: service.group(),
+        ids: ServiceIds::from_vec(ids).unwrap(),
+        form: service.form(),
+        asked: Some(asked_in(unit, service.asked())),
+        used: used_in(unit, service.used()),
+        unit,
+        tariff: plan.at(group, moment.seconds()).map(|found| found.1),
+    })
+}
+
+/// What a one-time event asks for in a group's unit: where that is nothing, or 0, it stands for 1.
+fn asked_in(unit: Option<UnitKind>, asked: Option<Amounts>) -> u64
+    requires { FitsSeconds asked }
+    ensures value { result ≡ asked_in unit asked }
+    ensures in_range { result ≤ MAX_UNITS }
+    ensures some { is_some unit ≡ true → 1 ≤ result }
+    ensures seconds { unit ≡ Some Seconds → result ≤ MAX_SECONDS }
+    ensures unrated { is_none unit ≡ true → result ≡ 0 }
+{
+    match (unit, asked) {
+        (None, _) => 0,
+        (Some(_), None) => 1,
+        (Some(_), Some(amounts)) => amount_in(unit, amounts).max(1),
+    }
+}
+
+/// What is reported as used in a group's unit, where anything is.
+fn used_in(unit: Option<UnitKind>, used: Option<Amounts>) -> Option<u64>
+    ensures value { result ≡ option_map (amount_in unit) used }
+    ensures in_range { ForSome result (λ units. units ≤ MAX_UNITS) }
+    ensures unrated { is_none unit ≡ true → ForSome result (λ units. units ≡ 0) }
+{
+    match used {
+        Some(amounts) => Some(amount_in(unit, amounts)),
+        None => None,
+    }
+}
+
+/// Of the amounts that were sent, the one in a group's unit.
+fn amount_in(unit: Option<UnitKind>, amounts: Amounts) -> u64
+    ensures value { result ≡ amount_in unit amounts }
+    ensures in_range { result ≤ MAX_UNITS }
+    ensures unrated { is_none unit ≡ true → result ≡ 0 }
+{
+    match unit {
+        None => 0,
+        Some(UnitKind::Octets) => amounts.octets(),
+        Some(UnitKind::Time) => amounts.time(),
+        Some(UnitKind::Units) => amounts.units(),
+    }
 }

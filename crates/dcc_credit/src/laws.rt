@@ -1,33 +1,44 @@
 //! The laws of answers. Each is the contract of a function that does nothing.
 
 ghost use Rattle.std.specs.Prelude.{◌≡◌, ℕ, ◌≤◌, false, List, ◌++◌, length, drop, Ok};
-ghost use Rattle.std.specs.List.{flat_map, AllByRecursion};
-ghost use Rattle.dcc_avp.specs.Spelling.{AvpView, HasSpelling, padded};
-ghost use Rattle.dcc_avp.specs.Reading.{avps_of};
+ghost use Rattle.std.specs.List.{flat_map, sum_by, AllByRecursion};
+ghost use Rattle.dcc_avp.specs.Spelling.{AvpView, HasSpelling, padded, padded_len};
+ghost use Rattle.dcc_avp.specs.Reading.{FaultView, avps_of};
 ghost use Rattle.dcc_message.specs.HeaderView.{HeaderView};
 ghost use Rattle.dcc_message.specs.Headers.{IsHeader, header_of};
 ghost use Rattle.dcc_message.specs.declared.identity.Identity.{Identity};
 ghost use Rattle.dcc_message.specs.declared.length.TheConstants.{HEADER_LENGTH, MAX_LENGTH};
+ghost use Rattle.dcc_request.specs.Refusals.{Refusal};
 ghost use Rattle.dcc_answer.specs.Answers.{answer_header, IsServer};
 ghost use Rattle.dcc_answer.specs.Proxies.{SpellProxies};
 ghost use Rattle.dcc_answer.specs.Results.{is_busy};
 ghost use Rattle.dcc_tariff.specs.Terms.{TermsView};
 ghost use Rattle.dcc_act.specs.declared.outcome.Outcome.{Outcome};
 ghost use Rattle.dcc_credit.specs.Answers.{answer_avps, answer_octets, HasLimits};
+ghost use Rattle.dcc_credit.specs.Refusals.{Taken, taken_from, refusal_octets, unread_octets};
 
 use dcc_answer::busy_by_result;
+use dcc_request::shown_within;
 
-/// The answer of an outcome is never the busy one, where the names and the outcome are within their limits and the proxies
-/// are Proxy-Info that can be spelled. Each answer has at least a header.
+/// No answer of an outcome and no refusal is the busy answer, where the names, the outcome and what a refusal shows are within
+/// their limits and the proxies are Proxy-Info that can be spelled. Each of them has at least a header.
 pub fn told_apart()
     ensures answered { (identity : Identity) (terms : TermsView) (request : HeaderView) (proxies : List ℕ) (outcome : Outcome) →
         IsServer identity → HasLimits outcome → SpellProxies proxies →
         is_busy (answer_octets identity terms request proxies outcome) ≡ false }
     ensures answered_some { (identity : Identity) (terms : TermsView) (request : HeaderView) (proxies : List ℕ) (outcome : Outcome) →
         HEADER_LENGTH ≤ length (answer_octets identity terms request proxies outcome) }
+    ensures refused { (identity : Identity) (request : HeaderView) (avps : List AvpView) (proxies : List ℕ) (refusal : Refusal) →
+        IsServer identity → sum_by padded_len refusal.failed ≤ MAX_LENGTH → SpellProxies proxies →
+        is_busy (refusal_octets identity request (taken_from avps) proxies refusal) ≡ false }
+    ensures unread { (identity : Identity) (request : HeaderView) (fault : FaultView) →
+        IsServer identity → is_busy (unread_octets identity request fault) ≡ false }
+    ensures refused_some { (identity : Identity) (request : HeaderView) (taken : Taken) (proxies : List ℕ) (refusal : Refusal) →
+        HEADER_LENGTH ≤ length (refusal_octets identity request taken proxies refusal) }
 {
     dcc_avp::read_back();
     busy_by_result();
+    shown_within();
 }
 
 /// What is written is read back, where the names and the outcome are within their limits: the AVPs, with the proxies

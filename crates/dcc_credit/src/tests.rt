@@ -1,4 +1,4 @@
-//! Octets from outside: a request read and turned into its act, and answers written.
+//! Octets from outside: requests turned into their acts, and answers and refusals written.
 
 mod answers;
 mod octets;

@@ -1,11 +1,12 @@
 use super::octets::{decoded, edited, header, identity, list_in};
-use crate::{lend_session, read_ccr, write_cca};
+use crate::{lend_session, write_cca};
 use dcc_act::{
     Answer, Form, Grant, Outcome, RequestKey, RequestType, ResultCode, ServiceAnswer,
     ServiceAnswers, ServiceIds, SessionId,
 };
 use dcc_answer::{Proxies, session_id, write_busy};
 use dcc_avp::read_list;
+use dcc_ccr::read_ccr;
 use dcc_samples::{ANSWER, COPIED_PROXIES, DEBIT, PROXIES, PROXY_INFO};
 use dcc_tariff::{Tariff, Terms, UnitKind};
 use std::alloc::Global;
@@ -178,7 +179,7 @@ fn greatest_requests(rt: HostRuntime) -> Result<(), Fail> {
     assert_eq!(rt; octets.len(), 65_500);
     let avps = read_list(alloc, &octets)?;
     assert_eq!(rt; avps.len(), 1818);
-    assert!(rt; read_ccr(alloc, &header(0xc0), &avps).is_ok());
+    assert!(rt; read_ccr(alloc, &avps).is_ok());
     let session = session_id(&avps).ok_or("a session")?;
     assert_eq!(rt; session.as_slice(), sid.as_slice());
     let copied = Proxies::of(alloc, &avps)?;

@@ -1,157 +1,299 @@
-use super::octets::{edited, header, list_in};
-use crate::{CcrFault, read_ccr, subscriber, to_act};
-use dcc_act::{Act, Action, Form, Kind, Moment};
+//! Acts of requests.
+
+use super::octets::{decoded, edited};
+use crate::{ActFault, to_act};
+use dcc_act::{Act, Kind, Moment, OneTimeEvent, Service};
 use dcc_avp::read_list;
-use dcc_message::{Header, applications, commands};
-use dcc_samples::{DEBIT, PLAN, PROXIES};
-use dcc_tariff::{Plan, Tariff, UnitKind};
+use dcc_ccr::{Request, read_ccr};
+use dcc_request::Stop;
+use dcc_samples::{DEBIT, PLAN};
+use dcc_tariff::Plan;
 use std::alloc::Global;
 use std::process::Abort;
 use std::test::Fail;
 
-fn check_act(rt: &impl Abort, act: &Act, asked: u64, unit: UnitKind, tariff: Option<Tariff>) {
-    let Kind::Event(event) = &act.kind else {
-        panic!(rt; "a top-up")
-    };
-    assert_eq!(rt; event.key.sid.as_slice(), b"gw1.example;1;1".as_slice());
-    assert_eq!(rt; event.key.number, 0);
-    assert_eq!(rt; event.action, Action::DirectDebiting);
-    assert_eq!(rt; event.service.group, None);
-    assert!(rt; event.service.ids.as_slice().is_empty());
-    assert_eq!(rt; event.service.form, Form::Single);
-    assert_eq!(rt; event.service.asked, Some(asked));
-    assert_eq!(rt; event.service.used, None);
-    assert_eq!(rt; event.service.unit, Some(unit));
-    assert_eq!(rt; event.service.tariff, tariff);
+/// 2025-06-01T00:00:00Z.
+const JUNE: u64 = 0x683b_9800;
+
+/// The Requested-Service-Unit of the debit.
+const ASKED: &str = "000001b540000018000001a54000001000000000000003e9";
+
+/// 61 seconds, 1,001 octets and 7 units of the service's own.
+const IN_EACH_UNIT: &str = "000001b540000034000001a44000000c0000003d\
+000001a54000001000000000000003e9000001a1400000100000000000000007";
+
+/// The same in a service that names no group, with two identifiers.
+const SERVICE: &str = "000001c840000054000001b74000000c00000007000001b74000000c00000001\
+000001b540000034000001a44000000c0000003d000001a54000001000000000000003e9000001a1400000100000000000000007";
+
+/// In each default group, what stands in place of the debit's Requested-Service-Unit, and its act's service.
+const DEFAULT_GROUPS: [(&str, &str, &str); 9] = [
+    ("10", IN_EACH_UNIT, "Single - [] 1001 - Octets 5/1000"),
+    ("20", IN_EACH_UNIT, "Single - [] 61 - Time 2/60"),
+    ("30", IN_EACH_UNIT, "Single - [] 7 - Units 0/1"),
+    ("10", SERVICE, "Multi - [7, 1] 1001 - Octets 5/1000"),
+    ("20", SERVICE, "Multi - [7, 1] 61 - Time 2/60"),
+    ("30", SERVICE, "Multi - [7, 1] 7 - Units 0/1"),
+    // octets where seconds count, asked for and used
+    ("20", ASKED, "Single - [] 1 - Time 2/60"),
+    (
+        "20",
+        "000001be40000018000001a5400000100000000000009c41",
+        "Single - [] 1 0 Time 2/60",
+    ),
+    // the most seconds
+    (
+        "20",
+        "000001b540000014000001a44000000cffffffff",
+        "Single - [] 4294967295 - Time 2/60",
+    ),
+];
+
+/// The same where the default group counts octets.
+const SERVICES: [(&str, &str); 16] = [
+    (ASKED, "Single - [] 1001 - Octets 5/1000"),
+    // no amount, none in any unit, and 0
+    ("", "Single - [] 1 - Octets 5/1000"),
+    ("000001b540000008", "Single - [] 1 - Octets 5/1000"),
+    (
+        "000001b540000018000001a5400000100000000000000000",
+        "Single - [] 1 - Octets 5/1000",
+    ),
+    // the most octets
+    (
+        "000001b540000018000001a540000010000000e8d4a51000",
+        "Single - [] 1000000000000 - Octets 5/1000",
+    ),
+    // 750 in and 251 out, and 251 out alone
+    (
+        "000001b5400000280000019c4000001000000000000002ee0000019e4000001000000000000000fb",
+        "Single - [] 1001 - Octets 5/1000",
+    ),
+    (
+        "000001b5400000180000019e4000001000000000000000fb",
+        "Single - [] 251 - Octets 5/1000",
+    ),
+    // an identifier at the level of the message
+    ("000001b74000000c00000007", "Single - [7] 1 - Octets 5/1000"),
+    // 40,001 octets used, and one more
+    (
+        "000001be40000018000001a5400000100000000000009c41000001be40000018000001a5400000100000000000000001",
+        "Single - [] 1 40002 Octets 5/1000",
+    ),
+    // a service without anything
+    ("000001c840000008", "Multi - [] 1 - Octets 5/1000"),
+    // of group 20, with 5 octets and 3 seconds used
+    (
+        "000001c840000038000001b04000000c00000014000001be40000024000001a5400000100000000000000005000001a44000000c00000003",
+        "Multi 20 [] 1 3 Time 2/60",
+    ),
+    // of group 10, as sent
+    (
+        "000001c840000014000001b04000000c0000000a",
+        "Multi 10 [] 1 - Octets 5/1000",
+    ),
+    // of group 30, with an identifier and 61 seconds, 1,001 octets and 7 units
+    (
+        "000001c840000054000001b04000000c0000001e000001b74000000c00000009000001b540000034000001a44000000c0000003d000001a54000001000000000000003e9000001a1400000100000000000000007",
+        "Multi 30 [9] 7 - Units 0/1",
+    ),
+    // of a group that the plan doesn't have: nothing, 1,001 octets asked for, and 40,001 used
+    (
+        "000001c840000014000001b04000000c00000063",
+        "Multi 99 [] 0 - - -",
+    ),
+    (
+        "000001c84000002c000001b04000000c00000063000001b540000018000001a54000001000000000000003e9",
+        "Multi 99 [] 0 - - -",
+    ),
+    (
+        "000001c84000002c000001b04000000c00000063000001be40000018000001a5400000100000000000009c41",
+        "Multi 99 [] 0 0 - -",
+    ),
+];
+
+/// The octets of the debit's list with this in place of its Requested-Service-Unit.
+fn debit_with(alloc: Global, service: &str) -> Result<Vec<u8>, Fail> {
+    let list = DEBIT.get(40..).unwrap_or_default();
+    let text = edited(alloc, list, ASKED, service)?;
+    decoded(alloc, text.as_str())
 }
 
-/// The act of the request under a plan with this default group.
-fn act_under(alloc: Global, group: &str, seconds: u64) -> Result<Act, Fail> {
-    let text = edited(alloc, PLAN, "default_group = 10", group)?;
-    let plan = Plan::read(alloc, text.as_str())?;
-    let octets = list_in(alloc, DEBIT)?;
-    let avps = read_list(alloc, &octets)?;
-    let request = read_ccr(alloc, &header(0xc0), &avps)?;
+fn told_number(alloc: Global, number: Option<u64>) -> Result<String, Fail> {
+    match number {
+        Some(number) => Ok(format!(in alloc; "{number}")?),
+        None => Ok(format!(in alloc; "-")?),
+    }
+}
+
+/// The form, the group, the identifiers, what is asked for and was used, the unit and the tariff.
+fn told_service(alloc: Global, service: &Service) -> Result<String, Fail> {
+    let group = told_number(alloc, service.group.map(u64::from))?;
+    let asked = told_number(alloc, service.asked)?;
+    let used = told_number(alloc, service.used)?;
+    let unit = match service.unit {
+        Some(unit) => format!(in alloc; "{unit:?}")?,
+        None => format!(in alloc; "-")?,
+    };
+    let tariff = match service.tariff {
+        Some(tariff) => format!(in alloc; "{}/{}", tariff.price, tariff.block)?,
+        None => format!(in alloc; "-")?,
+    };
+    let ids = service.ids.as_slice();
+    let form = service.form;
+    Ok(format!(in alloc; "{form:?} {group} {ids:?} {asked} {used} {unit} {tariff}")?)
+}
+
+/// What a request asks for at a moment: its act, or none where it isn't served yet.
+fn asked_by(
+    alloc: Global,
+    plan: &Plan,
+    request: &Request<'_>,
+    seconds: u64,
+) -> Result<Option<Act>, Fail> {
     let moment = Moment::new(seconds).ok_or("a moment")?;
-    Ok(to_act(alloc, &plan, &request, moment)?)
+    match to_act(alloc, plan, request, moment) {
+        Ok(act) => Ok(Some(act)),
+        Err(ActFault::Later) => Ok(None),
+        Err(ActFault::Memory) => Err("memory was refused".into()),
+    }
+}
+
+/// The act of the request that a list holds.
+fn act_of(alloc: Global, plan: &Plan, octets: &[u8], seconds: u64) -> Result<Option<Act>, Fail> {
+    if octets.len() > 65_509 {
+        return Err("a list that is too long".into());
+    }
+    let avps = read_list(alloc, octets)?;
+    match read_ccr(alloc, &avps) {
+        Ok(request) => asked_by(alloc, plan, &request, seconds),
+        Err(Stop::Refused(_)) => Err("a request that is refused".into()),
+        Err(Stop::Memory) => Err("memory was refused".into()),
+    }
+}
+
+fn event_of(act: Option<Act>) -> Result<OneTimeEvent, Fail> {
+    match act {
+        Some(
+            Act {
+                kind: Kind::Event(event),
+                ..
+            },
+        ) => Ok(event),
+        _ => Err("no event".into()),
+    }
+}
+
+/// The service of the debit's act, with this in place of its Requested-Service-Unit.
+fn service_of(alloc: Global, plan: &Plan, service: &str, seconds: u64) -> Result<String, Fail> {
+    let octets = debit_with(alloc, service)?;
+    let event = event_of(act_of(alloc, plan, &octets, seconds)?)?;
+    told_service(alloc, &event.service)
 }
 
 #[test]
-fn subscriber_of_the_debit(rt: HostRuntime) -> Result<(), Fail> {
-    let octets = list_in(rt.alloc(), DEBIT)?;
-    let avps = read_list(rt.alloc(), &octets)?;
-    let request = read_ccr(rt.alloc(), &header(0x80), &avps)?;
-    let sub = subscriber(&request);
-    assert_eq!(rt; sub.kind(), 0);
-    assert_eq!(rt; sub.name(), b"491700000001".as_slice());
+fn key_and_moment(rt: HostRuntime) -> Result<(), Fail> {
+    let alloc = rt.alloc();
+    let plan = Plan::read(alloc, PLAN)?;
+    let list = DEBIT.get(40..).unwrap_or_default();
+    let text = edited(
+        alloc,
+        list,
+        "0000019f4000000c00000000",
+        "0000019f4000000c00000102",
+    )?;
+    let octets = decoded(alloc, text.as_str())?;
+    let act = act_of(alloc, &plan, &octets, JUNE)?.ok_or("an act")?;
+    assert_eq!(rt; act.moment.seconds(), JUNE);
+    let event = event_of(Some(act))?;
+    assert_eq!(rt; event.key.sid.as_slice(), b"gw1.example;1;1".as_slice());
+    assert_eq!(rt; event.key.number, 258);
     Ok(())
 }
 
 #[test]
-fn acts_under_default_groups(rt: HostRuntime) -> Result<(), Fail> {
-    let octets = Tariff {
-        price: 5,
-        block: 1000,
-    };
-    let seconds = Tariff {
-        price: 2,
-        block: 60,
-    };
-    let units = Tariff { price: 0, block: 1 };
-    let june = 0x683b_9800;
-    let act = act_under(rt.alloc(), "default_group = 10", june)?;
-    assert_eq!(rt; act.moment.seconds(), june);
-    check_act(&rt, &act, 1001, UnitKind::Octets, Some(octets));
-    let act = act_under(rt.alloc(), "default_group = 20", june)?;
-    check_act(&rt, &act, 1, UnitKind::Time, Some(seconds));
-    let act = act_under(rt.alloc(), "default_group = 30", june)?;
-    check_act(&rt, &act, 1, UnitKind::Units, Some(units));
-    let act = act_under(rt.alloc(), "default_group = 10", 0)?;
-    check_act(&rt, &act, 1001, UnitKind::Octets, None);
-    Ok(())
-}
-
-/// Whether a message has a request, in whatever state memory is.
-fn is_read(alloc: Global, header: &Header, text: &str) -> Result<bool, Fail> {
-    let octets = list_in(alloc, text)?;
-    let avps = read_list(alloc, &octets)?;
-    match read_ccr(alloc, header, &avps) {
-        Ok(_) => Ok(true),
-        Err(CcrFault::Later) => Ok(false),
-        Err(CcrFault::Memory) => Err(Fail::from("memory")),
+fn services_by_default_groups(rt: HostRuntime) -> Result<(), Fail> {
+    let alloc = rt.alloc();
+    for (group, service, want) in &DEFAULT_GROUPS {
+        let line = format!(in alloc; "default_group = {group}")?;
+        let text = edited(alloc, PLAN, "default_group = 10", line.as_str())?;
+        let plan = Plan::read(alloc, text.as_str())?;
+        let told = service_of(alloc, &plan, service, JUNE)?;
+        assert_eq!(rt; told.as_str(), *want, "{service} in {group}");
     }
-}
-
-#[test]
-fn other_headers(rt: HostRuntime) -> Result<(), Fail> {
-    for (flags, wanted) in [(0x80, true), (0xdf, true), (0x40, false), (0xa0, false)] {
-        assert_eq!(rt;
-            is_read(rt.alloc(), &header(flags), DEBIT)?,
-            wanted,
-            "{flags}"
-        );
-    }
-    let mut other = header(0x80);
-    other.code = commands::DEVICE_WATCHDOG;
-    assert!(rt; !is_read(rt.alloc(), &other, DEBIT)?);
-    let mut other = header(0x80);
-    other.app = applications::BASE;
-    assert!(rt; !is_read(rt.alloc(), &other, DEBIT)?);
     Ok(())
 }
 
 #[test]
-fn other_lists(rt: HostRuntime) -> Result<(), Fail> {
-    let edits = [
-        ("00000107", "0000011c40000009aaffffff00000107", true),
-        ("000001084000", "000001080000", true),
-        (
-            "000001024000000c00000004",
-            "000001024000000c00000003",
-            false,
-        ),
-        (
-            "000001024000000c00000004",
-            "000001020000000d0000000400000000",
-            false,
-        ),
-        (
-            "000001a04000000c00000004",
-            "000001a04000000c00000003",
-            false,
-        ),
-        (
-            "000001b44000000c00000000",
-            "000001b44000000c00000001",
-            false,
-        ),
-        (
-            "000001c24000000c00000000",
-            "000001c24000000c00000005",
-            false,
-        ),
-        ("000001bc4000001434", "000001bc4000001420", false),
-        ("00000000000003e9", "0000000000000000", false),
-        ("00000000000003e9", "000000e8d4a51000", true),
-        ("00000000000003e9", "000000e8d4a51001", false),
-        ("0000011b4000", "000001094000", false),
-        ("0000011b4000", "0000011bc000", false),
-        ("0000019f4000000c00000000", "", false),
-        (
-            "00000107400000176777312e6578616d706c653b313b3100",
-            "0000010740000008",
-            false,
-        ),
-    ];
-    for (old, new, wanted) in edits {
-        let text = edited(rt.alloc(), DEBIT, old, new)?;
-        assert_eq!(rt;
-            is_read(rt.alloc(), &header(0xc0), text.as_str())?,
-            wanted,
-            "{old} to {new}"
-        );
+fn services_as_sent(rt: HostRuntime) -> Result<(), Fail> {
+    let plan = Plan::read(rt.alloc(), PLAN)?;
+    for (service, want) in &SERVICES {
+        let told = service_of(rt.alloc(), &plan, service, JUNE)?;
+        assert_eq!(rt; told.as_str(), *want, "{service}");
     }
-    let text = format!(in rt.alloc(); "{DEBIT}{PROXIES}")?;
-    assert!(rt; !is_read(rt.alloc(), &header(0xc0), text.as_str())?);
+    Ok(())
+}
+
+/// The plan's tariffs hold from the beginning of 2020.
+#[test]
+fn tariffs_of_moments(rt: HostRuntime) -> Result<(), Fail> {
+    let plan = Plan::read(rt.alloc(), PLAN)?;
+    for (seconds, want) in [
+        (0, "Single - [] 1001 - Octets -"),
+        (1_577_836_799, "Single - [] 1001 - Octets -"),
+        (1_577_836_800, "Single - [] 1001 - Octets 5/1000"),
+        (4_102_444_799, "Single - [] 1001 - Octets 5/1000"),
+    ] {
+        let told = service_of(rt.alloc(), &plan, ASKED, seconds)?;
+        assert_eq!(rt; told.as_str(), want, "at {seconds}");
+    }
+    Ok(())
+}
+
+/// Whether a list with this type and this action has an act.
+fn is_served(alloc: Global, plan: &Plan, kind: u8, action: u8) -> Result<bool, Fail> {
+    let kind = format!(in alloc; "000001a04000000c0000000{kind}")?;
+    let action = format!(in alloc; "000001b44000000c0000000{action}")?;
+    let list = DEBIT.get(40..).unwrap_or_default();
+    let typed = edited(alloc, list, "000001a04000000c00000004", kind.as_str())?;
+    let text = edited(
+        alloc,
+        typed.as_str(),
+        "000001b44000000c00000000",
+        action.as_str(),
+    )?;
+    let octets = decoded(alloc, text.as_str())?;
+    Ok(act_of(alloc, plan, &octets, JUNE)?.is_some())
+}
+
+#[test]
+fn direct_debits_alone_are_served(rt: HostRuntime) -> Result<(), Fail> {
+    let plan = Plan::read(rt.alloc(), PLAN)?;
+    for (kind, action, wanted) in [
+        (4, 0, true),
+        (4, 1, false),
+        (4, 2, false),
+        (4, 3, false),
+        (1, 0, false),
+        (2, 0, false),
+        (3, 0, false),
+    ] {
+        let served = is_served(rt.alloc(), &plan, kind, action)?;
+        assert_eq!(rt; served, wanted, "type {kind}, action {action}");
+    }
+    Ok(())
+}
+
+/// A service with as many identifiers as a message has room for.
+#[test]
+fn most_identifiers(rt: HostRuntime) -> Result<(), Fail> {
+    let alloc = rt.alloc();
+    let plan = Plan::read(alloc, PLAN)?;
+    let ids = "000001b74000000c00000007".repeat(alloc, 5_443)?;
+    let service = format!(in alloc; "000001c84000ff2c{ids}")?;
+    let octets = debit_with(alloc, service.as_str())?;
+    assert_eq!(rt; octets.len(), 65_508);
+    let event = event_of(act_of(alloc, &plan, &octets, JUNE)?)?;
+    assert_eq!(rt; event.service.ids.as_slice().len(), 5_443);
     Ok(())
 }

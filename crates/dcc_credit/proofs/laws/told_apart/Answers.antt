@@ -1,4 +1,9 @@
+use Rattle.std.proofs.Common.{[], refl, arith}
+use Rattle.dcc_request.specs.Layout.{unread}
+use Rattle.dcc_credit.specs.Refusals.{nothing, taken_from}
+use Rattle.dcc_credit.proofs.Failed.{failed_spelled, none_short, taken_short}
 use Rattle.dcc_credit.proofs.Messages.{told_not_busy, answer_least}
+use Rattle.dcc_credit.proofs.Refusals.{refusal_not_busy, refusal_least}
 use Rattle.dcc_credit.proofs.Spelled.{answerable}
 use Rattle.dcc_credit.proofs.laws.told_apart.Goals as goal
 
@@ -7,4 +12,12 @@ returns c = record {
   answered = λ identity terms request proxies outcome server limits p.
       told_not_busy c.busy_by_result.ensures.told c.read_back.ensures.size identity terms request proxies outcome (answerable identity outcome server limits) p;
   answered_some = answer_least c.busy_by_result.ensures.some;
+  refused = λ identity request avps proxies refusal server few p.
+      refusal_not_busy c.busy_by_result.ensures.told identity request (taken_from avps) proxies refusal server (taken_short avps)
+      (failed_spelled refusal.failed few) p;
+  unread = λ identity request fault server.
+      let few = c.shown_within.ensures.unread fault in
+      refusal_not_busy c.busy_by_result.ensures.told identity request nothing [] (unread fault) server none_short
+      (failed_spelled (unread fault).failed (omega arith)) ([], tt, refl);
+  refused_some = refusal_least c.busy_by_result.ensures.some;
 }
