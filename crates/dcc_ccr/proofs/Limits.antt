@@ -59,18 +59,18 @@ place_within service [] from i e = absurd cc
 place_within service (other ∷ others) from i e =
     place_step (same_key other service) (place_of service others (from + 1)) from i (length others) (place_within service others (from + 1) i) e
 
-repeat_step : (p : Option ℕ) (rest : Option (ℕ × ℕ)) (n total i j : ℕ) → ((k : ℕ) → p ≡ Some k → k < total) → n < total
-    → (rest ≡ Some (i, j) → (i < total) × (j < total))
-    → or_else (option_map (λ first. (first, n)) p) rest ≡ Some (i, j) → (i < total) × (j < total)
+repeat_step : (p : Option ℕ) (rest : Option (ℕ × ℕ)) (n total i j : ℕ) → ((k : ℕ) → p ≡ Some k → k < n) → n < total
+    → (rest ≡ Some (i, j) → (i < j) × (j < total))
+    → or_else (option_map (λ first. (first, n)) p) rest ≡ Some (i, j) → (i < j) × (j < total)
 repeat_step (Some k) rest n total i j first below ih e =
     let same : (k, n) ≡ (i, j) = cc in
     let s : k ≡ i = ap (λ (p : ℕ × ℕ). p.0) same in
     let t : n ≡ j = ap (λ (p : ℕ × ℕ). p.1) same in
-    (rw (sym s) (first k refl), rw (sym t) below)
+    (rw (sym s, sym t) (first k refl), rw (sym t) below)
 repeat_step None rest n total i j first below ih e = ih e
 
-repeated_within : (before after : List ServiceView) (i j : ℕ) → repeated before after ≡ Some (i, j)
-    → (i < length before + length after) × (j < length before + length after)
+pub repeated_within : (before after : List ServiceView) (i j : ℕ) → repeated before after ≡ Some (i, j)
+    → (i < j) × (j < length before + length after)
 repeated_within before [] i j e = absurd cc
 repeated_within before (service ∷ after) i j e =
     let longer : length (before ++ service ∷ []) ≡ length before + 1 = length-append before (service ∷ []) in

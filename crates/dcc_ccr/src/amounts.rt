@@ -1,9 +1,11 @@
 //! Amounts of units, asked for and used.
 
-ghost use Rattle.std.specs.Prelude.{◌≡◌, ◌+◌, ◌<◌, ◌≤◌, ◌^◌, true, filter};
+ghost use Rattle.std.specs.Prelude.{◌≡◌, ◌+◌, ◌<◌, ◌≤◌, ◌^◌, true, filter, IfOk};
 ghost use Rattle.dcc_request.specs.Answers.{Gives};
 ghost use Rattle.dcc_tariff.specs.declared.limits.TheConstants.{MAX_UNITS as MOST};
+ghost use Rattle.dcc_act.specs.declared.limits.TheConstants.{MAX_SECONDS};
 ghost use Rattle.dcc_ccr.specs.Amounts.{AmountsView, units_in, or_0, octets_of, plus, nothing, is_within, limited, added, asked_in, or_nothing, counted, used_in};
+ghost use Rattle.dcc_ccr.specs.Services.{FitsSeconds};
 
 use crate::steps::{long_number_of, number_of};
 use dcc_avp::{Avp, codes};
@@ -112,7 +114,8 @@ fn octets_of(said: &Units) -> u128
 /// What was counted before and what is said now, together; or `InvalidAvpValue` with the AVP that says it, where in any
 /// unit that is more than there may be.
 fn limited<'a>(sum: &Amounts, said: &Units, avp: &Avp<'a>) -> Result<Amounts, Refused<'a>>
-    ensures { result ≡ limited avp.now (plus sum.now said.now) }
+    ensures value { result ≡ limited avp.now (plus sum.now said.now) }
+    ensures seconds { IfOk result (λ amounts. amounts.time ≤ sum.now.time + MAX_SECONDS) }
 {
     let octets = sum.octets() as u128 + octets_of(said);
     let time = sum.time() as u128 + said.time.unwrap_or(0) as u128;
@@ -132,7 +135,8 @@ fn limited<'a>(sum: &Amounts, said: &Units, avp: &Avp<'a>) -> Result<Amounts, Re
 /// What a unit's AVP says, counted to what was counted before.
 #[tactic(auto, unfolding(crate::specs::Amounts::added))]
 fn added<'a>(alloc: Global, sum: &Amounts, avp: &Avp<'a>) -> Result<Amounts, Stop<'a>>
-    ensures { Gives (λ amounts. amounts) result (added sum.now avp.now) }
+    ensures value { Gives (λ amounts. amounts) result (added sum.now avp.now) }
+    ensures seconds { IfOk result (λ amounts. amounts.time ≤ sum.now.time + MAX_SECONDS) }
 {
     let list = read_message_list(alloc, avp.value())?;
     let said = units_in(&list)?;
@@ -142,7 +146,8 @@ fn added<'a>(alloc: Global, sum: &Amounts, avp: &Avp<'a>) -> Result<Amounts, Sto
 /// What is asked for in a list, where anything is.
 #[tactic(auto, unfolding(crate::specs::Amounts::asked_in))]
 pub(crate) fn asked_in<'a>(alloc: Global, avps: &[Avp<'a>]) -> Result<Option<Amounts>, Stop<'a>>
-    ensures { Gives (λ asked. asked) result (asked_in avps.now) }
+    ensures value { Gives (λ asked. asked) result (asked_in avps.now) }
+    ensures seconds { IfOk result FitsSeconds }
 {
     match first(avps, codes::REQUESTED_SERVICE_UNIT) {
         Some(avp) => Ok(Some(added(alloc, &NOTHING, avp)?)),

@@ -1,10 +1,13 @@
 //! Reading a request: the checks of its lists, then its values, then the contradictions between them.
 
-ghost use Rattle.std.specs.Prelude.{◌≡◌, length, filter, IfOk};
-ghost use Rattle.dcc_avp.specs.Spelling.{has_code};
+ghost use Rattle.std.specs.Prelude.{◌≡◌, ◌+◌, ◌≤◌, length, filter, Some, IfOk, IfErr};
+ghost use Rattle.std.specs.List.{sum_by};
+ghost use Rattle.dcc_avp.specs.Spelling.{has_code, padded_len};
 ghost use Rattle.dcc_avp.specs.declared.codes.TheConstants.{MULTIPLE_SERVICES_CREDIT_CONTROL};
+ghost use Rattle.dcc_message.specs.declared.length.TheConstants.{HEADER_LENGTH, MAX_LENGTH};
 ghost use Rattle.dcc_request.specs.Answers.{Gives};
-ghost use Rattle.dcc_ccr.specs.Requests.{ValuesView, values_of, request_of};
+ghost use Rattle.dcc_request.specs.Sessions.{session_of};
+ghost use Rattle.dcc_ccr.specs.Requests.{ValuesView, IsStopWithin, values_of, request_of};
 
 use crate::contradiction::contradiction;
 use crate::request::Request;
@@ -14,7 +17,10 @@ use crate::subscription::subscriber_of;
 use dcc_act::{Form, Sub};
 use dcc_avp::{Avp, codes};
 use dcc_message::applications;
-use dcc_request::{Command, Stop, check, clear, name_octets, number, number_within, required};
+use dcc_request::{
+    Command, Stop, check, clear, list_within, name_octets, number, number_within, required,
+    shown_within,
+};
 use std::alloc::Global;
 use std::marker::Model;
 
@@ -93,8 +99,15 @@ fn values_of<'a>(alloc: Global, avps: &[Avp<'a>]) -> Result<Values<'a>, Stop<'a>
 /// AVPs inside groups are shown bare. Where there is no memory, nothing is said of the request.
 #[tactic(auto, unfolding(crate::specs::Requests::request_of))]
 pub fn read_ccr<'a>(alloc: Global, avps: &[Avp<'a>]) -> Result<Request<'a>, Stop<'a>>
-    ensures { Gives (λ request. request) result (request_of avps.now) }
+    requires small { HEADER_LENGTH + sum_by padded_len avps.now ≤ MAX_LENGTH }
+    ensures value { Gives (λ request. request) result (request_of avps.now) }
+    // The session that a busy answer would take over is the request's.
+    ensures session { IfOk result (λ request. session_of avps.now ≡ Some request.session) }
+    // What a refusal shows fits a message.
+    ensures shown { IfErr result IsStopWithin }
 {
+    shown_within();
+    list_within();
     check(alloc, Command::CreditControl, avps)?;
     let values = values_of(alloc, avps)?;
     clear(contradiction(values.kind, &values.multi, avps))?;

@@ -1,8 +1,9 @@
 //! A credit-control request.
 
-ghost use Rattle.std.specs.Prelude.{◌≡◌, true};
+ghost use Rattle.std.specs.Prelude.{◌≡◌, ◌≤◌, true};
 ghost use Rattle.dcc_octets.specs.Names.{is_short};
-ghost use Rattle.dcc_ccr.specs.Requests.{RequestView, are_services};
+ghost use Rattle.dcc_act.specs.declared.limits.TheConstants.{MAX_IDS};
+ghost use Rattle.dcc_ccr.specs.Requests.{RequestView, are_services, count_ids};
 
 use crate::request_type::RequestType;
 use crate::service::Service;
@@ -21,9 +22,10 @@ pub struct Request<'a> {
 }
 
 impl<'a> Model for Request<'a> {
-    ghost use Rattle.std.specs.Prelude.{◌≡◌, true};
+    ghost use Rattle.std.specs.Prelude.{◌≡◌, ◌≤◌, true};
     ghost use Rattle.dcc_octets.specs.Names.{is_short};
-    ghost use Rattle.dcc_ccr.specs.Requests.{RequestView, are_services};
+    ghost use Rattle.dcc_act.specs.declared.limits.TheConstants.{MAX_IDS};
+    ghost use Rattle.dcc_ccr.specs.Requests.{RequestView, are_services, count_ids};
 
     ghost Value = { RequestView };
 
@@ -35,7 +37,7 @@ impl<'a> Model for Request<'a> {
       services = r.services.items;
     } };
 
-    ghost invariant = { λ r. (is_short r.session.now ≡ true) × (are_services r.services.items ≡ true) };
+    ghost invariant = { λ r. (is_short r.session.now ≡ true) × (are_services r.services.items ≡ true) × (count_ids r.services.items ≤ MAX_IDS) };
 }
 
 /// Whose account the request is for: the type and the data of its first Subscription-Id of type E164, or else of its first
@@ -69,10 +71,12 @@ impl<'a> Request<'a> {
         self.kind
     }
 
-    /// The services, in their order: at most 16, each with a key of its own (`same_key`).
+    /// The services, in their order: at most 16, each with a key of its own (`same_key`), and with at most 5,460
+    /// Service-Identifiers together.
     pub fn services(&self) -> &[Service]
         ensures value { result.now ≡ self.now.services }
         ensures limits { are_services self.now.services ≡ true }
+        ensures few_ids { count_ids self.now.services ≤ MAX_IDS }
     {
         &self.services
     }
@@ -81,6 +85,7 @@ impl<'a> Request<'a> {
     pub fn into_services(self) -> Vec<Service>
         ensures value { result.items ≡ self.entry.services }
         ensures limits { are_services self.entry.services ≡ true }
+        ensures few_ids { count_ids self.entry.services ≤ MAX_IDS }
     {
         self.services
     }

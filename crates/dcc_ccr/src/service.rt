@@ -6,7 +6,7 @@ ghost use Rattle.dcc_request.specs.Refusals.{each};
 ghost use Rattle.dcc_avp.specs.Spelling.{has_code};
 ghost use Rattle.dcc_avp.specs.declared.codes.TheConstants.{SERVICE_IDENTIFIER};
 ghost use Rattle.dcc_request.specs.Values.{number as number_in};
-ghost use Rattle.dcc_ccr.specs.Services.{ServiceView, service_in, service_of, multi_of, is_there, services_of};
+ghost use Rattle.dcc_ccr.specs.Services.{ServiceView, FitsSeconds, service_in, service_of, multi_of, is_there, services_of};
 
 use crate::amounts::{Amounts, asked_in, used_in};
 use crate::request_type::RequestType;
@@ -29,11 +29,13 @@ pub struct Service {
 }
 
 impl Model for Service {
-    ghost use Rattle.dcc_ccr.specs.Services.{ServiceView};
+    ghost use Rattle.dcc_ccr.specs.Services.{ServiceView, FitsSeconds};
 
     ghost Value = { ServiceView };
 
     ghost view = { λ s. record { form = s.form; group = s.group; ids = s.ids.items; asked = s.asked; used = s.used } };
+
+    ghost invariant = { λ s. FitsSeconds s.asked };
 }
 
 impl Service {
@@ -65,9 +67,10 @@ impl Service {
         self.ids
     }
 
-    /// What is asked for, where a Requested-Service-Unit is there (RFC 8506, section 8.18).
+    /// What is asked for, where a Requested-Service-Unit is there (RFC 8506, section 8.18); at most 2^32 - 1 seconds.
     pub fn asked(&self) -> Option<Amounts>
-        ensures { result ≡ self.now.asked }
+        ensures value { result ≡ self.now.asked }
+        ensures limit { FitsSeconds self.now.asked }
     {
         self.asked
     }
