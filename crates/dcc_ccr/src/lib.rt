@@ -10,8 +10,9 @@
 //!    Subscription-Id, Service-Identifier, Requested-Service-Unit, Used-Service-Unit, Multiple-Services-Credit-Control;
 //! 3. contradictions between AVPs.
 //!
-//! A `Request` keeps its limits: a Session-Id of 1 to 255 octets, amounts of at most 10^12, at most 16 services, and no two of
-//! one key. That its Service-Identifiers are at most 5,460 follows from the length of its message, and isn't said here.
+//! A `Request` keeps its limits: a Session-Id of 1 to 255 octets, amounts of at most 10^12, at most 2^32 - 1 seconds asked for
+//! in a service, at most 16 services, no two of one key, and at most 5,460 Service-Identifiers in all. These are few because
+//! the message is: `read_ccr` is called with a list that stands in at most 65,532 octets. What a refusal shows fits as many.
 //! What a request asks for is kept in each unit that it may be counted in: which of them counts is the plan's business.
 #![tactic(auto)]
 

@@ -8,7 +8,7 @@ mod whole;
 
 use crate::{Amounts, Request, Service, read_ccr, subscriber};
 use dcc_avp::{Avp, write_avp};
-use dcc_request::{Failed, Refused, Stop, read_message_list};
+use dcc_request::{Failed, Refused, Stop, list_within, read_message_list};
 use std::alloc::Global;
 use std::test::Fail;
 
@@ -109,12 +109,16 @@ fn told_reading(alloc: Global, read: &Result<Request<'_>, Stop<'_>>) -> Result<S
     }
 }
 
-/// What is read of a list of AVPs.
+/// What is read of a list of AVPs, of at most so many octets as stand behind a header.
 fn outcome(alloc: Global, list: &str) -> Result<String, Fail> {
     let octets = hex::decode(alloc, list)?;
+    if octets.len() > 65_512 {
+        return Err("a list that is too long".into());
+    }
     let read = read_message_list(alloc, &octets);
     match &read {
         Ok(avps) => {
+            list_within();
             let request = read_ccr(alloc, avps);
             told_reading(alloc, &request)
         }

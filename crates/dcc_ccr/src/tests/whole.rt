@@ -117,3 +117,25 @@ fn longest_name(rt: HostRuntime) -> Result<(), Fail> {
     assert_eq!(rt; told, want);
     Ok(())
 }
+
+/// What an initial request has besides.
+const INITIAL: &str =
+    "000001a04000000c000000010000019f4000000c00000007000001bb40000028000001c24000000c00000000000001bc40000014343931373030303030303031";
+
+/// A message of 65,532 octets, with all the Service-Identifiers that it has room for.
+#[test]
+fn longest_message(rt: HostRuntime) -> Result<(), Fail> {
+    let alloc = rt.alloc();
+    let context = "000001cd400000106461746164617461";
+    let head = super::edited(alloc, HEAD, "000001cd4000000c64617461", context)?;
+    let ids = "000001b74000000c00000001".repeat(alloc, 5_447)?;
+    let text = format!(in alloc; "{head}{INITIAL}000001c84000ff5c{ids}")?;
+    assert_eq!(rt; text.len(), 2 * 65_512);
+    let told = outcome(alloc, &text)?;
+    let others = ", 1".repeat(alloc, 5_446)?;
+    let want = format!(in alloc;
+        "Initial 0:343931373030303030303031 7331 7; Multi - [1{others}] - -"
+    )?;
+    assert_eq!(rt; told, want);
+    Ok(())
+}
