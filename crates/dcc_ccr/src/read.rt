@@ -97,6 +97,8 @@ fn values_of<'a>(alloc: Global, avps: &[Avp<'a>]) -> Result<Values<'a>, Stop<'a>
 ///   key, which is the Rating-Group and the first Service-Identifier.
 ///
 /// AVPs inside groups are shown bare. Where there is no memory, nothing is said of the request.
+///
+/// The list stands behind a header in at most 65,532 octets, the padding of its last AVP counted too.
 #[tactic(auto, unfolding(crate::specs::Requests::request_of))]
 pub fn read_ccr<'a>(alloc: Global, avps: &[Avp<'a>]) -> Result<Request<'a>, Stop<'a>>
     requires small { HEADER_LENGTH + sum_by padded_len avps.now ≤ MAX_LENGTH }
