@@ -5,8 +5,8 @@ use Rattle.dcc_avp.specs.declared.codes.TheConstants.{REQUESTED_ACTION}
 use Rattle.dcc_request.specs.declared.table.TheConstants.{EVENT_TYPE}
 use Rattle.dcc_request.specs.Refusals.{Refusal, ◌>>=◌}
 use Rattle.dcc_request.specs.Values.{required, number_within}
-use Rattle.dcc_ccr.specs.declared.request_type.RequestedAction.{RequestedAction}
-use Rattle.dcc_ccr.specs.declared.request_type.RequestedAction.TheVariants.{DirectDebiting, RefundAccount, CheckBalance, PriceEnquiry}
+use Rattle.dcc_act.specs.declared.one_time_event.Action.{Action}
+use Rattle.dcc_act.specs.declared.one_time_event.Action.TheVariants.{DirectDebiting, RefundAccount, CheckBalance, PriceEnquiry}
 use Rattle.dcc_ccr.specs.declared.request_type.RequestType.{RequestType}
 use Rattle.dcc_ccr.specs.declared.request_type.RequestType.TheVariants.{Initial, Update, Termination, Event}
 
@@ -17,11 +17,11 @@ is_event Update = false
 is_event Termination = false
 
 -- the action of a number from 0 to 3
-abbrev pub action_from : ℕ → RequestedAction
+abbrev pub action_from : ℕ → Action
 action_from n = if n == 0 then DirectDebiting else if n == 1 then RefundAccount else if n == 2 then CheckBalance else PriceEnquiry
 
 -- the first Requested-Action
-unfoldable pub action_of : List AvpView → Result RequestedAction Refusal
+unfoldable pub action_of : List AvpView → Result Action Refusal
 action_of avps = do
   avp ← required avps REQUESTED_ACTION
   n ← number_within avp 0 3

@@ -28,7 +28,7 @@ mod subscription;
 pub use amounts::Amounts;
 pub use read::read_ccr;
 pub use request::{Request, subscriber};
-pub use request_type::{RequestType, RequestedAction};
+pub use request_type::RequestType;
 pub use service::Service;
 
 #[cfg(test)]

@@ -3,22 +3,10 @@
 ghost use Rattle.std.specs.Prelude.{◌≡◌};
 ghost use Rattle.dcc_ccr.specs.Types.{is_event, action_from, action_of, type_of};
 
+use dcc_act::Action;
 use dcc_avp::{Avp, codes};
 use dcc_request::table::EVENT_TYPE;
 use dcc_request::{Refused, number_within, required};
-
-/// What an event asks for (Requested-Action, RFC 8506, section 8.41).
-#[derive(Clone, Copy, Debug, PartialEq, Eq)]
-pub enum RequestedAction {
-    /// DIRECT_DEBITING, 0: that the price of the units is charged at once.
-    DirectDebiting,
-    /// REFUND_ACCOUNT, 1: that the price of the units is given back.
-    RefundAccount,
-    /// CHECK_BALANCE, 2: whether the account covers the price of the units.
-    CheckBalance,
-    /// PRICE_ENQUIRY, 3: what the units cost.
-    PriceEnquiry,
-}
 
 /// Which request of a session it is, or an event (CC-Request-Type, RFC 8506, section 8.3).
 #[derive(Clone, Copy, Debug, PartialEq, Eq)]
@@ -30,7 +18,7 @@ pub enum RequestType {
     /// TERMINATION_REQUEST, 3: ends a session.
     Termination,
     /// EVENT_REQUEST, 4: outside sessions.
-    Event(RequestedAction),
+    Event(Action),
 }
 
 impl RequestType {
@@ -43,20 +31,20 @@ impl RequestType {
 }
 
 /// The action of a number from 0 to 3.
-fn action_from(number: u32) -> RequestedAction
+fn action_from(number: u32) -> Action
     ensures { result ≡ action_from number }
 {
     match number {
-        0 => RequestedAction::DirectDebiting,
-        1 => RequestedAction::RefundAccount,
-        2 => RequestedAction::CheckBalance,
-        _ => RequestedAction::PriceEnquiry,
+        0 => Action::DirectDebiting,
+        1 => Action::RefundAccount,
+        2 => Action::CheckBalance,
+        _ => Action::PriceEnquiry,
     }
 }
 
 /// The first Requested-Action.
 #[tactic(auto, unfolding(crate::specs::Types::action_of))]
-fn action_of<'a>(avps: &[Avp<'a>]) -> Result<RequestedAction, Refused<'a>>
+fn action_of<'a>(avps: &[Avp<'a>]) -> Result<Action, Refused<'a>>
     ensures { result ≡ action_of avps.now }
 {
     let number = number_within(required(avps, codes::REQUESTED_ACTION)?, 0, 3)?;

@@ -1,7 +1,7 @@
 -- What the octets of answers tell by themselves.
 use Rattle.std.proofs.Common.{◌≡◌, ℕ, ◌≤◌, false, List, ◌++◌, length, Result, Ok, Err, Vec, Global, refl, ap, ◌∙◌}
 use Rattle.std.specs.Prelude.{IfOk, OnOk}
-use Rattle.std.specs.List.{flat_map, AllByRecursion}
+use Rattle.std.specs.List.{AllByRecursion}
 use Rattle.std.specs.declared.alloc.AllocError.{AllocError}
 use Rattle.dcc_avp.specs.Spelling.{AvpView, HasSpelling}
 use Rattle.dcc_message.specs.HeaderView.{HeaderView}
@@ -12,7 +12,6 @@ use Rattle.dcc_answer.specs.Results.{are_busy, is_busy}
 use Rattle.dcc_tariff.specs.Terms.{TermsView}
 use Rattle.dcc_act.specs.declared.outcome.Outcome.{Outcome}
 use Rattle.dcc_act.specs.declared.outcome.Outcome.TheVariants.{Unknown, Answered, Added, Ceiling}
-use Rattle.dcc_act.specs.declared.outcome.ServiceAnswer.{ServiceAnswer}
 use Rattle.dcc_act.specs.declared.outcome.ResultCode.{ResultCode}
 use Rattle.dcc_act.specs.declared.outcome.ResultCode.TheVariants.{Success, CreditLimitReached, UnableToComply, RatingFailed}
 use Rattle.dcc_act.specs.declared.outcome.RequestType.{RequestType}

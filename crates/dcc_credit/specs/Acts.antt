@@ -1,18 +1,17 @@
--- The act that a request asks for (RFC 8506, section 6.3).
+-- The act that a request asks for (RFC 8506, section 6).
 use Rattle.std.specs.Prelude.{ℕ, ◌==◌, if◌then◌else◌, List, [], ◌∷◌, Option, Some, None, option_map}
 use Rattle.dcc_tariff.specs.Plans.{PlanView, unit_of, tariff_at}
 use Rattle.dcc_tariff.specs.declared.tariff.UnitKind.{UnitKind}
 use Rattle.dcc_tariff.specs.declared.tariff.UnitKind.TheVariants.{Octets, Time, Units}
 use Rattle.dcc_act.specs.declared.act.Act.{Act}
 use Rattle.dcc_act.specs.declared.act.Kind.TheVariants as kind
-use Rattle.dcc_act.specs.declared.one_time_event.Action.TheVariants as action
+use Rattle.dcc_act.specs.declared.one_time_event.Action.{Action}
 use Rattle.dcc_act.specs.Services.{ServiceView}
 use Rattle.dcc_ccr.specs.Amounts.{AmountsView}
 use Rattle.dcc_ccr.specs.Requests.{RequestView}
 use Rattle.dcc_ccr.specs.Services as requests
 use Rattle.dcc_ccr.specs.declared.request_type.RequestType.{RequestType}
 use Rattle.dcc_ccr.specs.declared.request_type.RequestType.TheVariants.{Initial, Update, Termination, Event}
-use Rattle.dcc_ccr.specs.declared.request_type.RequestedAction.TheVariants.{DirectDebiting, RefundAccount, CheckBalance, PriceEnquiry}
 
 -- the Rating-Group by which a service is charged: its own, or else the plan's default
 abbrev pub group_of : PlanView → Option ℕ → ℕ
@@ -50,29 +49,26 @@ service_of plan moment service =
       tariff = option_map (λ found. found.1) (tariff_at plan group moment);
     }
 
--- a direct debit, which has one service
-abbrev pub debit_of : PlanView → ℕ → RequestView → List requests.ServiceView → Option Act
-debit_of plan moment request [] = None
-debit_of plan moment request (service ∷ []) =
+-- a one-time event, which has one service
+abbrev pub event_of : PlanView → ℕ → RequestView → Action → List requests.ServiceView → Option Act
+event_of plan moment request action [] = None
+event_of plan moment request action (service ∷ []) =
     Some (record {
       moment = moment;
       kind = kind.Event (record {
         key = record { sid = request.session; number = request.number };
-        action = action.DirectDebiting;
+        action = action;
         service = service_of plan moment service;
       });
     })
-debit_of plan moment request (service ∷ other ∷ others) = None
+event_of plan moment request action (service ∷ other ∷ others) = None
 
--- by what a request asks for: direct debits alone are served today
+-- by what a request asks for: one-time events alone are served today
 abbrev pub act_for : PlanView → ℕ → RequestView → RequestType → Option Act
 act_for plan moment request Initial = None
 act_for plan moment request Update = None
 act_for plan moment request Termination = None
-act_for plan moment request (Event DirectDebiting) = debit_of plan moment request request.services
-act_for plan moment request (Event RefundAccount) = None
-act_for plan moment request (Event CheckBalance) = None
-act_for plan moment request (Event PriceEnquiry) = None
+act_for plan moment request (Event action) = event_of plan moment request action request.services
 
 -- the act that a request asks for at a moment, where it is served
 unfoldable pub act_of : PlanView → RequestView → ℕ → Option Act

@@ -4,14 +4,14 @@ ghost use Rattle.std.specs.Prelude.{◌≡◌, ◌≤◌, true, Some, None, Err,
 ghost use Rattle.std.specs.Option.{ForSome};
 ghost use Rattle.dcc_tariff.specs.declared.tariff.UnitKind.TheVariants.{Time as Seconds};
 ghost use Rattle.dcc_ccr.specs.Services.{FitsSeconds};
-ghost use Rattle.dcc_credit.specs.Acts.{amount_in, asked_in, service_of, debit_of, act_of};
+ghost use Rattle.dcc_credit.specs.Acts.{amount_in, asked_in, service_of, event_of, act_of};
 ghost use Rattle.dcc_credit.specs.declared.act.ActFault.TheVariants.{Later, Memory};
 
 use dcc_act::{
     Act, Action, Kind, MAX_IDS, MAX_SECONDS, Moment, OneTimeEvent, RequestKey, Service, ServiceIds,
     SessionId,
 };
-use dcc_ccr::{Amounts, Request, RequestType, RequestedAction};
+use dcc_ccr::{Amounts, Request, RequestType};
 use dcc_tariff::{MAX_UNITS, Plan, UnitKind};
 use std::alloc::{AllocError, Global};
 use thiserror::Error;
@@ -35,12 +35,12 @@ impl From<AllocError> for ActFault {
     }
 }
 
-/// The act that a request asks for at a moment: a direct debit (RFC 8506, section 6.3). Its service is charged by its
+/// The act that a request asks for at a moment: a one-time event (RFC 8506, section 6). Its service is charged by its
 /// Rating-Group, or by the plan's default where none was sent: that gives the unit, in which the request's amounts are counted, and
 /// the tariff, if one holds at the moment. Where no amount is asked for in that unit, 1 is. Of a group that the plan
 /// doesn't have there is no unit and no tariff, and the amounts are 0.
 ///
-/// Requests of sessions, refunds, balance checks and price enquiries are `Later`.
+/// Requests of sessions are `Later`.
 #[tactic(auto, unfolding(crate::specs::Acts::act_of))]
 pub fn to_act(
     alloc: Global,
@@ -52,25 +52,23 @@ pub fn to_act(
     ensures later { result ≡ Err Later → act_of plan.now request.now moment ≡ None }
 {
     match request.request_type() {
-        RequestType::Event(RequestedAction::DirectDebiting) => {
-            debit_of(alloc, plan, request, moment)
+        RequestType::Event(action) => event_of(alloc, plan, request, moment, action),
+        RequestType::Initial | RequestType::Update | RequestType::Termination => {
+            Err(ActFault::Later)
         }
-        RequestType::Initial
-        | RequestType::Update
-        | RequestType::Termination
-        | RequestType::Event(_) => Err(ActFault::Later),
     }
 }
 
-/// The act of a direct debit, which has one service.
-fn debit_of(
+/// The act of a one-time event, which has one service.
+fn event_of(
     alloc: Global,
     plan: &Plan,
     request: &Request<'_>,
     moment: Moment,
+    action: Action,
 ) -> Result<Act, ActFault>
-    ensures ok { IfOk result (λ act. debit_of plan.now moment request.now request.now.services ≡ Some act) }
-    ensures later { result ≡ Err Later → debit_of plan.now moment request.now request.now.services ≡ None }
+    ensures ok { IfOk result (λ act. event_of plan.now moment request.now action request.now.services ≡ Some act) }
+    ensures later { result ≡ Err Later → event_of plan.now moment request.now action request.now.services ≡ None }
 {
     let [service] = request.services() else {
         return Err(ActFault::Later);
@@ -81,7 +79,7 @@ fn debit_of(
         moment,
         kind: Kind::Event(OneTimeEvent {
             key,
-            action: Action::DirectDebiting,
+            action,
             service,
         }),
     })

@@ -14,7 +14,11 @@ use dcc_tariff::Terms;
 use std::alloc::AllocError;
 
 /// Appends the Cost-Information of a price in minor units, where there is one (RFC 8506, section 8.7).
-pub(crate) fn put_cost(out: &mut Vec<u8>, terms: &Terms, cost: Option<u64>) -> Result<(), AllocError>
+pub(crate) fn put_cost(
+    out: &mut Vec<u8>,
+    terms: &Terms,
+    cost: Option<u64>,
+) -> Result<(), AllocError>
     ensures ok { OnOk result (out.new.items ≡ out.old.items ++ flat_map padded (option_to_list (option_map (cost_avp terms.now) cost))) }
     ensures grows { OnOk result (Grows (vec_len out.old) (vec_len out.new) 80) }
 {

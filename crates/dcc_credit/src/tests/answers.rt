@@ -1,7 +1,7 @@
 use super::octets::{decoded, edited, header, identity, list_in};
 use crate::{lend_session, write_cca};
 use dcc_act::{
-    Answer, Form, Grant, Outcome, RequestKey, RequestType, ResultCode, ServiceAnswer,
+    Answer, Balance, Form, Grant, Outcome, RequestKey, RequestType, ResultCode, ServiceAnswer,
     ServiceAnswers, ServiceIds, SessionId,
 };
 use dcc_answer::{Proxies, session_id, write_busy};
@@ -61,7 +61,20 @@ fn outcome(
         key: key(alloc)?,
         result: code,
         services,
+        cost: None,
+        balance: None,
     }))
+}
+
+/// What an event comes to that tells a price or a balance.
+fn told(alloc: Global, cost: Option<u64>, balance: Option<Balance>) -> Result<Outcome, Fail> {
+    let Outcome::Answered(mut answer) = outcome(alloc, Form::Single, ResultCode::Success, None)?
+    else {
+        return Err("an answer".into());
+    };
+    answer.cost = cost;
+    answer.balance = balance;
+    Ok(Outcome::Answered(answer))
 }
 
 fn grant(unit: UnitKind, units: u64) -> Option<Grant> {
@@ -125,11 +138,37 @@ fn refused(rt: HostRuntime) -> Result<(), Fail> {
     let little = outcome(alloc, Form::Single, ResultCode::CreditLimitReached, None)?;
     let want = format!(in alloc; "0100008040{SESSION}0000010c4000000c00000fac{MIDDLE}")?;
     check(&rt, 0xc0, "", &little, want.as_str())?;
+    let full = outcome(alloc, Form::Single, ResultCode::UnableToComply, None)?;
+    let want = format!(in alloc; "0100008040{SESSION}0000010c4000000c00001394{MIDDLE}")?;
+    check(&rt, 0xc0, "", &full, want.as_str())?;
     let unrated = outcome(alloc, Form::Single, ResultCode::RatingFailed, None)?;
     let want = format!(in alloc;
         "010000a800{SESSION}0000010c4000000c000013a7{MIDDLE}{COPIED_PROXIES}"
     )?;
     check(&rt, 0x80, PROXIES, &unrated, want.as_str())
+}
+
+#[test]
+fn prices_and_balances(rt: HostRuntime) -> Result<(), Fail> {
+    let alloc = rt.alloc();
+    let price = "000001a740000038000001bd40000024000001bf400000100000000000000004\
+000001ad4000000cfffffffe000001a94000000c000003d2";
+    let want = format!(in alloc; "010000b840{SESSION}0000010c4000000c000007d1{MIDDLE}{price}")?;
+    check(&rt, 0xc0, "", &told(alloc, Some(4), None)?, want.as_str())?;
+    for (balance, text) in [
+        (Balance::EnoughCredit, "000001a64000000c00000000"),
+        (Balance::NoCredit, "000001a64000000c00000001"),
+    ] {
+        let want = format!(in alloc; "0100008c40{SESSION}0000010c4000000c000007d1{MIDDLE}{text}")?;
+        check(
+            &rt,
+            0xc0,
+            "",
+            &told(alloc, None, Some(balance))?,
+            want.as_str(),
+        )?;
+    }
+    Ok(())
 }
 
 #[test]

@@ -2,7 +2,7 @@
 
 use super::octets::{decoded, edited};
 use crate::{ActFault, to_act};
-use dcc_act::{Act, Kind, Moment, OneTimeEvent, Service};
+use dcc_act::{Act, Action, Kind, Moment, OneTimeEvent, Service};
 use dcc_avp::read_list;
 use dcc_ccr::{Request, read_ccr};
 use dcc_request::Stop;
@@ -250,8 +250,8 @@ fn tariffs_of_moments(rt: HostRuntime) -> Result<(), Fail> {
     Ok(())
 }
 
-/// Whether a list with this type and this action has an act.
-fn is_served(alloc: Global, plan: &Plan, kind: u8, action: u8) -> Result<bool, Fail> {
+/// The action of the event of a list with this type and this action, where it has an act.
+fn action_of(alloc: Global, plan: &Plan, kind: u8, action: u8) -> Result<Option<Action>, Fail> {
     let kind = format!(in alloc; "000001a04000000c0000000{kind}")?;
     let action = format!(in alloc; "000001b44000000c0000000{action}")?;
     let list = DEBIT.get(40..).unwrap_or_default();
@@ -263,22 +263,25 @@ fn is_served(alloc: Global, plan: &Plan, kind: u8, action: u8) -> Result<bool, F
         action.as_str(),
     )?;
     let octets = decoded(alloc, text.as_str())?;
-    Ok(act_of(alloc, plan, &octets, JUNE)?.is_some())
+    match act_of(alloc, plan, &octets, JUNE)? {
+        Some(act) => Ok(Some(event_of(Some(act))?.action)),
+        None => Ok(None),
+    }
 }
 
 #[test]
-fn direct_debits_alone_are_served(rt: HostRuntime) -> Result<(), Fail> {
+fn events_alone_are_served(rt: HostRuntime) -> Result<(), Fail> {
     let plan = Plan::read(rt.alloc(), PLAN)?;
     for (kind, action, wanted) in [
-        (4, 0, true),
-        (4, 1, false),
-        (4, 2, false),
-        (4, 3, false),
-        (1, 0, false),
-        (2, 0, false),
-        (3, 0, false),
+        (4, 0, Some(Action::DirectDebiting)),
+        (4, 1, Some(Action::RefundAccount)),
+        (4, 2, Some(Action::CheckBalance)),
+        (4, 3, Some(Action::PriceEnquiry)),
+        (1, 0, None),
+        (2, 0, None),
+        (3, 0, None),
     ] {
-        let served = is_served(rt.alloc(), &plan, kind, action)?;
+        let served = action_of(rt.alloc(), &plan, kind, action)?;
         assert_eq!(rt; served, wanted, "type {kind}, action {action}");
     }
     Ok(())
