@@ -1,14 +1,15 @@
 -- The credit-control request that a message holds, or its first fault (RFC 8506, section 3.1).
-use Rattle.std.specs.Prelude.{ℕ, Bool, ◌&&◌, nat_le, List, [], length, None, is_none, Result, Ok, ◌≤◌, sum_by}
+use Rattle.std.specs.Prelude.{ℕ, ◌≤◌, Bool, ◌&&◌, nat_le, List, [], length, None, is_none, Result, Ok}
+use Rattle.std.specs.List.{sum_by}
 use Rattle.dcc_avp.specs.Spelling.{AvpView, padded_len}
-use Rattle.dcc_message.specs.declared.length.TheConstants.{MAX_LENGTH}
-use Rattle.dcc_request.specs.declared.stop.Stop.{Stop}
-use Rattle.dcc_request.specs.declared.stop.Stop.TheVariants.{Refused, Memory}
 use Rattle.dcc_avp.specs.declared.codes.TheConstants.{SESSION_ID, AUTH_APPLICATION_ID, CC_REQUEST_TYPE, CC_REQUEST_NUMBER}
 use Rattle.dcc_message.specs.declared.applications.TheConstants.{CREDIT_CONTROL}
+use Rattle.dcc_message.specs.declared.length.TheConstants.{MAX_LENGTH}
 use Rattle.dcc_act.specs.Subs.{SubView}
 use Rattle.dcc_act.specs.declared.service.Form.TheVariants.{Single}
 use Rattle.dcc_request.specs.declared.command.Command.TheVariants.{CreditControl}
+use Rattle.dcc_request.specs.declared.stop.Stop.{Stop}
+use Rattle.dcc_request.specs.declared.stop.Stop.TheVariants.{Refused, Memory}
 use Rattle.dcc_request.specs.declared.table.TheConstants.{MAX_SERVICES}
 use Rattle.dcc_request.specs.Refusals.{Refusal, clear, ◌>>=◌}
 use Rattle.dcc_request.specs.Checks.{checked}
@@ -34,11 +35,6 @@ are_services services = nat_le (length services) MAX_SERVICES && is_none (repeat
 -- the Service-Identifiers of all
 abbrev pub count_ids : List ServiceView → ℕ
 count_ids services = sum_by (λ service. length service.ids) services
-
--- what a refusal shows fits a message
-abbrev pub IsStopWithin : Stop → Type 0
-IsStopWithin (Refused refusal) = sum_by padded_len refusal.failed ≤ MAX_LENGTH
-IsStopWithin Memory = Unit {0}
 
 -- all values of a message: those of the request, and the services at both places
 pub record ValuesView : Type 0 where
@@ -78,3 +74,8 @@ request_of avps = do
   values ← values_of avps
   agrees ← clear (contradiction values.type values.multi avps)
   Ok (request_from values)
+
+-- what a refusal shows fits a message
+abbrev pub IsStopWithin : Stop → Type 0
+IsStopWithin (Refused refusal) = sum_by padded_len refusal.failed ≤ MAX_LENGTH
+IsStopWithin Memory = Unit {0}

@@ -1,9 +1,9 @@
 -- The services of a request, at the level of the message or each in a Multiple-Services-Credit-Control (RFC 8506, section 8.16).
-use Rattle.std.specs.Prelude.{ℕ, Bool, true, false, ◌||◌, if◌then◌else◌, List, [], ◌∷◌, filter, Option, is_some, Result, Ok, ◌≤◌}
+use Rattle.std.specs.Prelude.{ℕ, ◌≤◌, Bool, true, false, ◌||◌, if◌then◌else◌, List, [], ◌∷◌, filter, Option, is_some, Result, Ok}
 use Rattle.std.specs.Option.{ForSome}
-use Rattle.dcc_act.specs.declared.limits.TheConstants.{MAX_SECONDS}
 use Rattle.dcc_avp.specs.Spelling.{AvpView, has_code}
 use Rattle.dcc_avp.specs.declared.codes.TheConstants.{RATING_GROUP, SERVICE_IDENTIFIER, MULTIPLE_SERVICES_CREDIT_CONTROL}
+use Rattle.dcc_act.specs.declared.limits.TheConstants.{MAX_SECONDS}
 use Rattle.dcc_act.specs.declared.service.Form.{Form}
 use Rattle.dcc_act.specs.declared.service.Form.TheVariants.{Multi}
 use Rattle.dcc_request.specs.Refusals.{Refusal, each, ◌>>=◌}

@@ -1,10 +1,17 @@
 //! Amounts of units, asked for and used.
 
-ghost use Rattle.std.specs.Prelude.{◌≡◌, ◌+◌, ◌<◌, ◌≤◌, ◌^◌, true, filter};
+ghost use Rattle.std.specs.Prelude.{◌≡◌, ◌+◌, ◌<◌, ◌≤◌, ◌^◌, true, filter, IfOk};
 ghost use Rattle.dcc_request.specs.Answers.{Gives};
 ghost use Rattle.dcc_tariff.specs.declared.limits.TheConstants.{MAX_UNITS as MOST};
+ghost use Rattle.dcc_act.specs.declared.limits.TheConstants.{MAX_SECONDS};
 ghost use Rattle.dcc_ccr.specs.Amounts.{AmountsView, units_in, or_0, octets_of, plus, nothing, is_within, limited, added, asked_in, or_nothing, counted, used_in};
+ghost use Rattle.dcc_ccr.specs.Services.{FitsSeconds};
 
+use crate::steps::{long_number_of, number_of};
+use dcc_avp::{Avp, codes};
+use dcc_request::{Cause, Refused, Stop, first, read_message_list};
+use dcc_tariff::MAX_UNITS;
+use std::alloc::Global;
 use std::marker::Model;
 
 /// An amount in each unit in which it may be counted: at most 10^12 in each. Which of them counts is said by the plan.
@@ -54,3 +61,110 @@ impl Amounts {
     }
 }
 
+/// What a Requested-Service-Unit or a Used-Service-Unit says.
+#[derive(Drop)]
+struct Units {
+    time: Option<u32>,
+    total: Option<u64>,
+    input: Option<u64>,
+    output: Option<u64>,
+    units: Option<u64>,
+}
+
+impl Model for Units {
+    ghost use Rattle.dcc_ccr.specs.Amounts.{UnitsView};
+
+    ghost Value = { UnitsView };
+
+    ghost view = { λ u. record { time = u.time; total = u.total; input = u.input; output = u.output; units = u.units } };
+}
+
+/// Nothing, to which amounts are counted.
+const NOTHING: Amounts = Amounts {
+    octets: 0,
+    time: 0,
+    units: 0,
+};
+
+/// The numbers of a list of units, in the order in which their sizes are looked at.
+#[tactic(auto, unfolding(crate::specs::Amounts::units_in))]
+fn units_in<'a>(avps: &[Avp<'a>]) -> Result<Units, Refused<'a>>
+    ensures { result ≡ units_in avps.now }
+{
+    Ok(Units {
+        time: number_of(avps, codes::CC_TIME)?,
+        total: long_number_of(avps, codes::CC_TOTAL_OCTETS)?,
+        input: long_number_of(avps, codes::CC_INPUT_OCTETS)?,
+        output: long_number_of(avps, codes::CC_OUTPUT_OCTETS)?,
+        units: long_number_of(avps, codes::CC_SERVICE_SPECIFIC_UNITS)?,
+    })
+}
+
+/// The octets in all, which two numbers of eight octets together may not fit.
+fn octets_of(said: &Units) -> u128
+    ensures value { result ≡ octets_of said.now }
+    ensures bound { result < 2 ^ 65 }
+{
+    match said.total {
+        Some(total) => total as u128,
+        None => said.input.unwrap_or(0) as u128 + said.output.unwrap_or(0) as u128,
+    }
+}
+
+/// What was counted before and what is said now, together; or `InvalidAvpValue` with the AVP that says it, where in any
+/// unit that is more than there may be.
+fn limited<'a>(sum: &Amounts, said: &Units, avp: &Avp<'a>) -> Result<Amounts, Refused<'a>>
+    ensures value { result ≡ limited avp.now (plus sum.now said.now) }
+    ensures seconds { IfOk result (λ amounts. amounts.time ≤ sum.now.time + MAX_SECONDS) }
+{
+    let octets = sum.octets() as u128 + octets_of(said);
+    let time = sum.time() as u128 + said.time.unwrap_or(0) as u128;
+    let units = sum.units() as u128 + said.units.unwrap_or(0) as u128;
+    let most = MAX_UNITS as u128;
+    if octets <= most && time <= most && units <= most {
+        Ok(Amounts {
+            octets: octets as u64,
+            time: time as u64,
+            units: units as u64,
+        })
+    } else {
+        Err(Refused::one(Cause::InvalidAvpValue, avp.copy()))
+    }
+}
+
+/// What a unit's AVP says, counted to what was counted before.
+#[tactic(auto, unfolding(crate::specs::Amounts::added))]
+fn added<'a>(alloc: Global, sum: &Amounts, avp: &Avp<'a>) -> Result<Amounts, Stop<'a>>
+    ensures value { Gives (λ amounts. amounts) result (added sum.now avp.now) }
+    ensures seconds { IfOk result (λ amounts. amounts.time ≤ sum.now.time + MAX_SECONDS) }
+{
+    let list = read_message_list(alloc, avp.value())?;
+    let said = units_in(&list)?;
+    Ok(limited(sum, &said, avp)?)
+}
+
+/// What is asked for in a list, where anything is.
+#[tactic(auto, unfolding(crate::specs::Amounts::asked_in))]
+pub(crate) fn asked_in<'a>(alloc: Global, avps: &[Avp<'a>]) -> Result<Option<Amounts>, Stop<'a>>
+    ensures value { Gives (λ asked. asked) result (asked_in avps.now) }
+    ensures seconds { IfOk result FitsSeconds }
+{
+    match first(avps, codes::REQUESTED_SERVICE_UNIT) {
+        Some(avp) => Ok(Some(added(alloc, &NOTHING, avp)?)),
+        None => Ok(None),
+    }
+}
+
+/// What was used in a list, where anything was: each Used-Service-Unit is counted to those before it.
+#[tactic(auto, unfolding(crate::specs::Amounts::used_in))]
+pub(crate) fn used_in<'a>(alloc: Global, avps: &[Avp<'a>]) -> Result<Option<Amounts>, Stop<'a>>
+    ensures { Gives (λ used. used) result (used_in avps.now) }
+{
+    let mut used = None;
+    for avp in avps {
+        if avp.has_code(codes::USED_SERVICE_UNIT) {
+            used = Some(added(alloc, &used.unwrap_or(NOTHING), avp)?);
+        }
+    }
+    Ok(used)
+}

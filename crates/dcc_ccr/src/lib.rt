@@ -10,16 +10,19 @@
 //!    Subscription-Id, Service-Identifier, Requested-Service-Unit, Used-Service-Unit, Multiple-Services-Credit-Control;
 //! 3. contradictions between AVPs.
 //!
-//! A `Request` keeps its limits: a Session-Id of 1 to 255 octets, amounts of at most 10^12, at most 16 services, and no two of
-//! one key, with at most 5,460 Service-Identifiers together.
+//! A `Request` keeps its limits: a Session-Id of 1 to 255 octets, amounts of at most 10^12, at most 2^32 - 1 seconds asked for
+//! in a service, at most 16 services, no two of one key, and at most 5,460 Service-Identifiers in all. These are few because
+//! the message is: `read_ccr` is called with a list that stands in at most 65,532 octets. What a refusal shows fits as many.
 //! What a request asks for is kept in each unit that it may be counted in: which of them counts is the plan's business.
 #![tactic(auto)]
 
 mod amounts;
+mod contradiction;
 mod read;
 mod request;
 mod request_type;
 mod service;
+mod steps;
 mod subscription;
 
 pub use amounts::Amounts;
@@ -27,3 +30,6 @@ pub use read::read_ccr;
 pub use request::{Request, subscriber};
 pub use request_type::{RequestType, RequestedAction};
 pub use service::Service;
+
+#[cfg(test)]
+mod tests;

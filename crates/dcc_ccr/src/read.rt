@@ -1,16 +1,87 @@
-//! Reading a request.
+//! Reading a request: the checks of its lists, then its values, then the contradictions between them.
 
-ghost use Rattle.std.specs.Prelude.{◌≡◌, ◌≤◌, ◌+◌, Some, IfOk, IfErr, sum_by};
-ghost use Rattle.dcc_avp.specs.Spelling.{padded_len};
+ghost use Rattle.std.specs.Prelude.{◌≡◌, ◌+◌, ◌≤◌, length, filter, Some, IfOk, IfErr};
+ghost use Rattle.std.specs.List.{sum_by};
+ghost use Rattle.dcc_avp.specs.Spelling.{has_code, padded_len};
+ghost use Rattle.dcc_avp.specs.declared.codes.TheConstants.{MULTIPLE_SERVICES_CREDIT_CONTROL};
 ghost use Rattle.dcc_message.specs.declared.length.TheConstants.{HEADER_LENGTH, MAX_LENGTH};
-ghost use Rattle.dcc_request.specs.Sessions.{session_of};
 ghost use Rattle.dcc_request.specs.Answers.{Gives};
-ghost use Rattle.dcc_ccr.specs.Requests.{request_of, IsStopWithin};
+ghost use Rattle.dcc_request.specs.Sessions.{session_of};
+ghost use Rattle.dcc_ccr.specs.Requests.{ValuesView, IsStopWithin, values_of, request_of};
 
+use crate::contradiction::contradiction;
 use crate::request::Request;
-use dcc_avp::Avp;
-use dcc_request::Stop;
+use crate::request_type::{RequestType, type_of};
+use crate::service::{Service, multi_of, service_in, services_of};
+use crate::subscription::subscriber_of;
+use dcc_act::{Form, Sub};
+use dcc_avp::{Avp, codes};
+use dcc_message::applications;
+use dcc_request::{
+    Command, Stop, check, clear, list_within, name_octets, number, number_within, required,
+    shown_within,
+};
 use std::alloc::Global;
+use std::marker::Model;
+
+/// All values of a message: those of the request, and the services at both places.
+#[derive(Drop)]
+struct Values<'a> {
+    sub: Sub,
+    session: &'a [u8],
+    number: u32,
+    kind: RequestType,
+    single: Service,
+    multi: Vec<Service>,
+}
+
+impl<'a> Model for Values<'a> {
+    ghost use Rattle.std.specs.Prelude.{◌≡◌, true};
+    ghost use Rattle.dcc_octets.specs.Names.{is_short};
+    ghost use Rattle.dcc_ccr.specs.Requests.{ValuesView};
+
+    ghost Value = { ValuesView };
+
+    ghost view = { λ v. record {
+      sub = v.sub;
+      session = v.session.now;
+      number = v.number;
+      type = v.kind;
+      single = v.single;
+      multi = v.multi.items;
+    } };
+
+    ghost invariant = { λ v. is_short v.session.now ≡ true };
+}
+
+/// The values of a message whose lists have all that they have to, in the order in which they are looked at.
+#[tactic(auto, using(crate::proofs::Limits::multi_length), unfolding(crate::specs::Requests::values_of))]
+fn values_of<'a>(alloc: Global, avps: &[Avp<'a>]) -> Result<Values<'a>, Stop<'a>>
+    ensures value { Gives (λ values. values) result (values_of avps.now) }
+    ensures count { IfOk result (λ values. length values.multi ≡ length (filter (has_code MULTIPLE_SERVICES_CREDIT_CONTROL) avps.now)) }
+{
+    let session = name_octets(required(avps, codes::SESSION_ID)?)?;
+    let application = required(avps, codes::AUTH_APPLICATION_ID)?;
+    number_within(
+        application,
+        applications::CREDIT_CONTROL,
+        applications::CREDIT_CONTROL,
+    )?;
+    let kind = number_within(required(avps, codes::CC_REQUEST_TYPE)?, 1, 4)?;
+    let number = number(required(avps, codes::CC_REQUEST_NUMBER)?)?;
+    let kind = type_of(avps, kind)?;
+    let sub = subscriber_of(alloc, avps)?;
+    let single = service_in(alloc, Form::Single, None, avps)?;
+    let multi = multi_of(alloc, avps)?;
+    Ok(Values {
+        sub,
+        session,
+        number,
+        kind,
+        single,
+        multi,
+    })
+}
 
 /// Reads the request that a message holds, whose header is that of a credit-control request (`command_of` says so) and
 /// whose list is this; or its first fault, each check over the whole message before the next (RFC 8506, section 3.1):
@@ -26,7 +97,10 @@ use std::alloc::Global;
 ///   key, which is the Rating-Group and the first Service-Identifier.
 ///
 /// AVPs inside groups are shown bare. Where there is no memory, nothing is said of the request.
-pub fn read_ccr<'a>(_alloc: Global, avps: &[Avp<'a>]) -> Result<Request<'a>, Stop<'a>>
+///
+/// The list stands behind a header in at most 65,532 octets, the padding of its last AVP counted too.
+#[tactic(auto, unfolding(crate::specs::Requests::request_of))]
+pub fn read_ccr<'a>(alloc: Global, avps: &[Avp<'a>]) -> Result<Request<'a>, Stop<'a>>
     requires small { HEADER_LENGTH + sum_by padded_len avps.now ≤ MAX_LENGTH }
     ensures value { Gives (λ request. request) result (request_of avps.now) }
     // The session that a busy answer would take over is the request's.
@@ -34,5 +108,17 @@ pub fn read_ccr<'a>(_alloc: Global, avps: &[Avp<'a>]) -> Result<Request<'a>, Sto
     // What a refusal shows fits a message.
     ensures shown { IfErr result IsStopWithin }
 {
-    Err(Stop::Memory)
+    shown_within();
+    list_within();
+    check(alloc, Command::CreditControl, avps)?;
+    let values = values_of(alloc, avps)?;
+    clear(contradiction(values.kind, &values.multi, avps))?;
+    let services = services_of(values.kind, values.single, values.multi)?;
+    Ok(Request {
+        sub: values.sub,
+        session: values.session,
+        number: values.number,
+        kind: values.kind,
+        services,
+    })
 }

@@ -1,8 +1,8 @@
 //! A credit-control request.
 
 ghost use Rattle.std.specs.Prelude.{◌≡◌, ◌≤◌, true};
-ghost use Rattle.dcc_act.specs.declared.limits.TheConstants.{MAX_IDS};
 ghost use Rattle.dcc_octets.specs.Names.{is_short};
+ghost use Rattle.dcc_act.specs.declared.limits.TheConstants.{MAX_IDS};
 ghost use Rattle.dcc_ccr.specs.Requests.{RequestView, are_services, count_ids};
 
 use crate::request_type::RequestType;
@@ -22,9 +22,8 @@ pub struct Request<'a> {
 }
 
 impl<'a> Model for Request<'a> {
-    ghost use Rattle.std.specs.Prelude.{◌≡◌, true};
+    ghost use Rattle.std.specs.Prelude.{◌≡◌, ◌≤◌, true};
     ghost use Rattle.dcc_octets.specs.Names.{is_short};
-    ghost use Rattle.std.specs.Prelude.{◌≤◌};
     ghost use Rattle.dcc_act.specs.declared.limits.TheConstants.{MAX_IDS};
     ghost use Rattle.dcc_ccr.specs.Requests.{RequestView, are_services, count_ids};
 
@@ -38,8 +37,7 @@ impl<'a> Model for Request<'a> {
       services = r.services.items;
     } };
 
-    ghost invariant = { λ r. (is_short r.session.now ≡ true) × (are_services r.services.items ≡ true)
-      × (count_ids r.services.items ≤ MAX_IDS) };
+    ghost invariant = { λ r. (is_short r.session.now ≡ true) × (are_services r.services.items ≡ true) × (count_ids r.services.items ≤ MAX_IDS) };
 }
 
 /// Whose account the request is for: the type and the data of its first Subscription-Id of type E164, or else of its first
@@ -74,7 +72,7 @@ impl<'a> Request<'a> {
     }
 
     /// The services, in their order: at most 16, each with a key of its own (`same_key`), and with at most 5,460
-    /// identifiers together.
+    /// Service-Identifiers together.
     pub fn services(&self) -> &[Service]
         ensures value { result.now ≡ self.now.services }
         ensures limits { are_services self.now.services ≡ true }

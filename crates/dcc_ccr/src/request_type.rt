@@ -42,3 +42,36 @@ impl RequestType {
     }
 }
 
+/// The action of a number from 0 to 3.
+fn action_from(number: u32) -> RequestedAction
+    ensures { result ≡ action_from number }
+{
+    match number {
+        0 => RequestedAction::DirectDebiting,
+        1 => RequestedAction::RefundAccount,
+        2 => RequestedAction::CheckBalance,
+        _ => RequestedAction::PriceEnquiry,
+    }
+}
+
+/// The first Requested-Action.
+#[tactic(auto, unfolding(crate::specs::Types::action_of))]
+fn action_of<'a>(avps: &[Avp<'a>]) -> Result<RequestedAction, Refused<'a>>
+    ensures { result ≡ action_of avps.now }
+{
+    let number = number_within(required(avps, codes::REQUESTED_ACTION)?, 0, 3)?;
+    Ok(action_from(number))
+}
+
+/// The type of a number from 1 to 4. The action is looked at in an event alone.
+#[tactic(auto, unfolding(crate::specs::Types::type_of))]
+pub(crate) fn type_of<'a>(avps: &[Avp<'a>], number: u32) -> Result<RequestType, Refused<'a>>
+    ensures { result ≡ type_of avps.now number }
+{
+    match number {
+        EVENT_TYPE => Ok(RequestType::Event(action_of(avps)?)),
+        1 => Ok(RequestType::Initial),
+        2 => Ok(RequestType::Update),
+        _ => Ok(RequestType::Termination),
+    }
+}

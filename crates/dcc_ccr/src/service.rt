@@ -1,10 +1,20 @@
 //! The services of a request.
 
-ghost use Rattle.std.specs.Prelude.{◌≡◌};
-ghost use Rattle.dcc_ccr.specs.Services.{ServiceView, FitsSeconds};
+ghost use Rattle.std.specs.Prelude.{◌≡◌, filter, Ok};
+ghost use Rattle.dcc_request.specs.Answers.{Gives};
+ghost use Rattle.dcc_request.specs.Refusals.{each};
+ghost use Rattle.dcc_avp.specs.Spelling.{has_code};
+ghost use Rattle.dcc_avp.specs.declared.codes.TheConstants.{SERVICE_IDENTIFIER};
+ghost use Rattle.dcc_request.specs.Values.{number as number_in};
+ghost use Rattle.dcc_ccr.specs.Services.{ServiceView, FitsSeconds, service_in, service_of, multi_of, is_there, services_of};
 
-use crate::amounts::Amounts;
+use crate::amounts::{Amounts, asked_in, used_in};
+use crate::request_type::RequestType;
+use crate::steps::number_of;
 use dcc_act::Form;
+use dcc_avp::{Avp, codes};
+use dcc_request::{Stop, number, read_message_list};
+use std::alloc::Global;
 use std::marker::Model;
 
 /// One service of a request: at the level of the message, or in a Multiple-Services-Credit-Control of its own (RFC 8506,
@@ -57,7 +67,7 @@ impl Service {
         self.ids
     }
 
-    /// What is asked for, where a Requested-Service-Unit is there (RFC 8506, section 8.18): in time at most 2^32 - 1 seconds.
+    /// What is asked for, where a Requested-Service-Unit is there (RFC 8506, section 8.18); at most 2^32 - 1 seconds.
     pub fn asked(&self) -> Option<Amounts>
         ensures value { result ≡ self.now.asked }
         ensures limit { FitsSeconds self.now.asked }
@@ -73,3 +83,80 @@ impl Service {
     }
 }
 
+/// The Service-Identifiers of a list, as they stand; or `InvalidAvpLength` with the first that isn't of four octets.
+fn ids_in<'a>(alloc: Global, avps: &[Avp<'a>]) -> Result<Vec<u32>, Stop<'a>>
+    ensures { Gives (λ ids. ids.items) result (each number_in (filter (has_code SERVICE_IDENTIFIER) avps.now)) }
+{
+    let mut ids = Vec::new(alloc);
+    for avp in avps {
+        if avp.has_code(codes::SERVICE_IDENTIFIER) {
+            ids.push(number(avp)?)?;
+        }
+    }
+    Ok(ids)
+}
+
+/// The service of a group in a list: the identifiers, what is asked for, and what was used.
+#[tactic(auto, unfolding(crate::specs::Services::service_in))]
+pub(crate) fn service_in<'a>(
+    alloc: Global,
+    form: Form,
+    group: Option<u32>,
+    avps: &[Avp<'a>],
+) -> Result<Service, Stop<'a>>
+    ensures { Gives (λ service. service) result (service_in form group avps.now) }
+{
+    Ok(Service {
+        form,
+        group,
+        ids: ids_in(alloc, avps)?,
+        asked: asked_in(alloc, avps)?,
+        used: used_in(alloc, avps)?,
+    })
+}
+
+/// The service of a Multiple-Services-Credit-Control.
+#[tactic(auto, unfolding(crate::specs::Services::service_of))]
+fn service_of<'a>(alloc: Global, avp: &Avp<'a>) -> Result<Service, Stop<'a>>
+    ensures { Gives (λ service. service) result (service_of avp.now) }
+{
+    let avps = read_message_list(alloc, avp.value())?;
+    let group = number_of(&avps, codes::RATING_GROUP)?;
+    service_in(alloc, Form::Multi, group, &avps)
+}
+
+/// The services of all Multiple-Services-Credit-Control, as they stand.
+#[tactic(auto, unfolding(crate::specs::Services::multi_of))]
+pub(crate) fn multi_of<'a>(alloc: Global, avps: &[Avp<'a>]) -> Result<Vec<Service>, Stop<'a>>
+    ensures { Gives (λ services. services.items) result (multi_of avps.now) }
+{
+    let mut services = Vec::new(alloc);
+    for avp in avps {
+        if avp.has_code(codes::MULTIPLE_SERVICES_CREDIT_CONTROL) {
+            services.push(service_of(alloc, avp)?)?;
+        }
+    }
+    Ok(services)
+}
+
+/// Whether anything of a service is there.
+fn is_there(service: &Service) -> bool
+    ensures { result ≡ is_there service.now }
+{
+    !service.ids.is_empty() || service.asked.is_some() || service.used.is_some()
+}
+
+/// The services of a request: those in Multiple-Services-Credit-Control, or else that of the message, if it has one.
+pub(crate) fn services_of<'a>(
+    kind: RequestType,
+    single: Service,
+    multi: Vec<Service>,
+) -> Result<Vec<Service>, Stop<'a>>
+    ensures { Gives (λ services. services.items) result (Ok (services_of kind single multi.items)) }
+{
+    let mut services = multi;
+    if services.is_empty() && (kind.is_event() || is_there(&single)) {
+        services.push(single)?;
+    }
+    Ok(services)
+}

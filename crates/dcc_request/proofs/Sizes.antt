@@ -4,7 +4,6 @@ use Rattle.std.specs.Prelude.{find, filter, slice_get, option_map, ◌==◌, bit
 use Rattle.std.specs.Option.{option_and_then}
 use Rattle.std.specs.List.{AllByRecursion, sum_by}
 use Rattle.std.proofs.lemmas.Bool.{cases_Bool}
-use Rattle.std.proofs.lemmas.List.Sums.{sum_by-cons}
 use Rattle.dcc_avp.specs.Spelling.{AvpView, has_code, has_vendor, header_len, padded_len}
 use Rattle.dcc_avp.specs.Reading.{FaultView, Short, LengthBelowHeader, LengthPastEnd, avps_of}
 use Rattle.dcc_avp.specs.Dictionary.{format_of}
@@ -25,7 +24,7 @@ use Rattle.dcc_request.specs.Commands.{table_for}
 use Rattle.dcc_request.specs.Walk.{ListView, GroupView, in_group, group_list, list_of, is_units, is_walked, inside_of, group_of, groups_of}
 use Rattle.dcc_request.specs.Checks.{is_unknown, unknown_in, is_over, beyond, row_beyond, too_many_in, is_lacking, missing_flags, missing_avp, missing_in, fault_in, fault_of, fault_in_group, fault_anywhere, first_fault, checked}
 use Rattle.dcc_request.specs.Sizes.{AreWithin, IsListWithin, IsGroupWithin}
-use Rattle.dcc_request.proofs.Lists.{list_within}
+use Rattle.dcc_request.proofs.Lists.{list_within, each_within}
 
 -- a refusal shows so many octets at most
 abbrev pub Shows : ℕ → Refusal → Type 0
@@ -265,19 +264,6 @@ checked_bounded most command avps enough h =
     (λ complete fine. inside))
 
 -- ---- as the law says it
-
-first_of : (n m most : ℕ) → n + m ≤ most → n ≤ most
-first_of n m most h = omega arith
-
-others_of : (n m most : ℕ) → n + m ≤ most → m ≤ most
-others_of n m most h = omega arith
-
--- each is less than all
-each_within : (most : ℕ) (avps : List AvpView) → sum_by padded_len avps ≤ most → AreWithin most avps
-each_within most [] h = tt
-each_within most (avp ∷ avps) h =
-    let all = rw (sum_by-cons padded_len avp avps) at h in
-    (first_of (padded_len avp) (sum_by padded_len avps) most all, each_within most avps (others_of (padded_len avp) (sum_by padded_len avps) most all))
 
 if_err : {X : Type 0} (most : ℕ) (P : X → Type 0) (r : Result X Refusal) → Bounded most P r → IfErr r (Shows most)
 if_err most P (Ok x) h = tt

@@ -1,12 +1,13 @@
-//! The law of what checking finds. It is the contract of a function that does nothing.
+//! The laws of how many octets reading and checking find. Each is the contract of a function that does nothing.
 
-ghost use Rattle.std.specs.Prelude.{ℕ, ◌≤◌, List, IfOk, IfErr};
+ghost use Rattle.std.specs.Prelude.{ℕ, ◌≤◌, List, length, IfOk, IfErr};
+ghost use Rattle.std.specs.Int.{next_multiple_of};
 ghost use Rattle.std.specs.List.{sum_by, AllByRecursion};
 ghost use Rattle.dcc_avp.specs.Spelling.{AvpView, padded_len};
 ghost use Rattle.dcc_avp.specs.Reading.{FaultView};
 ghost use Rattle.dcc_message.specs.declared.length.TheConstants.{MAX_LENGTH};
 ghost use Rattle.dcc_request.specs.declared.command.Command.{Command};
-ghost use Rattle.dcc_request.specs.Layout.{unread};
+ghost use Rattle.dcc_request.specs.Layout.{message_list, unread};
 ghost use Rattle.dcc_request.specs.Checks.{checked, missing_avp};
 ghost use Rattle.dcc_request.specs.Sizes.{AreWithin, IsGroupWithin};
 
@@ -21,4 +22,9 @@ pub fn shown_within()
     ensures list { (avps : List AvpView) → sum_by padded_len avps ≤ MAX_LENGTH → AreWithin MAX_LENGTH avps }
     ensures unread { (fault : FaultView) → sum_by padded_len (unread fault).failed ≤ 24 }
     ensures missing { (code : ℕ) → padded_len (missing_avp code) ≤ 24 }
+{}
+
+/// The AVPs that were read of octets have together, with their padding, at most these octets in whole words of four.
+pub fn list_within()
+    ensures { (octets : List ℕ) → IfOk (message_list octets) (λ avps. sum_by padded_len avps ≤ next_multiple_of (length octets) 4) }
 {}

@@ -1,0 +1,5 @@
+pub mod Walks
+pub mod Limits
+pub mod Bounds
+pub mod Sizes
+pub mod Shown
