@@ -1,4 +1,5 @@
 mod corners;
+mod exchanges;
 mod limits;
 mod octets;
 mod refusals;
