@@ -1,12 +1,13 @@
 //! A message: what its first octets say of it, its list, and what an answer takes over.
 
-ghost use Rattle.std.specs.Prelude.{◌≡◌, ◌≤◌, ◌&&◌, [], true, false, length, Ok, IfOk, OnErr, MatchBool};
+ghost use Rattle.std.specs.Prelude.{◌≡◌, ◌≤◌, ◌&&◌, [], true, false, length, Ok, Err, Some, IfOk, OnOk, OnErr, MatchBool};
 ghost use Rattle.dcc_message.specs.declared.length.TheConstants.{HEADER_LENGTH};
 ghost use Rattle.dcc_answer.specs.Results.{is_busy};
 ghost use Rattle.dcc_base.specs.Peers.{hears, replied};
 ghost use Rattle.dcc_engine.specs.Asks.{IsBusyOrNothing, is_refusal};
 ghost use Rattle.dcc_engine.specs.Messages.{message_view, session, received, is_charging};
-ghost use Rattle.dcc_engine.specs.inner.Headings.{received_as, IsHeaded, IsWhole};
+ghost use Rattle.dcc_request.specs.Layout.{layout_fault};
+ghost use Rattle.dcc_engine.specs.inner.Headings.{received_as, IsHeaded, IsWhole, fault_of};
 
 use dcc_answer::{Proxies, Session, session_id, write_busy};
 use dcc_avp::{Avp, AvpFault, read_list};
@@ -82,17 +83,32 @@ impl<'a> Message<'a> {
         requires { IsWhole octets.now }
         ensures { IfOk result (λ message. message ≡ message_view header octets.now) }
     {
-        let list = read_list(alloc, &octets[HEADER_LENGTH..]);
-        let proxies = match &list {
-            Ok(avps) => Proxies::of(alloc, avps)?,
-            Err(AvpFault::Memory) => return Err(AllocError),
-            Err(_) => Proxies::none(alloc),
-        };
-        Ok(Message {
-            header,
-            list,
-            proxies,
-        })
+        match read_list(alloc, &octets[HEADER_LENGTH..]) {
+            Ok(avps) => {
+                let proxies = Proxies::of(alloc, &avps)?;
+                Ok(Message {
+                    header,
+                    list: Ok(avps),
+                    proxies,
+                })
+            }
+            Err(fault) => Message::unread(alloc, header, fault),
+        }
+    }
+
+    /// A message whose list can't be read, or want of memory where that was the fault. The size of a number is none of a list.
+    fn unread(alloc: Global, header: Header, fault: AvpFault) -> Result<Message<'a>, AllocError>
+        ensures message { IfOk result (λ message. message ≡ record { header = header; list = Err (fault_of fault) }) }
+        ensures layout { OnOk result (layout_fault fault ≡ Some (fault_of fault)) }
+    {
+        match fault {
+            AvpFault::Memory | AvpFault::WrongSize => Err(AllocError),
+            _ => Ok(Message {
+                header,
+                list: Err(fault),
+                proxies: Proxies::none(alloc),
+            }),
+        }
     }
 
     /// The Session-Id that a busy answer takes over.

@@ -7,7 +7,7 @@ use Rattle.dcc_avp.specs.Reading.FaultView.{Short, LengthBelowHeader, LengthPast
 use Rattle.dcc_avp.specs.declared.fault.AvpFault.{AvpFault}
 use Rattle.dcc_avp.specs.declared.fault.AvpFault.TheVariants as faults
 use Rattle.dcc_message.specs.declared.length.TheConstants.{HEADER_LENGTH, MAX_LENGTH}
-use Rattle.dcc_request.specs.Layout as layout
+use Rattle.dcc_request.specs.Layout.{layout_fault}
 use Rattle.dcc_base.specs.declared.peer.Peer.{Peer}
 use Rattle.dcc_engine.specs.Messages.{Received, message_view}
 use Rattle.dcc_engine.specs.Messages.Received.{Ignored, Broken, Charging, Base}
@@ -34,20 +34,20 @@ IsHeaded headings.Broken octets = Unit {0}
 IsHeaded (headings.Charging header) octets = IsWhole octets
 IsHeaded (headings.Base header) octets = IsWhole octets
 
--- the fault of a list's layout; the other two say nothing of a list
-abbrev pub layout_fault : AvpFault → FaultView
-layout_fault (faults.Short code flags) = Short code flags
-layout_fault (faults.LengthBelowHeader code flags) = LengthBelowHeader code flags
-layout_fault (faults.LengthPastEnd code flags) = LengthPastEnd code flags
-layout_fault faults.WrongSize = Short 0 0
-layout_fault faults.Memory = Short 0 0
+-- what a fault says of a list's layout; the last two say nothing, and no message has them
+abbrev pub fault_of : AvpFault → FaultView
+fault_of (faults.Short code flags) = Short code flags
+fault_of (faults.LengthBelowHeader code flags) = LengthBelowHeader code flags
+fault_of (faults.LengthPastEnd code flags) = LengthPastEnd code flags
+fault_of faults.WrongSize = Short 0 0
+fault_of faults.Memory = Short 0 0
 
 -- the list that was read, seen by view, or its fault
 abbrev pub list_with : {X : Type 0} → (X → List AvpView) → Result X AvpFault → Result (List AvpView) FaultView
 list_with view (Ok avps) = Ok (view avps)
-list_with view (Err fault) = Err (layout_fault fault)
+list_with view (Err fault) = Err (fault_of fault)
 
 -- with its padding, what was read fits a message behind a header; and the fault is one of layout
 abbrev pub IsListed : {X : Type 0} → (X → List AvpView) → Result X AvpFault → Type 0
 IsListed view (Ok avps) = HEADER_LENGTH + sum_by padded_len (view avps) ≤ MAX_LENGTH
-IsListed view (Err fault) = layout.layout_fault fault ≡ Some (layout_fault fault)
+IsListed view (Err fault) = layout_fault fault ≡ Some (fault_of fault)
