@@ -1,6 +1,6 @@
 //! A peer, and its replies.
 
-ghost use Rattle.std.specs.Prelude.{◌≡◌, ◌≤◌, ◌⊎◌, ℕ, List, [], false, length, Option, Ok, Err, option_map, IfOk, OnErr};
+ghost use Rattle.std.specs.Prelude.{◌≡◌, ◌≤◌, ◌&&◌, ℕ, List, [], false, length, Option, Ok, Err, is_some, option_map, IfOk, OnErr, MatchBool};
 ghost use Rattle.std.specs.List.{sum_by};
 ghost use Rattle.dcc_avp.specs.Spelling.{padded_len};
 ghost use Rattle.dcc_request.specs.Layout.{layout_fault};
@@ -60,7 +60,7 @@ impl Peer {
     /// relays (DIAMETER_NO_COMMON_APPLICATION, 5010), and that no Inband-Security-Id is there or one is
     /// NO_INBAND_SECURITY (DIAMETER_NO_COMMON_SECURITY, 5017). A protocol error, 3xxx, is told in the short layout of
     /// section 7.2, with E set and the request's Session-Id if that is good.
-    /// A reply is empty or a whole message, and none says that the server is busy.
+    /// A reply to a message that is heard is a whole message, and to another it's empty; none says that the server is busy.
     ///
     /// The only error is want of memory, and then the peer is as it was.
     pub fn take(
@@ -74,7 +74,8 @@ impl Peer {
         ensures ok { IfOk result (λ reply. (reply, self.new) ≡ replied identity.now self.old header.now (Ok avps.now)) }
         ensures err { OnErr result (self.new ≡ self.old) }
         ensures busy { IfOk result (λ reply. is_busy reply.octets ≡ false) }
-        ensures some { IfOk result (λ reply. (reply.octets ≡ []) ⊎ (HEADER_LENGTH ≤ length reply.octets)) }
+        ensures some { IfOk result (λ reply. MatchBool (answers_to self.old header.now)
+            (HEADER_LENGTH ≤ length reply.octets) (reply.octets ≡ [])) }
     {
         if !self.hears(header) {
             return Ok(self.pass_over(alloc));
@@ -108,7 +109,8 @@ impl Peer {
             ≡ replied_to_fault identity.now self.old header.now (layout_fault fault.now)) }
         ensures err { OnErr result (self.new ≡ self.old) }
         ensures busy { IfOk result (λ reply. is_busy reply.octets ≡ false) }
-        ensures some { IfOk result (λ reply. (reply.octets ≡ []) ⊎ (HEADER_LENGTH ≤ length reply.octets)) }
+        ensures some { IfOk result (λ reply. MatchBool (answers_to self.old header.now && is_some (layout_fault fault.now))
+            (HEADER_LENGTH ≤ length reply.octets) (reply.octets ≡ [])) }
     {
         let Some(broken) = unread(fault) else {
             return Ok(Reply::silent(alloc));
@@ -124,8 +126,9 @@ impl Peer {
         }
     }
 
-    /// Whether the message is answered.
-    fn hears(&self, header: &Header) -> bool
+    /// Whether a message under this header is answered, as `take` says, if memory suffices: by a peer that waits a request to
+    /// exchange capabilities, by one that is open each request but those of Credit-Control without E, by a closed one none.
+    pub fn hears(&self, header: &Header) -> bool
         ensures { result ≡ answers_to self.now header.now }
     {
         match self {
@@ -135,8 +138,9 @@ impl Peer {
         }
     }
 
-    /// What becomes of the peer by a message that isn't.
-    fn pass_over(&mut self, alloc: Global) -> Reply
+    /// Takes a message that isn't heard, whatever its list: it closes a peer that waits, and an open or closed one ignores it. It
+    /// takes no memory.
+    pub fn pass_over(&mut self, alloc: Global) -> Reply
         ensures turn { (result, self.new) ≡ unheard self.old }
         ensures none { result.octets ≡ [] }
     {

@@ -18,7 +18,8 @@ use Rattle.dcc_engine.proofs.OwnAnswers.{acts_of, own_more, own_is, map-reverse,
 
 peers_joined : (a b : EngineView) (xs past : List Turn) → Follows a b xs → (id : ℕ) → (before_of b past).peers id ≡ (before_of a (past ++ reverse xs)).peers id
 peers_joined a b xs [] follows id = follows.peers_are id
-peers_joined a b xs (turn ∷ past) follows id = ap (moved_by id turn) (peers_joined a b xs past follows id)
+peers_joined a b xs (turn ∷ past) follows id =
+    ap (λ (s : Setting). moved_by s id turn ((before_of b past).peers id)) follows.setting ∙ ap (moved_by a.setting id turn) (peers_joined a b xs past follows id)
 
 asked_joined : (a b : EngineView) (xs past : List Turn) (turn : Turn) (sub : Sub) → Follows a b xs → asked b past turn.event sub ≡ asked a (past ++ reverse xs) turn.event sub
 asked_joined a b xs past turn sub follows =

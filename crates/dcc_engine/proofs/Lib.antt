@@ -1,4 +1,5 @@
 pub mod Tables
+pub mod Places
 pub mod Moves
 pub mod Pasts
 pub mod Runs
@@ -6,5 +7,7 @@ pub mod OwnAnswers
 pub mod InTurn
 pub mod Refusals
 pub mod Lists
+pub mod Keys
 pub mod Requests
 pub mod TopUps
+pub mod Replies

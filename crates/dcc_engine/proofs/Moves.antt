@@ -18,7 +18,7 @@ use Rattle.dcc_engine.specs.inner.Turns.{IsNext}
 use Rattle.dcc_engine.specs.declared.event.Event.{Event}
 use Rattle.dcc_engine.specs.declared.event.Event.TheVariants as events
 use Rattle.dcc_engine.specs.declared.event.Out.{Out}
-use Rattle.dcc_engine.specs.declared.peers.Peer.{Peer}
+use Rattle.dcc_base.specs.declared.peer.Peer.{Peer}
 
 -- leaving out what isn't made changes nothing of one more act
 pub record AreStable : Type 0 where
@@ -56,12 +56,14 @@ answered_moved stable setting ask sub out xs ys e answered =
 -- an ask is by the peer that is named
 pub ask_moved : (setting : Setting) (a b : Before) (sub : Sub) → ((id : ℕ) → a.peers id ≡ b.peers id) → (event : Event) → ask_for setting a event sub ≡ ask_for setting b event sub
 ask_moved setting a b sub same (events.Connect peer host) = refl
-ask_moved setting a b sub same (events.Message peer moment octets) = ap (λ (p : Option Peer). received_ask setting.plan moment (received_on p octets) sub) (same peer)
+ask_moved setting a b sub same (events.Disconnect peer) = refl
+ask_moved setting a b sub same (events.Message peer moment octets) = ap (λ (p : Option Peer). received_ask setting moment (received_on p octets) sub) (same peer)
 ask_moved setting a b sub same (events.TopUp moment owner ticket amount) = refl
 
 out_moved : (setting : Setting) (a b : Before) (out : Out) → ((id : ℕ) → a.peers id ≡ b.peers id) → (event : Event) → IsOut setting a event out → IsOut setting b event out
 out_moved setting a b out same (events.Connect peer host) is = is
-out_moved setting a b out same (events.Message peer moment octets) is = subst (λ (p : Option Peer). IsMessageOut setting (received_on p octets) peer out) (same peer) is
+out_moved setting a b out same (events.Disconnect peer) is = is
+out_moved setting a b out same (events.Message peer moment octets) is = subst (λ (p : Option Peer). IsMessageOut setting moment (received_on p octets) peer out) (same peer) is
 out_moved setting a b out same (events.TopUp moment owner ticket amount) is = is
 
 -- the same turn, from what comes to the same

@@ -1,5 +1,5 @@
 -- Which octets are a refusal.
-use Rattle.std.proofs.Common.{◌≡◌, ℕ, ◌≤◌, ◌==◌, true, false, List, [], length, refl, arith}
+use Rattle.std.proofs.Common.{◌≡◌, ℕ, ◌≤◌, ◌==◌, true, false, List, [], length, refl, ◌∙◌, arith}
 use Rattle.std.proofs.lemmas.Bool.{eqb-true, false_from_ne_true}
 use Rattle.dcc_answer.specs.Results.{is_busy}
 use Rattle.dcc_message.specs.declared.length.TheConstants.{HEADER_LENGTH}
@@ -15,3 +15,7 @@ refusal_of octets le = rw (some_length (length octets) le) refl
 pub nothing_is_one : is_refusal [] ≡ true
 unfolding is_refusal
 nothing_is_one = refl
+
+-- an answer that isn't busy is none
+pub answer_counts : (octets : List ℕ) → HEADER_LENGTH ≤ length octets → is_busy octets ≡ false → is_refusal octets ≡ false
+answer_counts octets le other = refusal_of octets le ∙ other

@@ -1,15 +1,14 @@
--- One request, from what the shard answered and left.
+-- One credit-control request, from what the shard answered and left.
 use Rattle.std.proofs.Common.{◌≡◌, ◌≢◌, ℕ, ◌≤◌, ◌==◌, Bool, true, false, if◌then◌else◌, List, [], ◌∷◌, ◌++◌, length, Option, Some, None, ◌⊎◌, refl, sym, ap, subst, ◌∙◌, inl, inr}
 use Rattle.std.proofs.lemmas.Bool.{cases_Bool, eqb-true}
-use Rattle.dcc_tariff.specs.Plans.{PlanView}
 use Rattle.dcc_tariff.specs.Terms.{TermsView}
 use Rattle.dcc_message.specs.declared.identity.Identity.{Identity}
 use Rattle.dcc_message.specs.declared.length.TheConstants.{HEADER_LENGTH}
+use Rattle.dcc_base.specs.declared.peer.Peer.{Peer}
 use Rattle.dcc_act.specs.Subs.{same_sub, SameAreEqual}
 use Rattle.dcc_act.specs.declared.act.Act.{Act}
 use Rattle.dcc_act.specs.declared.sub.Sub.{Sub}
 use Rattle.dcc_model.specs.Outcomes.{acts, after, place, is_new}
-use Rattle.dcc_credit.specs.Requests.{RequestView, act_of}
 use Rattle.dcc_answer.specs.Answers.{busy_octets}
 use Rattle.dcc_answer.specs.Results.{is_busy}
 use Rattle.dcc_credit.specs.Answers.{answer_octets}
@@ -23,21 +22,23 @@ use Rattle.dcc_engine.specs.Asks.Source.{Message}
 use Rattle.dcc_engine.specs.Engines.{EngineView, Setting, peer_of}
 use Rattle.dcc_engine.specs.Messages as messages
 use Rattle.dcc_engine.specs.Messages.{MessageView, Received, received_on}
-use Rattle.dcc_engine.specs.inner.Turns.{IsJudged, IsTurnDone, IsHandedOn, IsServed}
+use Rattle.dcc_engine.specs.Verdicts.{verdict_of}
+use Rattle.dcc_engine.specs.inner.Turns.{IsJudged, IsTurnDone, IsHandedOn, IsRefused, IsServed}
 use Rattle.dcc_engine.specs.declared.event.Event.TheVariants as events
 use Rattle.dcc_engine.specs.declared.event.Out.{Out}
-use Rattle.dcc_engine.specs.declared.peers.Peer.{Peer}
+use Rattle.dcc_engine.specs.declared.verdict.Verdict.{Verdict}
+use Rattle.dcc_engine.specs.declared.verdict.Verdict.TheVariants as verdicts
 use Rattle.dcc_engine.proofs.Refusals.{refusal_of, nothing_is_one}
 
 -- the request was answered by what its act comes to, and its act was made
-record IsMade (setting : Setting) (old new : ShardView) (moment : ℕ) (message : MessageView) (octets : List ℕ) (request : RequestView) : Type 0 where
-  request_is : messages.request message ≡ Some request
-  octets_are : octets ≡ answer_to setting message (after setting.plan.terms (held old request.sub) (act_of setting.plan request moment))
+record IsMade (setting : Setting) (old new : ShardView) (moment : ℕ) (message : MessageView) (octets : List ℕ) (sub : Sub) (act : Act) : Type 0 where
+  verdict_is : verdict_of setting moment message ≡ verdicts.Asks sub act
+  octets_are : octets ≡ answer_to setting message (after setting.plan.terms (held old sub) act)
   counted : is_refusal octets ≡ false
-  own : held new request.sub ≡ acts setting.plan.terms (held old request.sub ++ act_of setting.plan request moment ∷ [])
-  others : (other : Sub) → other ≢ request.sub → held new other ≡ held old other
+  own : held new sub ≡ acts setting.plan.terms (held old sub ++ act ∷ [])
+  others : (other : Sub) → other ≢ sub → held new other ≡ held old other
 
--- it was refused, and nothing is held otherwise than before
+-- it was turned away, and nothing is held otherwise than before
 record IsAway (setting : Setting) (old new : ShardView) (message : MessageView) (octets : List ℕ) : Type 0 where
   busy : IsBusyOrNothing setting.identity message octets
   refused : is_refusal octets ≡ true
@@ -56,30 +57,23 @@ counted_at : (octets : List ℕ) (place : Option ℕ) (fresh : Bool) → IsToldA
 counted_at octets None fresh apart = refusal_of octets apart.1 ∙ apart.0
 counted_at octets (Some at) fresh apart = refusal_of octets apart.1 ∙ apart.0
 
--- the session of a request's act is the request's
-session_is : (plan : PlanView) (request : RequestView) (moment : ℕ) → session_of_act (act_of plan request moment) ≡ Some request.key.sid
-unfolding act_of
-session_is plan request moment = refl
-
 -- answers of one server under the same terms are the same
 answer_of : (setting : Setting) (identity : Identity) (terms : TermsView) (message : MessageView) (before : List Act) (act : Act) → identity ≡ setting.identity → terms ≡ setting.plan.terms
     → answer_octets identity terms message.header (messages.proxies message) (after terms before act) ≡ answer_to setting message (after setting.plan.terms before act)
 answer_of setting identity terms message before act is_one are_same = rw (is_one, are_same) refl
 
-taken_made : (setting : Setting) (old new : ShardView) (moment : ℕ) (message : MessageView) (octets : List ℕ) (request : RequestView) (answer : RequestAnswer)
-    → old.identity ≡ setting.identity → old.terms ≡ setting.plan.terms → IsHandedOn setting old new moment message octets request answer
-    → answer ≡ answer_after old.identity old.terms message.header (messages.proxies message) (held old request.sub) (act_of setting.plan request moment)
-    → IsMade setting old new moment message octets request
-taken_made setting old new moment message octets request answer identity terms taken is =
-    let act = act_of setting.plan request moment in
-    let before = held old request.sub in
+taken_made : (setting : Setting) (old new : ShardView) (moment : ℕ) (message : MessageView) (octets : List ℕ) (sub : Sub) (act : Act) (answer : RequestAnswer)
+    → old.identity ≡ setting.identity → old.terms ≡ setting.plan.terms → IsHandedOn setting old new moment message octets sub act answer
+    → answer ≡ answer_after old.identity old.terms message.header (messages.proxies message) (held old sub) act → IsMade setting old new moment message octets sub act
+taken_made setting old new moment message octets sub act answer identity terms taken is =
+    let before = held old sub in
     let given = answer_octets old.identity old.terms message.header (messages.proxies message) (after old.terms before act) in
     let at = place old.terms before act in
     let fresh = is_new old.terms before act in
     let octets_are : octets ≡ given = taken.octets_are ∙ ap octets_of is ∙ octets_at given at fresh in
     let judged : is_judged answer ≡ true = ap is_judged is ∙ judged_at given at fresh in
     record {
-      request_is = taken.request_is;
+      verdict_is = taken.verdict_is;
       octets_are = octets_are ∙ answer_of setting old.identity old.terms message before act identity terms;
       counted = ap is_refusal octets_are ∙ counted_at given at fresh (subst IsToldApart is taken.apart);
       own = taken.step.own ∙ ap (λ b. held_after old.terms b before act) judged ∙ ap (λ (t : TermsView). acts t (before ++ act ∷ [])) terms;
@@ -102,138 +96,173 @@ stays_unjudged law old new judged sub act not_judged step other =
     ]
 
 -- the busy answer of a shard is the engine's
-busy_of : (setting : Setting) (identity : Identity) (moment : ℕ) (message : MessageView) (request : RequestView) → identity ≡ setting.identity → messages.session message ≡ Some request.key.sid
-    → busy_octets identity (session_of_act (act_of setting.plan request moment)) message.header (messages.proxies message) ≡ busy_to setting.identity message
-busy_of setting identity moment message request is_one session =
-    ap (λ (s : Option (List ℕ)). busy_octets identity s message.header (messages.proxies message)) (session_is setting.plan request moment ∙ sym session)
+busy_of : (setting : Setting) (identity : Identity) (message : MessageView) (act : Act) → identity ≡ setting.identity → messages.session message ≡ session_of_act act
+    → busy_octets identity (session_of_act act) message.header (messages.proxies message) ≡ busy_to setting.identity message
+busy_of setting identity message act is_one session =
+    ap (λ (s : Option (List ℕ)). busy_octets identity s message.header (messages.proxies message)) (sym session)
     ∙ ap (λ (i : Identity). busy_octets i (messages.session message) message.header (messages.proxies message)) is_one
 
-taken_busy : SameAreEqual → (setting : Setting) (old new : ShardView) (moment : ℕ) (message : MessageView) (octets : List ℕ) (request : RequestView) (answer : RequestAnswer)
-    → old.identity ≡ setting.identity → IsHandedOn setting old new moment message octets request answer
-    → answer ≡ busy_answer old.identity message.header (messages.proxies message) (session_of_act (act_of setting.plan request moment)) → IsAway setting old new message octets
-taken_busy law setting old new moment message octets request answer identity taken is =
-    let given = busy_octets old.identity (session_of_act (act_of setting.plan request moment)) message.header (messages.proxies message) in
+taken_busy : SameAreEqual → (setting : Setting) (old new : ShardView) (moment : ℕ) (message : MessageView) (octets : List ℕ) (sub : Sub) (act : Act) (answer : RequestAnswer)
+    → old.identity ≡ setting.identity → IsHandedOn setting old new moment message octets sub act answer
+    → answer ≡ busy_answer old.identity message.header (messages.proxies message) (session_of_act act) → IsAway setting old new message octets
+taken_busy law setting old new moment message octets sub act answer identity taken is =
+    let given = busy_octets old.identity (session_of_act act) message.header (messages.proxies message) in
     let octets_are : octets ≡ given = taken.octets_are ∙ ap octets_of is in
     let apart : (is_busy given ≡ true) × (HEADER_LENGTH ≤ length given) = subst IsToldApart is taken.apart in
     record {
-      busy = inl (octets_are ∙ busy_of setting old.identity moment message request identity taken.session_is);
+      busy = inl (octets_are ∙ busy_of setting old.identity message act identity taken.session_is);
       refused = ap is_refusal octets_are ∙ refusal_of given apart.1 ∙ apart.0;
-      stays = stays_unjudged law old new (is_judged answer) request.sub (act_of setting.plan request moment) (ap is_judged is) taken.step;
+      stays = stays_unjudged law old new (is_judged answer) sub act (ap is_judged is) taken.step;
     }
 
-taken_silent : SameAreEqual → (setting : Setting) (old new : ShardView) (moment : ℕ) (message : MessageView) (octets : List ℕ) (request : RequestView) (answer : RequestAnswer)
-    → IsHandedOn setting old new moment message octets request answer → answer ≡ Silent → IsAway setting old new message octets
-taken_silent law setting old new moment message octets request answer taken is =
+taken_silent : SameAreEqual → (setting : Setting) (old new : ShardView) (moment : ℕ) (message : MessageView) (octets : List ℕ) (sub : Sub) (act : Act) (answer : RequestAnswer)
+    → IsHandedOn setting old new moment message octets sub act answer → answer ≡ Silent → IsAway setting old new message octets
+taken_silent law setting old new moment message octets sub act answer taken is =
     let octets_are : octets ≡ [] = taken.octets_are ∙ ap octets_of is in
     record {
       busy = inr octets_are;
       refused = ap is_refusal octets_are ∙ nothing_is_one;
-      stays = stays_unjudged law old new (is_judged answer) request.sub (act_of setting.plan request moment) (ap is_judged is) taken.step;
+      stays = stays_unjudged law old new (is_judged answer) sub act (ap is_judged is) taken.step;
     }
 
+-- an act was made, or the request was refused for what it says, or it was turned away
+Served : (setting : Setting) (old new : ShardView) (moment : ℕ) (message : MessageView) (octets : List ℕ) → Type 0
+Served setting old new moment message octets =
+    ((sub : Sub) × (act : Act) × IsMade setting old new moment message octets sub act) ⊎ (IsRefused setting old new moment message octets ⊎ IsAway setting old new message octets)
+
 either : SameAreEqual → (setting : Setting) (old new : ShardView) (moment : ℕ) (message : MessageView) (octets : List ℕ) → old.identity ≡ setting.identity → old.terms ≡ setting.plan.terms
-    → IsServed setting old new moment message octets → ((request : RequestView) × IsMade setting old new moment message octets request) ⊎ IsAway setting old new message octets
-either law setting old new moment message octets identity terms (inr turned) = inr (record {
+    → IsServed setting old new moment message octets → Served setting old new moment message octets
+unfolding Served
+either law setting old new moment message octets identity terms (inr (inl refused)) = inr (inl refused)
+either law setting old new moment message octets identity terms (inr (inr turned)) = inr (inr (record {
   busy = turned.answer_is;
   refused = turned.refused;
   stays = λ sub. ap (λ (s : ShardView). held s sub) turned.same;
-})
+}))
 either law setting old new moment message octets identity terms (inl served) =
-    let request = served.0 in
-    let answer = served.1 in
-    let taken = served.2 in
+    let sub = served.0 in
+    let act = served.1 in
+    let answer = served.2 in
+    let taken = served.3 in
     elim taken.answer_is [
-      | inl is ↦ inl (request, taken_made setting old new moment message octets request answer identity terms taken is)
+      | inl is ↦ inl (sub, act, taken_made setting old new moment message octets sub act answer identity terms taken is)
       | inr refused ↦ (elim refused [
-        | inl busy ↦ inr (taken_busy law setting old new moment message octets request answer identity taken busy)
-        | inr silent ↦ inr (taken_silent law setting old new moment message octets request answer taken silent)
+        | inl busy ↦ inr (inr (taken_busy law setting old new moment message octets sub act answer identity taken busy))
+        | inr silent ↦ inr (inr (taken_silent law setting old new moment message octets sub act answer taken silent))
       ])
     ]
 
 -- whose the ask is, and that it is the request's
-request_asks : SameAreEqual → (plan : PlanView) (moment : ℕ) (message : MessageView) (request : RequestView) (sub : Sub) (ask : Ask) → request_ask plan moment message (Some request) sub ≡ Some ask
-    → (request.sub ≡ sub) × (ask ≡ record { act = act_of plan request moment; source = Message message })
-request_asks law plan moment message request sub ask is =
-    elim (cases_Bool (same_sub request.sub sub)) [
-      | inl t ↦ (let e = rw t at is in ((law request.sub sub).0 t, cc))
+request_asks : SameAreEqual → (message : MessageView) (owner : Sub) (act : Act) (sub : Sub) (ask : Ask) → request_ask message (verdicts.Asks owner act) sub ≡ Some ask
+    → (owner ≡ sub) × (ask ≡ record { act = act; source = Message message })
+request_asks law message owner act sub ask is =
+    elim (cases_Bool (same_sub owner sub)) [
+      | inl t ↦ (let e = rw t at is in ((law owner sub).0 t, cc))
       | inr f ↦ (let e = rw f at is in absurd cc)
     ]
 
-source_is : (plan : PlanView) (moment : ℕ) (message : MessageView) (request : Option RequestView) (sub : Sub) (ask : Ask) → request_ask plan moment message request sub ≡ Some ask
-    → ask.source ≡ Message message
-source_is plan moment message None sub ask is = absurd cc
-source_is plan moment message (Some request) sub ask is =
-    elim (cases_Bool (same_sub request.sub sub)) [
-      | inl t ↦ (let e : Some (record { act = act_of plan request moment; source = Message message }) ≡ Some ask = rw t at is in
-          let one : ask ≡ record { act = act_of plan request moment; source = Message message } = cc in ap (λ (a : Ask). a.source) one)
+source_is : (message : MessageView) (verdict : Verdict) (sub : Sub) (ask : Ask) → request_ask message verdict sub ≡ Some ask → ask.source ≡ Message message
+source_is message (verdicts.Asks owner act) sub ask is =
+    elim (cases_Bool (same_sub owner sub)) [
+      | inl t ↦ (let e : Some (record { act = act; source = Message message }) ≡ Some ask = rw t at is in
+          let one : ask ≡ record { act = act; source = Message message } = cc in ap (λ (a : Ask). a.source) one)
       | inr f ↦ (let e = rw f at is in absurd cc)
     ]
+source_is message (verdicts.Refused octets) sub ask is = absurd cc
+source_is message verdicts.Unserved sub ask is = absurd cc
 
-made_held : SameAreEqual → (setting : Setting) (old new : ShardView) (moment : ℕ) (message : MessageView) (octets : List ℕ) (request : RequestView) (out : Out) (sub : Sub)
-    → ((s : Sub) → acts setting.plan.terms (held old s) ≡ held old s) → out.octets ≡ octets → IsMade setting old new moment message octets request
-    → held new sub ≡ acts setting.plan.terms (own_with (request_ask setting.plan moment message (Some request) sub) out sub (held old sub))
-made_held law setting old new moment message octets request out sub own is made =
+-- one turn of a request, with peers as they were before it
+abbrev pub Judged : Setting → (ℕ → Option Peer) → ShardView → ShardView → ℕ → ℕ → List ℕ → List ℕ → Type 0
+Judged setting peers old new id moment octets given =
+    IsJudged setting (record { peers = peers; own = held old }) (held new) (record { event = events.Message id moment octets; out = out_octets (Some id) given })
+
+made_held : SameAreEqual → (setting : Setting) (old new : ShardView) (moment : ℕ) (message : MessageView) (octets : List ℕ) (owner : Sub) (act : Act) (out : Out) (sub : Sub)
+    → ((s : Sub) → acts setting.plan.terms (held old s) ≡ held old s) → out.octets ≡ octets → IsMade setting old new moment message octets owner act
+    → held new sub ≡ acts setting.plan.terms (own_with (request_ask message (verdicts.Asks owner act) sub) out sub (held old sub))
+made_held law setting old new moment message octets owner act out sub own is made =
     let counted : is_refusal out.octets ≡ false = ap is_refusal is ∙ made.counted in
-    elim (cases_Bool (same_sub request.sub sub)) [
-      | inl t ↦ (let e = (law request.sub sub).0 t in rw (t, counted, ← e) made.own)
-      | inr f ↦ rw f (made.others sub (λ e. let t : same_sub request.sub sub ≡ true = (law request.sub sub).1 (sym e) in absurd cc) ∙ sym (own sub))
+    elim (cases_Bool (same_sub owner sub)) [
+      | inl t ↦ (let e = (law owner sub).0 t in rw (t, counted, ← e) made.own)
+      | inr f ↦ rw f (made.others sub (λ e. let t : same_sub owner sub ≡ true = (law owner sub).1 (sym e) in absurd cc) ∙ sym (own sub))
     ]
 
-made_judged : SameAreEqual → (setting : Setting) (peers : ℕ → Option Peer) (old new : ShardView) (id moment : ℕ) (octets : List ℕ) (message : MessageView) (given : List ℕ) (request : RequestView)
-    → ((s : Sub) → acts setting.plan.terms (held old s) ≡ held old s) → received_on (peers id) octets ≡ Received.Message message → IsMade setting old new moment message given request
-    → IsJudged setting (record { peers = peers; own = held old }) (held new) (record { event = events.Message id moment octets; out = out_octets (Some id) given })
-made_judged law setting peers old new id moment octets message given request own received made =
-    let act = act_of setting.plan request moment in
+made_judged : SameAreEqual → (setting : Setting) (peers : ℕ → Option Peer) (old new : ShardView) (id moment : ℕ) (octets : List ℕ) (message : MessageView) (given : List ℕ) (owner : Sub) (act : Act)
+    → ((s : Sub) → acts setting.plan.terms (held old s) ≡ held old s) → received_on (peers id) octets ≡ Received.Charging message → IsMade setting old new moment message given owner act
+    → Judged setting peers old new id moment octets given
+made_judged law setting peers old new id moment octets message given owner act own received made =
     let out = out_octets (Some id) given in
     let terms = setting.plan.terms in
     record {
       next = record {
         subscribers = λ sub ask is.
-            let here : request_ask setting.plan moment message (messages.request message) sub ≡ Some ask = rw received at is in
-            let asks = request_asks law setting.plan moment message request sub ask (ap (λ (r : Option RequestView). request_ask setting.plan moment message r sub) (sym made.request_is) ∙ here) in
+            let here : request_ask message (verdict_of setting moment message) sub ≡ Some ask = rw received at is in
+            let asks = request_asks law message owner act sub ask (ap (λ (v : Verdict). request_ask message v sub) (sym made.verdict_is) ∙ here) in
             rw (asks.1, made.counted) (ap (λ (o : List ℕ). Some (Octets o)) (made.octets_are ∙ ap (λ (s : Sub). answer_to setting message (after terms (held old s) act)) asks.0));
-        whole = rw received (refl, subst (λ (r : Option RequestView). IsOfNobody setting.identity message r given) (sym made.request_is) tt);
+        whole = rw received (refl, subst (λ (v : Verdict). IsOfNobody setting.identity message v given) (sym made.verdict_is) tt);
       };
-      held = λ sub. rw received (made_held law setting old new moment message given request out sub own refl made
-          ∙ ap (λ (r : Option RequestView). acts terms (own_with (request_ask setting.plan moment message r sub) out sub (held old sub))) (sym made.request_is));
+      held = λ sub. rw received (made_held law setting old new moment message given owner act out sub own refl made
+          ∙ ap (λ (v : Verdict). acts terms (own_with (request_ask message v sub) out sub (held old sub))) (sym made.verdict_is));
     }
 
-of_nobody : (identity : Identity) (message : MessageView) (request : Option RequestView) (octets : List ℕ) → IsBusyOrNothing identity message octets → IsOfNobody identity message request octets
-of_nobody identity message None octets busy = busy
-of_nobody identity message (Some request) octets busy = tt
-
-refused_own : (plan : PlanView) (moment : ℕ) (message : MessageView) (request : Option RequestView) (sub : Sub) (out : Out) (before : List Act) → is_refusal out.octets ≡ true
-    → own_with (request_ask plan moment message request sub) out sub before ≡ before
-refused_own plan moment message None sub out before refused = refl
-refused_own plan moment message (Some request) sub out before refused =
-    elim (cases_Bool (same_sub request.sub sub)) [
-      | inl t ↦ rw (t, refused) refl
-      | inr f ↦ rw f refl
-    ]
-
-away_judged : (setting : Setting) (peers : ℕ → Option Peer) (old new : ShardView) (id moment : ℕ) (octets : List ℕ) (message : MessageView) (given : List ℕ)
-    → ((s : Sub) → acts setting.plan.terms (held old s) ≡ held old s) → received_on (peers id) octets ≡ Received.Message message → IsAway setting old new message given
-    → IsJudged setting (record { peers = peers; own = held old }) (held new) (record { event = events.Message id moment octets; out = out_octets (Some id) given })
-away_judged setting peers old new id moment octets message given own received away =
+refused_judged : (setting : Setting) (peers : ℕ → Option Peer) (old new : ShardView) (id moment : ℕ) (octets : List ℕ) (message : MessageView) (given : List ℕ)
+    → ((s : Sub) → acts setting.plan.terms (held old s) ≡ held old s) → received_on (peers id) octets ≡ Received.Charging message → IsRefused setting old new moment message given
+    → Judged setting peers old new id moment octets given
+refused_judged setting peers old new id moment octets message given own received refused =
     let out = out_octets (Some id) given in
+    let terms = setting.plan.terms in
     record {
       next = record {
         subscribers = λ sub ask is.
-            let source = source_is setting.plan moment message (messages.request message) sub ask (rw received at is) in
-            rw (source, away.refused) away.busy;
-        whole = rw received (refl, of_nobody setting.identity message (messages.request message) given away.busy);
+            let here : request_ask message (verdict_of setting moment message) sub ≡ Some ask = rw received at is in
+            let none : None ≡ Some ask = ap (λ (v : Verdict). request_ask message v sub) (sym refused.verdict_is) ∙ here in absurd cc;
+        whole = rw received (refl, subst (λ (v : Verdict). IsOfNobody setting.identity message v given) (sym refused.verdict_is) (rw refused.answered refl));
       };
-      held = λ sub. rw received (away.stays sub ∙ sym (ap (acts setting.plan.terms) (refused_own setting.plan moment message (messages.request message) sub out (held old sub) away.refused) ∙ own sub));
+      held = λ sub. rw received (ap (λ (s : ShardView). held s sub) refused.same ∙ sym (own sub)
+          ∙ ap (λ (v : Verdict). acts terms (own_with (request_ask message v sub) out sub (held old sub))) (sym refused.verdict_is));
+    }
+
+of_nobody : (identity : Identity) (message : MessageView) (verdict : Verdict) (octets : List ℕ) → is_refusal octets ≡ true → IsBusyOrNothing identity message octets → IsOfNobody identity message verdict octets
+of_nobody identity message (verdicts.Asks owner act) octets refused busy = tt
+of_nobody identity message (verdicts.Refused refusal) octets refused busy = rw refused busy
+of_nobody identity message verdicts.Unserved octets refused busy = busy
+
+refused_own : (message : MessageView) (verdict : Verdict) (sub : Sub) (out : Out) (before : List Act) → is_refusal out.octets ≡ true → own_with (request_ask message verdict sub) out sub before ≡ before
+refused_own message (verdicts.Asks owner act) sub out before refused =
+    elim (cases_Bool (same_sub owner sub)) [
+      | inl t ↦ rw (t, refused) refl
+      | inr f ↦ rw f refl
+    ]
+refused_own message (verdicts.Refused octets) sub out before refused = refl
+refused_own message verdicts.Unserved sub out before refused = refl
+
+away_judged : (setting : Setting) (peers : ℕ → Option Peer) (old new : ShardView) (id moment : ℕ) (octets : List ℕ) (message : MessageView) (given : List ℕ)
+    → ((s : Sub) → acts setting.plan.terms (held old s) ≡ held old s) → received_on (peers id) octets ≡ Received.Charging message → IsAway setting old new message given
+    → Judged setting peers old new id moment octets given
+away_judged setting peers old new id moment octets message given own received away =
+    let out = out_octets (Some id) given in
+    let verdict = verdict_of setting moment message in
+    record {
+      next = record {
+        subscribers = λ sub ask is.
+            let source = source_is message verdict sub ask (rw received at is) in
+            rw (source, away.refused) away.busy;
+        whole = rw received (refl, of_nobody setting.identity message verdict given away.refused away.busy);
+      };
+      held = λ sub. rw received (away.stays sub ∙ sym (ap (acts setting.plan.terms) (refused_own message verdict sub out (held old sub) away.refused) ∙ own sub));
     }
 
 pub served_judged : SameAreEqual → (setting : Setting) (peers : ℕ → Option Peer) (old new : ShardView) (id moment : ℕ) (octets : List ℕ) (message : MessageView) (given : List ℕ)
-    → old.identity ≡ setting.identity → old.terms ≡ setting.plan.terms → AreOwn old → received_on (peers id) octets ≡ Received.Message message → IsServed setting old new moment message given
-    → IsJudged setting (record { peers = peers; own = held old }) (held new) (record { event = events.Message id moment octets; out = out_octets (Some id) given })
+    → old.identity ≡ setting.identity → old.terms ≡ setting.plan.terms → AreOwn old → received_on (peers id) octets ≡ Received.Charging message → IsServed setting old new moment message given
+    → Judged setting peers old new id moment octets given
+unfolding Served
 served_judged law setting peers old new id moment octets message given identity terms own received served =
     let own_acts : (s : Sub) → acts setting.plan.terms (held old s) ≡ held old s = subst (λ (t : TermsView). (s : Sub) → acts t (held old s) ≡ held old s) terms own in
     elim (either law setting old new moment message given identity terms served) [
-      | inl made ↦ made_judged law setting peers old new id moment octets message given made.0 own_acts received made.1
-      | inr away ↦ away_judged setting peers old new id moment octets message given own_acts received away
+      | inl made ↦ made_judged law setting peers old new id moment octets message given made.0 made.1 own_acts received made.2
+      | inr other ↦ (elim other [
+        | inl refused ↦ refused_judged setting peers old new id moment octets message given own_acts received refused
+        | inr away ↦ away_judged setting peers old new id moment octets message given own_acts received away
+      ])
     ]
 
 -- refused or not
@@ -242,19 +271,19 @@ left_where true peer = refl
 left_where false peer = refl
 
 -- a request leaves its peer where it is
-request_moves_nothing : (rows : ℕ → Option Peer) (id moment : ℕ) (octets : List ℕ) (message : MessageView) (out : Out) → received_on (rows id) octets ≡ Received.Message message
-    → (q : ℕ) → rows q ≡ moved_by q (record { event = events.Message id moment octets; out = out }) (rows q)
-request_moves_nothing rows id moment octets message out received q =
+request_moves_nothing : (setting : Setting) (rows : ℕ → Option Peer) (id moment : ℕ) (octets : List ℕ) (message : MessageView) (out : Out) → received_on (rows id) octets ≡ Received.Charging message
+    → (q : ℕ) → rows q ≡ moved_by setting q (record { event = events.Message id moment octets; out = out }) (rows q)
+request_moves_nothing setting rows id moment octets message out received q =
     elim (cases_Bool (id == q)) [
       | inl t ↦ (let e : id ≡ q = eqb-true id q t in
-          let here : received_on (rows q) octets ≡ Received.Message message = ap (λ (n : ℕ). received_on (rows n) octets) (sym e) ∙ received in
+          let here : received_on (rows q) octets ≡ Received.Charging message = ap (λ (n : ℕ). received_on (rows n) octets) (sym e) ∙ received in
           rw (t, here) (sym (left_where (is_refusal out.octets) (rows q))))
       | inr f ↦ rw f refl
     ]
 
 -- one turn of a request, whose engine keeps its setting and its peers
-pub stays_put : (old : EngineView) (new : ShardView) (id moment : ℕ) (octets : List ℕ) (message : MessageView) (given : List ℕ) → received_on (peer_of old id) octets ≡ Received.Message message
-    → IsJudged old.setting (record { peers = peer_of old; own = held old.shard }) (held new) (record { event = events.Message id moment octets; out = out_octets (Some id) given })
+pub stays_put : (old : EngineView) (new : ShardView) (id moment : ℕ) (octets : List ℕ) (message : MessageView) (given : List ℕ) → received_on (peer_of old id) octets ≡ Received.Charging message
+    → Judged old.setting (peer_of old) old.shard new id moment octets given
     → IsTurnDone old (record { setting = old.setting; peers = old.peers; shard = new }) (record { event = events.Message id moment octets; out = out_octets (Some id) given })
 stays_put old new id moment octets message given received judged =
-    record { judged = judged; peers = request_moves_nothing (peer_of old) id moment octets message (out_octets (Some id) given) received; setting = refl }
+    record { judged = judged; peers = request_moves_nothing old.setting (peer_of old) id moment octets message (out_octets (Some id) given) received; setting = refl }

@@ -78,7 +78,7 @@ turn_stands stable engine now new past turn stands done =
           ∙ ap (λ (o : Option Ask). acts terms (own_with o turn.out sub (held_of now sub))) (ask_moved engine.setting (now_of now) before sub stands.peers_are turn.event)
           ∙ ap (λ (xs : List Act). acts terms (own_with (asked engine past turn.event sub) turn.out sub xs)) (stands.held sub)
           ∙ own_acts stable terms (asked engine past turn.event sub) turn.out sub (before.own sub);
-      peers_are = λ id. done.peers id ∙ ap (moved_by id turn) (stands.peers_are id);
+      peers_are = λ id. done.peers id ∙ ap (λ (s : Setting). moved_by s id turn (peer_of now id)) stands.setting ∙ ap (moved_by engine.setting id turn) (stands.peers_are id);
     }
 
 -- later events only add to a subscriber's entries

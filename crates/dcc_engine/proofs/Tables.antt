@@ -3,7 +3,7 @@ use Rattle.std.proofs.Common.{◌≡◌, ℕ, false, not, ◌==◌, cond, List, 
 use Rattle.std.specs.Prelude.{filter}
 use Rattle.std.proofs.lemmas.Bool.{cases_Bool, eq-eqb}
 use Rattle.std.proofs.lemmas.Bool.Decides.{nat_tests}
-use Rattle.dcc_engine.specs.declared.peers.Peer.{Peer}
+use Rattle.dcc_base.specs.declared.peer.Peer.{Peer}
 use Rattle.dcc_engine.specs.declared.peers.PeerRow.{PeerRow}
 use Rattle.dcc_engine.specs.Engines.{peer_in}
 

@@ -19,7 +19,7 @@ use Rattle.dcc_engine.specs.Asks.Source.{TopUp}
 use Rattle.dcc_engine.specs.Engines.{Setting}
 use Rattle.dcc_engine.specs.inner.Turns.{IsJudged}
 use Rattle.dcc_engine.specs.declared.event.Event.TheVariants as events
-use Rattle.dcc_engine.specs.declared.peers.Peer.{Peer}
+use Rattle.dcc_base.specs.declared.peer.Peer.{Peer}
 
 -- what is told of an outcome is no refusal, and was judged
 told_counts : (outcome : Outcome) (at : Option ℕ) (fresh : Bool) (answer : TopUpAnswer) → Some answer ≡ told outcome at fresh → (is_refused_top_up (Some answer) ≡ false) × (is_judged_top_up answer ≡ true)

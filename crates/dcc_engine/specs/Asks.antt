@@ -1,7 +1,6 @@
 -- What an event asks of a subscriber, what is told of it, and where it leaves its peer.
 use Rattle.std.specs.Prelude.{◌≡◌, ℕ, Bool, true, false, ◌&&◌, ◌||◌, ◌==◌, if◌then◌else◌, List, [], ◌∷◌, ◌++◌, length}
 use Rattle.std.specs.Prelude.{Option, Some, None, option_map, MatchBool, ◌⊎◌}
-use Rattle.dcc_tariff.specs.Plans.{PlanView}
 use Rattle.dcc_message.specs.declared.identity.Identity.{Identity}
 use Rattle.dcc_act.specs.declared.act.Act.{Act}
 use Rattle.dcc_act.specs.declared.outcome.Outcome.{Outcome}
@@ -9,21 +8,25 @@ use Rattle.dcc_act.specs.declared.sub.Sub.{Sub}
 use Rattle.dcc_act.specs.Subs.{same_sub}
 use Rattle.dcc_act.specs.TopUps.{is_amount}
 use Rattle.dcc_model.specs.Outcomes.{place, is_new}
-use Rattle.dcc_credit.specs.Requests.{RequestView, act_of}
 use Rattle.dcc_answer.specs.Answers.{busy_octets}
 use Rattle.dcc_answer.specs.Results.{is_busy}
 use Rattle.dcc_credit.specs.Answers.{answer_octets}
+use Rattle.dcc_base.specs.Peers.{hears, replied}
+use Rattle.dcc_base.specs.declared.peer.Peer.{Peer}
+use Rattle.dcc_base.specs.declared.peer.Peer.TheVariants.{Wait, Open, Closed}
+use Rattle.dcc_base.specs.declared.reply.Reply.{Reply}
 use Rattle.dcc_shard.specs.Answers.{top_up_act, told}
 use Rattle.dcc_shard.specs.declared.answers.TopUpAnswer.{TopUpAnswer}
 use Rattle.dcc_shard.specs.declared.answers.TopUpAnswer.TheVariants.{Done, Ceiling, Refused, BadAmount}
 use Rattle.dcc_engine.specs.Engines.{Setting}
 use Rattle.dcc_engine.specs.Messages as messages
 use Rattle.dcc_engine.specs.Messages.{MessageView, Received, received_on}
+use Rattle.dcc_engine.specs.Verdicts.{verdict_of}
 use Rattle.dcc_engine.specs.declared.event.Event.{Event}
 use Rattle.dcc_engine.specs.declared.event.Event.TheVariants as events
 use Rattle.dcc_engine.specs.declared.event.Out.{Out}
-use Rattle.dcc_engine.specs.declared.peers.Peer.{Peer}
-use Rattle.dcc_engine.specs.declared.peers.Peer.TheVariants.{Open, Closed}
+use Rattle.dcc_engine.specs.declared.verdict.Verdict.{Verdict}
+use Rattle.dcc_engine.specs.declared.verdict.Verdict.TheVariants as verdicts
 
 -- an event with its out
 pub record Turn : Type 0 where
@@ -45,27 +48,30 @@ pub record Ask : Type 0 where
   pub act : Act
   pub source : Source
 
--- a request is its subscriber's
-abbrev pub request_ask : PlanView → ℕ → MessageView → Option RequestView → Sub → Option Ask
-request_ask plan moment message None sub = None
-request_ask plan moment message (Some request) sub =
-    if same_sub request.sub sub then Some (record { act = act_of plan request moment; source = Message message }) else None
+-- a request that is served is its subscriber's
+abbrev pub request_ask : MessageView → Verdict → Sub → Option Ask
+request_ask message (verdicts.Asks owner act) sub =
+    if same_sub owner sub then Some (record { act = act; source = Message message }) else None
+request_ask message (verdicts.Refused octets) sub = None
+request_ask message verdicts.Unserved sub = None
 
-abbrev pub received_ask : PlanView → ℕ → Received → Sub → Option Ask
-received_ask plan moment Received.Ignored sub = None
-received_ask plan moment Received.Broken sub = None
-received_ask plan moment (Received.Message message) sub = request_ask plan moment message (messages.request message) sub
+abbrev pub received_ask : Setting → ℕ → Received → Sub → Option Ask
+received_ask setting moment Received.Ignored sub = None
+received_ask setting moment Received.Broken sub = None
+received_ask setting moment (Received.Charging message) sub = request_ask message (verdict_of setting moment message) sub
+received_ask setting moment (Received.Base peer message) sub = None
 
--- What an event asks of a subscriber: a request on a peer that is open is its subscriber's, a top-up of an amount that
--- may be is its subscriber's, and all others are nobody's.
+-- What an event asks of a subscriber: a request on a peer that is open is its subscriber's, where it isn't refused and is
+-- served, a top-up of an amount that may be is its subscriber's, and all others are nobody's.
 abbrev pub ask_for : Setting → Before → Event → Sub → Option Ask
 ask_for setting before (events.Connect peer host) sub = None
+ask_for setting before (events.Disconnect peer) sub = None
 ask_for setting before (events.Message peer moment octets) sub =
-    received_ask setting.plan moment (received_on (before.peers peer) octets) sub
+    received_ask setting moment (received_on (before.peers peer) octets) sub
 ask_for setting before (events.TopUp moment owner ticket amount) sub =
     if is_amount amount && same_sub owner sub then Some (record { act = top_up_act moment ticket amount; source = TopUp }) else None
 
--- a request is refused by the busy answer or by nothing, a top-up by being told so
+-- a message is refused by the busy answer or by nothing, a top-up by being told so
 unfoldable pub is_refusal : List ℕ → Bool
 is_refusal octets = (length octets == 0) || is_busy octets
 
@@ -129,6 +135,10 @@ IsAnsweredFor setting before ask sub out outcome =
 abbrev pub out_octets : Option ℕ → List ℕ → Out
 out_octets peer octets = record { peer = peer; octets = octets; close = false; top_up = None }
 
+-- an out of a peer's reply
+abbrev pub out_reply : ℕ → Reply → Out
+out_reply peer reply = record { peer = Some peer; octets = reply.octets; close = reply.close; top_up = None }
+
 -- an out that closes a peer's connection
 abbrev pub out_close : ℕ → Out
 out_close peer = record { peer = Some peer; octets = []; close = true; top_up = None }
@@ -137,54 +147,75 @@ out_close peer = record { peer = Some peer; octets = []; close = true; top_up = 
 abbrev pub out_top_up : TopUpAnswer → Out
 out_top_up answer = record { peer = None; octets = []; close = false; top_up = Some answer }
 
--- a request that is nobody's is answered busy, or by nothing; what another is answered, its subscriber's clause says
-abbrev pub IsOfNobody : Identity → MessageView → Option RequestView → List ℕ → Type 0
-IsOfNobody identity message None octets = IsBusyOrNothing identity message octets
-IsOfNobody identity message (Some request) octets = Unit {0}
+-- What a peer is replied to a message of the base protocol, by its own events alone, and what it is then.
+abbrev pub reply_to : Setting → Peer → MessageView → Reply × Peer
+reply_to setting peer message = replied setting.identity peer message.header message.list
 
-abbrev pub IsMessageOut : Setting → Received → ℕ → Out → Type 0
-IsMessageOut setting Received.Ignored peer out = out ≡ out_octets (Some peer) []
-IsMessageOut setting Received.Broken peer out = out ≡ out_close peer
-IsMessageOut setting (Received.Message message) peer out =
-    (out ≡ out_octets (Some peer) out.octets) × IsOfNobody setting.identity message (messages.request message) out.octets
+-- A message is refused that was to be answered, and is answered busy or by nothing. What isn't heard is never refused.
+abbrev pub is_refused_message : Received → Out → Bool
+is_refused_message Received.Ignored out = false
+is_refused_message Received.Broken out = false
+is_refused_message (Received.Charging message) out = is_refusal out.octets
+is_refused_message (Received.Base peer message) out = hears peer message.header && is_refusal out.octets
+
+-- A credit-control message that is nobody's is answered by the refusal of its request, or it is refused; where what it asks for isn't
+-- served, it is always refused. What any other is answered, its subscriber's clause says.
+abbrev pub IsOfNobody : Identity → MessageView → Verdict → List ℕ → Type 0
+IsOfNobody identity message (verdicts.Asks sub act) octets = Unit {0}
+IsOfNobody identity message (verdicts.Refused refusal) octets =
+    MatchBool (is_refusal octets) (IsBusyOrNothing identity message octets) (octets ≡ refusal)
+IsOfNobody identity message verdicts.Unserved octets = IsBusyOrNothing identity message octets
+
+abbrev pub IsMessageOut : Setting → ℕ → Received → ℕ → Out → Type 0
+IsMessageOut setting moment Received.Ignored peer out = out ≡ out_octets (Some peer) []
+IsMessageOut setting moment Received.Broken peer out = out ≡ out_close peer
+IsMessageOut setting moment (Received.Charging message) peer out =
+    (out ≡ out_octets (Some peer) out.octets) × IsOfNobody setting.identity message (verdict_of setting moment message) out.octets
+IsMessageOut setting moment (Received.Base from message) peer out =
+    MatchBool (is_refused_message (Received.Base from message) out)
+    ((out ≡ out_octets (Some peer) out.octets) × IsBusyOrNothing setting.identity message out.octets)
+    (out ≡ out_reply peer (reply_to setting from message).0)
 
 -- The whole out of an event: its form, and what is in it that is no subscriber's.
 abbrev pub IsOut : Setting → Before → Event → Out → Type 0
 IsOut setting before (events.Connect peer host) out = out ≡ out_octets (Some peer) []
+IsOut setting before (events.Disconnect peer) out = out ≡ out_octets (Some peer) []
 IsOut setting before (events.Message peer moment octets) out =
-    IsMessageOut setting (received_on (before.peers peer) octets) peer out
+    IsMessageOut setting moment (received_on (before.peers peer) octets) peer out
 IsOut setting before (events.TopUp moment sub ticket amount) out =
     (answer : TopUpAnswer) × (out ≡ out_top_up answer) × (is_amount amount ≡ false → answer ≡ BadAmount)
 
 -- whether an event is of this peer
 abbrev pub is_from : ℕ → Event → Bool
 is_from id (events.Connect peer host) = peer == id
+is_from id (events.Disconnect peer) = peer == id
 is_from id (events.Message peer moment octets) = peer == id
 is_from id (events.TopUp moment sub ticket amount) = false
 
--- a message is refused that was to be answered, and is answered busy or by nothing
-abbrev pub is_refused_message : Received → Out → Bool
-is_refused_message Received.Ignored out = false
-is_refused_message Received.Broken out = false
-is_refused_message (Received.Message message) out = is_refusal out.octets
+-- a peer whose connection is made: under a host's name it is open at once, else it waits
+abbrev pub connected : Option (List ℕ) → Peer
+connected None = Wait
+connected (Some host) = Open host
 
 -- where a message leaves its peer that is not refused
-abbrev pub left_by : Received → Option Peer → Option Peer
-left_by Received.Ignored peer = peer
-left_by Received.Broken peer = Some Closed
-left_by (Received.Message message) peer = peer
+abbrev pub left_by : Setting → Received → Option Peer → Option Peer
+left_by setting Received.Ignored peer = peer
+left_by setting Received.Broken peer = Some Closed
+left_by setting (Received.Charging message) peer = peer
+left_by setting (Received.Base from message) peer = Some (reply_to setting from message).1
 
-abbrev pub left_with : Received → Out → Option Peer → Option Peer
-left_with received out peer = if is_refused_message received out then peer else left_by received peer
+abbrev pub left_with : Setting → Received → Out → Option Peer → Option Peer
+left_with setting received out peer = if is_refused_message received out then peer else left_by setting received peer
 
 -- where its event and its out leave a peer: a message that was refused moves nothing
-abbrev pub moved : Event → Out → Option Peer → Option Peer
-moved (events.Connect id host) out peer = Some (Open host)
-moved (events.Message id moment octets) out peer = left_with (received_on peer octets) out peer
-moved (events.TopUp moment sub ticket amount) out peer = peer
+abbrev pub moved : Setting → Event → Out → Option Peer → Option Peer
+moved setting (events.Connect id host) out peer = Some (connected host)
+moved setting (events.Disconnect id) out peer = None
+moved setting (events.Message id moment octets) out peer = left_with setting (received_on peer octets) out peer
+moved setting (events.TopUp moment sub ticket amount) out peer = peer
 
-abbrev pub moved_by : ℕ → Turn → Option Peer → Option Peer
-moved_by id turn peer = if is_from id turn.event then moved turn.event turn.out peer else peer
+abbrev pub moved_by : Setting → ℕ → Turn → Option Peer → Option Peer
+moved_by setting id turn peer = if is_from id turn.event then moved setting turn.event turn.out peer else peer
 
 -- a subscriber's entries with those of one more event: its act, where it asked one and was not refused
 abbrev pub own_with : Option Ask → Out → Sub → List Act → List Act
@@ -195,6 +226,6 @@ own_with (Some ask) out sub before = if is_refused_for ask out sub then before e
 abbrev pub after_turn : Setting → Turn → Before → Before
 after_turn setting turn before =
     record {
-      peers = λ id. moved_by id turn (before.peers id);
+      peers = λ id. moved_by setting id turn (before.peers id);
       own = λ sub. own_with (ask_for setting before turn.event sub) turn.out sub (before.own sub);
     }

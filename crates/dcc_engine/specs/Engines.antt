@@ -1,12 +1,11 @@
 -- What an engine holds: by what events are answered, its peers, and the accounts.
-use Rattle.std.specs.Prelude.{◌≡◌, ℕ, ◌==◌, ◌∷◌, List, [], Bool, true, false, Option, Some, None, if◌then◌else◌}
+use Rattle.std.specs.Prelude.{◌≡◌, ℕ, ◌==◌, ◌∷◌, List, [], Option, Some, None, if◌then◌else◌}
 use Rattle.dcc_tariff.specs.Plans.{PlanView}
 use Rattle.dcc_message.specs.declared.identity.Identity.{Identity}
+use Rattle.dcc_base.specs.declared.peer.Peer.{Peer}
 use Rattle.dcc_act.specs.declared.act.Act.{Act}
 use Rattle.dcc_act.specs.declared.sub.Sub.{Sub}
 use Rattle.dcc_shard.specs.Shards.{ShardView, held}
-use Rattle.dcc_engine.specs.declared.peers.Peer.{Peer}
-use Rattle.dcc_engine.specs.declared.peers.Peer.TheVariants.{Open, Closed}
 use Rattle.dcc_engine.specs.declared.peers.PeerRow.{PeerRow}
 
 -- by what events are answered: the plan, and who answers
@@ -31,12 +30,6 @@ peer_in (row ∷ rows) id = if row.id == id then Some row.peer else peer_in rows
 
 abbrev pub peer_of : EngineView → ℕ → Option Peer
 peer_of engine id = peer_in engine.peers.rows id
-
--- whether a peer is there and open
-abbrev pub is_open : Option Peer → Bool
-is_open None = false
-is_open (Some Closed) = false
-is_open (Some (Open host)) = true
 
 -- the acts that are held for a subscriber, in order
 abbrev pub held_of : EngineView → Sub → List Act

@@ -1,5 +1,6 @@
 -- A subscriber's own entries, and what a whole run answers.
 use Rattle.std.specs.Prelude.{◌≡◌, ℕ, ◌+◌, if◌then◌else◌, List, [], ◌∷◌, length, take, reverse, slice_get, Option, Some, None}
+use Rattle.dcc_base.specs.declared.peer.Peer.{Peer}
 use Rattle.dcc_act.specs.declared.act.Act.{Act}
 use Rattle.dcc_act.specs.declared.sub.Sub.{Sub}
 use Rattle.dcc_model.specs.Outcomes.{outcome, acts}
@@ -7,7 +8,6 @@ use Rattle.dcc_engine.specs.Engines.{EngineView, held_of, peer_of}
 use Rattle.dcc_engine.specs.Asks.{Turn, Before, Ask, Said, ask_for, is_refused_for, said_by, IsAnsweredFor, IsOut, after_turn}
 use Rattle.dcc_engine.specs.declared.event.Event.{Event}
 use Rattle.dcc_engine.specs.declared.event.Out.{Out}
-use Rattle.dcc_engine.specs.declared.peers.Peer.{Peer}
 
 -- the events with their outs, in order
 abbrev pub turns : List Event → List Out → List Turn

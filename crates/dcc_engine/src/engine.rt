@@ -5,6 +5,7 @@ ghost use Rattle.std.specs.Prelude.{IfOk, IfSome, IfNone, OnErr};
 ghost use Rattle.dcc_act.specs.declared.sub.Sub.{Sub};
 ghost use Rattle.dcc_model.specs.Outcomes.{acts, funds, free, overrun};
 ghost use Rattle.dcc_engine.specs.Engines.{held_of, peer_of, IsUnchanged};
+ghost use Rattle.dcc_engine.specs.Asks.{connected};
 ghost use Rattle.dcc_engine.specs.inner.Hosts.{host_of as host_in};
 ghost use Rattle.dcc_engine.specs.Isolation.{turns, own, peers, IsRun};
 ghost use Rattle.dcc_engine.specs.inner.Turns.{IsTurnDone};
@@ -12,10 +13,11 @@ ghost use Rattle.dcc_engine.specs.declared.event.Event.TheVariants.{Message};
 
 use crate::event::{Event, Out};
 use crate::message::{Heading, receive};
-use crate::outs::{closing, quiet, sending, telling};
-use crate::peers::{Peer, Peers};
+use crate::outs::{closing, quiet, replying, sending, telling};
+use crate::peers::Peers;
 use dcc_account::Account;
 use dcc_act::{Moment, Sub, same_subscribers_are_equal};
+use dcc_base::{Host, Peer};
 use dcc_message::Identity;
 use dcc_model::{
     acts_come_to_their_own, later_acts_change_no_outcome, leaving_out_changes_nothing,
@@ -25,7 +27,6 @@ use dcc_shard::Shard;
 use dcc_tariff::Plan;
 use std::alloc::{AllocError, Global};
 use std::marker::Model;
-use std::mem;
 
 /// The peers and the accounts, under one plan.
 #[derive(Drop)]
@@ -114,7 +115,7 @@ impl Engine {
         let mut hosts = hosts_of(alloc, events)?;
         self.peers.reserve(events.len())?;
         for (i, event) in events.iter().enumerate() {
-            let host = mem::replace(&mut hosts[i], OctetString::new(alloc));
+            let host = hosts[i].take();
             let out = self.step(alloc, event, host);
             outs.push_reserved(out);
         }
@@ -122,7 +123,7 @@ impl Engine {
     }
 
     /// Answers one event. The room for a new peer is there, and its host.
-    fn step(&mut self, alloc: Global, event: &Event, host: OctetString) -> Out
+    fn step(&mut self, alloc: Global, event: &Event, host: Option<Host>) -> Out
         requires room { 0 < self.old.peers.room }
         requires host { host ≡ host_in event.now }
         ensures done { IsTurnDone self.old self.new (record { event = event.now; out = result }) }
@@ -131,7 +132,11 @@ impl Engine {
         same_subscribers_are_equal();
         match event {
             Event::Connect { peer, .. } => {
-                self.peers.set(*peer, Peer::Open { host });
+                self.peers.set(*peer, connected(host));
+                quiet(alloc, *peer)
+            }
+            Event::Disconnect { peer } => {
+                self.peers.remove(*peer);
                 quiet(alloc, *peer)
             }
             Event::TopUp {
@@ -158,37 +163,56 @@ impl Engine {
         ensures room { self.old.peers.room ≤ self.new.peers.room + 1 }
     {
         same_subscribers_are_equal();
-        let is_heard = self.peers.is_open(peer);
-        match receive(is_heard, octets.as_slice()) {
+        let Some(from) = self.peers.get(peer) else {
+            return quiet(alloc, peer);
+        };
+        match receive(from, octets.as_slice()) {
             Heading::Ignored => quiet(alloc, peer),
             Heading::Broken => {
                 self.peers.set(peer, Peer::Closed);
                 closing(alloc, peer)
             }
-            Heading::Message(header) => {
+            Heading::Charging(header) => {
                 let answer = self.respond(alloc, moment, header, octets.as_slice());
                 sending(peer, answer)
+            }
+            Heading::Base(header) => {
+                let (peers, identity) = (&mut self.peers, &self.identity);
+                let reply = peers.reply(alloc, identity, peer, header, octets.as_slice());
+                replying(peer, reply)
             }
         }
     }
 }
 
-/// The hosts of the events that have one, without octets where there is none.
-fn hosts_of(alloc: Global, events: &[Event]) -> Result<Vec<OctetString>, AllocError>
+/// A peer whose connection is made.
+fn connected(host: Option<Host>) -> Peer
+    ensures { result ≡ connected host }
+{
+    match host {
+        Some(host) => Peer::Open(host),
+        None => Peer::Wait,
+    }
+}
+
+/// The hosts of the events, each where there is one.
+fn hosts_of(alloc: Global, events: &[Event]) -> Result<Vec<Option<Host>>, AllocError>
     ensures { IfOk result (λ hosts. hosts.items ≡ map host_in events.now) }
 {
     let mut hosts = Vec::with_capacity(alloc, events.len())?;
     for event in events {
-        hosts.push_reserved(host_of(alloc, event)?);
+        hosts.push_reserved(host_of(event)?);
     }
     Ok(hosts)
 }
 
-fn host_of(alloc: Global, event: &Event) -> Result<OctetString, AllocError>
+fn host_of(event: &Event) -> Result<Option<Host>, AllocError>
     ensures { IfOk result (λ host. host ≡ host_in event.now) }
 {
     match event {
-        Event::Connect { host, .. } => host.copy(),
-        _ => Ok(OctetString::new(alloc)),
+        Event::Connect {
+            host: Some(host), ..
+        } => Ok(Some(host.copy()?)),
+        _ => Ok(None),
     }
 }

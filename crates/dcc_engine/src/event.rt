@@ -1,16 +1,22 @@
 //! What comes to an engine, and what goes out.
 
 use dcc_act::{Moment, Sub};
+use dcc_base::Host;
 use dcc_octets::OctetString;
 use dcc_shard::TopUpAnswer;
 
 /// Something that happens to the server.
 #[derive(Debug, Drop)]
 pub enum Event {
-    /// A peer is there, under this host's name. It is made anew where it was there before, closed or not.
+    /// A peer's connection is made: it is made anew where it was there before, closed or not. With a host the peer is open at
+    /// once under that name; without one it waits for the exchange of capabilities.
     Connect {
         peer: u32,
-        host: OctetString,
+        host: Option<Host>,
+    },
+    /// A peer's connection is gone, and so is the peer.
+    Disconnect {
+        peer: u32,
     },
     /// A whole message of a peer.
     Message {
@@ -30,11 +36,11 @@ pub enum Event {
 /// What an event is answered.
 #[derive(Debug, Drop)]
 pub struct Out {
-    /// The peer that the event named.
+    /// The peer that the event named, if it named one.
     pub peer: Option<u32>,
     /// The answer's octets, none where there is no answer.
     pub octets: OctetString,
-    /// Whether the peer's connection is to be closed.
+    /// Whether the peer's connection is to be closed, behind the answer if there is one.
     pub close: bool,
     /// What a top-up is told.
     pub top_up: Option<TopUpAnswer>,

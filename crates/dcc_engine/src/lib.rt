@@ -1,10 +1,11 @@
 //! The engine: events in, answers out, each subscriber as if alone.
 //!
-//! Stands on `dcc_shard` for a subscriber's step, on `dcc_credit` for requests and on the crates below them. The contract
-//! that it gives is that of `Engine::run`: for every list of events, a subscriber's request is answered with the octets of
-//! the outcome at its place in that subscriber's own entries, or refused with nothing changed; afterwards the subscriber's
-//! acts and money are those of the own entries. The law `isolation` follows: two runs that agree on a subscriber's own
-//! events agree on its answers, octet for octet.
+//! Stands on `dcc_shard` for a subscriber's step, on `dcc_base` for what peers are replied, on `dcc_ccr` and `dcc_credit` for
+//! requests and their refusals, and on the crates below them. The contract that it gives is that of `Engine::run`: for every list of
+//! events, a subscriber's request is answered with the octets of the outcome at its place in that subscriber's own entries, or
+//! refused with nothing changed; afterwards the subscriber's acts and money are those of the own entries. A message of no
+//! subscriber is answered by its definition, from the message and its peer's own events, or refused with nothing changed. The
+//! law `isolation` follows: two runs that agree on a subscriber's own events agree on its answers, octet for octet.
 #![tactic(auto)]
 
 mod engine;
@@ -13,12 +14,14 @@ mod laws;
 mod message;
 mod outs;
 mod peers;
+mod reply;
 mod respond;
+mod verdict;
 
 pub use engine::Engine;
 pub use event::{Event, Out};
 pub use laws::{isolation, runs_in_turn};
-pub use peers::{Peer, PeerRow};
+pub use peers::PeerRow;
 
 #[cfg(test)]
 mod tests;

@@ -1,79 +1,86 @@
-//! A message that brings a request: its header, its list, and what an answer takes over.
+//! A message: what its first octets say of it, its list, and what an answer takes over.
 
-ghost use Rattle.std.specs.Prelude.{◌≡◌, ◌≢◌, ◌≤◌, length, Some, Option, Err, IfOk, OnOk};
-ghost use Rattle.dcc_avp.specs.declared.fault.AvpFault.TheVariants.{Memory};
-ghost use Rattle.dcc_message.specs.Headers.{is_request};
-ghost use Rattle.dcc_message.specs.declared.length.TheConstants.{HEADER_LENGTH, MAX_LENGTH};
-ghost use Rattle.dcc_credit.specs.Requests.{RequestView, act_of};
-ghost use Rattle.dcc_engine.specs.Engines.{is_open};
-ghost use Rattle.dcc_engine.specs.Messages.{message_view, request, session, received_on};
-ghost use Rattle.dcc_engine.specs.inner.Headings.{received_as, layout_fault, IsWhole};
-ghost use Rattle.dcc_engine.specs.declared.peers.Peer.{Peer};
+ghost use Rattle.std.specs.Prelude.{◌≡◌, ◌≤◌, ◌&&◌, [], true, false, length, Ok, Err, Some, IfOk, OnOk, OnErr, MatchBool};
+ghost use Rattle.dcc_message.specs.declared.length.TheConstants.{HEADER_LENGTH};
+ghost use Rattle.dcc_answer.specs.Results.{is_busy};
+ghost use Rattle.dcc_base.specs.Peers.{hears, replied};
+ghost use Rattle.dcc_engine.specs.Asks.{IsBusyOrNothing, is_refusal};
+ghost use Rattle.dcc_engine.specs.Messages.{message_view, session, received, is_charging};
+ghost use Rattle.dcc_request.specs.Layout.{layout_fault};
+ghost use Rattle.dcc_engine.specs.inner.Headings.{received_as, IsHeaded, IsWhole, fault_of};
 
-use dcc_act::{Act, Moment, Sub};
-use dcc_answer::{Proxies, Session, session_id};
+use dcc_answer::{Proxies, Session, session_id, write_busy};
 use dcc_avp::{Avp, AvpFault, read_list};
-use dcc_credit::{CcrFault, read_ccr, subscriber, to_act};
-use dcc_message::{HEADER_LENGTH, Header, read_header};
-use dcc_tariff::Plan;
+use dcc_base::{Peer, Reply};
+use dcc_message::{HEADER_LENGTH, Header, Identity, read_header};
+use dcc_octets::OctetString;
 use std::alloc::{AllocError, Global};
 use std::marker::Model;
 
-/// A message that brings a request: the header, and the list behind it or why that can't be read.
+/// What the first octets of a message say of it.
+pub(crate) enum Heading {
+    /// Nobody is there to receive it.
+    Ignored,
+    /// It is no message.
+    Broken,
+    /// It is a credit-control request, under this header.
+    Charging(Header),
+    /// It is any other message, under this header.
+    Base(Header),
+}
+
+/// What a message to a peer is.
+#[tactic(auto, unfolding(crate::specs::Messages::received))]
+pub(crate) fn receive(peer: &Peer, octets: &[u8]) -> Heading
+    ensures received { received peer.now octets.now ≡ received_as peer.now result octets.now }
+    ensures whole { IsHeaded result octets.now }
+{
+    if matches!(peer, Peer::Closed) {
+        return Heading::Ignored;
+    }
+    match read_header(octets) {
+        Err(_) => Heading::Broken,
+        Ok(header) if is_charging(peer, &header) => Heading::Charging(header),
+        Ok(header) => Heading::Base(header),
+    }
+}
+
+/// Whether a message is a credit-control request to a peer that is open, who doesn't hear it.
+fn is_charging(peer: &Peer, header: &Header) -> bool
+    ensures { result ≡ is_charging peer.now header.now }
+{
+    matches!(peer, Peer::Open(_)) && header.is_request() && !peer.hears(header)
+}
+
+/// A message: the header, and the list behind it or why that can't be read.
 #[derive(Drop)]
 pub(crate) struct Message<'a> {
     pub(crate) header: Header,
-    list: Result<Vec<Avp<'a>>, AvpFault>,
+    pub(crate) list: Result<Vec<Avp<'a>>, AvpFault>,
     pub(crate) proxies: Proxies,
 }
 
 impl<'a> Model for Message<'a> {
-    ghost use Rattle.std.specs.Prelude.{◌≡◌, Ok, Err};
+    ghost use Rattle.std.specs.Prelude.{◌≡◌};
     ghost use Rattle.dcc_engine.specs.Messages.{MessageView, proxies_of_list};
-    ghost use Rattle.dcc_engine.specs.inner.Headings.{list_with};
+    ghost use Rattle.dcc_engine.specs.inner.Headings.{list_with, IsListed};
 
     ghost Value = { MessageView };
 
     ghost view = { λ m. record { header = m.header; list = list_with (λ avps. avps.items) m.list } };
 
-    ghost invariant = { λ m. m.proxies ≡ proxies_of_list (list_with (λ avps. avps.items) m.list) };
-}
-
-/// What the first octets of a message say of it.
-pub(crate) enum Heading {
-    /// It has no answer.
-    Ignored,
-    /// It is no message.
-    Broken,
-    /// It brings a request, under this header.
-    Message(Header),
-}
-
-/// What a message of a peer is, who is heard only where it is open.
-#[tactic(auto, unfolding(crate::specs::Messages::received))]
-pub(crate) fn receive(is_heard: bool, octets: &[u8]) -> Heading
-    ensures received { (peer : Option Peer) → is_open peer ≡ is_heard → received_on peer octets.now ≡ received_as result octets.now }
-    ensures whole { IsWhole result octets.now }
-{
-    if !is_heard {
-        return Heading::Ignored;
-    }
-    match read_header(octets) {
-        Err(_) => Heading::Broken,
-        Ok(header) if header.is_request() => Heading::Message(header),
-        Ok(_) => Heading::Ignored,
-    }
+    ghost invariant = { λ m. (m.proxies ≡ proxies_of_list (list_with (λ avps. avps.items) m.list))
+      × IsListed (λ avps. avps.items) m.list };
 }
 
 impl<'a> Message<'a> {
-    /// Reads a message behind its header, from all its octets.
+    /// Reads a message behind its header, from all its octets. The only error is want of memory.
     pub(crate) fn read(
         alloc: Global,
         header: Header,
         octets: &'a [u8],
     ) -> Result<Message<'a>, AllocError>
-        requires least { HEADER_LENGTH ≤ length octets.now }
-        requires most { length octets.now ≤ MAX_LENGTH }
+        requires { IsWhole octets.now }
         ensures { IfOk result (λ message. message ≡ message_view header octets.now) }
     {
         match read_list(alloc, &octets[HEADER_LENGTH..]) {
@@ -89,13 +96,13 @@ impl<'a> Message<'a> {
         }
     }
 
-    /// A message whose list can't be read, or want of memory where that was the fault.
+    /// A message whose list can't be read, or want of memory where that was the fault. The size of a number is none of a list.
     fn unread(alloc: Global, header: Header, fault: AvpFault) -> Result<Message<'a>, AllocError>
-        ensures message { IfOk result (λ message. message ≡ record { header = header; list = Err (layout_fault fault) }) }
-        ensures memory { OnOk result (fault ≢ Memory) }
+        ensures message { IfOk result (λ message. message ≡ record { header = header; list = Err (fault_of fault) }) }
+        ensures layout { OnOk result (layout_fault fault ≡ Some (fault_of fault)) }
     {
         match fault {
-            AvpFault::Memory => Err(AllocError),
+            AvpFault::Memory | AvpFault::WrongSize => Err(AllocError),
             _ => Ok(Message {
                 header,
                 list: Err(fault),
@@ -105,7 +112,7 @@ impl<'a> Message<'a> {
     }
 
     /// The Session-Id that a busy answer takes over.
-    pub(crate) fn session(&self) -> Option<Session<'a>>
+    fn session(&self) -> Option<Session<'a>>
         ensures { result ≡ session self.now }
     {
         match &self.list {
@@ -114,21 +121,34 @@ impl<'a> Message<'a> {
         }
     }
 
-    /// Whose account the request is for, and the act that it asks for at a moment.
-    pub(crate) fn ask(
+    /// The busy answer, or nothing where memory is short for it too.
+    pub(crate) fn busy(&self, alloc: Global, identity: &Identity) -> OctetString
+        ensures busy { IsBusyOrNothing identity.now self.now result }
+        ensures refused { is_refusal result ≡ true }
+    {
+        let (session, proxies) = (self.session(), &self.proxies);
+        match write_busy(alloc, identity, session, &self.header, proxies) {
+            Ok(octets) => OctetString::from_vec(octets),
+            Err(_) => OctetString::new(alloc),
+        }
+    }
+
+    /// What a peer replies to it. The only error is want of memory, and then the peer is as it was.
+    pub(crate) fn put_to(
         &self,
         alloc: Global,
-        plan: &Plan,
-        moment: Moment,
-    ) -> Result<(Sub, Act), CcrFault>
-        ensures { IfOk result (λ asked. (found : RequestView) × (request self.now ≡ Some found)
-            × (session self.now ≡ Some found.key.sid) × (asked.0 ≡ found.sub) × (asked.1 ≡ act_of plan.now found moment)) }
+        identity: &Identity,
+        peer: &mut Peer,
+    ) -> Result<Reply, AllocError>
+        ensures ok { IfOk result (λ reply. (reply, peer.new) ≡ replied identity.now peer.old self.now.header self.now.list) }
+        ensures err { OnErr result (peer.new ≡ peer.old) }
+        ensures busy { IfOk result (λ reply. is_busy reply.octets ≡ false) }
+        ensures some { IfOk result (λ reply. MatchBool (hears peer.old self.now.header)
+            (HEADER_LENGTH ≤ length reply.octets) (reply.octets ≡ [])) }
     {
-        let Ok(avps) = &self.list else {
-            return Err(CcrFault::Later);
-        };
-        let found = read_ccr(alloc, &self.header, avps)?;
-        let act = to_act(alloc, plan, &found, moment)?;
-        Ok((subscriber(&found), act))
+        match &self.list {
+            Ok(avps) => peer.take(alloc, identity, &self.header, avps),
+            Err(fault) => peer.take_unread(alloc, identity, &self.header, fault),
+        }
     }
 }

@@ -1,9 +1,10 @@
 //! Outs.
 
 ghost use Rattle.std.specs.Prelude.{◌≡◌, [], Some};
-ghost use Rattle.dcc_engine.specs.Asks.{out_octets, out_close, out_top_up};
+ghost use Rattle.dcc_engine.specs.Asks.{out_octets, out_reply, out_close, out_top_up};
 
 use crate::event::Out;
+use dcc_base::Reply;
 use dcc_octets::OctetString;
 use dcc_shard::TopUpAnswer;
 use std::alloc::Global;
@@ -25,6 +26,18 @@ pub(crate) fn quiet(alloc: Global, peer: u32) -> Out
     ensures { result ≡ out_octets (Some peer) [] }
 {
     sending(peer, OctetString::new(alloc))
+}
+
+/// An out of what a peer is replied.
+pub(crate) fn replying(peer: u32, reply: Reply) -> Out
+    ensures { result ≡ out_reply peer reply }
+{
+    Out {
+        peer: Some(peer),
+        octets: reply.octets,
+        close: reply.close,
+        top_up: None,
+    }
 }
 
 /// An out that closes a connection.

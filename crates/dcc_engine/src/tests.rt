@@ -2,6 +2,7 @@
 
 use super::*;
 use dcc_act::{Moment, Sub};
+use dcc_base::Host;
 use dcc_message::{DiameterIdentity, Identity};
 use dcc_octets::OctetString;
 use dcc_samples::{ANSWER, BUSY, DEBIT, PLAN};
@@ -32,7 +33,7 @@ fn moment() -> Result<Moment, Fail> {
 fn events(alloc: Global) -> Result<Vec<Event>, Fail> {
     let connect = Event::Connect {
         peer: 1,
-        host: OctetString::from_vec(b"gw1.example".to_vec(alloc)?),
+        host: Host::from_octets(OctetString::from_vec(b"gw1.example".to_vec(alloc)?)),
     };
     let top_up = Event::TopUp {
         moment: moment()?,

@@ -1,20 +1,33 @@
 -- The events of a script.
 use Rattle.std.specs.Prelude.{◌≡◌, ℕ, ◌+◌, Bool, true, ◌==◌, if◌then◌else◌, List, [], ◌∷◌, bytes_eq, codes, Option, Some, None, Result, Ok}
 use Rattle.std.specs.Prelude.{Err}
-use Rattle.dcc_credit.specs.Requests.{◌>>=◌}
 use Rattle.dcc_engine.specs.declared.event.Event.{Event}
-use Rattle.dcc_engine.specs.declared.event.Event.TheVariants.{Connect, Message, TopUp}
+use Rattle.dcc_engine.specs.declared.event.Event.TheVariants.{Connect, Disconnect, Message, TopUp}
 use Rattle.dcc_replay.specs.declared.script.ScriptFault.{ScriptFault}
 use Rattle.dcc_replay.specs.declared.script.ScriptFault.TheVariants.{Line, Memory}
-use Rattle.dcc_replay.specs.Words.{lines_of, words_of, peer, any_u64, moment, host, hex_octets, sub}
+use Rattle.dcc_replay.specs.Words.{◌>>=◌, lines_of, words_of, peer, any_u64, moment, host, hex_octets, sub}
+
+-- `connect P`
+unfoldable pub connected : List (List ℕ) → Option Event
+connected (p ∷ []) = do
+  id ← peer p
+  Some (Connect id None)
+connected _ = None
 
 -- `open P HOST`
 unfoldable pub opened : List (List ℕ) → Option Event
 opened (p ∷ h ∷ []) = do
   id ← peer p
   name ← host h
-  Some (Connect id name)
+  Some (Connect id (Some name))
 opened _ = None
+
+-- `disconnect P`
+unfoldable pub disconnected : List (List ℕ) → Option Event
+disconnected (p ∷ []) = do
+  id ← peer p
+  Some (Disconnect id)
+disconnected _ = None
 
 -- `message P MOMENT HEX`
 unfoldable pub arrived : List (List ℕ) → Option Event
@@ -35,13 +48,15 @@ topped_up (m ∷ s ∷ t ∷ a ∷ []) = do
   Some (TopUp when who ticket amount)
 topped_up _ = None
 
--- the event of a line's words, if they have one of the three forms
+-- the event of a line's words, if they have one of the five forms
 unfoldable pub event_of : List (List ℕ) → Option Event
 event_of [] = None
 event_of (verb ∷ words) =
-    if bytes_eq verb (codes "open") then opened words
+    if bytes_eq verb (codes "connect") then connected words
+    else (if bytes_eq verb (codes "open") then opened words
+    else (if bytes_eq verb (codes "disconnect") then disconnected words
     else (if bytes_eq verb (codes "message") then arrived words
-    else (if bytes_eq verb (codes "topup") then topped_up words else None))
+    else (if bytes_eq verb (codes "topup") then topped_up words else None))))
 
 -- a line without an event: it is empty, or begins with #
 abbrev pub is_remark : List ℕ → Bool

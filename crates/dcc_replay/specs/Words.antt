@@ -9,7 +9,12 @@ use Rattle.hex.specs.declared.error.FromHexError.{FromHexError}
 use Rattle.dcc_octets.specs.Names.{is_short}
 use Rattle.dcc_tariff.specs.declared.limits.TheConstants.{LAST_SECOND}
 use Rattle.dcc_act.specs.Subs.{SubView, is_sub}
-use Rattle.dcc_credit.specs.Requests.{where_, ◌>>=◌}
+
+-- one step after another, up to the first that gives nothing
+infixl 10 ◌>>=◌
+abbrev pub ◌>>=◌ : {A B : Type 0} → Option A → (A → Option B) → Option B
+(Some x) >>= f = f x
+None >>= f = None
 
 -- the lines of a text: what stands between its line feeds
 abbrev pub lines_of : List ℕ → List (List ℕ)
@@ -40,7 +45,7 @@ moment word = number LAST_SECOND word
 
 -- a host's name: any word of 1 to 255 octets
 abbrev pub host : List ℕ → Option (List ℕ)
-host word = where_ (is_short word) word
+host word = if is_short word then Some word else None
 
 -- octets of a message: 1 to 65,536
 abbrev pub sized : Result (List ℕ) FromHexError → Option (List ℕ)
@@ -53,7 +58,7 @@ hex_octets word = sized (decode_of word)
 
 -- the subscriber of a type and data: a known type, and 1 to 64 octets of visible ASCII
 unfoldable pub known_sub : List ℕ → ℕ → Option SubView
-known_sub name kind = where_ (is_sub kind name) (record { kind = kind; name = name })
+known_sub name kind = if is_sub kind name then Some (record { kind = kind; name = name }) else None
 
 -- a subscriber: its type and its data, with a colon between, the word's first
 unfoldable pub sub : List ℕ → Option SubView

@@ -1,7 +1,7 @@
 //! The events of a script.
 
 ghost use Rattle.std.specs.Prelude.{◌≡◌, ◌<◌, map, length, IfOk, IfErr, OnOk, Ok, Err, ◌⊎◌};
-ghost use Rattle.dcc_replay.specs.Scripts.{opened, arrived, topped_up, event_of, is_remark, script_of, IsFaultOf};
+ghost use Rattle.dcc_replay.specs.Scripts.{connected, opened, disconnected, arrived, topped_up, event_of, is_remark, script_of, IsFaultOf};
 ghost use Rattle.dcc_replay.specs.Words.{words_of};
 ghost use Rattle.dcc_replay.specs.declared.script.ScriptFault.TheVariants as fault;
 
@@ -79,11 +79,27 @@ fn event_of(alloc: Global, words: &[&[u8]]) -> Result<Option<Event>, AllocError>
         return Ok(None);
     };
     match *verb {
+        b"connect" => Ok(connected(words)),
         b"open" => opened(alloc, words),
+        b"disconnect" => Ok(disconnected(words)),
         b"message" => arrived(alloc, words),
         b"topup" => Ok(topped_up(words)),
         _ => Ok(None),
     }
+}
+
+/// `connect P`
+#[tactic(auto, unfolding(crate::specs::Scripts::connected))]
+fn connected(words: &[&[u8]]) -> Option<Event>
+    ensures { result ≡ connected (map (λ word. word.now) words.now) }
+{
+    let [word] = words else {
+        return None;
+    };
+    Some(Event::Connect {
+        peer: peer(word)?,
+        host: None,
+    })
 }
 
 /// `open P HOST`
@@ -100,7 +116,21 @@ fn opened(alloc: Global, words: &[&[u8]]) -> Result<Option<Event>, AllocError>
     let Some(host) = host(alloc, second)? else {
         return Ok(None);
     };
-    Ok(Some(Event::Connect { peer, host }))
+    Ok(Some(Event::Connect {
+        peer,
+        host: Some(host),
+    }))
+}
+
+/// `disconnect P`
+#[tactic(auto, unfolding(crate::specs::Scripts::disconnected))]
+fn disconnected(words: &[&[u8]]) -> Option<Event>
+    ensures { result ≡ disconnected (map (λ word. word.now) words.now) }
+{
+    let [word] = words else {
+        return None;
+    };
+    Some(Event::Disconnect { peer: peer(word)? })
 }
 
 /// `message P MOMENT HEX`

@@ -6,7 +6,8 @@ ghost use Rattle.std.specs.Char.{is_ascii_digit};
 ghost use Rattle.dcc_replay.specs.Words.{number, peer, any_u64, moment, host, hex_octets, known_sub, sub};
 
 use dcc_act::{Moment, Sub};
-use dcc_octets::{OctetString, is_short};
+use dcc_base::Host;
+use dcc_octets::OctetString;
 use dcc_tariff::LAST_SECOND;
 use hex::FromHexError;
 use std::alloc::{AllocError, Global};
@@ -67,13 +68,11 @@ pub(crate) fn moment(word: &[u8]) -> Option<Moment>
 }
 
 /// A host's name: any word of 1 to 255 octets.
-pub(crate) fn host(alloc: Global, word: &[u8]) -> Result<Option<OctetString>, AllocError>
+pub(crate) fn host(alloc: Global, word: &[u8]) -> Result<Option<Host>, AllocError>
     ensures { IfOk result (λ name. name ≡ host word.now) }
 {
-    if !is_short(word) {
-        return Ok(None);
-    }
-    Ok(Some(OctetString::from_vec(Vec::from_slice(alloc, word)?)))
+    let name = Vec::from_slice(alloc, word)?;
+    Ok(Host::from_octets(OctetString::from_vec(name)))
 }
 
 /// Octets in hex digits of either case, 1 to 65,536.

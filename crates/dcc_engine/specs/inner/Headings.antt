@@ -1,37 +1,53 @@
 -- What the first octets of a message say of it.
-use Rattle.std.specs.Prelude.{ℕ, ◌≤◌, List, length, Result, Ok, Err}
-use Rattle.dcc_avp.specs.Spelling.{AvpView}
+use Rattle.std.specs.Prelude.{◌≡◌, ℕ, ◌≤◌, ◌+◌, ◌%◌, List, length, Result, Ok, Err, Some}
+use Rattle.std.specs.List.{sum_by}
+use Rattle.dcc_avp.specs.Spelling.{AvpView, padded_len}
 use Rattle.dcc_avp.specs.Reading.{FaultView}
 use Rattle.dcc_avp.specs.Reading.FaultView.{Short, LengthBelowHeader, LengthPastEnd}
 use Rattle.dcc_avp.specs.declared.fault.AvpFault.{AvpFault}
 use Rattle.dcc_avp.specs.declared.fault.AvpFault.TheVariants as faults
 use Rattle.dcc_message.specs.declared.length.TheConstants.{HEADER_LENGTH, MAX_LENGTH}
+use Rattle.dcc_request.specs.Layout.{layout_fault}
+use Rattle.dcc_base.specs.declared.peer.Peer.{Peer}
 use Rattle.dcc_engine.specs.Messages.{Received, message_view}
-use Rattle.dcc_engine.specs.Messages.Received.{Ignored, Broken, Message}
+use Rattle.dcc_engine.specs.Messages.Received.{Ignored, Broken, Charging, Base}
 use Rattle.dcc_engine.specs.declared.message.Heading.{Heading}
 use Rattle.dcc_engine.specs.declared.message.Heading.TheVariants as headings
 
--- the message that it heads
-abbrev pub received_as : Heading → List ℕ → Received
-received_as headings.Ignored octets = Ignored
-received_as headings.Broken octets = Broken
-received_as (headings.Message header) octets = Message (message_view header octets)
+-- the message to a peer that it heads
+abbrev pub received_as : Peer → Heading → List ℕ → Received
+received_as peer headings.Ignored octets = Ignored
+received_as peer headings.Broken octets = Broken
+received_as peer (headings.Charging header) octets = Charging (message_view header octets)
+received_as peer (headings.Base header) octets = Base peer (message_view header octets)
 
--- a message that brings a request has a header at least, and is no longer than a message may be
-abbrev pub IsWhole : Heading → List ℕ → Type 0
-IsWhole headings.Ignored octets = Unit {0}
-IsWhole headings.Broken octets = Unit {0}
-IsWhole (headings.Message header) octets = (HEADER_LENGTH ≤ length octets) × (length octets ≤ MAX_LENGTH)
+-- a message has a header at least, no more octets than it may have, and whole words of four
+pub record IsWhole (octets : List ℕ) : Type 0 where
+  pub least : HEADER_LENGTH ≤ length octets
+  pub most : length octets ≤ MAX_LENGTH
+  pub words : length octets % 4 ≡ 0
 
--- the fault of a list's layout; the other two say nothing of a list
-abbrev pub layout_fault : AvpFault → FaultView
-layout_fault (faults.Short code flags) = Short code flags
-layout_fault (faults.LengthBelowHeader code flags) = LengthBelowHeader code flags
-layout_fault (faults.LengthPastEnd code flags) = LengthPastEnd code flags
-layout_fault faults.WrongSize = Short 0 0
-layout_fault faults.Memory = Short 0 0
+-- as one has that is headed
+abbrev pub IsHeaded : Heading → List ℕ → Type 0
+IsHeaded headings.Ignored octets = Unit {0}
+IsHeaded headings.Broken octets = Unit {0}
+IsHeaded (headings.Charging header) octets = IsWhole octets
+IsHeaded (headings.Base header) octets = IsWhole octets
+
+-- what a fault says of a list's layout; the last two say nothing, and no message has them
+abbrev pub fault_of : AvpFault → FaultView
+fault_of (faults.Short code flags) = Short code flags
+fault_of (faults.LengthBelowHeader code flags) = LengthBelowHeader code flags
+fault_of (faults.LengthPastEnd code flags) = LengthPastEnd code flags
+fault_of faults.WrongSize = Short 0 0
+fault_of faults.Memory = Short 0 0
 
 -- the list that was read, seen by view, or its fault
 abbrev pub list_with : {X : Type 0} → (X → List AvpView) → Result X AvpFault → Result (List AvpView) FaultView
 list_with view (Ok avps) = Ok (view avps)
-list_with view (Err fault) = Err (layout_fault fault)
+list_with view (Err fault) = Err (fault_of fault)
+
+-- with its padding, what was read fits a message behind a header; and the fault is one of layout
+abbrev pub IsListed : {X : Type 0} → (X → List AvpView) → Result X AvpFault → Type 0
+IsListed view (Ok avps) = HEADER_LENGTH + sum_by padded_len (view avps) ≤ MAX_LENGTH
+IsListed view (Err fault) = layout_fault fault ≡ Some (fault_of fault)

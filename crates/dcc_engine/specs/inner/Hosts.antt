@@ -1,10 +1,11 @@
 -- The hosts that a run keeps.
-use Rattle.std.specs.Prelude.{ℕ, List, []}
+use Rattle.std.specs.Prelude.{ℕ, List, Option, None}
 use Rattle.dcc_engine.specs.declared.event.Event.{Event}
 use Rattle.dcc_engine.specs.declared.event.Event.TheVariants as events
 
 -- the host of an event that has one
-abbrev pub host_of : Event → List ℕ
+abbrev pub host_of : Event → Option (List ℕ)
 host_of (events.Connect peer host) = host
-host_of (events.Message peer moment octets) = []
-host_of (events.TopUp moment sub ticket amount) = []
+host_of (events.Disconnect peer) = None
+host_of (events.Message peer moment octets) = None
+host_of (events.TopUp moment sub ticket amount) = None

@@ -1,4 +1,4 @@
-use Rattle.std.proofs.Common.{◌≡◌, ◌∷◌, [], ◌+◌, length, take, reverse, subst, ap, ◌∙◌, arith, List, ℕ}
+use Rattle.std.proofs.Common.{◌≡◌, ◌∷◌, ◌+◌, length, take, reverse, subst, ap, ◌∙◌, arith, List, ℕ, None}
 use Rattle.std.proofs.lemmas.List.{take_all, length_push, get_or-set_other, length-set}
 use Rattle.dcc_engine.specs.declared.event.Event.{Event}
 use Rattle.dcc_engine.specs.declared.event.Out.{Out}
@@ -36,6 +36,6 @@ loop-i-preserved c =
       stands = rw more (turn_stands stable start now c.step-out.new.self past turn h.stands c.step-out.ensures.done);
       room = omega arith;
       outs = omega arith;
-      hosts_count = length-set c.loop-i.hosts.items i c.replace-host.new.dest ∙ h.hosts_count;
-      hosts = λ k le. get_or-set_other c.loop-i.hosts.items i k c.replace-host.new.dest [] (λ at. absurd (omega arith)) ∙ h.hosts k (omega arith);
+      hosts_count = length-set c.loop-i.hosts.items i c.take-host.new.self ∙ h.hosts_count;
+      hosts = λ k le. get_or-set_other c.loop-i.hosts.items i k c.take-host.new.self None (λ at. absurd (omega arith)) ∙ h.hosts k (omega arith);
     }

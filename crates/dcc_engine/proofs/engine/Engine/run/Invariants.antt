@@ -1,4 +1,4 @@
-use Rattle.std.proofs.Common.{◌≡◌, ◌+◌, ◌≤◌, ℕ, [], length, map, take, reverse, get_or, vec_capacity}
+use Rattle.std.proofs.Common.{◌≡◌, ◌+◌, ◌≤◌, ℕ, length, map, take, reverse, get_or, vec_capacity, None}
 use Rattle.dcc_engine.specs.inner.Hosts.{host_of}
 use Rattle.dcc_engine.specs.Isolation.{turns}
 use Rattle.dcc_engine.proofs.Pasts.{IsPast}
@@ -16,5 +16,5 @@ invariant-loop-i l =
       room : length l.events ≤ l.i + l.self.peers.room;
       outs : length l.events ≤ vec_capacity l.outs;
       hosts_count : length l.hosts.items ≡ length l.events;
-      hosts : (k : ℕ) → l.i ≤ k → get_or l.hosts.items k [] ≡ get_or (map host_of l.events) k [];
+      hosts : (k : ℕ) → l.i ≤ k → get_or l.hosts.items k None ≡ get_or (map host_of l.events) k None;
     }

@@ -1,0 +1,46 @@
+//! What a peer is replied to a message of the base protocol.
+
+ghost use Rattle.std.specs.Prelude.{◌≡◌, false};
+ghost use Rattle.dcc_engine.specs.Messages.{message_view};
+ghost use Rattle.dcc_engine.specs.inner.Headings.{IsWhole};
+ghost use Rattle.dcc_engine.specs.inner.Turns.{IsReplied};
+
+use crate::message::Message;
+use dcc_base::{Peer, Reply};
+use dcc_message::{Header, Identity};
+use dcc_octets::OctetString;
+use std::alloc::Global;
+
+/// What a peer replies to a message, of all its octets. One that isn't heard is passed over before its list is read; one that is
+/// heard is answered, or for want of memory busy or by nothing, and then the peer is as it was.
+pub(crate) fn reply_to(
+    alloc: Global,
+    identity: &Identity,
+    peer: &mut Peer,
+    header: Header,
+    octets: &[u8],
+) -> Reply
+    requires { IsWhole octets.now }
+    ensures { IsReplied identity.now peer.old peer.new (message_view header octets.now) result }
+{
+    if !peer.hears(&header) {
+        return peer.pass_over(alloc);
+    }
+    let Ok(message) = Message::read(alloc, header, octets) else {
+        return refusing(OctetString::new(alloc));
+    };
+    match message.put_to(alloc, identity, peer) {
+        Ok(reply) => reply,
+        Err(_) => refusing(message.busy(alloc, identity)),
+    }
+}
+
+/// The reply of a busy answer, or of nothing, behind which the connection stays.
+fn refusing(octets: OctetString) -> Reply
+    ensures { result ≡ record { octets = octets; close = false } }
+{
+    Reply {
+        octets,
+        close: false,
+    }
+}

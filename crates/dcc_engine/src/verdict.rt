@@ -1,0 +1,78 @@
+//! What a credit-control message comes to.
+
+ghost use Rattle.std.specs.Prelude.{◌≡◌, IfOk};
+ghost use Rattle.dcc_credit.specs.Acts.{act_of};
+ghost use Rattle.dcc_engine.specs.Verdicts.{asks, verdict_of};
+ghost use Rattle.dcc_engine.specs.inner.Turns.{IsVerdict};
+
+use crate::message::Message;
+use dcc_act::{Act, Moment, Sub};
+use dcc_ccr::{Request, read_ccr, subscriber};
+use dcc_credit::{ActFault, to_act, write_refusal, write_unread};
+use dcc_message::Identity;
+use dcc_octets::OctetString;
+use dcc_request::Stop;
+use dcc_tariff::Plan;
+use std::alloc::{AllocError, Global};
+
+/// What a credit-control message comes to.
+#[derive(Drop)]
+pub enum Verdict {
+    /// Its subscriber's account is asked for an act.
+    Asks { sub: Sub, act: Act },
+    /// It is refused for what it says, by these octets.
+    Refused(OctetString),
+    /// It asks for what isn't served yet.
+    Unserved,
+}
+
+impl<'a> Message<'a> {
+    /// What a credit-control message comes to at a moment. The only error is want of memory.
+    #[tactic(auto, unfolding(crate::specs::Verdicts::verdict_of))]
+    pub(crate) fn verdict(
+        &self,
+        alloc: Global,
+        plan: &Plan,
+        identity: &Identity,
+        moment: Moment,
+    ) -> Result<Verdict, AllocError>
+        ensures value { IfOk result (λ verdict. verdict ≡ verdict_of (record { plan = plan.now; identity = identity.now }) moment self.now) }
+        ensures known { IfOk result (λ verdict. IsVerdict self.now verdict) }
+    {
+        let avps = match &self.list {
+            Ok(avps) => avps,
+            Err(fault) => {
+                let refusal = write_unread(alloc, identity, &self.header, fault)?;
+                return Ok(Verdict::Refused(OctetString::from_vec(refusal)));
+            }
+        };
+        match read_ccr(alloc, avps) {
+            Ok(request) => asked(alloc, plan, &request, moment),
+            Err(Stop::Refused(refused)) => {
+                let (header, proxies) = (&self.header, &self.proxies);
+                let refusal = write_refusal(alloc, identity, header, avps, proxies, &refused)?;
+                Ok(Verdict::Refused(OctetString::from_vec(refusal)))
+            }
+            Err(Stop::Memory) => Err(AllocError),
+        }
+    }
+}
+
+/// What a request asks of its subscriber's account, where that is served.
+fn asked(
+    alloc: Global,
+    plan: &Plan,
+    request: &Request<'_>,
+    moment: Moment,
+) -> Result<Verdict, AllocError>
+    ensures { IfOk result (λ verdict. verdict ≡ asks request.now (act_of plan.now request.now moment)) }
+{
+    match to_act(alloc, plan, request, moment) {
+        Ok(act) => Ok(Verdict::Asks {
+            sub: subscriber(request),
+            act,
+        }),
+        Err(ActFault::Later) => Ok(Verdict::Unserved),
+        Err(ActFault::Memory) => Err(AllocError),
+    }
+}
