@@ -7,8 +7,8 @@ use Rattle.dcc_ccr.specs.Requests.{RequestView}
 use Rattle.dcc_ccr.specs.Services as requests
 use Rattle.dcc_ccr.specs.declared.request_type.RequestType.{RequestType}
 use Rattle.dcc_ccr.specs.declared.request_type.RequestType.TheVariants.{Initial, Update, Termination, Event}
-use Rattle.dcc_ccr.specs.declared.request_type.RequestedAction.TheVariants.{DirectDebiting, RefundAccount, CheckBalance, PriceEnquiry}
-use Rattle.dcc_credit.specs.Acts.{act_of, act_for, debit_of}
+use Rattle.dcc_act.specs.declared.one_time_event.Action.{Action}
+use Rattle.dcc_credit.specs.Acts.{act_of, act_for, event_of}
 use Rattle.dcc_model.specs.Keys.{request_key}
 use Rattle.dcc_shard.specs.Answers.{session_of_act}
 use Rattle.dcc_engine.specs.Messages as messages
@@ -21,19 +21,17 @@ abbrev pub HasKey : List ℕ → Option Act → Type 0
 HasKey session None = Unit {0}
 HasKey session (Some act) = (session_of_act act ≡ Some session) × (is_some (request_key act.kind) ≡ true)
 
-debit_has : (plan : PlanView) (moment : ℕ) (request : RequestView) (services : List requests.ServiceView) → HasKey request.session (debit_of plan moment request services)
-debit_has plan moment request [] = tt
-debit_has plan moment request (service ∷ []) = (refl, refl)
-debit_has plan moment request (service ∷ other ∷ others) = tt
+event_has : (plan : PlanView) (moment : ℕ) (request : RequestView) (action : Action) (services : List requests.ServiceView)
+    → HasKey request.session (event_of plan moment request action services)
+event_has plan moment request action [] = tt
+event_has plan moment request action (service ∷ []) = (refl, refl)
+event_has plan moment request action (service ∷ other ∷ others) = tt
 
 act_has : (plan : PlanView) (moment : ℕ) (request : RequestView) (type : RequestType) → HasKey request.session (act_for plan moment request type)
 act_has plan moment request Initial = tt
 act_has plan moment request Update = tt
 act_has plan moment request Termination = tt
-act_has plan moment request (Event DirectDebiting) = debit_has plan moment request request.services
-act_has plan moment request (Event RefundAccount) = tt
-act_has plan moment request (Event CheckBalance) = tt
-act_has plan moment request (Event PriceEnquiry) = tt
+act_has plan moment request (Event action) = event_has plan moment request action request.services
 
 known_with : (message : MessageView) (request : RequestView) (act : Option Act) → messages.session message ≡ Some request.session → HasKey request.session act → IsVerdict message (asks request act)
 known_with message request None session has = tt

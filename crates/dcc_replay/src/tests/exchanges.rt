@@ -6,12 +6,12 @@
 //! once; `cer/..` and `cea/5010/..` for a capabilities exchange; `raw/..` for a message of any header, whose length is put in.
 
 use super::prints;
-use dcc_samples::DEBIT;
+use dcc_samples::{DEBIT, PROXY_INFO};
 use std::alloc::Global;
 use std::test::Fail;
 
 /// Names that stand in rows for AVPs.
-const NAMED: [(&str, &str); 16] = [
+const NAMED: [(&str, &str); 17] = [
     // Of a gateway: its name, and what it tells of itself beside it.
     (
         "gateway",
@@ -49,6 +49,7 @@ const NAMED: [(&str, &str); 16] = [
         "session",
         "00000107400000176777312e6578616d706c653b313b3100",
     ),
+    ("proxy", PROXY_INFO),
     // The actions of events, the subscriber, what is asked for, and what is granted.
     ("debit", "000001b44000000c00000000"),
     ("refund", "000001b44000000c00000001"),
@@ -74,7 +75,7 @@ const NAMED: [(&str, &str); 16] = [
     ),
 ];
 
-const ROWS: [(&str, &str); 14] = [
+const ROWS: [(&str, &str); 15] = [
     // A watchdog is answered, and answers are ignored.
     (
         "open 1 gw1.example\nmessage 1 0 dwr\nmessage 1 0 dwa\n",
@@ -108,6 +109,16 @@ message 1 0 raw/c0000110000000040000001100000021/request+000001a04000000c0000000
         "1 -\n2 answer 1 cea/5014/00000117400000100000010840000008\n2 close 1\n3 -\n\
 4 answer 1 raw/00000118000000000000000100000002/0000010c4000000c00001396+server+00000117400000100000012840000008\n\
 5 answer 1 raw/40000110000000040000001100000021/session+0000010c4000000c00001396+server+000001024000000c00000004000001a04000000c0000000400000117400000140000019f4000000b00000000\n",
+    ),
+    // Of a list that can't be read an answer copies nothing, neither a Session-Id nor a Proxy-Info in front of the broken AVP.
+    (
+        "open 1 gw1.example\n\
+message 1 0 raw/c0000110000000040000001100000021/0000010740000064\n\
+message 1 0 raw/c0000110000000040000001100000021/proxy+0000010740000064\n\
+message 1 0 raw/40000110000000040000001100000021/\n",
+        "1 -\n\
+2 answer 1 raw/40000110000000040000001100000021/0000010c4000000c00001396+server+app+00000117400000100000010740000008\n\
+3 answer 1 raw/40000110000000040000001100000021/0000010c4000000c00001396+server+app+00000117400000100000010740000008\n4 -\n",
     ),
     // The E bit on a request, another application, another command: the peer stays open.
     (

@@ -1,7 +1,7 @@
 //! Messages of a gateway and their answers, in hex: the samples, and others in what differs from a sample. Header and AVPs are
 //! laid out as RFC 6733, sections 3 and 4.1, say.
 
-use dcc_samples::{ANSWER, BUSY, DEBIT, PROXY_INFO};
+use dcc_samples::{ANSWER, DEBIT, PROXY_INFO};
 use std::alloc::Global;
 use std::test::Fail;
 
@@ -158,15 +158,4 @@ pub(crate) fn refused(alloc: Global, number: u32, code: u64) -> Result<String, F
     let names = part(ANSWER, ORIGIN, ANSWERED)?;
     let avps = format!(in alloc; "{result}{code:08x}{names}{number:08x}")?;
     under_one(alloc, "40", avps.as_str())
-}
-
-/// The busy answer without anything of its request, behind its length.
-pub(crate) fn bare_busy(alloc: Global, header: &str) -> Result<String, Fail> {
-    Ok(format!(in alloc; "01000044{header}{}", rest(BUSY, NAMES)?)?)
-}
-
-/// A request with these AVPs and then a Session-Id that ends behind the message.
-pub(crate) fn broken(alloc: Global, avps: &str) -> Result<String, Fail> {
-    let avps = format!(in alloc; "{avps}0000010740000064")?;
-    under_one(alloc, "c0", avps.as_str())
 }
