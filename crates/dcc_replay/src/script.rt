@@ -78,13 +78,19 @@ fn event_of(alloc: Global, words: &[&[u8]]) -> Result<Option<Event>, AllocError>
     let Some((verb, words)) = words.split_first() else {
         return Ok(None);
     };
-    match *verb {
-        b"connect" => Ok(connected(words)),
-        b"open" => opened(alloc, words),
-        b"disconnect" => Ok(disconnected(words)),
-        b"message" => arrived(alloc, words),
-        b"topup" => Ok(topped_up(words)),
-        _ => Ok(None),
+    let verb = *verb;
+    if verb == b"connect".as_slice() {
+        Ok(connected(words))
+    } else if verb == b"open".as_slice() {
+        opened(alloc, words)
+    } else if verb == b"disconnect".as_slice() {
+        Ok(disconnected(words))
+    } else if verb == b"message".as_slice() {
+        arrived(alloc, words)
+    } else if verb == b"topup".as_slice() {
+        Ok(topped_up(words))
+    } else {
+        Ok(None)
     }
 }
 
