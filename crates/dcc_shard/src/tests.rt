@@ -1,13 +1,13 @@
 //! Each call once on its happy path: money, a debit, the same again, and a subscriber without an account.
 
 use super::*;
-use dcc_act::{Act, Kind, Moment, Sub};
+use dcc_act::{
+    Act, Action, Form, Kind, Moment, OneTimeEvent, RequestKey, Service, ServiceIds, SessionId, Sub,
+};
 use dcc_answer::Proxies;
-use dcc_avp::read_list;
-use dcc_credit::{read_ccr, to_act};
 use dcc_message::{DiameterIdentity, Header, Identity, read_header};
 use dcc_samples::{ANSWER, DEBIT, PLAN};
-use dcc_tariff::Plan;
+use dcc_tariff::{Plan, Tariff, UnitKind};
 use std::alloc::Global;
 use std::process::Abort;
 use std::test::Fail;
@@ -21,17 +21,38 @@ fn shard(alloc: Global, plan: &Plan) -> Result<Shard, Fail> {
     Ok(Shard::new(alloc, plan.terms(), &identity)?)
 }
 
-/// The sample's request, with the header that it is answered under.
-fn debit(alloc: Global, plan: &Plan) -> Result<(Header, Act), Fail> {
+/// The header of the sample's request.
+fn header(alloc: Global) -> Result<Header, Fail> {
     let octets = hex::decode(alloc, DEBIT)?;
     let Ok(header) = read_header(&octets) else {
         return Err("a header".into());
     };
-    let list = octets.get(20..).ok_or("a list")?;
-    let avps = read_list(alloc, list)?;
-    let request = read_ccr(alloc, &header, &avps)?;
-    let moment = Moment::new(1_751_328_000).ok_or("a moment")?;
-    Ok((header, to_act(alloc, plan, &request, moment)?))
+    Ok(header)
+}
+
+/// What the sample's request asks for: a direct debit of 1,001 octets at 5 minor units per 1,000.
+fn debit(alloc: Global) -> Result<Act, Fail> {
+    let sid = SessionId::from_vec(b"gw1.example;1;1".to_vec(alloc)?).ok_or("a name")?;
+    let service = Service {
+        group: None,
+        ids: ServiceIds::new(alloc),
+        form: Form::Single,
+        asked: Some(1001),
+        used: None,
+        unit: Some(UnitKind::Octets),
+        tariff: Some(Tariff {
+            price: 5,
+            block: 1000,
+        }),
+    };
+    Ok(Act {
+        moment: Moment::new(1_751_328_000).ok_or("a moment")?,
+        kind: Kind::Event(OneTimeEvent {
+            key: RequestKey { sid, number: 0 },
+            action: Action::DirectDebiting,
+            service,
+        }),
+    })
 }
 
 /// What the answer says: its octets in hex, its place, and whether it is fresh.
@@ -49,13 +70,9 @@ fn parts_of(alloc: Global, answer: &RequestAnswer) -> Result<(String, u64, bool)
 }
 
 /// The debit of a subscriber, answered.
-fn step(
-    alloc: Global,
-    shard: &mut Shard,
-    plan: &Plan,
-    sub: Sub,
-) -> Result<(String, u64, bool), Fail> {
-    let (header, act) = debit(alloc, plan)?;
+fn step(alloc: Global, shard: &mut Shard, sub: Sub) -> Result<(String, u64, bool), Fail> {
+    let header = header(alloc)?;
+    let act = debit(alloc)?;
     if !matches!(act.kind, Kind::Event(_)) {
         return Err("a request".into());
     }
@@ -70,7 +87,7 @@ fn a_debit_is_made_once(rt: HostRuntime) -> Result<(), Fail> {
     let mut shard = shard(alloc, &plan)?;
     let sub = Sub::new(0, b"491700000001").ok_or("a subscriber")?;
     let moment = Moment::new(1_751_328_000).ok_or("a moment")?;
-    let (unknown, place, _) = step(alloc, &mut shard, &plan, sub)?;
+    let (unknown, place, _) = step(alloc, &mut shard, sub)?;
     assert!(rt; unknown.as_str().contains("000013a6"));
     assert_eq!(rt; place, 0);
     let added = shard.top_up(alloc, sub, moment, 1, 1000);
@@ -82,7 +99,7 @@ fn a_debit_is_made_once(rt: HostRuntime) -> Result<(), Fail> {
         }
     );
     for fresh in [true, false] {
-        let (octets, place, is_fresh) = step(alloc, &mut shard, &plan, sub)?;
+        let (octets, place, is_fresh) = step(alloc, &mut shard, sub)?;
         assert_eq!(rt; octets.as_str(), ANSWER);
         assert_eq!(rt; (place, is_fresh), (2, fresh));
     }
