@@ -2,3 +2,4 @@ pub mod Appended
 pub mod Spelled
 pub mod ReadBack
 pub mod Results
+pub mod Shown

@@ -1,16 +1,17 @@
 //! The laws of answers. Each is the contract of a function that does nothing.
 
 ghost use Rattle.std.specs.Prelude.{◌≡◌, ℕ, ◌≤◌, ◌<◌, ◌^◌, ◌==◌, true, List, ◌++◌, length, drop, Option, Ok};
-ghost use Rattle.std.specs.List.{flat_map, AllByRecursion};
+ghost use Rattle.std.specs.List.{flat_map, sum_by, AllByRecursion};
 ghost use Rattle.std.specs.Option.{ForSome};
 ghost use Rattle.dcc_octets.specs.Names.{is_short};
-ghost use Rattle.dcc_avp.specs.Spelling.{AvpView, HasSpelling, padded, Spells};
+ghost use Rattle.dcc_avp.specs.Spelling.{AvpView, HasSpelling, padded, padded_len, Spells};
 ghost use Rattle.dcc_avp.specs.Reading.{avps_of};
 ghost use Rattle.dcc_message.specs.HeaderView.{HeaderView};
 ghost use Rattle.dcc_message.specs.Headers.{IsHeader, header_of};
 ghost use Rattle.dcc_message.specs.declared.length.TheConstants.{HEADER_LENGTH, MAX_LENGTH};
 ghost use Rattle.dcc_message.specs.declared.identity.Identity.{Identity};
 ghost use Rattle.dcc_answer.specs.Answers.{answer_header, answer_with, error_avps, error_octets, IsServer};
+ghost use Rattle.dcc_answer.specs.Failed.{failed_avps};
 ghost use Rattle.dcc_answer.specs.Proxies.{proxies_of, SpellProxies};
 ghost use Rattle.dcc_answer.specs.Results.{are_busy, is_busy};
 
@@ -41,7 +42,7 @@ pub fn proxies_are_spelled()
 
 /// What is written is read back, where it can be spelled: the AVPs, with the proxies behind the others, and the header with
 /// the length of the message, which the codec reads up to 65,532 octets. What an answer holds that reports a protocol error
-/// can be spelled.
+/// can be spelled, and so can a Failed-AVP of AVPs that fit a message.
 pub fn read_back()
     ensures list { (request : HeaderView) (bits : ℕ) (avps proxies : List AvpView) →
         AllByRecursion HasSpelling avps → AllByRecursion HasSpelling proxies →
@@ -53,6 +54,7 @@ pub fn read_back()
     ensures error { (identity : Identity) (code : ℕ) (session : Option (List ℕ)) →
         IsServer identity → ForSome session (λ octets. is_short octets ≡ true) →
         AllByRecursion HasSpelling (error_avps identity code session) }
+    ensures shown { (failed : List AvpView) → sum_by padded_len failed ≤ MAX_LENGTH → AllByRecursion HasSpelling (failed_avps failed) }
 {
     dcc_avp::read_back();
     dcc_message::header_read_back();

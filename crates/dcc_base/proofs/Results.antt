@@ -20,12 +20,12 @@ use Rattle.dcc_base.specs.Answers.{origin_avps, own_avps, answer_avps}
 abbrev pub AllSpelled : List AvpView → Type 0
 AllSpelled avps = AllByRecursion HasSpelling avps
 
-append_spelled : (xs ys : List AvpView) → AllSpelled xs → AllSpelled ys → AllSpelled (xs ++ ys)
+pub append_spelled : (xs ys : List AvpView) → AllSpelled xs → AllSpelled ys → AllSpelled (xs ++ ys)
 append_spelled [] ys a b = b
 append_spelled (x ∷ xs) ys a b = (a.0, append_spelled xs ys a.1 b)
 
 -- the answer says its own code
-says : (identity : Identity) (code : ℕ) (others : List AvpView) → code < 2 ^ 32 → are_busy (origin_avps identity code ++ others) ≡ (code == TOO_BUSY)
+pub says : (identity : Identity) (code : ℕ) (others : List AvpView) → code < 2 ^ 32 → are_busy (origin_avps identity code ++ others) ≡ (code == TOO_BUSY)
 says identity code others small = ap (λ (n : ℕ). n == TOO_BUSY) (from_be_bytes-to_be_bytes_4 code small)
 
 -- as the law of answers tells it
@@ -38,7 +38,7 @@ abbrev pub AreSpelled : Type 0
 AreSpelled = (identity : Identity) (code : ℕ) (session : Option (List ℕ)) → IsServer identity → ForSome session (λ octets. is_short octets ≡ true) →
     AllByRecursion HasSpelling (error_avps identity code session)
 
-no_session : ForSome None (λ (octets : List ℕ). is_short octets ≡ true)
+pub no_session : ForSome None (λ (octets : List ℕ). is_short octets ≡ true)
 no_session = λ octets e. absurd cc
 
 pub told : AreTold → AreSpelled → (r : Result (Vec ℕ Global) AllocError) (identity : Identity) (request : HeaderView) (code : ℕ) (failed : List AvpView)

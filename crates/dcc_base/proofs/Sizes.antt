@@ -8,6 +8,7 @@ use Rattle.std.proofs.lemmas.Bool.{cases_Bool}
 use Rattle.dcc_octets.specs.Names.{is_short}
 use Rattle.dcc_octets.specs.Numbers.{number_in}
 use Rattle.dcc_avp.specs.Spelling.{AvpView, has_code, padded_len}
+use Rattle.dcc_avp.specs.Reading.{FaultView}
 use Rattle.dcc_avp.specs.declared.codes.TheConstants.{ORIGIN_HOST, AUTH_APPLICATION_ID, INBAND_SECURITY_ID, DISCONNECT_CAUSE}
 use Rattle.dcc_message.specs.HeaderView.{HeaderView}
 use Rattle.dcc_message.specs.declared.length.TheConstants.{MAX_LENGTH}
@@ -17,10 +18,12 @@ use Rattle.dcc_request.specs.declared.command.Command.{Command}
 use Rattle.dcc_request.specs.declared.command.Command.TheVariants.{CapabilitiesExchange, DeviceWatchdog, DisconnectPeer, CreditControl}
 use Rattle.dcc_request.specs.Refusals.{Refusal, refusal, bare, or_else, first_some, ◌>>=◌, clear}
 use Rattle.dcc_request.specs.Commands.{command_of}
+use Rattle.dcc_request.specs.Layout.{unread}
 use Rattle.dcc_request.specs.Checks.{missing_avp, checked}
 use Rattle.dcc_request.specs.Values.{required, name_octets, number, number_within}
 use Rattle.dcc_request.specs.Walk.{GroupView}
 use Rattle.dcc_request.specs.Sizes.{AreWithin, IsGroupWithin}
+use Rattle.dcc_base.specs.declared.effect.Effect.{Effect}
 use Rattle.dcc_base.specs.declared.requests.TheConstants.{LAST_DISCONNECT_CAUSE}
 use Rattle.dcc_base.specs.Capabilities.{is_misshapen, misshapen_in, application_in, refused_if_misshapen, misshapen_inside, shares_application, shares_security, demand, host_of}
 use Rattle.dcc_base.specs.Requests.{capabilities, watchdog, disconnect, accepted, named_by, named, judged}
@@ -194,3 +197,25 @@ judged_few law header avps h refused groups =
 pub shown_few : AreMissingFew → (header : HeaderView) (avps : List AvpView) (refusal : Refusal) → AreWithin MAX_LENGTH avps → AreRefusedFew avps → AreGroupsFew avps →
     judged header (Ok avps) ≡ Err refusal → sum_by padded_len refusal.failed ≤ MAX_LENGTH
 shown_few law header avps refusal h refused groups is = rw is at (judged_few law header avps h refused groups)
+
+-- and the same of the verdict on a list that was read
+abbrev pub MayShowVerdict : Result Effect Refusal → Type 0
+MayShowVerdict (Ok effect) = Unit {0}
+MayShowVerdict (Err refusal) = Shows refusal
+
+verdict_few : (verdict : Result Effect Refusal) → Bounded Any verdict → MayShowVerdict verdict
+verdict_few (Ok effect) h = tt
+verdict_few (Err refusal) h = h
+
+pub shown_all : AreMissingFew → (header : HeaderView) (avps : List AvpView) → AreWithin MAX_LENGTH avps → AreRefusedFew avps → AreGroupsFew avps →
+    MayShowVerdict (judged header (Ok avps))
+shown_all law header avps h refused groups = verdict_few (judged header (Ok avps)) (judged_few law header avps h refused groups)
+
+-- and on one that can't be
+unread_few : ((fault : FaultView) → sum_by padded_len (unread fault).failed ≤ 24) → (header : HeaderView) (fault : FaultView) → Bounded Any (judged header (Err fault))
+unfolding judged
+unread_few law header fault =
+    bind Any Any (named header) _ (named_few (command_of header)) (λ command a. let few = law fault in omega arith)
+
+pub shown_unread : ((fault : FaultView) → sum_by padded_len (unread fault).failed ≤ 24) → (header : HeaderView) (fault : FaultView) → MayShowVerdict (judged header (Err fault))
+shown_unread law header fault = verdict_few (judged header (Err fault)) (unread_few law header fault)

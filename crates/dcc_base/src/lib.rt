@@ -13,11 +13,13 @@ mod answer;
 mod capabilities;
 mod effect;
 mod host;
+mod laws;
 mod peer;
 mod reply;
 mod requests;
 
 pub use host::Host;
+pub use laws::told_apart;
 pub use peer::Peer;
 pub use reply::Reply;
 

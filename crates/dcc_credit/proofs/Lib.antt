@@ -1,6 +1,6 @@
 pub mod ServiceSizes
 pub mod Appended
-pub mod Failed
+pub mod Taken
 pub mod Messages
 pub mod Refusals
 pub mod Spelled

@@ -37,6 +37,7 @@ pub fn told_apart()
         HEADER_LENGTH ≤ length (refusal_octets identity request taken proxies refusal) }
 {
     dcc_avp::read_back();
+    dcc_answer::read_back();
     busy_by_result();
     shown_within();
 }

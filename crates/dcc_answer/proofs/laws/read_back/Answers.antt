@@ -1,5 +1,6 @@
 use Rattle.dcc_answer.specs.Answers.{answer_header}
 use Rattle.dcc_answer.proofs.Spelled.{append_spelled, error_spelled}
+use Rattle.dcc_answer.proofs.Shown.{failed_spelled}
 use Rattle.dcc_answer.proofs.ReadBack.{avps_back, header_back}
 use Rattle.dcc_answer.proofs.laws.read_back.Goals as goal
 
@@ -13,3 +14,6 @@ returns-clause-header c = λ request bits avps proxies spelled behind fits few s
 
 pub returns-clause-error : goal.returns-clause-error
 returns-clause-error c = error_spelled
+
+pub returns-clause-shown : goal.returns-clause-shown
+returns-clause-shown c = failed_spelled

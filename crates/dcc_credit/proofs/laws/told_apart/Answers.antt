@@ -1,7 +1,7 @@
 use Rattle.std.proofs.Common.{[], refl, arith}
 use Rattle.dcc_request.specs.Layout.{unread}
 use Rattle.dcc_credit.specs.Refusals.{nothing, taken_from}
-use Rattle.dcc_credit.proofs.Failed.{failed_spelled, none_short, taken_short}
+use Rattle.dcc_credit.proofs.Taken.{none_short, taken_short}
 use Rattle.dcc_credit.proofs.Messages.{told_not_busy, answer_least}
 use Rattle.dcc_credit.proofs.Refusals.{refusal_not_busy, refusal_least}
 use Rattle.dcc_credit.proofs.Spelled.{answerable}
@@ -14,10 +14,10 @@ returns c = record {
   answered_some = answer_least c.busy_by_result.ensures.some;
   refused = λ identity request avps proxies refusal server few p.
       refusal_not_busy c.busy_by_result.ensures.told identity request (taken_from avps) proxies refusal server (taken_short avps)
-      (failed_spelled refusal.failed few) p;
+      (c.read_back-2.ensures.shown refusal.failed few) p;
   unread = λ identity request fault server.
       let few = c.shown_within.ensures.unread fault in
       refusal_not_busy c.busy_by_result.ensures.told identity request nothing [] (unread fault) server none_short
-      (failed_spelled (unread fault).failed (omega arith)) ([], tt, refl);
+      (c.read_back-2.ensures.shown (unread fault).failed (omega arith)) ([], tt, refl);
   refused_some = refusal_least c.busy_by_result.ensures.some;
 }
