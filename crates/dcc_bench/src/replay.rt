@@ -6,6 +6,7 @@ use crate::rounds::timed;
 use crate::tariffs::plan_text;
 use anyhow::{Context, Result};
 use dcc_act::{Moment, Sub};
+use dcc_base::Host;
 use dcc_engine::{Engine, Event, Out};
 use dcc_message::{DiameterIdentity, Identity};
 use dcc_octets::OctetString;
@@ -93,9 +94,11 @@ fn sum_of(outs: &[Out]) -> u64 {
 
 fn events_of(alloc: Global, subscribers: u32, requests: u32) -> Result<Vec<Event>> {
     let moment = Moment::new(MOMENT).context("a moment")?;
+    let name = OctetString::from_vec(b"gw1.example".to_vec(alloc)?);
+    let host = Host::from_octets(name).context("a host")?;
     let connect = Event::Connect {
         peer: 1,
-        host: OctetString::from_vec(b"gw1.example".to_vec(alloc)?),
+        host: Some(host),
     };
     let mut events = vec![in alloc; connect]?;
     for i in 0..subscribers {
