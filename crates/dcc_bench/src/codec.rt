@@ -12,7 +12,8 @@ use dcc_act::{
 };
 use dcc_answer::Proxies;
 use dcc_avp::read_list;
-use dcc_credit::{read_ccr, write_cca};
+use dcc_ccr::read_ccr;
+use dcc_credit::write_cca;
 use dcc_message::{DiameterIdentity, Header, Identity, read_header};
 use dcc_tariff::{Tariff, Terms, UnitKind};
 use std::alloc::Global;
@@ -124,7 +125,9 @@ fn read(alloc: Global, octets: &[u8]) -> Result<(Header, Proxies)>
     };
     let avps = read_list(alloc, &octets[20..])?;
     let proxies = Proxies::of(alloc, &avps)?;
-    let _ = read_ccr(alloc, &header, &avps)?;
+    let Ok(_request) = read_ccr(alloc, &avps) else {
+        bail!("no request");
+    };
     Ok((header, proxies))
 }
 

@@ -6,6 +6,7 @@ use crate::rounds::timed;
 use crate::tariffs::plan_text;
 use anyhow::{Context, Result};
 use dcc_act::{Moment, Sub};
+use dcc_base::Host;
 use dcc_engine::{Engine, Event, Out};
 use dcc_message::{DiameterIdentity, Identity};
 use dcc_octets::OctetString;
@@ -95,7 +96,7 @@ fn events_of(alloc: Global, subscribers: u32, requests: u32) -> Result<Vec<Event
     let moment = Moment::new(MOMENT).context("a moment")?;
     let connect = Event::Connect {
         peer: 1,
-        host: OctetString::from_vec(b"gw1.example".to_vec(alloc)?),
+        host: Host::from_octets(OctetString::from_vec(b"gw1.example".to_vec(alloc)?)),
     };
     let mut events = vec![in alloc; connect]?;
     for i in 0..subscribers {
