@@ -2,10 +2,10 @@
 //!
 //! In the rows a word such as `debit/0/1001` stands for octets in hex: a request's number and its octets, or an answer's.
 
-use super::octets::{bare_busy, broken, debit, debit_for, granted, refused};
+use super::octets::{broken, debit, debit_for, granted, refused, too_much, unread};
 use super::replayed;
 use super::rows::MIDNIGHT;
-use dcc_samples::{BUSY, PROXY_INFO};
+use dcc_samples::{PROXY_INFO, WATCHDOG, WATCHDOG_ANSWER};
 use dcc_tariff::Plan;
 use std::alloc::Global;
 use std::test::Fail;
@@ -17,10 +17,6 @@ const PADDED: &str =
 
 const CUT: &str =
     "000001bb40000029000001c24000000c00000000000001bc4000001534393137303030303030303133000000";
-
-/// A Device-Watchdog-Request.
-const WATCHDOG: &str = "0100003880000118000000000000000100000002000001084000001367\
-77312e6578616d706c6500000001284000000f6578616d706c6500";
 
 /// A script without its first line, which opens the peer, and what is printed of the rest. The moments are the starts of the
 /// years 2020 and 2025, and of July 2025, from which on a block costs 7 instead of 5; an event before 2020 has no tariff.
@@ -64,14 +60,14 @@ message 1 1577836800 debit/1/1001\ntopup 0 0:491700000001 2 999999999999999011\n
 topup 0 0:2 1 1\ntopup 0 0:2 2 1000000000000000000\ntopup 0 0:2 3 999999999999999999\n",
         "2 topup bad\n3 topup bad\n4 topup done\n5 topup ceiling\n6 topup done\n7 topup ceiling\n8 topup done\n",
     ),
-    // A debit asks for 1 to 10^12 octets; another amount is answered busy and leaves the request's number free: 10^10 less 5 for
-    // one block and 5 * 10^9 for 10^9 blocks is 4,999,999,995.
+    // A debit asks for 10^12 octets at most: more is refused, and leaves the request's number free. Where it asks for none, that
+    // stands for 1: 10^10 less 5 for one block and 5 * 10^9 for 10^9 blocks is 4,999,999,995.
     (
-        "topup 0 0:491700000001 1 10000000000\nmessage 1 1735689600 debit/0/0\nmessage 1 1735689600 debit/0/1000000000001\n\
-message 1 1735689600 debit/0/1\nmessage 1 1735689600 debit/1/1000000000000\n\
+        "topup 0 0:491700000001 1 10000000000\nmessage 1 1735689600 debit/0/1000000000001\n\
+message 1 1735689600 debit/0/0\nmessage 1 1735689600 debit/1/1000000000000\n\
 topup 0 0:491700000001 2 999999995000000006\ntopup 0 0:491700000001 3 999999995000000005\n",
-        "2 topup done\n3 answer 1 busy\n4 answer 1 busy\n5 answer 1 granted/0/1\n6 answer 1 granted/1/1000000000000\n\
-7 topup ceiling\n8 topup done\n",
+        "2 topup done\n3 answer 1 too_much/0/1000000000001\n4 answer 1 granted/0/1\n5 answer 1 granted/1/1000000000000\n\
+6 topup ceiling\n7 topup done\n",
     ),
     // Moments may go back, and each debit is priced at its own: 1,000 less 14, 10 and 14 is 962.
     (
@@ -101,11 +97,11 @@ message 1 1735689600 debit/2/1001\n",
 message 2 0 01000016c0000110000000040000001100000021\n",
         "2 close 1\n3 -\n4 -\n",
     ),
-    // Of a list that can't be read an answer copies nothing, neither a Session-Id nor a Proxy-Info in front of the broken AVP. A
-    // watchdog's request is answered busy as it isn't served yet, and an answer by nothing.
+    // Of a list that can't be read an answer copies nothing, neither a Session-Id nor a Proxy-Info in front of the broken AVP. On an
+    // open peer a watchdog's request is answered, and an answer by nothing.
     (
         "message 1 0 broken\nmessage 1 0 proxied\nmessage 1 0 watchdog\nmessage 1 0 0100001440000110000000040000001100000021\n",
-        "2 answer 1 bare\n3 answer 1 bare\n4 answer 1 asleep\n5 -\n",
+        "2 answer 1 unread\n3 answer 1 unread\n4 answer 1 alive\n5 -\n",
     ),
 ];
 
@@ -152,9 +148,9 @@ fn octets_of(alloc: Global, word: &str) -> Result<String, Fail> {
         "debit" => debit(alloc, number, amount),
         "granted" => granted(alloc, number, amount),
         "refused" => refused(alloc, number, amount),
-        "busy" => Ok(String::from_str(alloc, BUSY)?),
-        "bare" => bare_busy(alloc, "60000110000000040000001100000021"),
-        "asleep" => bare_busy(alloc, "20000118000000000000000100000002"),
+        "too_much" => too_much(alloc, number, amount),
+        "unread" => unread(alloc),
+        "alive" => Ok(String::from_str(alloc, WATCHDOG_ANSWER)?),
         "broken" => broken(alloc, ""),
         "proxied" => broken(alloc, PROXY_INFO),
         "watchdog" => Ok(String::from_str(alloc, WATCHDOG)?),

@@ -1,7 +1,7 @@
 //! Messages of a gateway and their answers, in hex: the samples, and others in what differs from a sample. Header and AVPs are
 //! laid out as RFC 6733, sections 3 and 4.1, say.
 
-use dcc_samples::{ANSWER, BUSY, DEBIT, PROXY_INFO};
+use dcc_samples::{ANSWER, DEBIT, PROXY_INFO};
 use std::alloc::Global;
 use std::test::Fail;
 
@@ -25,11 +25,13 @@ const UNITS: usize = 408;
 
 const ASKED: usize = 440;
 
-/// In the sample's answer: its Result-Code, what is behind that, its CC-Request-Number, what is behind that, and the octets that it
-/// grants.
+/// In the sample's answer: its Result-Code, what is behind that, its CC-Request-Type, its CC-Request-Number, what is behind that, and
+/// the octets that it grants.
 const CODE: usize = 104;
 
 const ORIGIN: usize = 112;
+
+const REQUEST_TYPE: usize = 208;
 
 const ANSWERED: usize = 248;
 
@@ -160,9 +162,29 @@ pub(crate) fn refused(alloc: Global, number: u32, code: u64) -> Result<String, F
     under_one(alloc, "40", avps.as_str())
 }
 
-/// The busy answer without anything of its request, behind its length.
-pub(crate) fn bare_busy(alloc: Global, header: &str) -> Result<String, Fail> {
-    Ok(format!(in alloc; "01000044{header}{}", rest(BUSY, NAMES)?)?)
+/// The refusal of the request with this number for so many octets, which are more than there may be: DIAMETER_INVALID_AVP_VALUE
+/// (5004), and the Requested-Service-Unit as it was sent.
+pub(crate) fn too_much(alloc: Global, number: u32, octets: u64) -> Result<String, Fail> {
+    let result = part(ANSWER, AVPS, CODE)?;
+    let names = part(ANSWER, ORIGIN, ANSWERED)?;
+    let units = part(DEBIT, UNITS, ASKED)?;
+    let failed = avp(
+        alloc,
+        279,
+        format!(in alloc; "{units}{octets:016x}")?.as_str(),
+    )?;
+    let avps = format!(in alloc; "{result}0000138c{names}{number:08x}{failed}")?;
+    under_one(alloc, "40", avps.as_str())
+}
+
+/// The refusal of a request whose list ends in a Session-Id that can't be read: DIAMETER_INVALID_AVP_LENGTH (5014), and a
+/// Session-Id without data.
+pub(crate) fn unread(alloc: Global) -> Result<String, Fail> {
+    let result = part(ANSWER, NAMES, CODE)?;
+    let names = part(ANSWER, ORIGIN, REQUEST_TYPE)?;
+    let failed = avp(alloc, 279, "0000010740000008")?;
+    let avps = format!(in alloc; "{result}00001396{names}{failed}")?;
+    under_one(alloc, "40", avps.as_str())
 }
 
 /// A request with these AVPs and then a Session-Id that ends behind the message.

@@ -2,7 +2,10 @@
 
 use super::octets::{debit, debit_through_proxy, granted_through_proxy, refused};
 use super::{prints, replayed};
-use dcc_samples::{ANSWER, DEBIT};
+use dcc_samples::{
+    ANSWER, CAPABILITIES, CAPABILITIES_ANSWER, DEBIT, DISCONNECT, DISCONNECT_ANSWER, WATCHDOG,
+    WATCHDOG_ANSWER,
+};
 use dcc_tariff::Plan;
 use std::test::Fail;
 
@@ -127,4 +130,32 @@ open 1 gw1.example\nmessage 1 {JUNE} {DEBIT}\n"
         prints(&rt, script.as_str(), printed.as_str())?;
     }
     Ok(())
+}
+
+#[test]
+fn exchanges_capabilities_and_disconnects(rt: HostRuntime) -> Result<(), Fail> {
+    let alloc = rt.alloc();
+    let script = format!(in alloc;
+        "connect 1\nmessage 1 {JUNE} {CAPABILITIES}\nmessage 1 {JUNE} {WATCHDOG}\nmessage 1 {JUNE} {DISCONNECT}\n\
+message 1 {JUNE} {WATCHDOG}\ndisconnect 1\nmessage 1 {JUNE} {CAPABILITIES}\n"
+    )?;
+    let printed = format!(in alloc;
+        "1 -\n2 answer 1 {CAPABILITIES_ANSWER}\n3 answer 1 {WATCHDOG_ANSWER}\n4 answer 1 {DISCONNECT_ANSWER}\n4 close 1\n\
+5 -\n6 -\n7 -\n"
+    )?;
+    prints(&rt, script.as_str(), printed.as_str())
+}
+
+#[test]
+fn closes_at_a_request_before_the_exchange_of_capabilities(rt: HostRuntime) -> Result<(), Fail> {
+    let alloc = rt.alloc();
+    // A peer that is connected again begins anew, also where it was open, or closed.
+    let script = format!(in alloc;
+        "open 1 gw1.example\nconnect 1\nmessage 1 {JUNE} {DEBIT}\nmessage 1 {JUNE} {CAPABILITIES}\n\
+connect 1\nmessage 1 {JUNE} {CAPABILITIES}\n"
+    )?;
+    let printed = format!(in alloc;
+        "1 -\n2 -\n3 close 1\n4 -\n5 -\n6 answer 1 {CAPABILITIES_ANSWER}\n"
+    )?;
+    prints(&rt, script.as_str(), printed.as_str())
 }
