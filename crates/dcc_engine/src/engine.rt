@@ -211,7 +211,8 @@ fn host_of(event: &Event) -> Result<Option<Host>, AllocError>
 {
     match event {
         Event::Connect {
-            host: Some(host), ..
+            host: Some(host),
+            ..
         } => Ok(Some(host.copy()?)),
         _ => Ok(None),
     }

@@ -70,7 +70,7 @@ impl<'a> Model for Message<'a> {
     ghost view = { λ m. record { header = m.header; list = list_with (λ avps. avps.items) m.list } };
 
     ghost invariant = { λ m. (m.proxies ≡ proxies_of_list (list_with (λ avps. avps.items) m.list))
-      × IsListed (λ avps. avps.items) m.list };
+        × IsListed (λ avps. avps.items) m.list };
 }
 
 impl<'a> Message<'a> {

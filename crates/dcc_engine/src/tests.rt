@@ -1,11 +1,14 @@
-//! A debit with ample memory, and with each allocation refused; other rows stand where scripts are replayed.
+//! A debit, and an exchange of capabilities, with ample memory and with each allocation refused; other rows stand where
+//! scripts are replayed.
 
 use super::*;
 use dcc_act::{Moment, Sub};
 use dcc_base::Host;
 use dcc_message::{DiameterIdentity, Identity};
 use dcc_octets::OctetString;
-use dcc_samples::{ANSWER, BUSY, DEBIT, PLAN};
+use dcc_samples::{
+    ANSWER, BUSY, CAPABILITIES, CAPABILITIES_ANSWER, DEBIT, PLAN, WATCHDOG, WATCHDOG_ANSWER,
+};
 use dcc_shard::TopUpAnswer;
 use dcc_tariff::Plan;
 use std::alloc::Global;
@@ -41,12 +44,16 @@ fn events(alloc: Global) -> Result<Vec<Event>, Fail> {
         ticket: 1,
         amount: 1000,
     };
-    let message = Event::Message {
+    Ok(vec![in alloc; connect, top_up, message(alloc, DEBIT)?]?)
+}
+
+/// A message of peer 1, of these hex digits.
+fn message(alloc: Global, text: &str) -> Result<Event, Fail> {
+    Ok(Event::Message {
         peer: 1,
         moment: moment()?,
-        octets: OctetString::from_vec(hex::decode(alloc, DEBIT)?),
-    };
-    Ok(vec![in alloc; connect, top_up, message]?)
+        octets: OctetString::from_vec(hex::decode(alloc, text)?),
+    })
 }
 
 /// What a top-up and a debit were answered: whether the first was added, and the second's answer in hex.
@@ -93,6 +100,50 @@ fn a_refusal_changes_no_answer(rt: HostRuntime) -> Result<(), Fail> {
     assert!(rt; is_refusal);
     if answer.as_str() == BUSY {
         return Err("memory was refused, and told busy".into());
+    }
+    Err("memory was refused".into())
+}
+
+/// The Result-Code of a busy answer.
+const TOO_BUSY: &str = "0000010c4000000c00000bbc";
+
+/// Whether an out is this answer, or else refuses the message, by a busy answer or by nothing. The connection stays.
+fn is_answer(alloc: Global, out: &Out, answer: &str) -> Result<bool, Fail> {
+    if out.close {
+        return Err("a connection that is closed".into());
+    }
+    let told = hex::encode(alloc, out.octets.as_slice())?;
+    if !told.is_empty() && told.as_str() != answer && !told.as_str().contains(TOO_BUSY) {
+        return Err("another answer".into());
+    }
+    Ok(told.as_str() == answer)
+}
+
+/// A peer that waits is opened by an exchange of capabilities, and its watchdog request is answered. Where memory is refused for the
+/// exchange it still waits, and the watchdog request closes it without an answer.
+#[test]
+fn a_refusal_opens_no_peer(rt: HostRuntime) -> Result<(), Fail> {
+    let alloc = rt.alloc();
+    let mut engine = engine(alloc)?;
+    let connect = Event::Connect {
+        peer: 1,
+        host: None,
+    };
+    let events = vec![in alloc;
+        connect,
+        message(alloc, CAPABILITIES)?,
+        message(alloc, WATCHDOG)?,
+    ]?;
+    let outs = engine.run(alloc, &events)?;
+    let [_, first, second] = outs.as_slice() else {
+        return Err("three outs".into());
+    };
+    if is_answer(alloc, first, CAPABILITIES_ANSWER)? {
+        if is_answer(alloc, second, WATCHDOG_ANSWER)? {
+            return Ok(());
+        }
+    } else {
+        assert!(&rt; second.close && second.octets.as_slice().is_empty());
     }
     Err("memory was refused".into())
 }

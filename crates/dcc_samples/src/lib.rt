@@ -7,5 +7,8 @@
 mod messages;
 mod plan;
 
-pub use messages::{ANSWER, BUSY, COPIED_PROXIES, DEBIT, PROXIES, PROXY_INFO};
+pub use messages::{
+    ANSWER, BUSY, CAPABILITIES, CAPABILITIES_ANSWER, COPIED_PROXIES, DEBIT, PROXIES, PROXY_INFO,
+    WATCHDOG, WATCHDOG_ANSWER,
+};
 pub use plan::PLAN;

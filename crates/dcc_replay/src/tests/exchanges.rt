@@ -6,7 +6,7 @@
 //! once; `cer/..` and `cea/5010/..` for a capabilities exchange; `raw/..` for a message of any header, whose length is put in.
 
 use super::prints;
-use dcc_samples::{DEBIT, PROXY_INFO};
+use dcc_samples::{DEBIT, PROXY_INFO, WATCHDOG, WATCHDOG_ANSWER};
 use std::alloc::Global;
 use std::test::Fail;
 
@@ -239,12 +239,8 @@ fn octets_of(alloc: Global, word: &str) -> Result<String, Fail> {
     let second = parts.next().unwrap_or("");
     match kind {
         "v3" => Ok(String::from_str(alloc, DEBIT)?),
-        "dwr" => message(alloc, "80000118000000000000000100000002", "gateway"),
-        "dwa" => message(
-            alloc,
-            "00000118000000000000000100000002",
-            "0000010c4000000c000007d1+server",
-        ),
+        "dwr" => Ok(String::from_str(alloc, WATCHDOG)?),
+        "dwa" => Ok(String::from_str(alloc, WATCHDOG_ANSWER)?),
         "ccr" => {
             let tail = parts.next().unwrap_or("");
             let body = format!(in alloc;
