@@ -1,5 +1,6 @@
 // The same work in plain Rust, as one would write it without a framework: a debit request parsed into borrowed AVPs, and its
-// answer written. `rustc -O baseline.rs`; no crates. It prints what `dcc_bench codec N` prints.
+// answer written; and the requests of sessions read. `rustc -O baseline.rs`; no crates. It prints what `dcc_bench codec N` and
+// `dcc_bench request N` print.
 
 use std::time::Duration;
 
@@ -12,7 +13,33 @@ const REQUEST: &str = "010000e4c0000110000000040000000000000000\
 000001a04000000c000000040000019f4000000c00000000000001b44000000c00000000000001bb40000028\
 000001c24000000c00000000000001bc40000014343931373030303030303030000001b540000018000001a54000001000000000000003e9";
 
-const SERVED: [u32; 12] = [263, 264, 296, 283, 258, 461, 416, 415, 436, 443, 437, 284];
+/// The codes of the dictionary, rising.
+const KNOWN: [u32; 62] = [
+    1, 33, 50, 55, 257, 258, 259, 260, 263, 264, 265, 266, 267, 268, 269, 273, 278, 279, 280, 281, 282, 283,
+    284, 293, 295, 296, 299, 411, 412, 414, 415, 416, 417, 418, 419, 420, 421, 422, 423, 424, 425, 429, 430,
+    431, 432, 436, 437, 439, 440, 443, 444, 445, 446, 447, 448, 449, 450, 452, 455, 456, 458, 461,
+];
+
+/// How often an AVP stands in a list: its code, the least and the most.
+type Row = (u32, usize, usize);
+
+const ANY: usize = usize::MAX;
+
+const SESSION: [Row; 13] = [
+    (263, 1, 1), (264, 1, 1), (296, 1, 1), (283, 1, 1), (258, 1, 1), (461, 1, 1), (416, 1, 1), (415, 1, 1), (443, 1, ANY),
+    (439, 0, 1), (436, 0, 1), (437, 0, 1), (456, 0, 16),
+];
+
+const EVENT: [Row; 13] = [
+    (263, 1, 1), (264, 1, 1), (296, 1, 1), (283, 1, 1), (258, 1, 1), (461, 1, 1), (416, 1, 1), (415, 1, 1), (443, 1, ANY),
+    (436, 1, 1), (439, 0, 1), (437, 0, 1), (456, 0, 16),
+];
+
+const SUBSCRIPTION: [Row; 2] = [(450, 1, 1), (444, 1, 1)];
+
+const SERVICE: [Row; 2] = [(432, 0, 1), (437, 0, 1)];
+
+const UNITS: [Row; 5] = [(420, 0, 1), (421, 0, 1), (412, 0, 1), (414, 0, 1), (417, 0, 1)];
 
 #[derive(Clone, Copy)]
 struct Header {
@@ -81,49 +108,117 @@ fn read_list(octets: &[u8]) -> Option<Vec<Avp<'_>>> {
     Some(avps)
 }
 
-fn only<'a>(avps: &[Avp<'a>], code: u32) -> Option<&'a [u8]> {
-    let mut found = None;
-    for avp in avps {
-        if avp.code == code {
-            if found.is_some() {
-                return None;
-            }
-            found = Some(avp.value);
-        }
+/// A group that is looked into, and those inside it.
+struct Group<'a> {
+    code: u32,
+    avps: Vec<Avp<'a>>,
+    inside: Vec<Group<'a>>,
+}
+
+fn walked<'a>(avps: &[Avp<'a>], codes: &[u32]) -> Option<Vec<Group<'a>>> {
+    let mut groups = Vec::new();
+    for avp in avps.iter().filter(|avp| avp.vendor.is_none() && codes.contains(&avp.code)) {
+        let avps = read_list(avp.value)?;
+        let inside = if avp.code == 456 { walked(&avps, &[437, 446])? } else { Vec::new() };
+        groups.push(Group { code: avp.code, avps, inside });
     }
-    found
+    Some(groups)
 }
 
-fn number(avps: &[Avp<'_>], code: u32) -> Option<u32> {
-    Some(u32::from_be_bytes(only(avps, code)?.try_into().ok()?))
+fn all_known(avps: &[Avp<'_>]) -> bool {
+    avps.iter().all(|avp| avp.vendor.is_some() || avp.flags & 0x40 == 0 || KNOWN.binary_search(&avp.code).is_ok())
 }
 
-fn are_of(avps: &[Avp<'_>], codes: &[u32]) -> bool {
-    avps.iter().all(|avp| avp.vendor.is_none() && codes.contains(&avp.code))
+fn group_known(group: &Group<'_>) -> bool {
+    all_known(&group.avps) && group.inside.iter().all(group_known)
+}
+
+fn of_code<'m, 'a>(avps: &'m [Avp<'a>], code: u32) -> impl Iterator<Item = &'m Avp<'a>> {
+    avps.iter().filter(move |avp| avp.vendor.is_none() && avp.code == code)
+}
+
+fn fits(table: &[Row], avps: &[Avp<'_>]) -> bool {
+    table.iter().all(|&(code, least, most)| (least..=most).contains(&of_code(avps, code).count()))
+}
+
+fn group_fits(group: &Group<'_>) -> bool {
+    let table: &[Row] = match group.code {
+        443 => &SUBSCRIPTION,
+        456 => &SERVICE,
+        _ => &UNITS,
+    };
+    fits(table, &group.avps) && group.inside.iter().all(group_fits)
+}
+
+fn number_in(octets: &[u8]) -> Option<u32> {
+    Some(u32::from_be_bytes(octets.try_into().ok()?))
+}
+
+/// The number of the first AVP of a code: none where there is no AVP, and a fault where it has another size.
+fn optional(avps: &[Avp<'_>], code: u32) -> Option<Option<u32>> {
+    of_code(avps, code).next().map_or(Some(None), |avp| number_in(avp.value).map(Some))
+}
+
+fn long(avps: &[Avp<'_>], code: u32) -> Option<Option<u64>> {
+    of_code(avps, code).next().map_or(Some(None), |avp| Some(Some(u64::from_be_bytes(avp.value.try_into().ok()?))))
+}
+
+fn within(avps: &[Avp<'_>], code: u32, low: u32, high: u32) -> Option<u32> {
+    optional(avps, code)?.filter(|n| (low..=high).contains(n))
 }
 
 #[derive(Clone, Copy)]
 struct Subscriber {
     #[allow(dead_code)]
     kind: u8,
+    #[allow(dead_code)]
     len: u8,
+    #[allow(dead_code)]
     name: [u8; 64],
 }
 
+#[derive(Clone, Copy, Default)]
+struct Amounts {
+    octets: u64,
+    time: u64,
+    units: u64,
+}
+
+#[derive(Clone, Copy, PartialEq)]
+enum Form {
+    Single,
+    Multi,
+}
+
+struct Service {
+    #[allow(dead_code)]
+    form: Form,
+    group: Option<u32>,
+    ids: Vec<u32>,
+    asked: Option<Amounts>,
+    used: Option<Amounts>,
+}
+
 struct Request<'a> {
+    #[allow(dead_code)]
     subscriber: Subscriber,
     session: &'a [u8],
     number: u32,
-    octets: u64,
+    #[allow(dead_code)]
+    kind: u32,
+    services: Vec<Service>,
 }
 
-fn subscriber(octets: &[u8]) -> Option<Subscriber> {
-    let avps = read_list(octets)?;
-    if !are_of(&avps, &[450, 444]) {
-        return None;
+fn subscriber(groups: &[Group<'_>]) -> Option<Subscriber> {
+    let mut chosen = None;
+    for group in groups.iter().filter(|group| group.code == 443) {
+        let kind = optional(&group.avps, 450)??;
+        let name = of_code(&group.avps, 444).next()?.value;
+        if chosen.is_none_or(|(other, _)| other != 0 && kind == 0) {
+            chosen = Some((kind, name));
+        }
     }
-    let kind = number(&avps, 450)?;
-    let data = only(&avps, 444)?;
+    let (kind, data) = chosen?;
     if kind > 4 || data.is_empty() || data.len() > 64 || !data.iter().all(|c| (0x21..=0x7e).contains(c)) {
         return None;
     }
@@ -132,36 +227,74 @@ fn subscriber(octets: &[u8]) -> Option<Subscriber> {
     Some(Subscriber { kind: kind as u8, len: data.len() as u8, name })
 }
 
-fn requested(octets: &[u8]) -> Option<u64> {
-    let avps = read_list(octets)?;
-    if !are_of(&avps, &[421]) {
-        return None;
-    }
-    let amount = u64::from_be_bytes(only(&avps, 421)?.try_into().ok()?);
-    (1..=1_000_000_000_000).contains(&amount).then_some(amount)
+fn added(sum: Amounts, avps: &[Avp<'_>]) -> Option<Amounts> {
+    let time = optional(avps, 420)?;
+    let total = long(avps, 421)?;
+    let (input, output) = (long(avps, 412)?, long(avps, 414)?);
+    let units = long(avps, 417)?;
+    let said = total.map_or(u128::from(input.unwrap_or(0)) + u128::from(output.unwrap_or(0)), u128::from);
+    let limited = |n: u128| (n <= 1_000_000_000_000).then_some(n as u64);
+    Some(Amounts {
+        octets: limited(u128::from(sum.octets) + said)?,
+        time: limited(u128::from(sum.time) + u128::from(time.unwrap_or(0)))?,
+        units: limited(u128::from(sum.units) + u128::from(units.unwrap_or(0)))?,
+    })
 }
 
-fn read_request<'a>(header: &Header, avps: &[Avp<'a>]) -> Option<Request<'a>> {
-    if header.flags & 0xa0 != 0x80 || header.code != 272 || header.app != 4 || !are_of(avps, &SERVED) {
+fn service(form: Form, group: Option<u32>, avps: &[Avp<'_>], groups: &[Group<'_>]) -> Option<Service> {
+    let ids = of_code(avps, 439).map(|avp| number_in(avp.value)).collect::<Option<Vec<u32>>>()?;
+    let asked = match groups.iter().find(|group| group.code == 437) {
+        Some(group) => Some(added(Amounts::default(), &group.avps)?),
+        None => None,
+    };
+    let mut used = None;
+    for group in groups.iter().filter(|group| group.code == 446) {
+        used = Some(added(used.unwrap_or_default(), &group.avps)?);
+    }
+    Some(Service { form, group, ids, asked, used })
+}
+
+fn same_key(a: &Service, b: &Service) -> bool {
+    a.group == b.group && a.ids.first() == b.ids.first()
+}
+
+fn contradict(event: bool, single: &Service, multi: &[Service]) -> bool {
+    (single.asked.is_some() || single.used.is_some()) && !multi.is_empty()
+        || event && multi.len() > 1
+        || multi.iter().enumerate().any(|(i, service)| multi[..i].iter().any(|other| same_key(other, service)))
+}
+
+fn read_request<'a>(avps: &[Avp<'a>]) -> Option<Request<'a>> {
+    let groups = walked(avps, &[443, 456, 437, 446])?;
+    let event = of_code(avps, 416).next().and_then(|avp| number_in(avp.value)) == Some(4);
+    let table = if event { &EVENT } else { &SESSION };
+    if !all_known(avps) || !groups.iter().all(group_known) || !fits(table, avps) || !groups.iter().all(group_fits) {
         return None;
     }
-    let session = only(avps, 263)?;
+    let session = of_code(avps, 263).next()?.value;
     if session.is_empty() || session.len() > 255 {
         return None;
     }
-    only(avps, 264)?;
-    only(avps, 296)?;
-    only(avps, 283)?;
-    only(avps, 461)?;
-    if number(avps, 258)? != 4 || number(avps, 416)? != 4 || number(avps, 436)? != 0 {
+    within(avps, 258, 4, 4)?;
+    let kind = within(avps, 416, 1, 4)?;
+    let number = optional(avps, 415)??;
+    if event {
+        within(avps, 436, 0, 3)?;
+    }
+    let subscriber = subscriber(&groups)?;
+    let single = service(Form::Single, None, avps, &groups)?;
+    let mut services = Vec::new();
+    for group in groups.iter().filter(|group| group.code == 456) {
+        services.push(service(Form::Multi, optional(&group.avps, 432)?, &group.avps, &group.inside)?);
+    }
+    if contradict(event, &single, &services) {
         return None;
     }
-    Some(Request {
-        subscriber: subscriber(only(avps, 443)?)?,
-        session,
-        number: number(avps, 415)?,
-        octets: requested(only(avps, 437)?)?,
-    })
+    let is_there = !single.ids.is_empty() || single.asked.is_some() || single.used.is_some();
+    if services.is_empty() && (event || is_there) {
+        services.push(single);
+    }
+    Some(Request { subscriber, session, number, kind, services })
 }
 
 fn put(out: &mut Vec<u8>, code: u32, value: &[u8]) {
@@ -227,8 +360,10 @@ fn read(octets: &[u8]) -> Result<(Header, Vec<u8>), Fault> {
     let header = read_header(octets).ok_or(Fault::Header)?;
     let avps = read_list(&octets[20..]).ok_or(Fault::Avp)?;
     let proxies = proxies(&avps);
-    let request = read_request(&header, &avps).ok_or(Fault::Request)?;
-    std::hint::black_box((request.subscriber.len, request.subscriber.name, request.session, request.number, request.octets));
+    if header.flags & 0xa0 != 0x80 || header.code != 272 || header.app != 4 {
+        return Err(Fault::Request);
+    }
+    std::hint::black_box(read_request(&avps).ok_or(Fault::Request)?);
     Ok((header, proxies))
 }
 
@@ -296,6 +431,54 @@ fn sum_of_answers(reply: &Reply, debit: &mut [u8], count: u32) -> Result<u64, Fa
     Ok(sum)
 }
 
+/// The list of an initial request, as `dcc_bench` makes it.
+fn initial(debit: &[u8], services: u8) -> Vec<u8> {
+    let mut list = debit[20..136].to_vec();
+    list.extend_from_slice(&[0, 0, 0, 1]);
+    list.extend_from_slice(&debit[140..152]);
+    list.extend_from_slice(&debit[164..204]);
+    for group in 0..services {
+        list.extend_from_slice(&[0, 0, 1, 200, 0x40, 0, 0, 44, 0, 0, 1, 176, 0x40, 0, 0, 12, 0, 0, 0, group]);
+        list.extend_from_slice(&debit[204..228]);
+    }
+    list
+}
+
+fn requests_all(avps: &[Avp<'_>], count: u32) -> Result<u64, Fault> {
+    let mut mark = 0u64;
+    for _ in 0..count {
+        let request = read_request(std::hint::black_box(avps)).ok_or(Fault::Request)?;
+        let asked = request.services.last().and_then(|service| service.asked);
+        let octets = asked.map_or(0, |amounts| amounts.octets);
+        let said = u64::from(request.number) ^ (request.session.len() as u64) << 8 ^ (request.services.len() as u64) << 16;
+        mark = mark.rotate_left(5) ^ said ^ octets << 24;
+    }
+    Ok(mark)
+}
+
+/// The requests of `dcc_bench request N`, each of a list that is there already.
+fn requests(debit: &[u8], count: u32) -> Result<(), Fault> {
+    let mut mark = 0u64;
+    for services in [0, 1, 2, 4, 8, 16] {
+        let (name, list) = match services {
+            0 => ("debit".to_string(), debit[20..].to_vec()),
+            _ => (services.to_string(), initial(debit, services)),
+        };
+        let avps = read_list(&list).ok_or(Fault::Avp)?;
+        let mut rounds = Vec::new();
+        let mut one = 0;
+        for _ in 0..ROUNDS {
+            let begin = now();
+            one ^= requests_all(&avps, count)?;
+            rounds.push(now() - begin);
+        }
+        report(&format!("request {name}"), rounds, count);
+        mark = mark.rotate_left(5) ^ one;
+    }
+    println!("request {count} mark {mark:016x}");
+    Ok(())
+}
+
 #[repr(C)]
 struct Timespec {
     seconds: i64,
@@ -321,9 +504,15 @@ fn report(name: &str, mut rounds: Vec<Duration>, items: u32) {
 }
 
 fn main() -> Result<(), Fault> {
-    let count: u32 = std::env::args().nth(1).and_then(|word| word.parse().ok()).expect("usage: baseline N");
+    let usage = "usage: baseline codec|request N";
+    let what = std::env::args().nth(1).expect(usage);
+    let count: u32 = std::env::args().nth(2).and_then(|word| word.parse().ok()).expect(usage);
     let octets: Vec<u8> = REQUEST.as_bytes().iter().map(|c| (*c as char).to_digit(16).expect("hex") as u8).collect();
     let mut debit: Vec<u8> = octets.chunks(2).map(|pair| pair[0] << 4 | pair[1]).collect();
+    if what == "request" {
+        debit[148..152].copy_from_slice(&[0; 4]);
+        return requests(&debit, count);
+    }
     let reply = Reply {
         host: b"ocs.example".to_vec(),
         realm: b"example".to_vec(),

@@ -5,6 +5,8 @@
 pub enum Command {
     /// Debit requests read, and their answers written.
     Codec { count: u32 },
+    /// Requests of some services read, of lists that are there already.
+    Request { count: u32 },
     /// A stream of about so many octets, fed in pieces of so many.
     Framer { octets: u32, piece: u32 },
     /// A plan of so many tariffs, in which they are looked up.
@@ -39,6 +41,7 @@ fn command_alone(name: &str) -> Option<Command> {
 fn command_with(name: &str, count: u32) -> Option<Command> {
     match name {
         "codec" => Some(Command::Codec { count }),
+        "request" => Some(Command::Request { count }),
         "plan" => Some(Command::Plan { count }),
         _ => None,
     }

@@ -1,5 +1,5 @@
-//! The program that measures the path of a direct debit: `codec N`, `framer OCTETS PIECE`, `plan N`,
-//! `replay SUBSCRIBERS REQUESTS`, and `sample`, a little of each.
+//! The program that measures the path of a direct debit, and the reader of requests: `codec N`, `request N`,
+//! `framer OCTETS PIECE`, `plan N`, `replay SUBSCRIBERS REQUESTS`, and `sample`, a little of each.
 //!
 //! It stands on the crates of that path, and calls them as the server does. Standard output has only what the arguments
 //! determine: counts, and a checksum of what was answered. Times go to standard error, one line for each thing that is
@@ -11,6 +11,7 @@ mod codec;
 mod command;
 mod debit;
 mod replay;
+mod requests;
 mod rounds;
 mod stream;
 mod tariffs;
@@ -24,6 +25,7 @@ fn main(rt: HostRuntime) -> Result<()> {
     match command_of(words.as_slice()) {
         Some(Command::Sample) => sample(&rt),
         Some(Command::Codec { count }) => codec::measure(&rt, count),
+        Some(Command::Request { count }) => requests::measure(&rt, count),
         Some(Command::Framer { octets, piece }) => stream::measure(&rt, octets, piece),
         Some(Command::Plan { count }) => tariffs::measure(&rt, count),
         Some(
@@ -33,7 +35,7 @@ fn main(rt: HostRuntime) -> Result<()> {
             },
         ) => replay::measure(&rt, subscribers, requests),
         None => bail!(
-            "usage: codec N | framer OCTETS PIECE | plan N | replay SUBSCRIBERS REQUESTS | sample"
+            "usage: codec N | request N | framer OCTETS PIECE | plan N | replay SUBSCRIBERS REQUESTS | sample"
         ),
     }
 }
@@ -41,6 +43,7 @@ fn main(rt: HostRuntime) -> Result<()> {
 /// A little of each, by which the gate sees that all of it runs.
 fn sample(rt: &HostRuntime) -> Result<()> {
     codec::measure(rt, 100)?;
+    requests::measure(rt, 10)?;
     stream::measure(rt, 10_000, 7)?;
     tariffs::measure(rt, 30)?;
     replay::measure(rt, 3, 30)
