@@ -1,1 +1,2 @@
 mod SameSubs
+mod ServiceKeys

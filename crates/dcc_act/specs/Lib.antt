@@ -2,6 +2,7 @@ pub mod Answers
 pub mod Grants
 pub mod Numbers
 pub mod OneTimeEvents
+pub mod ServiceKeys
 pub mod Services
 pub mod Subs
 pub mod TopUps

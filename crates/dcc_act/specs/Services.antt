@@ -1,12 +1,16 @@
 -- Services, as a contract sees them, and their limits.
-use Rattle.std.specs.Prelude.{◌≡◌, ℕ, ◌≤◌, true, List, Option, Some, is_some, is_none}
+use Rattle.std.specs.Prelude.{◌≡◌, ℕ, ◌≤◌, nat_le, Bool, true, false, ◌&&◌, ◌||◌, List, length, map, sum_by, Option, Some, is_some, is_none}
+use Rattle.std.specs.List.{list_all}
 use Rattle.std.specs.Option.{ForSome}
 use Rattle.dcc_tariff.specs.Terms.{TariffView}
 use Rattle.dcc_tariff.specs.declared.limits.TheConstants.{MAX_UNITS}
 use Rattle.dcc_tariff.specs.declared.tariff.UnitKind.{UnitKind}
 use Rattle.dcc_tariff.specs.declared.tariff.UnitKind.TheVariants.{Time}
-use Rattle.dcc_act.specs.declared.limits.TheConstants.{MAX_SECONDS}
+use Rattle.dcc_act.specs.declared.limits.TheConstants.{MAX_SECONDS, MAX_SERVICES, MAX_IDS}
 use Rattle.dcc_act.specs.declared.service.Form.{Form}
+use Rattle.dcc_act.specs.declared.service.Form.TheVariants.{Single, Multi}
+use Rattle.dcc_act.specs.declared.service_key.ServiceKey.{ServiceKey}
+use Rattle.dcc_act.specs.ServiceKeys.{key_of, are_apart}
 
 -- a service: its group and identifiers as sent, its form, the units asked and reported, what the plan counts and what it costs
 pub record ServiceView : Type 0 where
@@ -28,3 +32,21 @@ pub record IsService (asked used : Option ℕ) (unit : Option UnitKind) (tariff 
   pub unrated_asks_nothing : is_none unit ≡ true → ForSome asked (λ units. units ≡ 0)
   pub unrated_uses_nothing : is_none unit ≡ true → ForSome used (λ units. units ≡ 0)
   pub unrated_costs_nothing : is_none unit ≡ true → is_none tariff ≡ true
+
+-- by what a service is known among those of its session
+abbrev pub service_key : ServiceView → ServiceKey
+service_key service = key_of service.group service.ids
+
+abbrev pub is_multi : Form → Bool
+is_multi Single = false
+is_multi Multi = true
+
+-- one in single form stands alone
+abbrev pub stand_right : List ServiceView → Bool
+stand_right services = nat_le (length services) 1 || list_all (λ service. is_multi service.form) services
+
+-- at most 16 services, with at most 5,460 identifiers together, each of a key of its own; one in single form stands alone
+abbrev pub are_services : List ServiceView → Bool
+are_services services =
+    nat_le (length services) MAX_SERVICES && nat_le (sum_by (λ service. length service.ids) services) MAX_IDS &&
+    are_apart (map service_key services) && stand_right services

@@ -4,14 +4,23 @@ ghost use Rattle.std.specs.Prelude.{◌≡◌, IfOk};
 
 use crate::moment::Moment;
 use crate::one_time_event::OneTimeEvent;
+use crate::session_request::SessionRequest;
 use crate::top_up::TopUp;
 use std::alloc::AllocError;
 
 /// What happens to an account.
-#[derive(Debug, PartialEq, Eq, Drop)]
+#[derive(Debug, Drop)]
 pub enum Kind {
     TopUp(TopUp),
+    /// INITIAL_REQUEST (RFC 8506, section 8.3): opens a session.
+    Initial(SessionRequest),
+    /// UPDATE_REQUEST: reports what was used in an open session, and asks for more.
+    Update(SessionRequest),
+    /// TERMINATION_REQUEST: reports what was used, and ends the session.
+    Termination(SessionRequest),
     Event(OneTimeEvent),
+    /// The sessions whose time of holding is over at the moment end.
+    Expiry,
 }
 
 impl Kind {
@@ -21,13 +30,17 @@ impl Kind {
     {
         match self {
             Kind::TopUp(top_up) => Ok(Kind::TopUp(*top_up)),
+            Kind::Initial(request) => Ok(Kind::Initial(request.copy()?)),
+            Kind::Update(request) => Ok(Kind::Update(request.copy()?)),
+            Kind::Termination(request) => Ok(Kind::Termination(request.copy()?)),
             Kind::Event(event) => Ok(Kind::Event(event.copy()?)),
+            Kind::Expiry => Ok(Kind::Expiry),
         }
     }
 }
 
 /// What happens to an account, and when.
-#[derive(Debug, PartialEq, Eq, Drop)]
+#[derive(Debug, Drop)]
 pub struct Act {
     pub moment: Moment,
     pub kind: Kind,

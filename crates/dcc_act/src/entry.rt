@@ -15,6 +15,8 @@ pub enum EntryKind {
     Debit,
     /// A refund.
     Refund,
+    /// What a request of a session reported.
+    Charge,
 }
 
 /// By what an entry is known.

@@ -6,6 +6,9 @@ pub const MAX_AMOUNT: u64 = 1_000_000_000_000_000_000;
 /// The most seconds that fit a CC-Time (RFC 8506, section 8.21).
 pub const MAX_SECONDS: u64 = 0xffff_ffff;
 
+/// The most sessions that a subscriber may have open at once.
+pub const MAX_SESSIONS: usize = 64;
+
 /// The most services that a request may have.
 pub const MAX_SERVICES: usize = 16;
 

@@ -21,7 +21,7 @@ pub enum Action {
 }
 
 /// A one-time event (RFC 8506, section 6), which has one service, and that asks for units.
-#[derive(Debug, PartialEq, Eq, Drop)]
+#[derive(Debug, Drop)]
 pub struct OneTimeEvent {
     pub key: RequestKey,
     pub action: Action,

@@ -1,18 +1,26 @@
 //! Outcomes: all that an answer says beside identifiers and proxies.
 
 ghost use Rattle.std.specs.Prelude.{◌≡◌, IfOk};
+ghost use Rattle.dcc_act.specs.Answers.{answer_key};
 
 use crate::grant::Grant;
 use crate::request_key::RequestKey;
 use crate::service::Form;
 use crate::service_answers::ServiceAnswers;
 use crate::service_ids::ServiceIds;
+use crate::service_key::ServiceKey;
 use std::alloc::AllocError;
 
 /// Which request is answered (CC-Request-Type, RFC 8506, section 8.3).
 #[derive(Clone, Copy, Debug, PartialEq, Eq)]
 pub enum RequestType {
-    /// A one-time event.
+    /// INITIAL_REQUEST, 1.
+    Initial,
+    /// UPDATE_REQUEST, 2.
+    Update,
+    /// TERMINATION_REQUEST, 3.
+    Termination,
+    /// EVENT_REQUEST, 4: a one-time event.
     Event,
 }
 
@@ -24,6 +32,9 @@ impl RequestType {
         ensures { result ≡ request_type_number self }
     {
         match self {
+            RequestType::Initial => 1,
+            RequestType::Update => 2,
+            RequestType::Termination => 3,
             RequestType::Event => 4,
         }
     }
@@ -36,7 +47,11 @@ pub enum ResultCode {
     Success,
     /// DIAMETER_CREDIT_LIMIT_REACHED (RFC 8506, section 9.1): the free funds don't reach.
     CreditLimitReached,
-    /// DIAMETER_UNABLE_TO_COMPLY (RFC 6733, section 7.1.5): the funds would pass a limit.
+    /// DIAMETER_UNKNOWN_SESSION_ID (RFC 6733, section 7.1.5): the session isn't open.
+    UnknownSession,
+    /// DIAMETER_RESOURCES_EXCEEDED (RFC 6733, section 7.1.5): too many sessions are open.
+    ResourcesExceeded,
+    /// DIAMETER_UNABLE_TO_COMPLY (RFC 6733, section 7.1.5): the funds would pass a limit, or a session would open twice.
     UnableToComply,
     /// DIAMETER_RATING_FAILED (RFC 8506, section 9.2): there is no tariff.
     RatingFailed,
@@ -52,6 +67,8 @@ impl ResultCode {
         match self {
             ResultCode::Success => 2001,
             ResultCode::CreditLimitReached => 4012,
+            ResultCode::UnknownSession => 5002,
+            ResultCode::ResourcesExceeded => 5006,
             ResultCode::UnableToComply => 5012,
             ResultCode::RatingFailed => 5031,
         }
@@ -91,9 +108,21 @@ pub struct ServiceAnswer {
     pub form: Form,
     pub result: ResultCode,
     pub grant: Option<Grant>,
+    /// Whether the granted units are the last that the funds cover (Final-Unit-Indication, RFC 8506, section 8.34).
+    pub is_final: bool,
 }
 
 impl ServiceAnswer {
+    /// By what its service is known among those of its session.
+    pub fn key(&self) -> ServiceKey
+        ensures { result ≡ answer_key self.now }
+    {
+        ServiceKey {
+            group: self.group,
+            id: self.ids.as_slice().first().copied(),
+        }
+    }
+
     /// An equal answer, where memory suffices.
     pub fn copy(&self) -> Result<ServiceAnswer, AllocError>
         ensures { IfOk result (λ copy. copy ≡ self.now) }
@@ -104,6 +133,7 @@ impl ServiceAnswer {
             form: self.form,
             result: self.result,
             grant: self.grant,
+            is_final: self.is_final,
         })
     }
 }
@@ -154,6 +184,10 @@ pub enum Outcome {
     Added,
     /// A top-up would lift the funds above 10^18 minor units, and isn't added.
     Ceiling,
+    /// An expiry ends so many sessions.
+    Expired {
+        sessions: u64,
+    },
 }
 
 impl Outcome {
@@ -169,6 +203,9 @@ impl Outcome {
             Outcome::Answered(answer) => Ok(Outcome::Answered(answer.copy()?)),
             Outcome::Added => Ok(Outcome::Added),
             Outcome::Ceiling => Ok(Outcome::Ceiling),
+            Outcome::Expired { sessions } => Ok(Outcome::Expired {
+                sessions: *sessions,
+            }),
         }
     }
 }

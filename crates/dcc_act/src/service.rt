@@ -1,8 +1,10 @@
 //! Services of a request.
 
 ghost use Rattle.std.specs.Prelude.{◌≡◌, IfOk};
+ghost use Rattle.dcc_act.specs.Services.{service_key};
 
 use crate::service_ids::ServiceIds;
+use crate::service_key::ServiceKey;
 use dcc_tariff::{Tariff, UnitKind};
 use std::alloc::AllocError;
 use std::marker::Model;
@@ -63,6 +65,16 @@ impl Model for Service {
 }
 
 impl Service {
+    /// By what it is known among the services of its session.
+    pub fn key(&self) -> ServiceKey
+        ensures { result ≡ service_key self.now }
+    {
+        ServiceKey {
+            group: self.group,
+            id: self.ids.as_slice().first().copied(),
+        }
+    }
+
     /// An equal service, where memory suffices.
     pub fn copy(&self) -> Result<Service, AllocError>
         ensures { IfOk result (λ copy. copy ≡ self.now) }

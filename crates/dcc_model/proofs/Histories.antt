@@ -1,5 +1,5 @@
 -- Leaving out what was not made changes nothing.
-use Rattle.std.proofs.Common.{◌≡◌, ℕ, zero, suc, ◌+◌, ◌≤◌, ◌<◌, Bool, true, false, ◌||◌, cond, List, [], ◌∷◌, ◌++◌, length, map, reverse, take, refl, sym, ap, ◌∙◌, arith, inl, inr, Option, Some, None, is_none, option_map, slice_get, append-nil, add-one}
+use Rattle.std.proofs.Common.{◌≡◌, ℕ, ◌&&◌, zero, suc, ◌+◌, ◌≤◌, ◌<◌, Bool, true, false, ◌||◌, cond, List, [], ◌∷◌, ◌++◌, length, map, reverse, take, refl, sym, ap, ◌∙◌, arith, inl, inr, Option, Some, None, is_none, option_map, slice_get, append-nil, add-one}
 use Rattle.std.specs.Prelude.{unwrap_or}
 use Rattle.std.specs.Option.{option_map_or}
 use Rattle.std.proofs.lemmas.Bool.{cases_Bool, and_parts}
@@ -11,27 +11,60 @@ use Rattle.dcc_act.specs.declared.act.Kind.{Kind}
 use Rattle.dcc_act.specs.declared.act.Kind.TheVariants as kind
 use Rattle.dcc_act.specs.declared.outcome.Outcome.{Outcome}
 use Rattle.dcc_model.specs.declared.done.Done.{Done}
-use Rattle.dcc_model.specs.Keys.{request_key}
+use Rattle.dcc_model.specs.Keys.{request_key, is_expiry}
 use Rattle.dcc_model.specs.Outcomes.{is_new, counts, first_of, is_made, decided, unknown_of, settled, has_account, judged, history, act_made, after, outcome, acts}
 
 settled_where : (account : Bool) (k : Kind) (outcome : Outcome) → (account || is_none (request_key k)) ≡ true → cond account outcome (unwrap_or (unknown_of k) outcome) ≡ outcome
 settled_where true k outcome h = refl
 settled_where false (kind.TopUp top_up) outcome h = refl
+settled_where false (kind.Initial opening) outcome h = absurd cc
+settled_where false (kind.Update report) outcome h = absurd cc
+settled_where false (kind.Termination report) outcome h = absurd cc
 settled_where false (kind.Event event) outcome h = absurd cc
+settled_where false kind.Expiry outcome h = refl
 
 from_none : (first : Option Done) (rest : Outcome) → is_none first ≡ true → option_map_or (λ (done : Done). done.outcome) first rest ≡ rest
 from_none None rest h = refl
 from_none (Some done) rest h = absurd cc
 
 -- where an act counts, it is settled
-pub judged_counted : (terms : TermsView) (past : List Done) (act : Act) → counts past act.kind ≡ true → judged terms past act ≡ settled terms past act.kind
-judged_counted terms past act counted = settled_where (has_account past) act.kind (settled terms past act.kind) counted
+pub judged_counted : (terms : TermsView) (past : List Done) (act : Act) → counts past act.kind ≡ true → judged terms past act ≡ settled terms past act
+judged_counted terms past act counted = settled_where (has_account past) act.kind (settled terms past act) counted
+
+-- what counts and whose key is new comes to what its kind decides
+judged_first : (terms : TermsView) (past : List Done) (act : Act) → (counts past act.kind && is_none (first_of past act.kind)) ≡ true → judged terms past act ≡ decided terms past act.moment act.kind
+judged_first terms past act new =
+    let parts = and_parts (counts past act.kind) (is_none (first_of past act.kind)) new in
+    judged_counted terms past act parts.0 ∙ from_none (first_of past act.kind) (decided terms past act.moment act.kind) parts.1
+
+-- an expiry has no key
+pub expiry_first : (past : List Done) → first_of past kind.Expiry ≡ None
+expiry_first [] = refl
+expiry_first (done ∷ past) = expiry_first past
+
+or_true : (a : Bool) → (a || true) ≡ true
+or_true true = refl
+or_true false = refl
+
+judged_expiry : (terms : TermsView) (past : List Done) (act : Act) → first_of past act.kind ≡ None → counts past act.kind ≡ true → judged terms past act ≡ decided terms past act.moment act.kind
+judged_expiry terms past act none counted =
+    judged_counted terms past act counted ∙ from_none (first_of past act.kind) (decided terms past act.moment act.kind) (ap (λ (first : Option Done). is_none first) none)
+
+judged_made : (terms : TermsView) (past : List Done) (moment : ℕ) (k : Kind) → is_made terms past (record { moment = moment; kind = k }) ≡ true → judged terms past (record { moment = moment; kind = k }) ≡ decided terms past moment k
+judged_made terms past moment (kind.TopUp top_up) h = judged_first terms past (record { moment = moment; kind = kind.TopUp top_up }) h
+judged_made terms past moment (kind.Initial opening) h = judged_first terms past (record { moment = moment; kind = kind.Initial opening }) h
+judged_made terms past moment (kind.Update report) h = judged_first terms past (record { moment = moment; kind = kind.Update report }) h
+judged_made terms past moment (kind.Termination report) h = judged_first terms past (record { moment = moment; kind = kind.Termination report }) h
+judged_made terms past moment (kind.Event event) h = judged_first terms past (record { moment = moment; kind = kind.Event event }) h
+judged_made terms past moment kind.Expiry h = judged_expiry terms past (record { moment = moment; kind = kind.Expiry }) (expiry_first past) (or_true (has_account past))
 
 -- what is made comes to what its kind decides
-pub judged_new : (terms : TermsView) (past : List Done) (act : Act) → is_made terms past act ≡ true → judged terms past act ≡ decided terms past act.kind
-judged_new terms past act new =
-    let parts = and_parts (counts past act.kind) (is_none (first_of past act.kind)) new in
-    judged_counted terms past act parts.0 ∙ from_none (first_of past act.kind) (decided terms past act.kind) parts.1
+pub judged_new : (terms : TermsView) (past : List Done) (act : Act) → is_made terms past act ≡ true → judged terms past act ≡ decided terms past act.moment act.kind
+judged_new terms past act new = judged_made terms past act.moment act.kind new
+
+-- what is made and no expiry counts, and its key is new
+pub made_parts : (terms : TermsView) (past : List Done) (act : Act) → is_expiry act.kind ≡ false → is_made terms past act ≡ true → (counts past act.kind ≡ true) × (is_none (first_of past act.kind) ≡ true)
+made_parts terms past act other new = and_parts (counts past act.kind) (is_none (first_of past act.kind)) (rw other at new)
 
 pub history_of_made : (terms : TermsView) (all : List Act) → history terms (map act_made (history terms all)) ≡ history terms all
 history_of_made terms [] = refl

@@ -1,22 +1,22 @@
 -- The laws of outcomes and acts.
-use Rattle.std.proofs.Common.{◌≡◌, ℕ, ◌+◌, ◌-◌, true, List, ◌++◌, length, take, reverse, refl, sym, ap, ◌∙◌, arith, Option, Some, None, is_some, option_map}
+use Rattle.std.proofs.Common.{◌≡◌, false, inl, inr, ℕ, ◌+◌, ◌-◌, true, List, ◌++◌, length, take, reverse, refl, sym, ap, ◌∙◌, arith, Option, Some, None, is_some, option_map}
 use Rattle.std.specs.Prelude.{slice_get}
-use Rattle.std.proofs.lemmas.Int.{ints}
+use Rattle.std.proofs.lemmas.Bool.{cases_Bool}
 use Rattle.dcc_tariff.specs.Terms.{TermsView}
 use Rattle.dcc_act.specs.declared.act.Act.{Act}
 use Rattle.dcc_act.specs.declared.act.Kind.{Kind}
 use Rattle.dcc_act.specs.declared.act.Kind.TheVariants as kind
 use Rattle.dcc_act.specs.declared.outcome.Outcome.{Outcome}
 use Rattle.dcc_model.specs.declared.done.Done.{Done}
-use Rattle.dcc_model.specs.Keys.{request_key, ticket}
+use Rattle.dcc_model.specs.Keys.{request_key, ticket, is_expiry}
 use Rattle.dcc_model.specs.Money.{funds_of, overrun_of, free_of}
-use Rattle.dcc_model.specs.Outcomes.{is_made, place_of, history, after, is_new, place, outcome, acts, funds, overrun, free, kept_of, kept, IsOfRequest, IsOfTopUp}
+use Rattle.dcc_model.specs.Outcomes.{is_made, place_of, history, after, is_new, place, outcome, acts, funds, overrun, free, kept_of, kept, first_of, has_account, decided, settled, IsOfRequest, IsOfTopUp, IsOfExpiry}
 use Rattle.dcc_model.specs.Entries.{entries_of, entries}
 use Rattle.dcc_model.specs.Laws.{LaterChangesNothing, LastComesAfter, OneMoreAct, AfterStays, NewStays, PlaceStays, OutcomesStay, ActsStay, ActsAreActs, NoActs, KeptStay, AccountStays}
-use Rattle.dcc_model.specs.Laws.{UnknownBefore, RequestsAreAnswered, TopUpsAreAdded, FundsAreLimited, FreeIsCovered, EntriesAddUp, FreeIsFunds, NothingIsOverrun}
+use Rattle.dcc_model.specs.Laws.{UnknownBefore, RequestsAreAnswered, TopUpsAreAdded, ExpiriesEnd, RepeatsAreFirsts}
 use Rattle.dcc_model.proofs.Histories.{history-acts, acts_by_history, after_by_history, history_of_acts, outcome_behind, outcome_last, outcome_before, one_more}
+use Rattle.dcc_model.proofs.Places.{nothing_made}
 use Rattle.dcc_model.proofs.Requests.{IsOf, after_is_of, after_no_top_up, old_no_top_up}
-use Rattle.dcc_model.proofs.Funds.{funds_are, free_and_overrun, entries_add_up, free_is_funds, overrun_none}
 
 pub later_changes_nothing : LaterChangesNothing
 later_changes_nothing = outcome_before
@@ -80,11 +80,27 @@ unknown_before terms xs act unknown none is = (after_no_top_up terms xs act unkn
 
 request_of : (k : Kind) (outcome : Outcome) → is_some (request_key k) ≡ true → IsOf k outcome → IsOfRequest outcome
 request_of (kind.TopUp top_up) outcome request is = absurd cc
+request_of (kind.Initial opening) outcome request is = is
+request_of (kind.Update report) outcome request is = is
+request_of (kind.Termination report) outcome request is = is
 request_of (kind.Event event) outcome request is = is
+request_of kind.Expiry outcome request is = absurd cc
 
 top_up_of : (k : Kind) (outcome : Outcome) → is_some (ticket k) ≡ true → IsOf k outcome → IsOfTopUp outcome
 top_up_of (kind.TopUp top_up) outcome top is = is
+top_up_of (kind.Initial opening) outcome top is = absurd cc
+top_up_of (kind.Update report) outcome top is = absurd cc
+top_up_of (kind.Termination report) outcome top is = absurd cc
 top_up_of (kind.Event event) outcome top is = absurd cc
+top_up_of kind.Expiry outcome top is = absurd cc
+
+expiry_of : (k : Kind) (outcome : Outcome) → is_expiry k ≡ true → IsOf k outcome → IsOfExpiry outcome
+expiry_of (kind.TopUp top_up) outcome expiry is = absurd cc
+expiry_of (kind.Initial opening) outcome expiry is = absurd cc
+expiry_of (kind.Update report) outcome expiry is = absurd cc
+expiry_of (kind.Termination report) outcome expiry is = absurd cc
+expiry_of (kind.Event event) outcome expiry is = absurd cc
+expiry_of kind.Expiry outcome expiry is = is
 
 pub requests_are_answered : RequestsAreAnswered
 requests_are_answered terms xs act request = request_of act.kind (after terms xs act) request (after_is_of terms xs act)
@@ -92,20 +108,19 @@ requests_are_answered terms xs act request = request_of act.kind (after terms xs
 pub top_ups_are_added : TopUpsAreAdded
 top_ups_are_added terms xs act top = top_up_of act.kind (after terms xs act) top (after_is_of terms xs act)
 
-pub funds_are_limited : FundsAreLimited
-funds_are_limited terms xs =
-    let low = (funds_are terms xs).not_owed in
-    let high = (funds_are terms xs).not_over in
-    (omega (arith, ints), high)
+pub expiries_end : ExpiriesEnd
+expiries_end terms xs act expiry = expiry_of act.kind (after terms xs act) expiry (after_is_of terms xs act)
 
-pub free_is_covered : FreeIsCovered
-free_is_covered = free_and_overrun
+-- where an act of its key was made, there is an account
+account_where_made : (terms : TermsView) (all : List Act) (k : Kind) (first : Done) → first_of (history terms all) k ≡ Some first → has_account (history terms all) ≡ true
+account_where_made terms all k first is =
+    elim (cases_Bool (has_account (history terms all))) [
+      | inl t ↦ t
+      | inr f ↦ let none = nothing_made terms all f in let nothing : first_of (history terms all) k ≡ None = ap (λ (past : List Done). first_of past k) none in absurd cc
+    ]
 
-pub sums_of_entries : EntriesAddUp
-sums_of_entries = entries_add_up
-
-pub free_is_the_funds : FreeIsFunds
-free_is_the_funds = free_is_funds
-
-pub nothing_is_overrun : NothingIsOverrun
-nothing_is_overrun = overrun_none
+pub repeats_are_firsts : RepeatsAreFirsts
+unfolding after
+repeats_are_firsts terms xs act first is =
+    let account = account_where_made terms (reverse xs) act.kind first is in
+    rw (account, is) refl

@@ -1,6 +1,6 @@
 -- Where one more act stands among the acts, and which has no place.
-use Rattle.std.proofs.Common.{◌≡◌, ℕ, ◌+◌, ◌-◌, ◌≤◌, true, false, ◌&&◌, ◌==◌, List, [], ◌∷◌, ◌++◌, length, map, reverse, refl, sym, ap, ◌∙◌, arith, inl, inr, Some, is_none, slice_get}
-use Rattle.std.specs.Prelude.{int_lt, pos, ◌+ℤ◌, bytes_eq, unwrap_or, IsSomeAnd}
+use Rattle.std.proofs.Common.{◌≡◌, ℕ, ◌+◌, ◌-◌, ◌≤◌, true, false, not, ◌⊎◌, ◌&&◌, ◌==◌, Option, None, List, [], ◌∷◌, ◌++◌, length, map, reverse, refl, sym, ap, ◌∙◌, arith, inl, inr, Some, is_none, slice_get}
+use Rattle.std.specs.Prelude.{int_lt, nat_le, pos, ◌+ℤ◌, bytes_eq, unwrap_or, IsSomeAnd}
 use Rattle.std.specs.Option.{option_map_or}
 use Rattle.std.proofs.lemmas.Bool.{cases_Bool, cond_both, and_parts, and_from, or_parts, or_from, eq-eqb}
 use Rattle.std.proofs.lemmas.List.{reverse-append, reverse-reverse, length-reverse, length-map}
@@ -11,38 +11,46 @@ use Rattle.dcc_act.specs.declared.act.Kind.{Kind}
 use Rattle.dcc_act.specs.declared.act.Kind.TheVariants as kind
 use Rattle.dcc_act.specs.declared.outcome.Outcome.{Outcome}
 use Rattle.dcc_act.specs.declared.outcome.Outcome.TheVariants.{Added, Ceiling}
+use Rattle.dcc_act.specs.declared.outcome.RequestType.{RequestType}
+use Rattle.dcc_act.specs.declared.outcome.RequestType.TheVariants as request
+use Rattle.dcc_act.specs.declared.request_key.RequestKey.{RequestKey}
+use Rattle.dcc_act.specs.declared.limits.TheConstants.{MAX_SESSIONS}
+use Rattle.dcc_act.specs.Services.{ServiceView}
 use Rattle.dcc_model.specs.declared.done.Done.{Done}
 use Rattle.dcc_model.specs.declared.decide.TheConstants.{CEILING}
-use Rattle.dcc_model.specs.Keys.{request_key, same_key}
-use Rattle.dcc_model.specs.Money.{funds_of}
-use Rattle.dcc_model.specs.Outcomes.{is_top_up, has_account, counts, first_of, is_made, place_of_key, decided, unknown_of, is_unknown, settled, judged, history, act_made, after, is_new, place, outcome, acts}
-use Rattle.dcc_model.specs.Laws.{NewIsLast, StandsAt, PlaceHolds, UnknownHasNoPlace}
-use Rattle.dcc_model.proofs.Histories.{judged_new, history_of_made, history_of_acts, after_by_history, slice_get-behind, slice_get-before, outcome_last, outcome_before, one_more}
+use Rattle.dcc_model.specs.Keys.{request_key, same_key, is_top_up, is_expiry}
+use Rattle.dcc_model.specs.Sessions.{is_open, was_opened, open_sessions, looked_at}
+use Rattle.dcc_model.specs.Money.{charges, funds_of}
+use Rattle.dcc_model.specs.Outcomes.{begun, reported, is_under, has_account, counts, first_of, is_made, place_of_key, decided, unknown_of, is_unknown, settled, judged, history, act_made, after, is_new, place, outcome, acts}
+use Rattle.dcc_model.specs.Laws.{NewIsLast, StandsAt, PlaceHolds, UnknownHasNoPlace, IdleExpiryHasNoPlace}
+use Rattle.dcc_model.proofs.Histories.{judged_new, made_parts, expiry_first, history_of_made, history_of_acts, after_by_history, slice_get-behind, slice_get-before, outcome_last, outcome_before, one_more}
 
--- an act has its own key
-same_key-self : (k : Kind) → same_key k k ≡ true
-same_key-self (kind.TopUp top_up) = eq-eqb top_up.ticket top_up.ticket refl
-same_key-self (kind.Event event) =
-    let sids = (bytes_eq-Decides event.key.sid event.key.sid).1 refl in
-    let numbers = eq-eqb event.key.number event.key.number refl in
-    let both = and_from (bytes_eq event.key.sid event.key.sid) (event.key.number == event.key.number) sids numbers in
-    rw both refl
-
-is_request : (k : Kind) → is_top_up k ≡ false → is_none (request_key k) ≡ false
-is_request (kind.TopUp top_up) h = absurd cc
-is_request (kind.Event event) h = refl
+is_request : (k : Kind) → is_top_up k ≡ false → is_expiry k ≡ false → is_none (request_key k) ≡ false
+is_request (kind.TopUp top_up) h other = absurd cc
+is_request (kind.Initial opening) h other = refl
+is_request (kind.Update report) h other = refl
+is_request (kind.Termination report) h other = refl
+is_request (kind.Event event) h other = refl
+is_request kind.Expiry h other = absurd cc
 
 -- without an account nothing was made
-nothing_made : (terms : TermsView) (all : List Act) → has_account (history terms all) ≡ false → history terms all ≡ []
+pub nothing_made : (terms : TermsView) (all : List Act) → has_account (history terms all) ≡ false → history terms all ≡ []
 nothing_made terms [] h = refl
 nothing_made terms (act ∷ earlier) h =
     let past = history terms earlier in
     elim (cases_Bool (is_made terms past act)) [
       | inl t ↦
           let parts = or_parts (is_top_up act.kind) (has_account past) (rw t at h) in
-          let uncounted = or_from (has_account past) (is_none (request_key act.kind)) parts.1 (is_request act.kind parts.0) in
-          let counted = (and_parts (counts past act.kind) (is_none (first_of past act.kind)) t).0 in
-          absurd cc
+          let none : past ≡ [] = nothing_made terms earlier parts.1 in
+          elim (cases_Bool (is_expiry act.kind)) [
+            | inl expiry ↦
+                let idle : is_made terms past act ≡ false = rw (expiry, none) refl in
+                absurd cc
+            | inr other ↦
+                let uncounted = or_from (has_account past) (is_none (request_key act.kind)) parts.1 (is_request act.kind parts.0 other) in
+                let counted = (made_parts terms past act other t).0 in
+                absurd cc
+          ]
       | inr f ↦ rw f (nothing_made terms earlier (rw f at h))
     ]
 
@@ -144,7 +152,7 @@ stands_last terms xs act n new at =
     rw more
     (record {
       from_one = omega arith;
-      same = rw there (same_key-self act.kind);
+      same = rw there (inl refl);
       outcome_is =
           ap (outcome terms (made ++ act ∷ [])) at ∙ outcome_last terms made act
           ∙ ap (λ (o : Outcome). Some o) (after_by_history terms made xs act (history_of_acts terms xs));
@@ -171,10 +179,14 @@ after_found terms xs act n found =
     let first = found.first in
     rw (account, first) refl
 
+found_same : (act : Act) (there : Option Act) → IsSomeAnd there (λ there. same_key act.kind there.kind ≡ true) → IsSomeAnd there (λ there. (there ≡ act) ⊎ (same_key act.kind there.kind ≡ true))
+found_same act None same = absurd same
+found_same act (Some there) same = inr same
+
 same_in : (terms : TermsView) (xs : List Act) (act : Act) (n : ℕ) (found : Found terms (history terms (reverse xs)) act.kind n)
-    → IsSomeAnd (slice_get (acts terms xs) (n - 1)) (λ there. same_key act.kind there.kind ≡ true)
+    → IsSomeAnd (slice_get (acts terms xs) (n - 1)) (λ there. (there ≡ act) ⊎ (same_key act.kind there.kind ≡ true))
 unfolding acts
-same_in terms xs act n found = found.same
+same_in terms xs act n found = found_same act (slice_get (reverse (map act_made (history terms (reverse xs)))) (n - 1)) found.same
 
 outcome_in : (terms : TermsView) (xs : List Act) (act : Act) (n : ℕ) (found : Found terms (history terms (reverse xs)) act.kind n) → outcome terms (acts terms xs) n ≡ Some found.done.outcome
 unfolding acts
@@ -200,10 +212,30 @@ place_holds terms xs act n h =
     ]
 
 -- what is made has an account, or makes one
-decided_known : (terms : TermsView) (past : List Done) (k : Kind) → is_unknown (decided terms past k) ≡ false
-decided_known terms past (kind.TopUp top_up) =
+Known : Outcome → Type 0
+Known outcome = is_unknown outcome ≡ false
+
+begun_known : (terms : TermsView) (past : List Done) (key : RequestKey) (services : List ServiceView) → Known (begun terms past key services)
+unfolding Known
+begun_known terms past key services =
+    cond_both (was_opened past key.sid) _ _ Known (λ _. refl)
+    (λ _. cond_both (nat_le MAX_SESSIONS (length (open_sessions terms past))) _ _ Known (λ _. refl) (λ _. refl))
+
+reported_known : (terms : TermsView) (past : List Done) (type : RequestType) (key : RequestKey) (services : List ServiceView) → Known (reported terms past type key services)
+unfolding Known
+reported_known terms past type key services =
+    cond_both (not (is_open terms past key.sid)) _ _ Known (λ _. refl)
+    (λ _. cond_both (is_under (funds_of terms past) (charges terms past key.sid services)) _ _ Known (λ _. refl) (λ _. refl))
+
+decided_known : (terms : TermsView) (past : List Done) (moment : ℕ) (k : Kind) → is_unknown (decided terms past moment k) ≡ false
+unfolding Known
+decided_known terms past moment (kind.TopUp top_up) =
     cond_both (int_lt CEILING (funds_of terms past +ℤ pos top_up.amount)) Ceiling Added (λ (o : Outcome). is_unknown o ≡ false) (λ _. refl) (λ _. refl)
-decided_known terms past (kind.Event event) = refl
+decided_known terms past moment (kind.Initial opening) = begun_known terms past opening.key (looked_at (kind.Initial opening))
+decided_known terms past moment (kind.Update report) = reported_known terms past request.Update report.key (looked_at (kind.Update report))
+decided_known terms past moment (kind.Termination report) = reported_known terms past request.Termination report.key (looked_at (kind.Termination report))
+decided_known terms past moment (kind.Event event) = refl
+decided_known terms past moment kind.Expiry = refl
 
 AllKnown : List Done → Type 0
 AllKnown [] = Unit {0}
@@ -215,7 +247,7 @@ all_known terms [] = tt
 all_known terms (act ∷ earlier) =
     let past = history terms earlier in
     elim (cases_Bool (is_made terms past act)) [
-      | inl t ↦ rw t (ap is_unknown (judged_new terms past act t) ∙ decided_known terms past act.kind, all_known terms earlier)
+      | inl t ↦ rw t (ap is_unknown (judged_new terms past act t) ∙ decided_known terms past act.moment act.kind, all_known terms earlier)
       | inr f ↦ rw f (all_known terms earlier)
     ]
 
@@ -230,24 +262,47 @@ kept_known (done ∷ past) k rest known h =
       | inr f ↦ rw f (kept_known past k rest known.1 (rw f at h))
     ]
 
-unknown_kind : (k : Kind) (rest : Outcome) → (is_none (request_key k) && true) ≡ false → true ≡ is_unknown (unwrap_or (unknown_of k) rest)
-unknown_kind (kind.TopUp top_up) rest h = absurd cc
-unknown_kind (kind.Event event) rest h = refl
+unknown_kind : (k : Kind) (rest : Outcome) → is_expiry k ≡ false → (is_none (request_key k) && true) ≡ false → true ≡ is_unknown (unwrap_or (unknown_of k) rest)
+unknown_kind (kind.TopUp top_up) rest other h = absurd cc
+unknown_kind (kind.Initial opening) rest other h = refl
+unknown_kind (kind.Update report) rest other h = refl
+unknown_kind (kind.Termination report) rest other h = refl
+unknown_kind (kind.Event event) rest other h = refl
+unknown_kind kind.Expiry rest other h = absurd cc
 
 -- a request before all others
-unknown_first : (terms : TermsView) (past : List Done) (act : Act) → past ≡ [] → is_made terms past act ≡ false → is_none (place_of_key (map act_made past) act.kind) ≡ is_unknown (judged terms past act)
-unknown_first terms [] act none old = unknown_kind act.kind (settled terms [] act.kind) old
-unknown_first terms (done ∷ past) act none old = absurd cc
+unknown_first : (terms : TermsView) (past : List Done) (act : Act) → past ≡ [] → is_expiry act.kind ≡ false → is_made terms past act ≡ false → is_none (place_of_key (map act_made past) act.kind) ≡ is_unknown (judged terms past act)
+unknown_first terms [] act none other old = unknown_kind act.kind (settled terms [] act) other (rw other at old)
+unknown_first terms (done ∷ past) act none other old = absurd cc
 
 pub unknown_has_no_place : UnknownHasNoPlace
 unfolding place after
-unknown_has_no_place terms xs act =
+unknown_has_no_place terms xs act other =
     let past = history terms (reverse xs) in
     elim (cases_Bool (is_made terms past act)) [
-      | inl t ↦ rw (t, judged_new terms past act t) (sym (decided_known terms past act.kind))
+      | inl t ↦ rw (t, judged_new terms past act t) (sym (decided_known terms past act.moment act.kind))
       | inr f ↦
           elim (cases_Bool (has_account past)) [
-            | inl account ↦ (let known = kept_known past act.kind (decided terms past act.kind) (all_known terms (reverse xs)) (rw account at f) in rw (f, account) known)
-            | inr none ↦ (let first = unknown_first terms past act (nothing_made terms (reverse xs) none) f in rw f first)
+            | inl account ↦ (let known = kept_known past act.kind (decided terms past act.moment act.kind) (all_known terms (reverse xs)) (rw (other, account) at f) in rw (f, account) known)
+            | inr none ↦ (let first = unknown_first terms past act (nothing_made terms (reverse xs) none) other f in rw f first)
           ]
+    ]
+
+-- an expiry that isn't made stands nowhere
+expiry_nowhere : (k : Kind) (all : List Act) → is_expiry k ≡ true → place_of_key all k ≡ None
+expiry_nowhere k [] expiry = refl
+expiry_nowhere (kind.TopUp top_up) (act ∷ all) expiry = absurd cc
+expiry_nowhere (kind.Initial opening) (act ∷ all) expiry = absurd cc
+expiry_nowhere (kind.Update report) (act ∷ all) expiry = absurd cc
+expiry_nowhere (kind.Termination report) (act ∷ all) expiry = absurd cc
+expiry_nowhere (kind.Event event) (act ∷ all) expiry = absurd cc
+expiry_nowhere kind.Expiry (act ∷ all) expiry = expiry_nowhere kind.Expiry all expiry
+
+pub idle_expiry_has_no_place : IdleExpiryHasNoPlace
+unfolding place is_new
+idle_expiry_has_no_place terms xs act expiry =
+    let past = history terms (reverse xs) in
+    elim (cases_Bool (is_made terms past act)) [
+      | inl t ↦ rw t refl
+      | inr f ↦ let nowhere = expiry_nowhere act.kind (map act_made past) expiry in rw (f, nowhere) refl
     ]

@@ -1,6 +1,6 @@
 -- The entries that the acts of one subscriber leave in the books.
-use Rattle.std.specs.Prelude.{ℕ, ◌+◌, ℤ, pos, neg_ℤ, ◌+ℤ◌, if◌then◌else◌, List, [], ◌∷◌, ◌++◌, length, reverse, None, option_map}
-use Rattle.std.specs.Option.{option_to_list}
+use Rattle.std.specs.Prelude.{ℕ, ◌+◌, ℤ, pos, neg_ℤ, ◌+ℤ◌, if◌then◌else◌, List, [], ◌∷◌, ◌++◌, length, reverse, filter_map, Option, None, option_map, unwrap_or}
+use Rattle.std.specs.Option.{option_to_list, option_map_or}
 use Rattle.dcc_tariff.specs.Terms.{TermsView}
 use Rattle.dcc_act.specs.declared.act.Act.{Act}
 use Rattle.dcc_act.specs.declared.one_time_event.OneTimeEvent.{OneTimeEvent}
@@ -13,8 +13,11 @@ use Rattle.dcc_act.specs.declared.entry.EntryName.TheVariants.{Ticket, Session}
 use Rattle.dcc_act.specs.declared.grant.Grant.{Grant}
 use Rattle.dcc_act.specs.declared.outcome.Outcome.{Outcome}
 use Rattle.dcc_model.specs.declared.done.Done.{Done}
-use Rattle.dcc_model.specs.Money.{is_added, charged_event, refunded_event, grant_price}
-use Rattle.dcc_model.specs.Outcomes.{history}
+use Rattle.dcc_act.specs.Services.{ServiceView}
+use Rattle.dcc_model.specs.Results.{is_added}
+use Rattle.dcc_model.specs.Sessions.{Sid, looked_at, accepted_by}
+use Rattle.dcc_model.specs.Money.{charged_event, refunded_event, grant_price, charge}
+use Rattle.dcc_model.specs.Outcomes.{judged, is_made, history}
 
 -- a top-up's entry, which charges no units
 abbrev pub top_up_entry : ℕ → ℕ → TopUp → Entry
@@ -55,16 +58,40 @@ refund_entry place moment event grant =
       name = Session event.key.sid;
     }
 
+-- a charged report's entry, also where it cost nothing
+abbrev pub charge_entry : ℕ → ℕ → Sid → ServiceView → ℕ → Entry
+charge_entry place moment sid service cost =
+    record {
+      place = place;
+      moment = moment;
+      kind = entry.Charge;
+      group = service.group;
+      units = unwrap_or service.used 0;
+      amount = neg_ℤ (pos cost);
+      name = Session sid;
+    }
+
+-- the entries of a request's reports that are charged, in the order of its services
+abbrev pub charge_entries : TermsView → List Done → ℕ → ℕ → Sid → List ServiceView → List Entry
+charge_entries terms past place moment sid services =
+    filter_map (λ service. option_map (charge_entry place moment sid service) (charge terms past sid service)) services
+
 -- the entries of an act at this place, after the acts that were made before it
 abbrev pub entries_of_kind : TermsView → List Done → ℕ → ℕ → Kind → Outcome → List Entry
 entries_of_kind terms past place moment (kind.TopUp top_up) outcome = if is_added outcome then top_up_entry place moment top_up ∷ [] else []
 entries_of_kind terms past place moment (kind.Event event) outcome =
     option_to_list (option_map (debit_entry place moment event) (charged_event event outcome)) ++
     option_to_list (option_map (refund_entry place moment event) (refunded_event event outcome))
+entries_of_kind terms past place moment kind outcome =
+    option_map_or (λ sid. charge_entries terms past place moment sid (looked_at kind)) (accepted_by kind outcome) []
 
 -- places count from 1
 abbrev pub entries_by : TermsView → List Done → Done → List Entry
 entries_by terms past done = entries_of_kind terms past (length past + 1) done.act.moment done.act.kind done.outcome
+
+-- the entries that one more act adds: none where it isn't made
+abbrev pub entries_with : TermsView → List Done → Act → List Entry
+entries_with terms past act = if is_made terms past act then entries_by terms past (record { act = act; outcome = judged terms past act }) else []
 
 -- the entries of all acts, in their order
 abbrev pub entries_of : TermsView → List Done → List Entry

@@ -1,14 +1,23 @@
 -- What the layers above know of outcomes and acts without a look into them.
-use Rattle.std.specs.Prelude.{◌≡◌, ℕ, ◌+◌, ◌-◌, ◌≤◌, pos, ◌+ℤ◌, neg_ℤ, ◌≤ℤ◌, true, false, if◌then◌else◌, List, [], ◌∷◌, ◌++◌, length, slice_get, Some, is_some, is_none, IsSomeAnd}
+use Rattle.std.specs.Prelude.{◌≡◌, ℕ, ◌+◌, ◌-◌, ◌≤◌, pos, ◌+ℤ◌, neg_ℤ, ◌≤ℤ◌, Bool, true, false, not, if◌then◌else◌, List, [], ◌∷◌, ◌++◌, length, map, reverse, slice_get, Some, is_some, is_none, IsSomeAnd, ◌⊎◌}
+use Rattle.std.specs.List.{AllByRecursion}
 use Rattle.dcc_tariff.specs.Terms.{TermsView}
+use Rattle.dcc_tariff.specs.Prices.{covers}
+use Rattle.dcc_act.specs.ServiceKeys.{are_apart}
+use Rattle.dcc_act.specs.Services.{ServiceView, service_key}
 use Rattle.dcc_act.specs.declared.act.Act.{Act}
+use Rattle.dcc_act.specs.declared.act.Kind.{Kind}
+use Rattle.dcc_act.specs.declared.act.Kind.TheVariants as kind
+use Rattle.dcc_act.specs.declared.limits.TheConstants.{MAX_SESSIONS}
 use Rattle.dcc_act.specs.declared.outcome.Outcome.{Outcome}
+use Rattle.dcc_act.specs.declared.outcome.ServiceAnswer.{ServiceAnswer}
 use Rattle.dcc_act.specs.declared.request_key.RequestKey.{RequestKey}
 use Rattle.dcc_model.specs.declared.decide.TheConstants.{CEILING}
 use Rattle.dcc_model.specs.declared.done.Done.{Done}
-use Rattle.dcc_model.specs.Money.{funds_of, overrun_of, free_of}
-use Rattle.dcc_model.specs.Keys.{request_key, ticket, same_key}
-use Rattle.dcc_model.specs.Outcomes.{after, is_new, place, outcome, acts, funds, overrun, free, kept, has_top_up, unknown_of, is_unknown, IsOfRequest, IsOfTopUp}
+use Rattle.dcc_model.specs.Keys.{request_key, ticket, same_key, is_expiry}
+use Rattle.dcc_model.specs.Sessions.{Sid, opens, was_opened, is_open, open_sessions, Live, lives}
+use Rattle.dcc_model.specs.Money.{made_price, room}
+use Rattle.dcc_model.specs.Outcomes.{history, first_of, judged, answers, after, is_new, place, outcome, acts, funds, overrun, free, kept, has_top_up, unknown_of, is_unknown, IsOfRequest, IsOfTopUp, IsOfExpiry}
 use Rattle.dcc_model.specs.Entries.{entries, sum_of}
 
 -- what comes later changes no outcome
@@ -65,10 +74,10 @@ abbrev pub NewIsLast : Type 0
 NewIsLast = (terms : TermsView) (xs : List Act) (act : Act) → is_new terms xs act ≡ true
     → place terms xs act ≡ Some (length (acts terms xs) + 1)
 
--- at a place of a list, counted from 1, stands an act of the same key, and that is its outcome there
+-- at a place of a list, counted from 1, stands the act or one of the same key, and that is its outcome there
 pub record StandsAt (terms : TermsView) (all : List Act) (k : ℕ) (act : Act) (comes_to : Outcome) : Type 0 where
   pub from_one : 1 ≤ k
-  pub same : IsSomeAnd (slice_get all (k - 1)) (λ there. same_key act.kind there.kind ≡ true)
+  pub same : IsSomeAnd (slice_get all (k - 1)) (λ there. (there ≡ act) ⊎ (same_key act.kind there.kind ≡ true))
   pub outcome_is : outcome terms all k ≡ Some comes_to
 
 -- so it is at the place of one more act, among the acts then
@@ -76,9 +85,14 @@ abbrev pub PlaceHolds : Type 0
 PlaceHolds = (terms : TermsView) (xs : List Act) (act : Act) (k : ℕ) → place terms xs act ≡ Some k
     → StandsAt terms (acts terms (xs ++ act ∷ [])) k act (after terms xs act)
 
--- and none has no place but a request of an unknown user
+-- and none has no place but a request of an unknown user, and an expiry that ends nothing
 abbrev pub UnknownHasNoPlace : Type 0
-UnknownHasNoPlace = (terms : TermsView) (xs : List Act) (act : Act) → is_none (place terms xs act) ≡ is_unknown (after terms xs act)
+UnknownHasNoPlace = (terms : TermsView) (xs : List Act) (act : Act) → is_expiry act.kind ≡ false
+    → is_none (place terms xs act) ≡ is_unknown (after terms xs act)
+
+abbrev pub IdleExpiryHasNoPlace : Type 0
+IdleExpiryHasNoPlace = (terms : TermsView) (xs : List Act) (act : Act) → is_expiry act.kind ≡ true
+    → is_none (place terms xs act) ≡ not (is_new terms xs act)
 
 -- without a top-up before, a request is of an unknown user, under its own type and key, and isn't made
 abbrev pub UnknownBefore : Type 0
@@ -93,22 +107,62 @@ RequestsAreAnswered = (terms : TermsView) (xs : List Act) (act : Act) → is_som
 abbrev pub TopUpsAreAdded : Type 0
 TopUpsAreAdded = (terms : TermsView) (xs : List Act) (act : Act) → is_some (ticket act.kind) ≡ true → IsOfTopUp (after terms xs act)
 
+-- an expiry ends some number of sessions
+abbrev pub ExpiriesEnd : Type 0
+ExpiriesEnd = (terms : TermsView) (xs : List Act) (act : Act) → is_expiry act.kind ≡ true → IsOfExpiry (after terms xs act)
+
 -- funds stay within 10^18 on either side
 abbrev pub FundsAreLimited : Type 0
 FundsAreLimited = (terms : TermsView) (xs : List Act) → (neg_ℤ CEILING ≤ℤ funds terms xs) × (funds terms xs ≤ℤ CEILING)
 
+-- the services of an act
+abbrev pub services_of : Kind → List ServiceView
+services_of (kind.Initial request) = request.services
+services_of (kind.Update request) = request.services
+services_of (kind.Termination request) = request.services
+services_of _ = []
+
+-- each act's services have keys of their own, as the type of an act keeps it
+abbrev pub AreKeyed : List Act → Type 0
+AreKeyed xs = AllByRecursion (λ act. are_apart (map service_key (services_of act.kind)) ≡ true) xs
+
 -- only what is overrun takes what is free below nothing (O'Neil's escrow method)
 abbrev pub FreeIsCovered : Type 0
-FreeIsCovered = (terms : TermsView) (xs : List Act) → pos 0 ≤ℤ (free terms xs +ℤ pos (overrun terms xs))
+FreeIsCovered = (terms : TermsView) (xs : List Act) → AreKeyed xs → pos 0 ≤ℤ (free terms xs +ℤ pos (overrun terms xs))
+
+-- each grant's price is nothing, or within the room that the grants before it leave
+abbrev pub GrantsFit : TermsView → List Done → Sid → List ServiceView → (before : List ServiceAnswer) → List ServiceAnswer → Type 0
+GrantsFit terms past sid services before [] = Unit {0}
+GrantsFit terms past sid services before (answer ∷ rest) =
+    (covers (room terms past sid services before) (made_price answer) ≡ true) × GrantsFit terms past sid services (before ++ answer ∷ []) rest
+
+abbrev pub GrantsAreCovered : Type 0
+GrantsAreCovered = (terms : TermsView) (past : List Done) (sid : Sid) (services : List ServiceView)
+    → GrantsFit terms past sid services [] (answers terms past sid services [] services)
 
 -- the entries add up to the funds
 abbrev pub EntriesAddUp : Type 0
 EntriesAddUp = (terms : TermsView) (xs : List Act) → sum_of (entries terms xs) ≡ funds terms xs
 
--- neither a top-up nor a one-time event reserves
-abbrev pub FreeIsFunds : Type 0
-FreeIsFunds = (terms : TermsView) (past : List Done) → free_of terms past ≡ funds_of terms past
+-- a subscriber has at most 64 sessions open
+abbrev pub FewAreOpen : Type 0
+FewAreOpen = (terms : TermsView) (xs : List Act) → length (open_sessions terms (history terms xs)) ≤ MAX_SESSIONS
 
--- nor reports beyond what is reserved
-abbrev pub NothingIsOverrun : Type 0
-NothingIsOverrun = (terms : TermsView) (past : List Done) → overrun_of terms past ≡ 0
+-- a session is opened once: never again, whether it is open or has ended
+abbrev pub IsOpenedOnce : List Done → Type 0
+IsOpenedOnce [] = Unit {0}
+IsOpenedOnce (done ∷ past) =
+    ((sid : Sid) → opens done sid ≡ true → was_opened past sid ≡ false) × IsOpenedOnce past
+
+abbrev pub SessionsOpenOnce : Type 0
+SessionsOpenOnce = (terms : TermsView) (xs : List Act) → IsOpenedOnce (history terms xs)
+
+-- each live grant is of an open session
+abbrev pub LiveAreOpen : Type 0
+LiveAreOpen = (terms : TermsView) (xs : List Act)
+    → AllByRecursion (λ (held : Live). is_open terms (history terms xs) held.sid ≡ true) (lives terms (history terms xs))
+
+-- a repeat comes to what the first of its key came to, of whatever type it is
+abbrev pub RepeatsAreFirsts : Type 0
+RepeatsAreFirsts = (terms : TermsView) (xs : List Act) (act : Act) (first : Done)
+    → first_of (history terms (reverse xs)) act.kind ≡ Some first → after terms xs act ≡ first.outcome

@@ -1,4 +1,5 @@
 pub mod Keys
+pub mod Results
 pub mod Sessions
 pub mod Money
 pub mod Outcomes

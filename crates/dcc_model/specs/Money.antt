@@ -1,11 +1,13 @@
--- Funds, overrun and what is free. `past` is the acts that were made, the latest first, each with what it came to; what an
--- act did to money is a function of the past before it, of the act and of what it came to.
-use Rattle.std.specs.Prelude.{ℕ, ◌+◌, ℤ, pos, ◌+ℤ◌, ◌-ℤ◌, Bool, true, false, if◌then◌else◌, List, [], ◌∷◌, sum_by, Option, Some, None}
-use Rattle.std.specs.Option.{option_map_or}
+-- Funds, overrun, what is reserved and what is free. `past` is the acts that were made, the latest first, each with what it
+-- came to; what an act did to money is a function of the past before it, of the act and of what it came to.
+use Rattle.std.specs.Prelude.{ℕ, ◌+◌, ◌-◌, ℤ, pos, ◌+ℤ◌, ◌-ℤ◌, Bool, not, ◌&&◌, if◌then◌else◌, List, [], ◌∷◌, filter, sum_by, bytes_eq, Option, Some, None, is_some, is_none, option_map, unwrap_or}
+use Rattle.std.specs.List.{list_any}
+use Rattle.std.specs.Option.{option_and_then, option_or, option_map_or}
 use Rattle.dcc_tariff.specs.Prices.{price}
 use Rattle.dcc_tariff.specs.Terms.{TermsView, TariffView}
 use Rattle.dcc_tariff.specs.declared.tariff.UnitKind.{UnitKind}
-use Rattle.dcc_act.specs.Services.{ServiceView}
+use Rattle.dcc_act.specs.ServiceKeys.{same_service}
+use Rattle.dcc_act.specs.Services.{ServiceView, service_key}
 use Rattle.dcc_act.specs.declared.act.Kind.{Kind}
 use Rattle.dcc_act.specs.declared.act.Kind.TheVariants.{TopUp, Event}
 use Rattle.dcc_act.specs.declared.grant.Grant.{Grant}
@@ -13,31 +15,18 @@ use Rattle.dcc_act.specs.declared.one_time_event.Action.{Action}
 use Rattle.dcc_act.specs.declared.one_time_event.OneTimeEvent.{OneTimeEvent}
 use Rattle.dcc_act.specs.declared.one_time_event.Action.TheVariants.{DirectDebiting, RefundAccount, CheckBalance, PriceEnquiry}
 use Rattle.dcc_act.specs.declared.outcome.Outcome.{Outcome}
-use Rattle.dcc_act.specs.declared.outcome.Outcome.TheVariants.{Answered, Added}
-use Rattle.dcc_act.specs.declared.outcome.ResultCode.{ResultCode}
-use Rattle.dcc_act.specs.declared.outcome.ResultCode.TheVariants.{Success}
+use Rattle.dcc_act.specs.declared.outcome.ServiceAnswer.{ServiceAnswer}
+use Rattle.dcc_act.specs.declared.service_key.ServiceKey.{ServiceKey}
 use Rattle.dcc_model.specs.declared.done.Done.{Done}
-use Rattle.dcc_model.specs.Sessions.{Live, live}
-
-abbrev pub is_success : ResultCode → Bool
-is_success Success = true
-is_success _ = false
-
--- the command was answered with success
-abbrev pub succeeded : Outcome → Bool
-succeeded (Answered answer) = is_success answer.result
-succeeded _ = false
-
-abbrev pub is_added : Outcome → Bool
-is_added Added = true
-is_added _ = false
+use Rattle.dcc_model.specs.Results.{succeeded, is_added}
+use Rattle.dcc_model.specs.Sessions.{Sid, Live, live, lives, named, looked_at, accepted_by}
 
 -- so many units of a kind at a tariff, where there is each of the three
 abbrev pub rated : Option UnitKind → Option ℕ → Option TariffView → Option Grant
 rated (Some unit) (Some units) (Some tariff) = Some (record { unit = unit; units = units; tariff = tariff })
 rated _ _ _ = None
 
--- the units that an event asks for, at the tariff of its moment, where there is one
+-- the units that a service asks for, at the tariff of its moment, where there is one
 abbrev pub asked_units : ServiceView → Option Grant
 asked_units service = rated service.unit service.asked service.tariff
 
@@ -66,43 +55,87 @@ charged_event event outcome = if succeeded outcome then charged_by event.action 
 abbrev pub refunded_event : OneTimeEvent → Outcome → Option Grant
 refunded_event event outcome = if succeeded outcome then refunded_by event.action (asked_units event.service) else None
 
--- what an act charged: a direct debit the units that it asked for
-abbrev pub charged : TermsView → List Done → Kind → Outcome → Option Grant
-charged terms past (TopUp top_up) outcome = None
-charged terms past (Event event) outcome = charged_event event outcome
+-- the price of a service's live grant
+abbrev pub live_price : TermsView → List Done → Sid → ServiceKey → ℕ
+live_price terms past sid key = option_map_or grant_price (live terms past sid key) 0
+
+-- the tariff of a service's live grant, or else that of the act's moment
+abbrev pub charge_tariff : TermsView → List Done → Sid → ServiceView → Option TariffView
+charge_tariff terms past sid service =
+    option_or (option_map (λ (grant : Grant). grant.tariff) (live terms past sid (service_key service))) service.tariff
+
+-- the charge for a service's report, where there is one and a tariff for it
+abbrev pub charge : TermsView → List Done → Sid → ServiceView → Option ℕ
+charge terms past sid service =
+    option_and_then (λ units. option_map (λ tariff. price tariff units) (charge_tariff terms past sid service)) service.used
+
+-- a report that no tariff charges
+abbrev pub is_unrated : TermsView → List Done → Sid → ServiceView → Bool
+is_unrated terms past sid service = is_some service.used && is_none (charge terms past sid service)
+
+-- the charges of a request's reports together
+abbrev pub charges : TermsView → List Done → Sid → List ServiceView → ℕ
+charges terms past sid services = sum_by (λ service. unwrap_or (charge terms past sid service) 0) services
+
+-- what each charge exceeds the price of the live grant by, together
+abbrev pub overruns : TermsView → List Done → Sid → List ServiceView → ℕ
+overruns terms past sid services = sum_by (λ service. unwrap_or (charge terms past sid service) 0 - live_price terms past sid (service_key service)) services
 
 -- what an act added to the funds: a top-up its amount, and a refund the price of the units that it asked for
-abbrev pub credit : TermsView → List Done → Kind → Outcome → ℕ
-credit terms past (TopUp top_up) outcome = if is_added outcome then top_up.amount else 0
-credit terms past (Event event) outcome = option_map_or grant_price (refunded_event event outcome) 0
+abbrev pub credit : Kind → Outcome → ℕ
+credit (TopUp top_up) outcome = if is_added outcome then top_up.amount else 0
+credit (Event event) outcome = option_map_or grant_price (refunded_event event outcome) 0
+credit _ outcome = 0
 
--- what an act took from the funds: the price of what it charged
-abbrev pub debit : TermsView → List Done → Kind → Outcome → ℕ
-debit terms past kind outcome = option_map_or grant_price (charged terms past kind outcome) 0
+-- what a direct debit took from them
+abbrev pub debit : Kind → Outcome → ℕ
+debit (Event event) outcome = option_map_or grant_price (charged_event event outcome) 0
+debit _ outcome = 0
+
+-- what an accepted update or termination charged
+abbrev pub charged : TermsView → List Done → Done → ℕ
+charged terms past done = option_map_or (λ sid. charges terms past sid (looked_at done.act.kind)) (accepted_by done.act.kind done.outcome) 0
+
+-- and by how much its charges exceeded the live grants
+abbrev pub overran : TermsView → List Done → Done → ℕ
+overran terms past done = option_map_or (λ sid. overruns terms past sid (looked_at done.act.kind)) (accepted_by done.act.kind done.outcome) 0
 
 -- the funds are what the acts added, less what they took
 abbrev pub funds_of : TermsView → List Done → ℤ
 funds_of terms [] = pos 0
 funds_of terms (done ∷ past) =
-    (funds_of terms past +ℤ pos (credit terms past done.act.kind done.outcome)) -ℤ pos (debit terms past done.act.kind done.outcome)
-
--- what an act charged beyond what was reserved for it: neither a top-up nor a one-time event reports
-abbrev pub overran : TermsView → List Done → Kind → Outcome → ℕ
-overran terms past (TopUp top_up) outcome = 0
-overran terms past (Event event) outcome = 0
+    (funds_of terms past +ℤ pos (credit done.act.kind done.outcome)) -ℤ pos (debit done.act.kind done.outcome + charged terms past done)
 
 -- what was charged beyond what was reserved, over all acts
 abbrev pub overrun_of : TermsView → List Done → ℕ
 overrun_of terms [] = 0
-overrun_of terms (done ∷ past) = overrun_of terms past + overran terms past done.act.kind done.outcome
+overrun_of terms (done ∷ past) = overrun_of terms past + overran terms past done
 
 abbrev pub held_price : Live → ℕ
 held_price held = grant_price held.grant
 
 -- what is reserved is the price of each grant that is live
 abbrev pub reserved_of : TermsView → List Done → ℕ
-reserved_of terms past = sum_by held_price (live terms past)
+reserved_of terms past = sum_by held_price (lives terms past)
 
 -- the least value that open requests can leave the funds at (the infimum of O'Neil's escrow method)
 abbrev pub free_of : TermsView → List Done → ℤ
 free_of terms past = funds_of terms past -ℤ pos (reserved_of terms past)
+
+-- a request of this session puts others in the place of a service's grant
+abbrev pub is_replaced : Sid → List ServiceView → Live → Bool
+is_replaced sid services held = bytes_eq sid held.sid && list_any (same_service held.key) (named services)
+
+-- the prices of the live grants but those
+abbrev pub reserved_beside : TermsView → List Done → Sid → List ServiceView → ℕ
+reserved_beside terms past sid services = sum_by held_price (filter (λ held. not (is_replaced sid services held)) (lives terms past))
+
+-- the price of a grant that was made
+abbrev pub made_price : ServiceAnswer → ℕ
+made_price answer = option_map_or grant_price answer.grant 0
+
+-- the money for the next service's grant: the funds less the request's charges, less the live grants that it leaves, less
+-- the grants that it made to the services before
+abbrev pub room : TermsView → List Done → Sid → List ServiceView → List ServiceAnswer → ℤ
+room terms past sid services before =
+    funds_of terms past -ℤ pos (charges terms past sid services + reserved_beside terms past sid services + sum_by made_price before)

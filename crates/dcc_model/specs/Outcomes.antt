@@ -1,8 +1,8 @@
 -- What each act of one subscriber's list comes to. `past` is the acts that were made, the latest first.
-use Rattle.std.specs.Prelude.{ℕ, zero, suc, ◌+◌, ⊤, ℤ, pos, ◌+ℤ◌, int_lt, Bool, true, false, ◌&&◌, ◌||◌, if◌then◌else◌, List, [], ◌∷◌, length, map, reverse, take, Option, Some, None, is_none, option_map, find, slice_get, unwrap_or}
+use Rattle.std.specs.Prelude.{ℕ, zero, suc, ◌+◌, ⊤, ℤ, pos, ◌+ℤ◌, ◌-ℤ◌, neg_ℤ, int_lt, Bool, true, false, not, ◌&&◌, ◌||◌, ◌==◌, nat_le, nat_lt, if◌then◌else◌, List, [], ◌∷◌, ◌++◌, length, map, reverse, take, count_by, Option, Some, None, is_none, option_map, find, slice_get, unwrap_or}
 use Rattle.std.specs.List.{list_any}
 use Rattle.std.specs.Option.{option_map_or}
-use Rattle.dcc_tariff.specs.Prices.{covers}
+use Rattle.dcc_tariff.specs.Prices.{covers, best}
 use Rattle.dcc_tariff.specs.Terms.{TermsView}
 use Rattle.dcc_act.specs.declared.act.Act.{Act}
 use Rattle.dcc_act.specs.declared.one_time_event.Action.{Action}
@@ -12,25 +12,26 @@ use Rattle.dcc_act.specs.declared.act.Kind.{Kind}
 use Rattle.dcc_act.specs.declared.act.Kind.TheVariants as kind
 use Rattle.dcc_act.specs.declared.top_up.TopUp.{TopUp}
 use Rattle.dcc_act.specs.declared.grant.Grant.{Grant}
+use Rattle.dcc_act.specs.declared.limits.TheConstants.{MAX_SESSIONS}
 use Rattle.dcc_act.specs.declared.outcome.Outcome.{Outcome}
-use Rattle.dcc_act.specs.declared.outcome.Outcome.TheVariants.{Unknown, Answered, Added, Ceiling}
+use Rattle.dcc_act.specs.declared.outcome.Outcome.TheVariants.{Unknown, Answered, Added, Ceiling, Expired}
+use Rattle.dcc_act.specs.declared.outcome.RequestType.{RequestType}
 use Rattle.dcc_act.specs.declared.outcome.RequestType.TheVariants as request
 use Rattle.dcc_act.specs.declared.outcome.ResultCode.{ResultCode}
-use Rattle.dcc_act.specs.declared.outcome.ResultCode.TheVariants.{Success, CreditLimitReached, UnableToComply, RatingFailed}
+use Rattle.dcc_act.specs.declared.outcome.ResultCode.TheVariants.{Success, CreditLimitReached, UnknownSession, ResourcesExceeded, UnableToComply, RatingFailed}
 use Rattle.dcc_act.specs.declared.outcome.Balance.{Balance}
 use Rattle.dcc_act.specs.declared.outcome.Balance.TheVariants.{EnoughCredit, NoCredit}
 use Rattle.dcc_act.specs.declared.outcome.ServiceAnswer.{ServiceAnswer}
 use Rattle.dcc_act.specs.declared.request_key.RequestKey.{RequestKey}
+use Rattle.dcc_act.specs.declared.service.Form.TheVariants.{Single, Multi}
 use Rattle.dcc_act.specs.declared.service.Service.{Service}
 use Rattle.dcc_model.specs.declared.done.Done.{Done}
 use Rattle.dcc_model.specs.declared.decide.TheConstants.{CEILING}
 use Rattle.dcc_model.specs.declared.decide.EventResult.{EventResult}
-use Rattle.dcc_model.specs.Keys.{request_key, same_key, same_request}
-use Rattle.dcc_model.specs.Money.{asked_units, grant_price, funds_of, overrun_of, free_of}
-
-abbrev pub is_top_up : Kind → Bool
-is_top_up (kind.TopUp top_up) = true
-is_top_up (kind.Event event) = false
+use Rattle.dcc_model.specs.declared.judgement.Standing.{Standing}
+use Rattle.dcc_model.specs.Keys.{request_key, same_key, same_request, is_top_up, is_expiry}
+use Rattle.dcc_model.specs.Sessions.{Sid, deadline, is_open, was_opened, open_sessions, looked_at}
+use Rattle.dcc_model.specs.Money.{asked_units, grant_price, is_unrated, charges, funds_of, overrun_of, free_of, room}
 
 -- an account exists from its first top-up
 abbrev pub has_account : List Done → Bool
@@ -39,7 +40,7 @@ has_account past = list_any (λ done. is_top_up done.act.kind) past
 abbrev pub has_top_up : List Act → Bool
 has_top_up all = list_any (λ act. is_top_up act.kind) all
 
--- a request counts once there is an account, a top-up always
+-- a request counts once there is an account, all else always
 abbrev pub counts : List Done → Kind → Bool
 counts past kind = has_account past || is_none (request_key kind)
 
@@ -48,8 +49,74 @@ abbrev pub first_of : List Done → Kind → Option Done
 first_of past kind = find (λ done. same_key kind done.act.kind) past
 
 -- what a service says of itself in its answer
-abbrev pub answer_with : Service → ResultCode → Option Grant → ServiceAnswer
-answer_with service code grant = record { group = service.group; ids = service.ids; form = service.form; result = code; grant = grant }
+abbrev pub answer_with : Service → ResultCode → Option Grant → Bool → ServiceAnswer
+answer_with service code grant last =
+    record { group = service.group; ids = service.ids; form = service.form; result = code; grant = grant; is_final = last }
+
+-- so many of the units that are asked for, the last where they are less; none where that is nothing
+abbrev pub granted : Service → Grant → ℕ → ServiceAnswer
+granted service asked units =
+    if units == 0 then answer_with service CreditLimitReached None false
+    else answer_with service Success (Some (record asked { units = units })) (nat_lt units asked.units)
+
+-- a service is granted the most of what it asks for that its room covers; without a tariff there is no price
+abbrev pub granted_within : Service → ℤ → Option Grant → ServiceAnswer
+granted_within service space None = answer_with service RatingFailed None false
+granted_within service space (Some asked) = granted service asked (best asked.tariff asked.units space)
+
+-- a service that asks for nothing succeeds
+abbrev pub asked_answer : Service → ℤ → ServiceAnswer
+asked_answer service space = if is_none service.asked then answer_with service Success None false else granted_within service space (asked_units service)
+
+-- a report that no tariff charges fails, and nothing is granted to its service
+abbrev pub answer_to : TermsView → List Done → Sid → Service → ℤ → ServiceAnswer
+answer_to terms past sid service space =
+    if is_unrated terms past sid service then answer_with service RatingFailed None false else asked_answer service space
+
+-- the answers to a request's services in order, each in the room that those before leave
+abbrev pub answers : TermsView → List Done → Sid → List Service → (before : List ServiceAnswer) → List Service → List ServiceAnswer
+answers terms past sid services before [] = []
+answers terms past sid services before (service ∷ rest) =
+    let answer = answer_to terms past sid service (room terms past sid services before) in
+    answer ∷ answers terms past sid services (before ++ answer ∷ []) rest
+
+-- the command's result is success, or that of the service that stands alone at the message's level
+abbrev pub command_result : List ServiceAnswer → ResultCode
+command_result [] = Success
+command_result (answer ∷ others) = elim answer.form as (λ _. ResultCode) [ Single ↦ answer.result | Multi ↦ Success ]
+
+abbrev pub answered : RequestType → RequestKey → List ServiceAnswer → Outcome
+answered type key services =
+    Answered (record { request = type; key = key; result = command_result services; services = services; cost = None; balance = None })
+
+abbrev pub served : TermsView → List Done → RequestType → RequestKey → List Service → Outcome
+served terms past type key services = answered type key (answers terms past key.sid services [] services)
+
+-- an answer that carries nothing but its result
+abbrev pub bare : RequestType → RequestKey → ResultCode → Outcome
+bare type key code = Answered (record { request = type; key = key; result = code; services = []; cost = None; balance = None })
+
+-- a session opens once, and no more than 64 are open at a time (RFC 8506, section 7)
+abbrev pub begun : TermsView → List Done → RequestKey → List Service → Outcome
+begun terms past key services =
+    if was_opened past key.sid then bare request.Initial key UnableToComply
+    else if nat_le MAX_SESSIONS (length (open_sessions terms past)) then bare request.Initial key ResourcesExceeded
+    else served terms past request.Initial key services
+
+-- these charges would take the funds below the floor
+abbrev pub is_under : ℤ → ℕ → Bool
+is_under funds charged = int_lt (funds -ℤ pos charged) (neg_ℤ CEILING)
+
+-- an update or a termination, whose session has to be open and whose charges the floor has to bear
+abbrev pub reported : TermsView → List Done → RequestType → RequestKey → List Service → Outcome
+reported terms past type key services =
+    if not (is_open terms past key.sid) then bare type key UnknownSession
+    else if is_under (funds_of terms past) (charges terms past key.sid services) then bare type key UnableToComply
+    else served terms past type key services
+
+-- how many sessions an expiry at this moment ends
+abbrev pub expired : TermsView → List Done → ℕ → ℕ
+expired terms past moment = count_by (λ sid. nat_le (deadline terms past sid) moment) (open_sessions terms past)
 
 -- an event's answer has one service, whose result is the command's
 abbrev pub event_answer : OneTimeEvent → EventResult → Outcome
@@ -58,7 +125,7 @@ event_answer event found =
       request = request.Event;
       key = event.key;
       result = found.result;
-      services = answer_with event.service found.result found.grant ∷ [];
+      services = answer_with event.service found.result found.grant false ∷ [];
       cost = found.cost;
       balance = found.balance;
     })
@@ -112,34 +179,45 @@ abbrev pub top_up_outcome : ℤ → TopUp → Outcome
 top_up_outcome funds top_up = if is_over funds top_up.amount then Ceiling else Added
 
 -- what an act comes to that is made
-abbrev pub decided : TermsView → List Done → Kind → Outcome
-decided terms past (kind.TopUp top_up) = top_up_outcome (funds_of terms past) top_up
-decided terms past (kind.Event event) = event_outcome (funds_of terms past) (free_of terms past) event
+abbrev pub decided : TermsView → List Done → (moment : ℕ) → Kind → Outcome
+decided terms past moment (kind.TopUp top_up) = top_up_outcome (funds_of terms past) top_up
+decided terms past moment (kind.Initial opening) = begun terms past opening.key (looked_at (kind.Initial opening))
+decided terms past moment (kind.Update report) = reported terms past request.Update report.key (looked_at (kind.Update report))
+decided terms past moment (kind.Termination report) = reported terms past request.Termination report.key (looked_at (kind.Termination report))
+decided terms past moment (kind.Event event) = event_outcome (funds_of terms past) (free_of terms past) event
+decided terms past moment kind.Expiry = Expired (expired terms past moment)
 
--- what a request comes to that has no account, under its own type and key; a top-up needs none
+-- what a request comes to that has no account, under its own type and key; a top-up and an expiry need none
 abbrev pub unknown_of : Kind → Option Outcome
 unknown_of (kind.TopUp top_up) = None
+unknown_of (kind.Initial opening) = Some (Unknown request.Initial opening.key)
+unknown_of (kind.Update report) = Some (Unknown request.Update report.key)
+unknown_of (kind.Termination report) = Some (Unknown request.Termination report.key)
 unknown_of (kind.Event event) = Some (Unknown request.Event event.key)
+unknown_of kind.Expiry = None
 
 -- a repeat comes to what the first came to
-abbrev pub settled : TermsView → List Done → Kind → Outcome
-settled terms past kind = option_map_or (λ (done : Done). done.outcome) (first_of past kind) (decided terms past kind)
+abbrev pub settled : TermsView → List Done → Act → Outcome
+settled terms past act = option_map_or (λ (done : Done). done.outcome) (first_of past act.kind) (decided terms past act.moment act.kind)
 
 -- without an account a request is of an unknown user
 abbrev pub judged : TermsView → List Done → Act → Outcome
 judged terms past act =
-    if has_account past then settled terms past act.kind else unwrap_or (unknown_of act.kind) (settled terms past act.kind)
+    if has_account past then settled terms past act else unwrap_or (unknown_of act.kind) (settled terms past act)
 
--- what is made is each act that counts and whose key is new
+-- what is made is each act that counts and whose key is new, and each expiry that ends a session
 abbrev pub is_made : TermsView → List Done → Act → Bool
-is_made terms past act = counts past act.kind && is_none (first_of past act.kind)
+is_made terms past act =
+    if is_expiry act.kind then nat_lt 0 (expired terms past act.moment) else counts past act.kind && is_none (first_of past act.kind)
+
+-- the acts that were made, and one more where it is made
+abbrev pub with_act : TermsView → List Done → Act → List Done
+with_act terms past act = if is_made terms past act then record { act = act; outcome = judged terms past act } ∷ past else past
 
 -- the acts that were made, each with what it came to, the latest first; so is the list that it looks at
 abbrev pub history : TermsView → List Act → List Done
 history terms [] = []
-history terms (act ∷ earlier) =
-    let past = history terms earlier in
-    if is_made terms past act then record { act = act; outcome = judged terms past act } ∷ past else past
+history terms (act ∷ earlier) = with_act terms (history terms earlier) act
 
 -- of an act that was made, the act, and what it came to
 abbrev pub act_made : Done → Act
@@ -169,8 +247,8 @@ after terms before act = judged terms (history terms (reverse before)) act
 unfoldable pub is_new : TermsView → List Act → Act → Bool
 is_new terms before act = is_made terms (history terms (reverse before)) act
 
--- its place among the acts then, counted from 1, or that of the act that was made with its key; a request that isn't made
--- and whose key none has, of an unknown user, has no place
+-- its place among the acts then, counted from 1, or that of the act that was made with its key; a request of an unknown
+-- user and an expiry that ends nothing have no place
 unfoldable pub place : TermsView → List Act → Act → Option ℕ
 place terms before act = place_of terms (history terms (reverse before)) act
 
@@ -183,6 +261,10 @@ outcome terms all (suc before) = option_map (after terms (take before all)) (sli
 -- the acts of a list, in order
 unfoldable pub acts : TermsView → List Act → List Act
 acts terms all = reverse (map act_made (history terms (reverse all)))
+
+-- the money of an account after these
+abbrev pub standing_of : TermsView → List Done → Standing
+standing_of terms past = record { funds = funds_of terms past; free = free_of terms past; overrun = pos (overrun_of terms past) }
 
 -- the account after the whole list
 unfoldable pub funds : TermsView → List Act → ℤ
@@ -207,6 +289,7 @@ IsOfRequest (Unknown request key) = ⊤
 IsOfRequest (Answered answer) = ⊤
 IsOfRequest Added = ⊥
 IsOfRequest Ceiling = ⊥
+IsOfRequest (Expired sessions) = ⊥
 
 -- the outcomes that a top-up may have
 abbrev pub IsOfTopUp : Outcome → Type 0
@@ -214,3 +297,12 @@ IsOfTopUp (Unknown request key) = ⊥
 IsOfTopUp (Answered answer) = ⊥
 IsOfTopUp Added = ⊤
 IsOfTopUp Ceiling = ⊤
+IsOfTopUp (Expired sessions) = ⊥
+
+-- the outcomes that an expiry may have
+abbrev pub IsOfExpiry : Outcome → Type 0
+IsOfExpiry (Unknown request key) = ⊥
+IsOfExpiry (Answered answer) = ⊥
+IsOfExpiry Added = ⊥
+IsOfExpiry Ceiling = ⊥
+IsOfExpiry (Expired sessions) = ⊤

@@ -1,34 +1,149 @@
--- What sessions have reserved. `past` is the acts that were made, the latest first, each with what it came to.
-use Rattle.std.specs.Prelude.{ℕ, Bool, true, List, [], ◌∷◌, ◌++◌, filter, Option}
+-- Sessions: when one is open, until when, and which grants it holds. `past` is the acts that were made, the latest first,
+-- each with what it came to.
+use Rattle.std.specs.Prelude.{ℕ, ◌+◌, Bool, false, not, ◌&&◌, ◌||◌, nat_le, if◌then◌else◌, List, [], ◌∷◌, ◌++◌, map, filter, filter_map, find, bytes_eq, Option, Some, None, is_some, option_map, unwrap_or}
+use Rattle.std.specs.List.{list_any}
+use Rattle.std.specs.Option.{option_and_then, option_or}
 use Rattle.dcc_tariff.specs.Terms.{TermsView}
+use Rattle.dcc_act.specs.Answers.{answer_key}
+use Rattle.dcc_act.specs.ServiceKeys.{same_service}
+use Rattle.dcc_act.specs.Services.{ServiceView, service_key}
 use Rattle.dcc_act.specs.declared.act.Kind.{Kind}
-use Rattle.dcc_act.specs.declared.act.Kind.TheVariants.{TopUp, Event}
+use Rattle.dcc_act.specs.declared.act.Kind.TheVariants.{Initial, Update, Termination}
 use Rattle.dcc_act.specs.declared.grant.Grant.{Grant}
 use Rattle.dcc_act.specs.declared.outcome.Outcome.{Outcome}
+use Rattle.dcc_act.specs.declared.outcome.ServiceAnswer.{ServiceAnswer}
+use Rattle.dcc_act.specs.declared.service_key.ServiceKey.{ServiceKey}
 use Rattle.dcc_model.specs.declared.done.Done.{Done}
+use Rattle.dcc_model.specs.Keys.{is_expiry}
+use Rattle.dcc_model.specs.Results.{succeeded, refused, answers_of}
 
--- a service of a session is known by its group, or none, and its first identifier, or none
-pub record ServiceKey : Type 0 where
-  pub group : Option ℕ
-  pub id : Option ℕ
+-- the name of a session
+abbrev pub Sid : Type 0
+Sid = List ℕ
 
--- a grant that holds, with its session and its service
+-- An initial request opens its session where the command succeeds: in groups unless it is refused as a whole; a service
+-- that stands alone gives the command its own result.
+abbrev pub opens_by : Kind → Outcome → Option Sid
+opens_by (Initial request) outcome = if succeeded outcome then Some request.key.sid else None
+opens_by _ outcome = None
+
+-- an update is accepted unless it is refused as a whole
+abbrev pub updates_by : Kind → Outcome → Option Sid
+updates_by (Update request) outcome = if refused outcome then None else Some request.key.sid
+updates_by _ outcome = None
+
+-- so is a termination
+abbrev pub terminates_by : Kind → Outcome → Option Sid
+terminates_by (Termination request) outcome = if refused outcome then None else Some request.key.sid
+terminates_by _ outcome = None
+
+-- the session of an accepted update or termination
+abbrev pub accepted_by : Kind → Outcome → Option Sid
+accepted_by kind outcome = option_or (updates_by kind outcome) (terminates_by kind outcome)
+
+abbrev pub is_sid : Option Sid → Sid → Bool
+is_sid None sid = false
+is_sid (Some a) sid = bytes_eq a sid
+
+abbrev pub opens : Done → Sid → Bool
+opens done sid = is_sid (opens_by done.act.kind done.outcome) sid
+
+abbrev pub updates : Done → Sid → Bool
+updates done sid = is_sid (updates_by done.act.kind done.outcome) sid
+
+abbrev pub terminates : Done → Sid → Bool
+terminates done sid = is_sid (terminates_by done.act.kind done.outcome) sid
+
+-- how long a session is held: for the plan's time after the moment of the last act that opened or updated it
+abbrev pub deadline : TermsView → List Done → Sid → ℕ
+deadline terms [] sid = 0
+deadline terms (done ∷ past) sid = if opens done sid || updates done sid then done.act.moment + terms.hold else deadline terms past sid
+
+-- an act ends a session: a termination, an update that doesn't succeed, or an expiry at or past its deadline
+abbrev pub ends : TermsView → List Done → Done → Sid → Bool
+ends terms past done sid =
+    terminates done sid || (updates done sid && not (succeeded done.outcome)) || (is_expiry done.act.kind && nat_le (deadline terms past sid) done.act.moment)
+
+-- a session is open where an act opened it and none since ended it
+abbrev pub is_open : TermsView → List Done → Sid → Bool
+is_open terms [] sid = false
+is_open terms (done ∷ past) sid = opens done sid || (is_open terms past sid && not (ends terms past done sid))
+
+-- a session was opened before, whether it is open or ended
+abbrev pub was_opened : List Done → Sid → Bool
+was_opened past sid = list_any (λ done. opens done sid) past
+
+-- the sessions that were opened, the latest first
+abbrev pub opened : List Done → List Sid
+opened past = filter_map (λ done. opens_by done.act.kind done.outcome) past
+
+-- those that are open
+abbrev pub open_sessions : TermsView → List Done → List Sid
+open_sessions terms past = filter (is_open terms past) (opened past)
+
+abbrev pub without_report : ServiceView → ServiceView
+without_report service = record service { used = None }
+
+abbrev pub without_asked : ServiceView → ServiceView
+without_asked service = record service { asked = None }
+
+-- the services as their request looks at them: an initial request at no reports, a termination at no units that are asked for
+abbrev pub looked_at : Kind → List ServiceView
+looked_at (Initial request) = map without_report request.services
+looked_at (Update request) = request.services
+looked_at (Termination request) = map without_asked request.services
+looked_at _ = []
+
+-- a service that reports units or asks for some gives back the grant that it has
+abbrev pub is_named : ServiceView → Bool
+is_named service = is_some service.asked || is_some service.used
+
+abbrev pub named : List ServiceView → List ServiceKey
+named services = map service_key (filter is_named services)
+
+-- the session that an act opened, updated or terminated
+abbrev pub session_of : Done → Option Sid
+session_of done = option_or (opens_by done.act.kind done.outcome) (accepted_by done.act.kind done.outcome)
+
+-- an act names a service of a session
+abbrev pub names : Done → Sid → ServiceKey → Bool
+names done sid key = is_sid (session_of done) sid && list_any (same_service key) (named (looked_at done.act.kind))
+
+-- the grant that an act made to a service
+abbrev pub made : Done → ServiceKey → Option Grant
+made done key = option_and_then (λ (answer : ServiceAnswer). answer.grant) (find (λ answer. same_service (answer_key answer) key) (answers_of done.outcome))
+
+-- the grant that the last act which named the service made to it, back to the act that opened the session
+abbrev pub last_grant : List Done → Sid → ServiceKey → Option Grant
+last_grant [] sid key = None
+last_grant (done ∷ past) sid key =
+    if names done sid key then made done key
+    else if opens done sid then None
+    else last_grant past sid key
+
+-- a service's grant is live while its session is open
+abbrev pub live : TermsView → List Done → Sid → ServiceKey → Option Grant
+live terms past sid key = if is_open terms past sid then last_grant past sid key else None
+
+-- a live grant, with its session and its service
 pub record Live : Type 0 where
-  pub sid : List ℕ
+  pub sid : Sid
   pub key : ServiceKey
   pub grant : Grant
 
--- the grants that an act reserved: a top-up grants nothing, and what a one-time event grants is charged at once
-abbrev pub reserved_by : Kind → Outcome → List Live
-reserved_by (TopUp top_up) outcome = []
-reserved_by (Event event) outcome = []
+-- the grant that an answer made to a service of a session
+abbrev pub live_of : Sid → ServiceAnswer → Option Live
+live_of sid answer = option_map (λ grant. record { sid = sid; key = answer_key answer; grant = grant }) answer.grant
 
--- a grant goes on unless an act ends its session or names its service: neither a top-up nor a one-time event does
-abbrev pub goes_on : TermsView → List Done → Kind → Live → Bool
-goes_on terms past (TopUp top_up) held = true
-goes_on terms past (Event event) held = true
+-- the grants that an act made in its session; what a one-time event grants is charged at once
+abbrev pub made_by : Done → List Live
+made_by done = unwrap_or (option_map (λ sid. filter_map (live_of sid) (answers_of done.outcome)) (session_of done)) []
 
--- all live grants: those that the latest act reserved, and those before that go on
-abbrev pub live : TermsView → List Done → List Live
-live terms [] = []
-live terms (done ∷ past) = reserved_by done.act.kind done.outcome ++ filter (goes_on terms past done.act.kind) (live terms past)
+-- a grant goes on unless an act ends its session or names its service
+abbrev pub goes_on : TermsView → List Done → Done → Live → Bool
+goes_on terms past done held = not (ends terms past done held.sid || names done held.sid held.key)
+
+-- all live grants: those that the latest act made, and those before that go on
+abbrev pub lives : TermsView → List Done → List Live
+lives terms [] = []
+lives terms (done ∷ past) = made_by done ++ filter (goes_on terms past done) (lives terms past)

@@ -16,7 +16,7 @@ use std::alloc::{AllocError, Global};
 pub const CEILING: i128 = MAX_AMOUNT as i128;
 
 /// What a new top-up comes to at these funds, in minor units.
-pub fn decide_top_up(funds: i128, top_up: &TopUp) -> Outcome
+pub(crate) fn decide_top_up(funds: i128, top_up: &TopUp) -> Outcome
     ensures { result ≡ top_up_outcome funds top_up.now }
 {
     if is_over(funds, top_up.amount) {
@@ -28,7 +28,7 @@ pub fn decide_top_up(funds: i128, top_up: &TopUp) -> Outcome
 
 /// What a new event comes to at these funds, of which so much is free, both in minor units. The only error is want of
 /// memory.
-pub fn decide_event(
+pub(crate) fn decide_event(
     alloc: Global,
     funds: i128,
     free: i128,
@@ -141,6 +141,7 @@ fn answer(alloc: Global, event: &OneTimeEvent, found: EventResult) -> Result<Out
         form: service.form,
         result: found.result,
         grant: found.grant,
+        is_final: false,
     };
     let key = event.key.copy()?;
     let services = ServiceAnswers::from_vec(vec![in alloc; answer]?).unwrap();

@@ -3,8 +3,8 @@
 
 ghost use Rattle.dcc_model.specs.Laws.{LaterChangesNothing, OneMoreAct, AfterStays, NewStays, PlaceStays, OutcomesStay, ActsStay};
 ghost use Rattle.dcc_model.specs.Laws.{ActsAreActs, NoActs, KeptStay, AccountStays, NewIsLast, PlaceHolds, UnknownHasNoPlace};
-ghost use Rattle.dcc_model.specs.Laws.{LastComesAfter, UnknownBefore, RequestsAreAnswered, TopUpsAreAdded};
-ghost use Rattle.dcc_model.specs.Laws.{FundsAreLimited, FreeIsCovered, EntriesAddUp, FreeIsFunds, NothingIsOverrun};
+ghost use Rattle.dcc_model.specs.Laws.{IdleExpiryHasNoPlace, LastComesAfter, UnknownBefore, RepeatsAreFirsts};
+ghost use Rattle.dcc_model.specs.Laws.{RequestsAreAnswered, TopUpsAreAdded, ExpiriesEnd};
 
 /// What comes later changes no outcome.
 pub fn later_acts_change_no_outcome()
@@ -31,32 +31,22 @@ pub fn leaving_out_changes_nothing()
 {}
 
 /// A new act's place is behind all others; at the place of an act stands one of its key, with the outcome that it comes
-/// to; and only a request of an unknown user has no place.
+/// to; and only a request of an unknown user has no place, and an expiry that ends nothing.
 pub fn places_hold()
     ensures last { NewIsLast }
     ensures stands { PlaceHolds }
     ensures unknown { UnknownHasNoPlace }
+    ensures idle { IdleExpiryHasNoPlace }
 {}
 
-/// The last act comes to what it does after those before it. A request comes to what a request may come to, and before
-/// the first top-up to nothing; a top-up is added, or passes the ceiling.
+/// The last act comes to what it does after those before it. A request comes to what a request may come to, before the
+/// first top-up to nothing, and again to what it came to first; a top-up is added, or passes the ceiling; an expiry ends
+/// some number of sessions.
 pub fn acts_come_to_their_own()
     ensures last { LastComesAfter }
     ensures unknown { UnknownBefore }
     ensures requests { RequestsAreAnswered }
     ensures top_ups { TopUpsAreAdded }
-{}
-
-/// Funds stay within 10^18 minor units on either side of nothing, only what is overrun takes what is free below
-/// nothing, and the entries add up to the funds.
-pub fn funds_are_accounted_for()
-    ensures limited { FundsAreLimited }
-    ensures covered { FreeIsCovered }
-    ensures entries { EntriesAddUp }
-{}
-
-/// Top-ups and events reserve nothing and report nothing beyond it: what is free is the funds.
-pub fn nothing_is_reserved()
-    ensures free { FreeIsFunds }
-    ensures overrun { NothingIsOverrun }
+    ensures expiries { ExpiriesEnd }
+    ensures repeats { RepeatsAreFirsts }
 {}

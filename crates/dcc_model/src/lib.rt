@@ -2,26 +2,22 @@
 //!
 //! Stands on `dcc_act` and `dcc_tariff`. The definitions look back over one subscriber's list of acts: which of them are
 //! made, what each comes to, the funds, what is overrun, what is free, and the entries in the books. The contract that
-//! this crate gives: `plain_answer` is the defined outcome at each place of each list, and the definitions obey the laws
-//! of `laws`.
+//! this crate gives: `plain_answer` is the defined outcome at each place of each list, `judge` what one more act comes to
+//! and does, and the definitions obey the laws of `laws`.
 #![tactic(auto)]
 
 mod decide;
 mod done;
 mod evaluator;
+mod judgement;
 mod keys;
 mod laws;
-mod posting;
 
-pub use decide::{CEILING, decide_event, decide_top_up};
+pub use decide::CEILING;
 pub use done::Done;
-pub use evaluator::plain_answer;
-pub use keys::{is_same_key, is_top_up};
+pub use evaluator::{judge, plain_answer};
+pub use judgement::{Judgement, Standing};
 pub use laws::{
-    acts_come_to_their_own, funds_are_accounted_for, later_acts_change_no_outcome,
-    leaving_out_changes_nothing, nothing_is_reserved, one_more_act, places_hold,
+    acts_come_to_their_own, later_acts_change_no_outcome, leaving_out_changes_nothing,
+    one_more_act, places_hold,
 };
-pub use posting::entries_by;
-
-#[cfg(test)]
-mod tests;

@@ -1,5 +1,13 @@
-use Rattle.dcc_model.proofs.LawProofs.{last_comes_after, unknown_before, requests_are_answered, top_ups_are_added}
+use Rattle.dcc_model.proofs.LawProofs.{last_comes_after, unknown_before, requests_are_answered, top_ups_are_added, expiries_end, repeats_are_firsts}
 use Rattle.dcc_model.proofs.laws.acts_come_to_their_own.Goals as goal
 
 pub returns : goal.returns
-returns c = record { last = last_comes_after; unknown = unknown_before; requests = requests_are_answered; top_ups = top_ups_are_added }
+returns c =
+    record {
+      last = last_comes_after;
+      unknown = unknown_before;
+      requests = requests_are_answered;
+      top_ups = top_ups_are_added;
+      expiries = expiries_end;
+      repeats = repeats_are_firsts;
+    }

@@ -1,0 +1,27 @@
+//! Requests of sessions.
+
+ghost use Rattle.std.specs.Prelude.{◌≡◌, IfOk};
+
+use crate::request_key::RequestKey;
+use crate::services::Services;
+use std::alloc::AllocError;
+
+/// A request of a session (RFC 8506, section 5): the session and its number, and the services that ask for units and
+/// report them.
+#[derive(Debug, Drop)]
+pub struct SessionRequest {
+    pub key: RequestKey,
+    pub services: Services,
+}
+
+impl SessionRequest {
+    /// An equal request, where memory suffices.
+    pub fn copy(&self) -> Result<SessionRequest, AllocError>
+        ensures { IfOk result (λ copy. copy ≡ self.now) }
+    {
+        Ok(SessionRequest {
+            key: self.key.copy()?,
+            services: self.services.copy()?,
+        })
+    }
+}
