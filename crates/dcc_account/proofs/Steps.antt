@@ -1,116 +1,116 @@
 -- An account with one more act.
-use Rattle.std.proofs.Common.{◌≡◌, ℕ, ◌+◌, ◌-◌, ◌≤◌, Option, Some, None, option_map, Bool, true, false, cond, List, [], ◌∷◌, ◌++◌, length, map, reverse, refl, sym, ap, ◌∙◌, arith}
+use Rattle.std.proofs.Common.{◌≡◌, ℕ, ◌+◌, ◌-◌, ◌≤◌, Option, Some, None, option_map, Bool, true, false, cond, List, [], ◌∷◌, ◌++◌, map, reverse, refl, sym, ap, ◌∙◌, arith, inl, inr, append-nil}
 use Rattle.std.specs.Prelude.{MatchOption}
-use Rattle.std.proofs.lemmas.List.{reverse-append, reverse-reverse, append-nil, length_push}
+use Rattle.std.proofs.lemmas.Bool.{cases_Bool}
+use Rattle.std.proofs.lemmas.List.{reverse-append, reverse-reverse, map-append}
 use Rattle.dcc_tariff.specs.Terms.{TermsView}
 use Rattle.dcc_act.specs.declared.act.Act.{Act}
 use Rattle.dcc_act.specs.declared.entry.Entry.{Entry}
 use Rattle.dcc_act.specs.declared.outcome.Outcome.{Outcome}
+use Rattle.dcc_act.specs.declared.request_key.RequestKey.{RequestKey}
 use Rattle.dcc_model.specs.declared.done.Done.{Done}
-use Rattle.dcc_model.specs.Money.{funds_of}
-use Rattle.dcc_model.specs.Outcomes.{after, judged, history, is_made, is_new, place_of_key, place, act_made, acts, funds}
-use Rattle.dcc_model.specs.Entries.{entries_of_kind, entries_of, entries, sum_of}
-use Rattle.dcc_model.specs.Laws.{OneMoreAct, EntriesAddUp}
+use Rattle.dcc_model.specs.declared.judgement.Standing.{Standing}
+use Rattle.dcc_model.specs.Outcomes.{after, judged, history, with_act, is_made, is_new, place_of, place, act_made, acts, standing_of, standing, free, kept_of, kept}
+use Rattle.dcc_model.specs.Entries.{entries_of, entries_with, entries}
+use Rattle.dcc_model.specs.Laws.{OneMoreAct}
 use Rattle.dcc_account.specs.Accounts.{AccountView}
-use Rattle.dcc_account.specs.inner.Kept.{past_of, IsKept}
+use Rattle.dcc_account.specs.inner.Kept.{IsKept}
 use Rattle.dcc_account.specs.inner.Fits.{HasMemory}
 use Rattle.dcc_account.specs.Prepared.{StepView, IsPrepared}
-use Rattle.dcc_account.proofs.Pasts.{past_push, acts_of_past, length-past}
+
+map_reverse : (past : List Done) → map act_made (reverse past) ≡ reverse (map act_made past)
+map_reverse [] = refl
+map_reverse (done ∷ past) =
+    ap (map act_made) (reverse-append (done ∷ []) past) ∙ map-append act_made (reverse past) (done ∷ [])
+    ∙ ap (λ (xs : List Act). xs ++ done.act ∷ []) (map_reverse past) ∙ sym (reverse-append (done.act ∷ []) (map act_made past))
 
 -- the acts of an account are their own
-pub own_acts : (terms : TermsView) (all : List Act) (outcomes : List Outcome) (posted : List Entry) → IsKept terms all outcomes posted → acts terms all ≡ all
+pub own_acts : (terms : TermsView) (made : List Done) (posted : List Entry) (money : Standing) → IsKept terms made posted money → acts terms (map act_made made) ≡ map act_made made
 unfolding acts
-own_acts terms all outcomes posted kept =
-    ap (λ (past : List Done). reverse (map act_made past)) (sym kept.made) ∙ ap reverse (acts_of_past all outcomes kept.as_many) ∙ reverse-reverse all
+own_acts terms made posted money kept =
+    ap (λ (past : List Done). reverse (map act_made past)) (sym kept.own) ∙ ap reverse (map_reverse made) ∙ reverse-reverse (map act_made made)
 
-history_push : (terms : TermsView) (all : List Act) (act : Act) → history terms (reverse (all ++ act ∷ [])) ≡ history terms (act ∷ reverse all)
+history_push : (terms : TermsView) (all : List Act) (act : Act) → history terms (reverse (all ++ act ∷ [])) ≡ with_act terms (history terms (reverse all)) act
 history_push terms all act = ap (history terms) (reverse-append all (act ∷ []))
 
-history_with : (terms : TermsView) (all : List Act) (act : Act) (outcome : Outcome) → outcome ≡ after terms all act → is_new terms all act ≡ true
-    → history terms (reverse (all ++ act ∷ [])) ≡ record { act = act; outcome = outcome } ∷ history terms (reverse all)
-unfolding after is_new
-history_with terms all act outcome outcome_is new =
-    history_push terms all act ∙ rw new (ap (λ (o : Outcome). record { act = act; outcome = o } ∷ history terms (reverse all)) (sym outcome_is))
+-- what was judged of the acts that were made is what it is after their list
+pub outcome_at : (terms : TermsView) (made given : List Done) (posted : List Entry) (money : Standing) (act : Act) (outcome : Outcome) → IsKept terms made posted money → given ≡ made
+    → outcome ≡ judged terms (reverse given) act → outcome ≡ after terms (map act_made made) act
+unfolding after
+outcome_at terms made given posted money act outcome kept same is = is ∙ ap (λ (past : List Done). judged terms (reverse past) act) same ∙ ap (λ (past : List Done). judged terms past act) kept.own
 
-history_without : (terms : TermsView) (all : List Act) (act : Act) → is_new terms all act ≡ false
-    → history terms (reverse (all ++ act ∷ [])) ≡ history terms (reverse all)
+pub new_at : (terms : TermsView) (made given : List Done) (posted : List Entry) (money : Standing) (act : Act) (new : Bool) → IsKept terms made posted money → given ≡ made
+    → new ≡ is_made terms (reverse given) act → new ≡ is_new terms (map act_made made) act
 unfolding is_new
-history_without terms all act old = history_push terms all act ∙ rw old refl
+new_at terms made given posted money act new kept same is = is ∙ ap (λ (past : List Done). is_made terms (reverse past) act) same ∙ ap (λ (past : List Done). is_made terms past act) kept.own
 
--- what an account keeps after a new act
-pub kept_with : (terms : TermsView) (all : List Act) (outcomes : List Outcome) (posted more : List Entry) (act : Act) (outcome : Outcome) → IsKept terms all outcomes posted
-    → outcome ≡ after terms all act → is_new terms all act ≡ true → entries terms (all ++ act ∷ []) ≡ entries terms all ++ more
-    → IsKept terms (all ++ act ∷ []) (outcomes ++ outcome ∷ []) (posted ++ more)
-kept_with terms all outcomes posted more act outcome kept outcome_is new entries_are =
-    let one : Done = record { act = act; outcome = outcome } in
-    record {
-      as_many = length_push outcomes outcome ∙ ap (λ (n : ℕ). n + 1) kept.as_many ∙ sym (length_push all act);
-      made =
-          past_push all outcomes act outcome kept.as_many ∙ ap (λ (past : List Done). one ∷ past) kept.made
-          ∙ sym (history_with terms all act outcome outcome_is new);
-      entries_are = ap (λ (es : List Entry). es ++ more) kept.entries_are ∙ sym entries_are;
-    }
-
--- the acts with one more
-pub acts_with : OneMoreAct → (terms : TermsView) (all : List Act) (outcomes : List Outcome) (posted : List Entry) (act : Act) (new : Bool) → IsKept terms all outcomes posted
-    → new ≡ is_new terms all act → acts terms (all ++ act ∷ []) ≡ cond new (all ++ act ∷ []) all
-acts_with one_more terms all outcomes posted act new kept new_is =
-    let own = own_acts terms all outcomes posted kept in
-    one_more terms all act ∙ ap (λ (made : List Act). cond (is_new terms all act) (made ++ act ∷ []) made) own
-    ∙ ap (λ (b : Bool). cond b (all ++ act ∷ []) all) (sym new_is)
+pub place_at : (terms : TermsView) (made given : List Done) (posted : List Entry) (money : Standing) (act : Act) (found : Option ℕ) → IsKept terms made posted money → given ≡ made
+    → found ≡ place_of terms (reverse given) act → found ≡ place terms (map act_made made) act
+unfolding place
+place_at terms made given posted money act found kept same is = is ∙ ap (λ (past : List Done). place_of terms (reverse past) act) same ∙ ap (λ (past : List Done). place_of terms past act) kept.own
 
 -- the entries with those of one more act
-pub entries_with : (terms : TermsView) (all : List Act) (outcomes : List Outcome) (posted added : List Entry) (act : Act) (outcome : Outcome) (new : Bool) → IsKept terms all outcomes posted
-    → outcome ≡ after terms all act → new ≡ is_new terms all act
-    → ((given : TermsView) (past : List Done) → added ≡ cond new (entries_of_kind given past (length all + 1) act.moment act.kind outcome) [])
-    → entries terms (all ++ act ∷ []) ≡ entries terms all ++ added
-unfolding entries
-entries_with terms all outcomes posted added act outcome true kept outcome_is new added_is =
-    let past = history terms (reverse all) in
-    let long : length past ≡ length all = ap length (sym kept.made) ∙ length-past all outcomes kept.as_many in
-    ap (entries_of terms) (history_with terms all act outcome outcome_is (sym new))
-    ∙ ap (λ (n : ℕ). entries_of terms past ++ entries_of_kind terms past (n + 1) act.moment act.kind outcome) long
-    ∙ ap (λ (es : List Entry). entries_of terms past ++ es) (sym (added_is terms past))
-entries_with terms all outcomes posted added act outcome false kept outcome_is new added_is =
-    let past = history terms (reverse all) in
-    ap (entries_of terms) (history_without terms all act (sym new))
-    ∙ sym (ap (λ (es : List Entry). entries_of terms past ++ es) (added_is terms past) ∙ append-nil (entries_of terms past))
+entries_more : (terms : TermsView) (past : List Done) (act : Act) → entries_of terms (with_act terms past act) ≡ entries_of terms past ++ entries_with terms past act
+entries_more terms past act =
+    elim (cases_Bool (is_made terms past act)) [
+      | inl t ↦ rw t refl
+      | inr f ↦ rw f (sym (append-nil (entries_of terms past)))
+    ]
 
--- the place of one more act
-pub place_at : (terms : TermsView) (all all' : List Act) (outcomes : List Outcome) (posted : List Entry) (act : Act) (new : Bool) (found : Option ℕ) → IsKept terms all outcomes posted
-    → all' ≡ all → new ≡ is_new terms all act → found ≡ cond new (Some (length all' + 1)) (place_of_key (reverse all') act.kind) → found ≡ place terms all act
-unfolding place is_new
-place_at terms all all' outcomes posted act new found kept a new_is found_is =
-    let past = history terms (reverse all) in
-    let long : length past ≡ length all = ap length (sym kept.made) ∙ length-past all outcomes kept.as_many in
-    let mapped : map act_made past ≡ reverse all = ap (map act_made) (sym kept.made) ∙ acts_of_past all outcomes kept.as_many in
-    found_is
-    ∙ ap (λ (xs : List Act). cond new (Some (length xs + 1)) (place_of_key (reverse xs) act.kind)) a
-    ∙ ap (λ (b : Bool). cond b (Some (length all + 1)) (place_of_key (reverse all) act.kind)) new_is
-    ∙ ap (λ (n : ℕ). cond (is_made terms past act) (Some (n + 1)) (place_of_key (reverse all) act.kind)) (sym long)
-    ∙ ap (λ (xs : List Act). cond (is_made terms past act) (Some (length past + 1)) (place_of_key xs act.kind)) (sym mapped)
+pub entries_at : (terms : TermsView) (made given : List Done) (posted added : List Entry) (money : Standing) (act : Act) → IsKept terms made posted money → given ≡ made
+    → added ≡ entries_with terms (reverse given) act → entries terms (map act_made made ++ act ∷ []) ≡ entries terms (map act_made made) ++ added
+unfolding entries
+entries_at terms made given posted added money act kept same is =
+    let past = history terms (reverse (map act_made made)) in
+    let more : added ≡ entries_with terms past act = is ∙ ap (λ (past : List Done). entries_with terms (reverse past) act) same ∙ ap (λ (past : List Done). entries_with terms past act) kept.own in
+    ap (entries_of terms) (history_push terms (map act_made made) act) ∙ entries_more terms past act
+    ∙ ap (λ (es : List Entry). entries_of terms past ++ es) (sym more)
+
+pub standing_at : (terms : TermsView) (made given : List Done) (posted : List Entry) (money after_it : Standing) (act : Act) → IsKept terms made posted money → given ≡ made
+    → after_it ≡ standing_of terms (with_act terms (reverse given) act) → after_it ≡ standing terms (map act_made made ++ act ∷ [])
+unfolding standing
+standing_at terms made given posted money after_it act kept same is =
+    is ∙ ap (λ (past : List Done). standing_of terms (with_act terms (reverse past) act)) same
+    ∙ ap (λ (past : List Done). standing_of terms (with_act terms past act)) kept.own
+    ∙ ap (standing_of terms) (sym (history_push terms (map act_made made) act))
+
+-- what an account keeps after a new act
+pub kept_with : (terms : TermsView) (made : List Done) (posted more : List Entry) (money after_it : Standing) (act : Act) (outcome : Outcome) → IsKept terms made posted money
+    → outcome ≡ after terms (map act_made made) act → is_new terms (map act_made made) act ≡ true
+    → entries terms (map act_made made ++ act ∷ []) ≡ entries terms (map act_made made) ++ more
+    → after_it ≡ standing terms (map act_made made ++ act ∷ [])
+    → IsKept terms (made ++ record { act = act; outcome = outcome } ∷ []) (posted ++ more) after_it
+unfolding after is_new
+kept_with terms made posted more money after_it act outcome kept outcome_is new entries_are standing_is =
+    let one : Done = record { act = act; outcome = outcome } in
+    let all = map act_made made in
+    let pushed : map act_made (made ++ one ∷ []) ≡ all ++ act ∷ [] = map-append act_made made (one ∷ []) in
+    record {
+      own =
+          reverse-append made (one ∷ []) ∙ ap (λ (past : List Done). one ∷ past) kept.own
+          ∙ sym (ap (λ (xs : List Act). history terms (reverse xs)) pushed ∙ history_push terms all act ∙ rw new (ap (λ (o : Outcome). record { act = act; outcome = o } ∷ history terms (reverse all)) (sym outcome_is)));
+      entries_are = ap (λ (es : List Entry). es ++ more) kept.entries_are ∙ sym entries_are ∙ sym (ap (entries terms) pushed);
+      standing_is = standing_is ∙ sym (ap (standing terms) pushed);
+    }
 
 -- the same of equal lists
-pub kept_at : (terms : TermsView) (all all' : List Act) (outcomes outcomes' : List Outcome) (posted posted' : List Entry) → IsKept terms all outcomes posted
-    → all' ≡ all → outcomes' ≡ outcomes → posted' ≡ posted → IsKept terms all' outcomes' posted'
-kept_at terms all all' outcomes outcomes' posted posted' kept a o e = rw (a, o, e) kept
+pub kept_at : (terms : TermsView) (made made' : List Done) (posted posted' : List Entry) (money : Standing) → IsKept terms made posted money → made' ≡ made → posted' ≡ posted → IsKept terms made' posted' money
+kept_at terms made made' posted posted' money kept m p = rw (m, p) kept
 
--- what an account judges is what its acts make of it
-pub judged_at : EntriesAddUp → (terms : TermsView) (all all' : List Act) (outcomes outcomes' : List Outcome) (posted posted' : List Entry) (act : Act) (outcome : Outcome) → IsKept terms all outcomes posted
-    → all' ≡ all → outcomes' ≡ outcomes → posted' ≡ posted
-    → (sum_of posted' ≡ funds_of terms (past_of all' outcomes') → outcome ≡ judged terms (past_of all' outcomes') act) → outcome ≡ after terms all act
-unfolding funds after
-judged_at add_up terms all all' outcomes outcomes' posted posted' act outcome kept a o e judges =
-    let past : past_of all' outcomes' ≡ history terms (reverse all) = ap (λ (xs : List Act). past_of xs outcomes') a ∙ ap (past_of all) o ∙ kept.made in
-    let money : sum_of posted' ≡ funds terms all = ap sum_of (e ∙ kept.entries_are) ∙ add_up terms all in
-    judges (money ∙ ap (funds_of terms) (sym past)) ∙ ap (λ (past : List Done). judged terms past act) past
+-- the acts with one more
+pub acts_with : OneMoreAct → (terms : TermsView) (made : List Done) (posted : List Entry) (money : Standing) (act : Act) (new : Bool) → IsKept terms made posted money
+    → new ≡ is_new terms (map act_made made) act → acts terms (map act_made made ++ act ∷ []) ≡ cond new (map act_made made ++ act ∷ []) (map act_made made)
+acts_with one_more terms made posted money act new kept new_is =
+    let all = map act_made made in
+    one_more terms all act ∙ ap (λ (own : List Act). cond (is_new terms all act) (own ++ act ∷ []) own) (own_acts terms made posted money kept)
+    ∙ ap (λ (b : Bool). cond b (all ++ act ∷ []) all) (sym new_is)
 
-pub new_at : (terms : TermsView) (all all' : List Act) (outcomes outcomes' : List Outcome) (posted : List Entry) (act : Act) (new : Bool) → IsKept terms all outcomes posted
-    → all' ≡ all → outcomes' ≡ outcomes → new ≡ is_made terms (past_of all' outcomes') act → new ≡ is_new terms all act
-unfolding is_new
-new_at terms all all' outcomes outcomes' posted act new kept a o is =
-    let past : past_of all' outcomes' ≡ history terms (reverse all) = ap (λ (xs : List Act). past_of xs outcomes') a ∙ ap (past_of all) o ∙ kept.made in
-    is ∙ ap (λ (past : List Done). is_made terms past act) past
+-- the outcome that was kept
+pub kept_in : (terms : TermsView) (made given : List Done) (posted : List Entry) (money : Standing) (key : RequestKey) (found : Option Outcome) → IsKept terms made posted money → given ≡ made
+    → found ≡ kept_of (reverse given) key → found ≡ kept terms (map act_made made) key
+unfolding kept
+kept_in terms made given posted money key found is_kept same is =
+    is ∙ ap (λ (past : List Done). kept_of (reverse past) key) same ∙ ap (λ (past : List Done). kept_of past key) is_kept.own
 
 pub prepared_at : (a b : AccountView) (s t : StepView) → IsPrepared b t → a ≡ b → s ≡ t → IsPrepared a s
 prepared_at a b s t is e f = rw (e, f) is
@@ -120,3 +120,8 @@ pub fits_of : {X : Type 0} (size : X → ℕ) (larger : Option X) (held more cap
     → MatchOption larger (held + more ≤ capacity) (λ v. held + more ≤ size v) → HasMemory count wanted (capacity - held) (option_map size larger)
 fits_of size None held more capacity count wanted c w h = omega arith
 fits_of size (Some v) held more capacity count wanted c w h = omega arith
+
+-- what is free of the money of a list of acts
+pub free_is : (terms : TermsView) (all : List Act) → (standing terms all).free ≡ free terms all
+unfolding standing free
+free_is terms all = refl

@@ -1,16 +1,15 @@
 //! Accounts.
 
-ghost use Rattle.std.specs.Prelude.{◌≡◌, [], ◌∷◌, ◌++◌, pos, if◌then◌else◌, IfOk};
+ghost use Rattle.std.specs.Prelude.{◌≡◌, [], ◌∷◌, ◌++◌, map, pos, if◌then◌else◌, IfOk};
 ghost use Rattle.std.specs.Option.{option_copied};
-ghost use Rattle.dcc_model.specs.Outcomes.{acts, funds, overrun, free, kept};
+ghost use Rattle.dcc_model.specs.Outcomes.{act_made, acts, funds, overrun, free, kept};
 ghost use Rattle.dcc_model.specs.Entries.{entries};
 
 use crate::growth::{append, grow, larger};
-use crate::judge::{is_made, judge, place, post};
+use crate::kept::outcome_of_request;
 use crate::step::Step;
-use crate::walk::{outcome_of_request, sum};
 use dcc_act::{Act, Entry, Outcome, RequestKey};
-use dcc_model::{funds_are_accounted_for, nothing_is_reserved, one_more_act};
+use dcc_model::{Done, Judgement, Standing, judge, one_more_act};
 use dcc_tariff::Terms;
 use std::alloc::{AllocError, Global};
 use std::marker::Model;
@@ -19,13 +18,14 @@ use std::marker::Model;
 #[derive(Drop)]
 pub struct Account {
     terms: Terms,
-    acts: Vec<Act>,
-    outcomes: Vec<Outcome>,
+    acts: Vec<Done>,
     entries: Vec<Entry>,
+    standing: Standing,
 }
 
 impl Model for Account {
-    ghost use Rattle.std.specs.Prelude.{◌-◌, vec_len, vec_capacity};
+    ghost use Rattle.std.specs.Prelude.{◌-◌, map, vec_len, vec_capacity};
+    ghost use Rattle.dcc_model.specs.Outcomes.{act_made};
     ghost use Rattle.dcc_account.specs.Accounts.{AccountView};
     ghost use Rattle.dcc_account.specs.inner.Kept.{IsKept};
 
@@ -33,15 +33,14 @@ impl Model for Account {
 
     ghost view = { λ a. record {
       terms = a.terms;
-      acts = a.acts.items;
+      acts = map act_made a.acts.items;
       room = record {
         acts = vec_capacity a.acts - vec_len a.acts;
-        outcomes = vec_capacity a.outcomes - vec_len a.outcomes;
         entries = vec_capacity a.entries - vec_len a.entries;
       };
     } };
 
-    ghost invariant = { λ a. IsKept a.terms a.acts.items a.outcomes.items a.entries.items };
+    ghost invariant = { λ a. IsKept a.terms a.acts.items a.entries.items a.standing };
 }
 
 impl Account {
@@ -55,8 +54,12 @@ impl Account {
         Account {
             terms: *terms,
             acts: Vec::new(alloc),
-            outcomes: Vec::new(alloc),
             entries: Vec::new(alloc),
+            standing: Standing {
+                funds: 0,
+                free: 0,
+                overrun: 0,
+            },
         }
     }
 
@@ -67,9 +70,9 @@ impl Account {
         &self.terms
     }
 
-    /// The acts that were made, in order.
-    pub fn acts(&self) -> &[Act]
-        ensures value { result.now ≡ self.now.acts }
+    /// The acts that were made, in order, each with what it came to.
+    pub fn acts(&self) -> &[Done]
+        ensures value { map act_made result.now ≡ self.now.acts }
         ensures own { acts self.now.terms self.now.acts ≡ self.now.acts }
     {
         &self.acts
@@ -86,31 +89,28 @@ impl Account {
     pub fn funds(&self) -> i128
         ensures { result ≡ funds self.now.terms self.now.acts }
     {
-        funds_are_accounted_for();
-        sum(&self.entries)
+        funds_in(&self.standing)
     }
 
-    /// What is free of the funds, in minor units: today's acts reserve nothing.
+    /// What no live grant holds of the funds, in minor units.
     pub fn free(&self) -> i128
         ensures { result ≡ free self.now.terms self.now.acts }
     {
-        nothing_is_reserved();
-        self.funds()
+        free_in(&self.standing)
     }
 
-    /// What was reported beyond what was reserved, in minor units: today's acts report nothing.
+    /// What was charged beyond what was reserved, in minor units.
     pub fn overrun(&self) -> i128
         ensures { result ≡ pos (overrun self.now.terms self.now.acts) }
     {
-        nothing_is_reserved();
-        0
+        overrun_in(&self.standing)
     }
 
     /// What the first request of this key came to, where it was made.
     pub fn kept(&self, key: &RequestKey) -> Option<&Outcome>
         ensures { option_copied result ≡ kept self.now.terms self.now.acts key.now }
     {
-        outcome_of_request(&self.acts, &self.outcomes, key)
+        outcome_of_request(&self.acts, key)
     }
 
     /// The step of the act: what it comes to after those that were made, whether it is made, its place and its entries,
@@ -122,22 +122,24 @@ impl Account {
             ≡ (if step.is_new then self.now.acts ++ act ∷ [] else self.now.acts)) }
     {
         one_more_act();
-        funds_are_accounted_for();
         let alloc = *self.acts.allocator();
-        let is_new = is_made(&self.acts, &self.outcomes, &act);
-        let outcome = judge(alloc, &self.acts, &self.outcomes, &self.entries, &act)?;
-        let entries = post(alloc, is_new, self.acts.len(), &act, &outcome)?;
-        let place = place(&self.acts, is_new, &act.kind);
+        let Judgement {
+            outcome,
+            is_new,
+            place,
+            entries,
+            standing,
+        } = judge(alloc, &self.terms, &self.acts, &act)?;
         let more = usize::from(is_new);
         Ok(Step {
             larger_acts: larger(alloc, &self.acts, more)?,
-            larger_outcomes: larger(alloc, &self.outcomes, more)?,
             larger_entries: larger(alloc, &self.entries, entries.len())?,
             act,
             outcome,
             is_new,
             place,
             entries,
+            standing,
         })
     }
 
@@ -150,11 +152,13 @@ impl Account {
         one_more_act();
         if step.is_new {
             grow(&mut self.acts, step.larger_acts);
-            grow(&mut self.outcomes, step.larger_outcomes);
             grow(&mut self.entries, step.larger_entries);
-            self.acts.push_reserved(step.act);
-            self.outcomes.push_reserved(step.outcome);
+            self.acts.push_reserved(Done {
+                act: step.act,
+                outcome: step.outcome,
+            });
             append(&mut self.entries, step.entries);
+            self.standing = step.standing;
         }
     }
 
@@ -162,4 +166,22 @@ impl Account {
     pub fn discard(step: Step) {
         drop(step);
     }
+}
+
+fn funds_in(standing: &Standing) -> i128
+    ensures { result ≡ standing.now.funds }
+{
+    standing.funds
+}
+
+fn free_in(standing: &Standing) -> i128
+    ensures { result ≡ standing.now.free }
+{
+    standing.free
+}
+
+fn overrun_in(standing: &Standing) -> i128
+    ensures { result ≡ standing.now.overrun }
+{
+    standing.overrun
 }

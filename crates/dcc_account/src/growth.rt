@@ -11,7 +11,7 @@ pub(crate) fn larger<T: Drop>(
     items: &Vec<T>,
     more: usize,
 ) -> Result<Option<Vec<T>>, AllocError>
-    requires { vec_len items.now + vec_len items.now + more < 2 ^ 64 }
+    requires { vec_len items.now + more < 2 ^ 64 }
     ensures empty { IfOk result (λ larger. ForSome larger (λ larger. larger.items ≡ [])) }
     ensures room { IfOk result (λ larger. MatchOption larger (vec_len items.now + more ≤ vec_capacity items.now)
         (λ larger. vec_len items.now + more ≤ vec_capacity larger)) }
@@ -20,7 +20,8 @@ pub(crate) fn larger<T: Drop>(
     if count + more <= items.capacity() {
         return Ok(None);
     }
-    Ok(Some(Vec::with_capacity(alloc, count + count + more)?))
+    let wanted = (count + more).max(count + count);
+    Ok(Some(Vec::with_capacity(alloc, wanted)?))
 }
 
 /// Moves the items into the larger vector, where there is one.

@@ -7,9 +7,8 @@
 
 mod account;
 mod growth;
-mod judge;
+mod kept;
 mod step;
-mod walk;
 
 pub use account::Account;
 pub use step::Step;

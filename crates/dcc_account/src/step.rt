@@ -3,10 +3,11 @@
 ghost use Rattle.std.specs.Prelude.{◌≡◌};
 
 use dcc_act::{Act, Entry, Outcome};
+use dcc_model::{Done, Standing};
 use std::marker::Model;
 
-/// A step of an account that is prepared and not yet installed: an act, what it comes to, the entries that it adds, and
-/// all the memory that it takes to install it.
+/// A step of an account that is prepared and not yet installed: an act, what it comes to, the entries that it adds, the
+/// money after it, and all the memory that it takes to install it.
 #[derive(Drop)]
 pub struct Step {
     pub(crate) act: Act,
@@ -14,8 +15,8 @@ pub struct Step {
     pub(crate) is_new: bool,
     pub(crate) place: Option<u64>,
     pub(crate) entries: Vec<Entry>,
-    pub(crate) larger_acts: Option<Vec<Act>>,
-    pub(crate) larger_outcomes: Option<Vec<Outcome>>,
+    pub(crate) standing: Standing,
+    pub(crate) larger_acts: Option<Vec<Done>>,
     pub(crate) larger_entries: Option<Vec<Entry>>,
 }
 
@@ -32,16 +33,14 @@ impl Model for Step {
       is_new = s.is_new;
       place = s.place;
       entries = s.entries.items;
+      standing = s.standing;
       space = record {
         acts = option_map (λ v. vec_capacity v) s.larger_acts;
-        outcomes = option_map (λ v. vec_capacity v) s.larger_outcomes;
         entries = option_map (λ v. vec_capacity v) s.larger_entries;
       };
     } };
 
-    ghost invariant = { λ s. ForSome s.larger_acts (λ v. v.items ≡ [])
-        × ForSome s.larger_outcomes (λ v. v.items ≡ [])
-        × ForSome s.larger_entries (λ v. v.items ≡ []) };
+    ghost invariant = { λ s. ForSome s.larger_acts (λ v. v.items ≡ []) × ForSome s.larger_entries (λ v. v.items ≡ []) };
 }
 
 impl Step {

@@ -276,6 +276,9 @@ overrun terms all = overrun_of terms (history terms (reverse all))
 unfoldable pub free : TermsView → List Act → ℤ
 free terms all = free_of terms (history terms (reverse all))
 
+unfoldable pub standing : TermsView → List Act → Standing
+standing terms all = standing_of terms (history terms (reverse all))
+
 unfoldable pub kept : TermsView → List Act → RequestKey → Option Outcome
 kept terms all key = kept_of (history terms (reverse all)) key
 

@@ -11,5 +11,4 @@ HasMemory count more room larger = MatchOption larger (more ≤ room) (λ capaci
 -- there is memory for one more act of the account and so many more entries
 pub record Fits (account : AccountView) (space : Space) (more : ℕ) : Type 0 where
   pub acts : HasMemory (length account.acts) 1 account.room.acts space.acts
-  pub outcomes : HasMemory (length account.acts) 1 account.room.outcomes space.outcomes
   pub entries : HasMemory (length (entries account.terms account.acts)) more account.room.entries space.entries

@@ -1,11 +1,13 @@
-use Rattle.std.proofs.Common.{reverse, arith}
+use Rattle.std.proofs.Common.{map, ap, ◌∙◌, arith}
 use Rattle.std.proofs.lemmas.Int.{ints}
-use Rattle.dcc_model.specs.Outcomes.{history, funds, free}
+use Rattle.dcc_model.specs.declared.judgement.Standing.{Standing}
+use Rattle.dcc_model.specs.Outcomes.{act_made}
+use Rattle.dcc_account.proofs.Steps.{free_is}
 use Rattle.dcc_account.proofs.account.Account.free.Goals as goal
 
 pub returns : goal.returns
-unfolding funds free
 returns c =
-    let same = c.nothing_is_reserved.ensures.free c.args.self.now.terms (history c.args.self.now.terms (reverse c.args.self.now.acts)) in
-    let funds = c.funds.ensures in
-    omega (arith, ints)
+    rw (← c.self.view_is)
+    (let found = c.free_in.ensures in
+    let kept = ap (λ (money : Standing). money.free) c.self.invariant.standing_is ∙ free_is c.self.inside.terms (map act_made c.self.inside.acts.items) in
+    omega (arith, ints))

@@ -1,8 +1,9 @@
-use Rattle.std.proofs.Common.{Bool, List, [], ◌∷◌, ◌++◌, cond, sym, ap, ◌∙◌}
+use Rattle.std.proofs.Common.{Bool, List, [], ◌∷◌, ◌++◌, map, cond, sym, ap, ◌∙◌}
+use Rattle.std.proofs.lemmas.List.{map-append}
 use Rattle.dcc_act.specs.declared.act.Act.{Act}
 use Rattle.dcc_act.specs.declared.entry.Entry.{Entry}
-use Rattle.dcc_act.specs.declared.outcome.Outcome.{Outcome}
-use Rattle.dcc_model.specs.Outcomes.{acts}
+use Rattle.dcc_model.specs.declared.done.Done.{Done}
+use Rattle.dcc_model.specs.Outcomes.{act_made, acts}
 use Rattle.dcc_account.specs.Accounts.{AccountView}
 use Rattle.dcc_account.specs.Prepared.{StepView}
 use Rattle.dcc_account.proofs.Steps.{kept_with, kept_at, acts_with, prepared_at}
@@ -13,21 +14,22 @@ invariant_of-self c =
     let own = c.self.inside in
     let step = c.step.inside in
     let is = prepared_at _ _ _ _ c.requires c.self.view_is c.step.view_is in
-    kept_at own.terms _ _ _ _ _ _
-    (kept_with own.terms own.acts.items own.outcomes.items own.entries.items step.entries.items step.act step.outcome c.self.invariant is.outcome_is (sym is.new_is ∙ c.if-step.true) is.entries_are)
-    (c.push_reserved.ensures.items ∙ ap (λ (xs : List Act). xs ++ step.act ∷ []) c.grow.ensures.items)
-    (c.push_reserved-then-step.ensures.items ∙ ap (λ (xs : List Outcome). xs ++ step.outcome ∷ []) c.grow-then-step.ensures.items)
-    (c.append.ensures ∙ ap (λ (es : List Entry). es ++ step.entries.items) c.grow-then-step-2.ensures.items)
+    kept_at own.terms _ _ _ _ step.standing
+    (kept_with own.terms own.acts.items own.entries.items step.entries.items own.standing step.standing step.act step.outcome c.self.invariant is.outcome_is (sym is.new_is ∙ c.if-step.true) is.entries_are is.standing_is)
+    (c.push_reserved.ensures.items ∙ ap (λ (made : List Done). made ++ record { act = step.act; outcome = step.outcome } ∷ []) c.grow.ensures.items)
+    (c.append.ensures ∙ ap (λ (es : List Entry). es ++ step.entries.items) c.grow-then-step.ensures.items)
 
 pub returns-then-step-clause-acts : goal.returns-then-step-clause-acts
 returns-then-step-clause-acts c =
     let own = c.self.inside in
     let step = c.step.inside in
+    let all = map act_made own.acts.items in
+    let one : Done = record { act = step.act; outcome = step.outcome } in
     let is = prepared_at _ _ _ _ c.requires c.self.view_is c.step.view_is in
-    let made = acts_with c.one_more_act.ensures own.terms own.acts.items own.outcomes.items own.entries.items step.act step.is_new c.self.invariant is.new_is in
-    c.push_reserved.ensures.items
-    ∙ ap (λ (xs : List Act). xs ++ step.act ∷ []) c.grow.ensures.items
-    ∙ sym (made ∙ ap (λ (b : Bool). cond b (own.acts.items ++ step.act ∷ []) own.acts.items) c.if-step.true)
+    let made = acts_with c.one_more_act.ensures own.terms own.acts.items own.entries.items own.standing step.act step.is_new c.self.invariant is.new_is in
+    ap (map act_made) (c.push_reserved.ensures.items ∙ ap (λ (made : List Done). made ++ one ∷ []) c.grow.ensures.items)
+    ∙ map-append act_made own.acts.items (one ∷ [])
+    ∙ sym (made ∙ ap (λ (b : Bool). cond b (all ++ step.act ∷ []) all) c.if-step.true)
     ∙ ap (λ (a : AccountView). acts a.terms (a.acts ++ step.act ∷ [])) c.self.view_is
     ∙ ap (λ (s : StepView). acts c.args.self.now.terms (c.args.self.now.acts ++ s.act ∷ [])) c.step.view_is
 
@@ -35,9 +37,10 @@ pub returns-else-step-clause-acts : goal.returns-else-step-clause-acts
 returns-else-step-clause-acts c =
     let own = c.self.inside in
     let step = c.step.inside in
+    let all = map act_made own.acts.items in
     let is = prepared_at _ _ _ _ c.requires c.self.view_is c.step.view_is in
-    let made = acts_with c.one_more_act.ensures own.terms own.acts.items own.outcomes.items own.entries.items step.act step.is_new c.self.invariant is.new_is in
+    let made = acts_with c.one_more_act.ensures own.terms own.acts.items own.entries.items own.standing step.act step.is_new c.self.invariant is.new_is in
     sym (ap (λ (a : AccountView). a.acts) c.self.view_is)
-    ∙ sym (made ∙ ap (λ (b : Bool). cond b (own.acts.items ++ step.act ∷ []) own.acts.items) c.if-step.false)
+    ∙ sym (made ∙ ap (λ (b : Bool). cond b (all ++ step.act ∷ []) all) c.if-step.false)
     ∙ ap (λ (a : AccountView). acts a.terms (a.acts ++ step.act ∷ [])) c.self.view_is
     ∙ ap (λ (s : StepView). acts c.args.self.now.terms (c.args.self.now.acts ++ s.act ∷ [])) c.step.view_is

@@ -1,7 +1,8 @@
 use Rattle.std.proofs.Common.{refl}
 use Rattle.dcc_model.specs.Entries.{entries}
+use Rattle.dcc_model.specs.Outcomes.{standing}
 use Rattle.dcc_account.proofs.account.Account.new.Goals as goal
 
 pub invariant_of-result : goal.invariant_of-result
-unfolding entries
-invariant_of-result c = rw (c.new.ensures.items, c.new-2.ensures.items, c.new-3.ensures.items) (record { as_many = refl; made = refl; entries_are = refl })
+unfolding entries standing
+invariant_of-result c = rw (c.new.ensures.items, c.new-2.ensures.items) (record { own = refl; entries_are = refl; standing_is = refl })
