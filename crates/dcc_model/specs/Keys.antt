@@ -4,7 +4,7 @@ use Rattle.dcc_act.specs.declared.act.Kind.{Kind}
 use Rattle.dcc_act.specs.declared.act.Kind.TheVariants.{TopUp, Initial, Update, Termination, Event, Expiry}
 use Rattle.dcc_act.specs.declared.request_key.RequestKey.{RequestKey}
 
--- a request has the key of its session and number (RFC 8506, section 8.2); a top-up and an expiry have none
+-- a request has the key of its session and number (RFC 8506, section 8.2); a top-up and an expiry have no key of a request
 abbrev pub request_key : Kind → Option RequestKey
 request_key (TopUp top_up) = None
 request_key (Initial request) = Some request.key
@@ -30,7 +30,7 @@ abbrev pub same_ticket : Option ℕ → Option ℕ → Bool
 same_ticket (Some a) (Some b) = a == b
 same_ticket _ _ = false
 
--- two acts have one key: requests their session and number, top-ups their ticket; an expiry has the key of nothing
+-- two acts have one key: requests their session and number, top-ups their ticket; an expiry has no key
 abbrev pub same_key : Kind → Kind → Bool
 same_key a b = same_request (request_key a) (request_key b) || same_ticket (ticket a) (ticket b)
 

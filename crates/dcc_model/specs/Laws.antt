@@ -85,7 +85,7 @@ abbrev pub PlaceHolds : Type 0
 PlaceHolds = (terms : TermsView) (xs : List Act) (act : Act) (k : ℕ) → place terms xs act ≡ Some k
     → StandsAt terms (acts terms (xs ++ act ∷ [])) k act (after terms xs act)
 
--- and none has no place but a request of an unknown user, and an expiry that ends nothing
+-- only a request of an unknown user and an expiry that ends nothing have no place
 abbrev pub UnknownHasNoPlace : Type 0
 UnknownHasNoPlace = (terms : TermsView) (xs : List Act) (act : Act) → is_expiry act.kind ≡ false
     → is_none (place terms xs act) ≡ is_unknown (after terms xs act)
@@ -115,7 +115,7 @@ ExpiriesEnd = (terms : TermsView) (xs : List Act) (act : Act) → is_expiry act.
 abbrev pub FundsAreLimited : Type 0
 FundsAreLimited = (terms : TermsView) (xs : List Act) → (neg_ℤ CEILING ≤ℤ funds terms xs) × (funds terms xs ≤ℤ CEILING)
 
--- the services of an act
+-- the services of a session's request
 abbrev pub services_of : Kind → List ServiceView
 services_of (kind.Initial request) = request.services
 services_of (kind.Update request) = request.services

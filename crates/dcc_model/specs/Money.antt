@@ -34,14 +34,14 @@ asked_units service = rated service.unit service.asked service.tariff
 abbrev pub grant_price : Grant → ℕ
 grant_price grant = price grant.tariff grant.units
 
--- of the units that it asks for, what an event charges that succeeds (RFC 8506, section 6.3)
+-- what an event charges that succeeds: for a direct debit, the units that it asks for (RFC 8506, section 6.3)
 abbrev pub charged_by : Action → Option Grant → Option Grant
 charged_by DirectDebiting asked = asked
 charged_by RefundAccount asked = None
 charged_by CheckBalance asked = None
 charged_by PriceEnquiry asked = None
 
--- and what it gives back (section 6.4)
+-- and what it gives back: for a refund, the units that it asks for (section 6.4)
 abbrev pub refunded_by : Action → Option Grant → Option Grant
 refunded_by DirectDebiting asked = None
 refunded_by RefundAccount asked = asked

@@ -82,8 +82,8 @@ answers terms past sid services before (service ∷ rest) =
 
 -- the command's result is success, or that of the service that stands alone at the message's level
 abbrev pub command_result : List ServiceAnswer → ResultCode
-command_result [] = Success
-command_result (answer ∷ others) = elim answer.form as (λ _. ResultCode) [ Single ↦ answer.result | Multi ↦ Success ]
+command_result (answer ∷ []) = elim answer.form as (λ _. ResultCode) [ Single ↦ answer.result | Multi ↦ Success ]
+command_result _ = Success
 
 abbrev pub answered : RequestType → RequestKey → List ServiceAnswer → Outcome
 answered type key services =
@@ -96,7 +96,7 @@ served terms past type key services = answered type key (answers terms past key.
 abbrev pub bare : RequestType → RequestKey → ResultCode → Outcome
 bare type key code = Answered (record { request = type; key = key; result = code; services = []; cost = None; balance = None })
 
--- a session opens once, and no more than 64 are open at a time (RFC 8506, section 7)
+-- a session opens once, and no more than 64 are open at a time
 abbrev pub begun : TermsView → List Done → RequestKey → List Service → Outcome
 begun terms past key services =
     if was_opened past key.sid then bare request.Initial key UnableToComply
@@ -214,7 +214,7 @@ is_made terms past act =
 abbrev pub with_act : TermsView → List Done → Act → List Done
 with_act terms past act = if is_made terms past act then record { act = act; outcome = judged terms past act } ∷ past else past
 
--- the acts that were made, each with what it came to, the latest first; so is the list that it looks at
+-- the acts that were made, each with what it came to; both this list and the one that it looks at have the latest first
 abbrev pub history : TermsView → List Act → List Done
 history terms [] = []
 history terms (act ∷ earlier) = with_act terms (history terms earlier) act

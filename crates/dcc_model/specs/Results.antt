@@ -15,13 +15,13 @@ abbrev pub succeeded : Outcome → Bool
 succeeded (Answered answer) = is_success answer.result
 succeeded _ = false
 
--- results by which a request of an open session is refused as a whole
+-- results by which an update or a termination is refused as a whole
 abbrev pub is_refusal : ResultCode → Bool
 is_refusal UnknownSession = true
 is_refusal UnableToComply = true
 is_refusal _ = false
 
--- a request was refused as a whole: its session wasn't open, or the funds would have passed the floor
+-- it was refused as a whole: its session wasn't open, or the funds would have passed the floor
 abbrev pub refused : Outcome → Bool
 refused (Answered answer) = is_refusal answer.result
 refused _ = false

@@ -21,8 +21,8 @@ use Rattle.dcc_model.specs.Results.{succeeded, refused, answers_of}
 abbrev pub Sid : Type 0
 Sid = List ℕ
 
--- An initial request opens its session where the command succeeds: in groups unless it is refused as a whole; a service
--- that stands alone gives the command its own result.
+-- An initial request opens its session where the command succeeds: in multi form unless it is refused as a whole; a service
+-- in single form gives the command its own result.
 abbrev pub opens_by : Kind → Outcome → Option Sid
 opens_by (Initial request) outcome = if succeeded outcome then Some request.key.sid else None
 opens_by _ outcome = None
@@ -54,7 +54,8 @@ updates done sid = is_sid (updates_by done.act.kind done.outcome) sid
 abbrev pub terminates : Done → Sid → Bool
 terminates done sid = is_sid (terminates_by done.act.kind done.outcome) sid
 
--- how long a session is held: for the plan's time after the moment of the last act that opened or updated it
+-- until when a session is held: for the plan's time after the moment of the last act that opened or updated it; 0 where none
+-- did, which is asked of no session
 abbrev pub deadline : TermsView → List Done → Sid → ℕ
 deadline terms [] sid = 0
 deadline terms (done ∷ past) sid = if opens done sid || updates done sid then done.act.moment + terms.hold else deadline terms past sid
