@@ -20,3 +20,5 @@ pub use laws::{read_back, told_apart};
 pub use refusal::{write_refusal, write_unread};
 pub use session::lend_session;
 
+#[cfg(test)]
+mod tests;
