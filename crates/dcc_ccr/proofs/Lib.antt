@@ -1,5 +1,6 @@
 pub mod Walks
 pub mod Limits
+pub mod Forms
 pub mod Bounds
 pub mod Sizes
 pub mod Shown

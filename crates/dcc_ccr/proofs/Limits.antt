@@ -82,7 +82,7 @@ repeated_within before (service ∷ after) i j e =
 abbrev no_avp : AvpView
 no_avp = record { code = 0; flags = 0; vendor = None; value = [] }
 
-both_there : (avps : List AvpView) (i j : ℕ) → i < length (filter (has_code MULTIPLE_SERVICES_CREDIT_CONTROL) avps)
+pub both_there : (avps : List AvpView) (i j : ℕ) → i < length (filter (has_code MULTIPLE_SERVICES_CREDIT_CONTROL) avps)
     → j < length (filter (has_code MULTIPLE_SERVICES_CREDIT_CONTROL) avps) → both_at avps i j ≡ None → ⊥
 unfolding both_at
 both_there avps i j first second e =
@@ -90,7 +90,7 @@ both_there avps i j first second e =
     let b = slice_get-get_or (filter (has_code MULTIPLE_SERVICES_CREDIT_CONTROL) avps) j no_avp second in
     absurd cc
 
-last_none : {X : Type 0} (a b : Option X) → or_else a b ≡ None → b ≡ None
+pub last_none : {X : Type 0} (a b : Option X) → or_else a b ≡ None → b ≡ None
 last_none None b e = e
 last_none (Some x) b e = absurd cc
 
@@ -122,7 +122,7 @@ checked_step : (read : Result (List GroupView) Refusal) (fault : List GroupView 
 checked_step (Ok groups) fault given e = (groups, too_many_step (fault groups) groups given e)
 checked_step (Err refusal) fault given e = absurd cc
 
-first_none : {X : Type 0} (a b : Option X) → or_else a b ≡ None → a ≡ None
+pub first_none : {X : Type 0} (a b : Option X) → or_else a b ≡ None → a ≡ None
 first_none None b e = refl
 first_none (Some x) b e = absurd cc
 

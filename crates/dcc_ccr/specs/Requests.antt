@@ -1,10 +1,11 @@
 -- The credit-control request that a message holds, or its first fault (RFC 8506, section 3.1).
-use Rattle.std.specs.Prelude.{ℕ, ◌≤◌, Bool, ◌&&◌, nat_le, List, [], length, None, is_none, Result, Ok}
-use Rattle.std.specs.List.{sum_by}
+use Rattle.std.specs.Prelude.{ℕ, ◌≤◌, Bool, ◌&&◌, ◌||◌, nat_le, List, [], length, None, is_none, Result, Ok}
+use Rattle.std.specs.List.{sum_by, list_all}
 use Rattle.dcc_avp.specs.Spelling.{AvpView, padded_len}
 use Rattle.dcc_avp.specs.declared.codes.TheConstants.{SESSION_ID, AUTH_APPLICATION_ID, CC_REQUEST_TYPE, CC_REQUEST_NUMBER}
 use Rattle.dcc_message.specs.declared.applications.TheConstants.{CREDIT_CONTROL}
 use Rattle.dcc_message.specs.declared.length.TheConstants.{MAX_LENGTH}
+use Rattle.dcc_act.specs.Services.{is_multi}
 use Rattle.dcc_act.specs.Subs.{SubView}
 use Rattle.dcc_act.specs.declared.service.Form.TheVariants.{Single}
 use Rattle.dcc_request.specs.declared.command.Command.TheVariants.{CreditControl}
@@ -31,6 +32,10 @@ pub record RequestView : Type 0 where
 -- at most so many services as there may be, and no two of one key
 abbrev pub are_services : List ServiceView → Bool
 are_services services = nat_le (length services) MAX_SERVICES && is_none (repeated [] services)
+
+-- one in single form stands alone
+abbrev pub stand_right : List ServiceView → Bool
+stand_right services = nat_le (length services) 1 || list_all (λ service. is_multi service.form) services
 
 -- the Service-Identifiers of all
 abbrev pub count_ids : List ServiceView → ℕ

@@ -1,10 +1,11 @@
 //! Reading a request: the checks of its lists, then its values, then the contradictions between them.
 
-ghost use Rattle.std.specs.Prelude.{◌≡◌, ◌+◌, ◌≤◌, length, filter, Some, IfOk, IfErr};
-ghost use Rattle.std.specs.List.{sum_by};
+ghost use Rattle.std.specs.Prelude.{◌≡◌, ◌+◌, ◌≤◌, true, length, filter, Some, IfOk, IfErr};
+ghost use Rattle.std.specs.List.{sum_by, list_all};
 ghost use Rattle.dcc_avp.specs.Spelling.{has_code, padded_len};
 ghost use Rattle.dcc_avp.specs.declared.codes.TheConstants.{MULTIPLE_SERVICES_CREDIT_CONTROL};
 ghost use Rattle.dcc_message.specs.declared.length.TheConstants.{HEADER_LENGTH, MAX_LENGTH};
+ghost use Rattle.dcc_act.specs.Services.{is_multi};
 ghost use Rattle.dcc_request.specs.Answers.{Gives};
 ghost use Rattle.dcc_request.specs.Sessions.{session_of};
 ghost use Rattle.dcc_ccr.specs.Requests.{ValuesView, IsStopWithin, values_of, request_of};
@@ -55,10 +56,11 @@ impl<'a> Model for Values<'a> {
 }
 
 /// The values of a message whose lists have all that they have to, in the order in which they are looked at.
-#[tactic(auto, using(crate::proofs::Limits::multi_length), unfolding(crate::specs::Requests::values_of))]
+#[tactic(auto, using(crate::proofs::Limits::multi_length, crate::proofs::Forms::multi_forms), unfolding(crate::specs::Requests::values_of))]
 fn values_of<'a>(alloc: Global, avps: &[Avp<'a>]) -> Result<Values<'a>, Stop<'a>>
     ensures value { Gives (λ values. values) result (values_of avps.now) }
     ensures count { IfOk result (λ values. length values.multi ≡ length (filter (has_code MULTIPLE_SERVICES_CREDIT_CONTROL) avps.now)) }
+    ensures forms { IfOk result (λ values. list_all (λ service. is_multi service.form) values.multi ≡ true) }
 {
     let session = name_octets(required(avps, codes::SESSION_ID)?)?;
     let application = required(avps, codes::AUTH_APPLICATION_ID)?;

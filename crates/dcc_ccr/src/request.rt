@@ -1,9 +1,10 @@
 //! A credit-control request.
 
-ghost use Rattle.std.specs.Prelude.{◌≡◌, ◌≤◌, true};
+ghost use Rattle.std.specs.Prelude.{◌≡◌, ◌≤◌, true, length};
 ghost use Rattle.dcc_octets.specs.Names.{is_short};
 ghost use Rattle.dcc_act.specs.declared.limits.TheConstants.{MAX_IDS};
-ghost use Rattle.dcc_ccr.specs.Requests.{RequestView, are_services, count_ids};
+ghost use Rattle.dcc_ccr.specs.Types.{is_event};
+ghost use Rattle.dcc_ccr.specs.Requests.{RequestView, are_services, stand_right, count_ids};
 
 use crate::request_type::RequestType;
 use crate::service::Service;
@@ -22,10 +23,11 @@ pub struct Request<'a> {
 }
 
 impl<'a> Model for Request<'a> {
-    ghost use Rattle.std.specs.Prelude.{◌≡◌, ◌≤◌, true};
+    ghost use Rattle.std.specs.Prelude.{◌≡◌, ◌≤◌, true, length};
     ghost use Rattle.dcc_octets.specs.Names.{is_short};
     ghost use Rattle.dcc_act.specs.declared.limits.TheConstants.{MAX_IDS};
-    ghost use Rattle.dcc_ccr.specs.Requests.{RequestView, are_services, count_ids};
+    ghost use Rattle.dcc_ccr.specs.Types.{is_event};
+    ghost use Rattle.dcc_ccr.specs.Requests.{RequestView, are_services, stand_right, count_ids};
 
     ghost Value = { RequestView };
 
@@ -37,7 +39,8 @@ impl<'a> Model for Request<'a> {
       services = r.services.items;
     } };
 
-    ghost invariant = { λ r. (is_short r.session.now ≡ true) × (are_services r.services.items ≡ true) × (count_ids r.services.items ≤ MAX_IDS) };
+    ghost invariant = { λ r. (is_short r.session.now ≡ true) × (are_services r.services.items ≡ true) × (count_ids r.services.items ≤ MAX_IDS)
+        × (stand_right r.services.items ≡ true) × (is_event r.kind ≡ true → length r.services.items ≡ 1) };
 }
 
 /// Whose account the request is for: the type and the data of its first Subscription-Id of type E164, or else of its first
@@ -72,11 +75,13 @@ impl<'a> Request<'a> {
     }
 
     /// The services, in their order: at most 16, each with a key of its own (`same_key`), and with at most 5,460
-    /// Service-Identifiers together.
+    /// Service-Identifiers together. One in single form stands alone, and an event has just one.
     pub fn services(&self) -> &[Service]
         ensures value { result.now ≡ self.now.services }
         ensures limits { are_services self.now.services ≡ true }
         ensures few_ids { count_ids self.now.services ≤ MAX_IDS }
+        ensures alone { stand_right self.now.services ≡ true }
+        ensures event { is_event self.now.type ≡ true → length self.now.services ≡ 1 }
     {
         &self.services
     }
@@ -86,6 +91,8 @@ impl<'a> Request<'a> {
         ensures value { result.items ≡ self.entry.services }
         ensures limits { are_services self.entry.services ≡ true }
         ensures few_ids { count_ids self.entry.services ≤ MAX_IDS }
+        ensures alone { stand_right self.entry.services ≡ true }
+        ensures event { is_event self.entry.type ≡ true → length self.entry.services ≡ 1 }
     {
         self.services
     }

@@ -1,3 +1,4 @@
+pub mod Acts
 pub mod ServiceSizes
 pub mod Appended
 pub mod Taken

@@ -11,9 +11,9 @@ use Rattle.dcc_answer.specs.Proxies.{SpellProxies}
 use Rattle.dcc_answer.specs.Results.{are_busy, is_busy}
 use Rattle.dcc_tariff.specs.Terms.{TermsView}
 use Rattle.dcc_act.specs.declared.outcome.Outcome.{Outcome}
-use Rattle.dcc_act.specs.declared.outcome.Outcome.TheVariants.{Unknown, Answered, Added, Ceiling}
+use Rattle.dcc_act.specs.declared.outcome.Outcome.TheVariants.{Unknown, Answered, Added, Ceiling, Expired}
 use Rattle.dcc_act.specs.declared.outcome.ResultCode.{ResultCode}
-use Rattle.dcc_act.specs.declared.outcome.ResultCode.TheVariants.{Success, CreditLimitReached, UnableToComply, RatingFailed}
+use Rattle.dcc_act.specs.declared.outcome.ResultCode.TheVariants.{Success, CreditLimitReached, UnknownSession, ResourcesExceeded, UnableToComply, RatingFailed}
 use Rattle.dcc_act.specs.declared.outcome.RequestType.{RequestType}
 use Rattle.dcc_act.specs.declared.request_key.RequestKey.{RequestKey}
 use Rattle.dcc_act.specs.Numbers.{result_number}
@@ -33,6 +33,8 @@ no_result_is_busy : (identity : Identity) (type : RequestType) (key : RequestKey
     are_busy (head_avps identity type key (result_number code) ++ services) ≡ false
 no_result_is_busy identity type key Success services = refl
 no_result_is_busy identity type key CreditLimitReached services = refl
+no_result_is_busy identity type key UnknownSession services = refl
+no_result_is_busy identity type key ResourcesExceeded services = refl
 no_result_is_busy identity type key UnableToComply services = refl
 no_result_is_busy identity type key RatingFailed services = refl
 
@@ -43,6 +45,7 @@ not_busy identity terms (Unknown type key) = refl
 not_busy identity terms (Answered answer) = no_result_is_busy identity answer.request answer.key answer.result (told_avps terms answer)
 not_busy identity terms Added = refl
 not_busy identity terms Ceiling = refl
+not_busy identity terms (Expired sessions) = refl
 
 pub told_not_busy : AreTold → AreSizes → (identity : Identity) (terms : TermsView) (request : HeaderView) (proxies : List ℕ) (outcome : Outcome) →
     IsAnswerable identity outcome → SpellProxies proxies → is_busy (answer_octets identity terms request proxies outcome) ≡ false

@@ -1,5 +1,5 @@
 -- Each AVP of an answer has a spelling.
-use Rattle.std.proofs.Common.{◌≡◌, ℕ, ◌+◌, ◌-◌, ◌*◌, ◌%◌, ◌^◌, ◌<◌, ◌≤◌, List, [], ◌∷◌, ◌++◌, length, map, Option, Some, None, true, refl, ap, ◌∙◌, arith, lit<}
+use Rattle.std.proofs.Common.{◌≡◌, ℕ, ◌+◌, ◌-◌, ◌*◌, ◌%◌, ◌^◌, ◌<◌, ◌≤◌, List, [], ◌∷◌, ◌++◌, length, map, Option, Some, None, Bool, true, false, if◌then◌else◌, refl, ap, ◌∙◌, arith, lit<}
 use Rattle.std.specs.Prelude.{option_map}
 use Rattle.std.specs.Int.{w32, w64, to_be_bytes, cast_unsigned}
 use Rattle.std.specs.List.{flat_map, sum_by, AllByRecursion}
@@ -9,10 +9,11 @@ use Rattle.std.proofs.lemmas.List.Concat.{flat_map-append}
 use Rattle.std.proofs.lemmas.List.Sums.{sum_by-cons}
 use Rattle.std.proofs.lemmas.Bool.Decides.{nat_tests}
 use Rattle.dcc_avp.specs.Spelling.{AvpView, padded_len, padded, HasSpelling}
-use Rattle.dcc_avp.specs.declared.codes.TheConstants.{SESSION_ID, RESULT_CODE, ORIGIN_HOST, ORIGIN_REALM, AUTH_APPLICATION_ID, CC_REQUEST_TYPE, CC_REQUEST_NUMBER, GRANTED_SERVICE_UNIT, CC_TOTAL_OCTETS, CC_TIME, CC_SERVICE_SPECIFIC_UNITS, MULTIPLE_SERVICES_CREDIT_CONTROL, SERVICE_IDENTIFIER, RATING_GROUP, COST_INFORMATION, UNIT_VALUE, VALUE_DIGITS, EXPONENT, CURRENCY_CODE, CHECK_BALANCE_RESULT}
+use Rattle.dcc_avp.specs.declared.codes.TheConstants.{SESSION_ID, RESULT_CODE, ORIGIN_HOST, ORIGIN_REALM, AUTH_APPLICATION_ID, CC_REQUEST_TYPE, CC_REQUEST_NUMBER, GRANTED_SERVICE_UNIT, CC_TOTAL_OCTETS, CC_TIME, CC_SERVICE_SPECIFIC_UNITS, MULTIPLE_SERVICES_CREDIT_CONTROL, SERVICE_IDENTIFIER, RATING_GROUP, COST_INFORMATION, UNIT_VALUE, VALUE_DIGITS, EXPONENT, CURRENCY_CODE, CHECK_BALANCE_RESULT, VALIDITY_TIME, FINAL_UNIT_INDICATION, FINAL_UNIT_ACTION}
 use Rattle.dcc_octets.specs.Names.{is_name, is_short}
 use Rattle.dcc_message.specs.declared.applications.TheConstants.{CREDIT_CONTROL}
 use Rattle.dcc_credit.specs.declared.answer.TheConstants.{USER_UNKNOWN}
+use Rattle.dcc_credit.specs.declared.use_of_grants.TheConstants.{TERMINATE}
 use Rattle.dcc_credit.specs.inner.Limits.{IsAnswerable}
 use Rattle.dcc_message.specs.declared.identity.Identity.{Identity}
 use Rattle.dcc_tariff.specs.Terms.{TermsView}
@@ -23,7 +24,7 @@ use Rattle.dcc_act.specs.declared.grant.Grant.{Grant}
 use Rattle.dcc_act.specs.declared.outcome.Answer.{Answer}
 use Rattle.dcc_act.specs.declared.outcome.Balance.{Balance}
 use Rattle.dcc_act.specs.declared.outcome.Outcome.{Outcome}
-use Rattle.dcc_act.specs.declared.outcome.Outcome.TheVariants.{Unknown, Answered, Added, Ceiling}
+use Rattle.dcc_act.specs.declared.outcome.Outcome.TheVariants.{Unknown, Answered, Added, Ceiling, Expired}
 use Rattle.dcc_act.specs.declared.outcome.RequestType.{RequestType}
 use Rattle.dcc_act.specs.declared.outcome.ServiceAnswer.{ServiceAnswer}
 use Rattle.dcc_act.specs.declared.request_key.RequestKey.{RequestKey}
@@ -32,7 +33,7 @@ use Rattle.dcc_act.specs.declared.service.Form.TheVariants.{Single, Multi}
 use Rattle.dcc_act.specs.Numbers.{request_type_number, result_number, balance_number}
 use Rattle.dcc_answer.specs.Avps.{sent, sent32, sent64}
 use Rattle.dcc_answer.specs.Answers.{IsServer}
-use Rattle.dcc_credit.specs.Answers.{amount_avp, granted, service_parts, service_avps, unit_value, cost_avp, balance_avp, told_avps, head_avps, answer_avps, HasLimits}
+use Rattle.dcc_credit.specs.Answers.{amount_avp, granted, in_session, validity_avps, final_avps, service_parts, service_avps, single_validity, single_final, unit_value, cost_avp, balance_avp, told_avps, head_avps, answer_avps, HasLimits}
 use Rattle.dcc_credit.proofs.ServiceSizes.{ids_of}
 
 abbrev pub AllSpelled : List AvpView → Type 0
@@ -132,31 +133,70 @@ group_takes : AreSizes → (group : Option ℕ) → Takes (option_to_list (optio
 group_takes sizes None = none_take 15
 group_takes sizes (Some group) = sent32_takes sizes RATING_GROUP group (lit< tt)
 
-parts_take : AreSizes → (service : ServiceAnswer) → Takes (service_parts service) (30 + 15 * length service.ids + 15 + 15)
-parts_take sizes service =
+validity_if : AreSizes → (stands : Bool) (validity : ℕ) → Takes (if stands then sent32 VALIDITY_TIME validity ∷ [] else []) 15
+validity_if sizes true validity = sent32_takes sizes VALIDITY_TIME validity (lit< tt)
+validity_if sizes false validity = none_take 15
+
+validity_takes : AreSizes → (type : RequestType) (terms : TermsView) (grant : Option Grant) → Takes (validity_avps type terms grant) 15
+validity_takes sizes type terms None = none_take 15
+validity_takes sizes type terms (Some grant) = validity_if sizes (in_session type) terms.validity
+
+final_takes : AreSizes → (is_final : Bool) → Takes (final_avps is_final) 26
+final_takes sizes false = none_take 26
+final_takes sizes true =
+    let action = sent32_takes sizes FINAL_UNIT_ACTION TERMINATE (lit< tt) in
+    let few = action.few in
+    let octets = flat_map padded (sent32 FINAL_UNIT_ACTION TERMINATE ∷ []) in
+    let h : HasSpelling (sent FINAL_UNIT_INDICATION octets) = sent_spelled FINAL_UNIT_INDICATION octets (lit< tt) (omega arith) in
+    let size = sent_few sizes FINAL_UNIT_INDICATION octets h in
+    one_takes (sent FINAL_UNIT_INDICATION octets) 26 h (omega arith)
+
+parts_take : AreSizes → (type : RequestType) (terms : TermsView) (service : ServiceAnswer) →
+    Takes (service_parts type terms service) (30 + 15 * length service.ids + 15 + 15 + (15 + 26))
+parts_take sizes type terms service =
     let grant = option_to_list (option_map granted service.grant) in
     let ids = map (sent32 SERVICE_IDENTIFIER) service.ids in
     let group = option_to_list (option_map (sent32 RATING_GROUP) service.group) in
+    let validity = validity_avps type terms service.grant in
     let code = result_number service.result in
-    both_take (grant ++ ids ++ group) (sent32 RESULT_CODE code ∷ []) (30 + 15 * length service.ids + 15) 15
+    both_take (grant ++ ids ++ group ++ validity) (sent32 RESULT_CODE code ∷ final_avps service.is_final) (30 + 15 * length service.ids + 15 + 15) (15 + 26)
+    (both_take (grant ++ ids ++ group) validity (30 + 15 * length service.ids + 15) 15
     (both_take (grant ++ ids) group (30 + 15 * length service.ids) 15
     (both_take grant ids 30 (15 * length service.ids) (grant_takes sizes service.grant) (ids_take sizes service.ids)) (group_takes sizes service.group))
-    (sent32_takes sizes RESULT_CODE code (lit< tt))
+    (validity_takes sizes type terms service.grant))
+    (both_take (sent32 RESULT_CODE code ∷ []) (final_avps service.is_final) 15 26 (sent32_takes sizes RESULT_CODE code (lit< tt)) (final_takes sizes service.is_final))
 
-service_spelled : AreSizes → (form : Form) (service : ServiceAnswer) → length service.ids ≤ MAX_IDS → AllSpelled (service_avps form service)
-service_spelled sizes Single service few = (grant_takes sizes service.grant).spelled
-service_spelled sizes Multi service few =
-    let parts = parts_take sizes service in
+service_spelled : AreSizes → (type : RequestType) (terms : TermsView) (form : Form) (service : ServiceAnswer) → length service.ids ≤ MAX_IDS →
+    AllSpelled (service_avps type terms form service)
+service_spelled sizes type terms Single service few = (grant_takes sizes service.grant).spelled
+service_spelled sizes type terms Multi service few =
+    let parts = parts_take sizes type terms service in
     let size = parts.few in
-    (sent_spelled MULTIPLE_SERVICES_CREDIT_CONTROL (flat_map padded (service_parts service)) (lit< tt) (omega arith), tt)
+    (sent_spelled MULTIPLE_SERVICES_CREDIT_CONTROL (flat_map padded (service_parts type terms service)) (lit< tt) (omega arith), tt)
 
-services_spelled : AreSizes → (services : List ServiceAnswer) → sum_by ids_of services ≤ MAX_IDS → AllSpelled (flat_map (λ service. service_avps service.form service) services)
-services_spelled sizes [] few = tt
-services_spelled sizes (service ∷ services) few =
+services_spelled : AreSizes → (type : RequestType) (terms : TermsView) (services : List ServiceAnswer) → sum_by ids_of services ≤ MAX_IDS →
+    AllSpelled (flat_map (λ service. service_avps type terms service.form service) services)
+services_spelled sizes type terms [] few = tt
+services_spelled sizes type terms (service ∷ services) few =
     let all = sum_by-cons ids_of service services in
     let here : length service.ids ≤ MAX_IDS = omega arith in
-    append_spelled (service_avps service.form service) (flat_map (λ service. service_avps service.form service) services)
-    (service_spelled sizes service.form service here) (services_spelled sizes services (omega arith))
+    append_spelled (service_avps type terms service.form service) (flat_map (λ service. service_avps type terms service.form service) services)
+    (service_spelled sizes type terms service.form service here) (services_spelled sizes type terms services (omega arith))
+
+-- where each has a spelling, all have
+each_spelled : (f : ServiceAnswer → List AvpView) → ((service : ServiceAnswer) → AllSpelled (f service)) → (services : List ServiceAnswer) →
+    AllSpelled (flat_map f services)
+each_spelled f one [] = tt
+each_spelled f one (service ∷ services) = append_spelled (f service) (flat_map f services) (one service) (each_spelled f one services)
+
+single_validity_spelled : AreSizes → (type : RequestType) (terms : TermsView) (form : Form) (service : ServiceAnswer) →
+    AllSpelled (single_validity type terms form service)
+single_validity_spelled sizes type terms Single service = (validity_takes sizes type terms service.grant).spelled
+single_validity_spelled sizes type terms Multi service = tt
+
+single_final_spelled : AreSizes → (form : Form) (service : ServiceAnswer) → AllSpelled (single_final form service)
+single_final_spelled sizes Single service = (final_takes sizes service.is_final).spelled
+single_final_spelled sizes Multi service = tt
 
 -- ---- prices and balances
 
@@ -186,11 +226,19 @@ balance_spelled (Some balance) = (sent32_spelled CHECK_BALANCE_RESULT (balance_n
 
 told_spelled : AreSizes → (terms : TermsView) (answer : Answer) → sum_by ids_of answer.services ≤ MAX_IDS → AllSpelled (told_avps terms answer)
 told_spelled sizes terms answer few =
-    let services = flat_map (λ service. service_avps service.form service) answer.services in
+    let services = flat_map (λ service. service_avps answer.request terms service.form service) answer.services in
     let cost = option_to_list (option_map (cost_avp terms) answer.cost) in
+    let finals = flat_map (λ service. single_final service.form service) answer.services in
     let balance = option_to_list (option_map balance_avp answer.balance) in
-    append_spelled (services ++ cost) balance
-    (append_spelled services cost (services_spelled sizes answer.services few) (cost_spelled sizes terms answer.cost)) (balance_spelled answer.balance)
+    let validities = flat_map (λ service. single_validity answer.request terms service.form service) answer.services in
+    append_spelled (services ++ cost ++ finals ++ balance) validities
+    (append_spelled (services ++ cost ++ finals) balance
+    (append_spelled (services ++ cost) finals
+    (append_spelled services cost (services_spelled sizes answer.request terms answer.services few) (cost_spelled sizes terms answer.cost))
+    (each_spelled (λ service. single_final service.form service) (λ service. single_final_spelled sizes service.form service) answer.services))
+    (balance_spelled answer.balance))
+    (each_spelled (λ service. single_validity answer.request terms service.form service)
+    (λ service. single_validity_spelled sizes answer.request terms service.form service) answer.services)
 
 -- ---- answers
 
@@ -229,9 +277,11 @@ answer_spelled sizes identity terms (Answered answer) limits =
     (told_spelled sizes terms answer limits.2.few_ids)
 answer_spelled sizes identity terms Added limits = tt
 answer_spelled sizes identity terms Ceiling limits = tt
+answer_spelled sizes identity terms (Expired sessions) limits = tt
 
 pub answerable : (identity : Identity) (outcome : Outcome) → IsServer identity → HasLimits outcome → IsAnswerable identity outcome
 answerable identity (Unknown type key) server limits = (server, limits)
 answerable identity (Answered answer) server limits = (server, limits.0, limits.1)
 answerable identity Added server limits = tt
 answerable identity Ceiling server limits = tt
+answerable identity (Expired sessions) server limits = tt

@@ -1,15 +1,20 @@
--- The act that a request asks for (RFC 8506, section 6).
-use Rattle.std.specs.Prelude.{ℕ, ◌==◌, if◌then◌else◌, List, [], ◌∷◌, Option, Some, None, option_map}
+-- The act that a request asks for (RFC 8506, sections 5 and 6).
+use Rattle.std.specs.Prelude.{ℕ, ◌==◌, min, if◌then◌else◌, List, [], ◌∷◌, map, Option, Some, None, option_map}
 use Rattle.dcc_tariff.specs.Plans.{PlanView, unit_of, tariff_at}
 use Rattle.dcc_tariff.specs.declared.tariff.UnitKind.{UnitKind}
 use Rattle.dcc_tariff.specs.declared.tariff.UnitKind.TheVariants.{Octets, Time, Units}
 use Rattle.dcc_act.specs.declared.act.Act.{Act}
+use Rattle.dcc_act.specs.declared.act.Kind.{Kind}
 use Rattle.dcc_act.specs.declared.act.Kind.TheVariants as kind
+use Rattle.dcc_act.specs.declared.limits.TheConstants.{MAX_SECONDS}
 use Rattle.dcc_act.specs.declared.one_time_event.Action.{Action}
+use Rattle.dcc_act.specs.declared.request_key.RequestKey.{RequestKey}
+use Rattle.dcc_act.specs.declared.session_request.SessionRequest.{SessionRequest}
 use Rattle.dcc_act.specs.Services.{ServiceView}
 use Rattle.dcc_ccr.specs.Amounts.{AmountsView}
 use Rattle.dcc_ccr.specs.Requests.{RequestView}
 use Rattle.dcc_ccr.specs.Services as requests
+use Rattle.dcc_ccr.specs.Types.{is_event}
 use Rattle.dcc_ccr.specs.declared.request_type.RequestType.{RequestType}
 use Rattle.dcc_ccr.specs.declared.request_type.RequestType.TheVariants.{Initial, Update, Termination, Event}
 
@@ -25,51 +30,68 @@ amount_in (Some Octets) amounts = amounts.octets
 amount_in (Some Time) amounts = amounts.time
 amount_in (Some Units) amounts = amounts.units
 
-abbrev pub or_one : ℕ → ℕ
-or_one n = if n == 0 then 1 else n
+-- an amount that is asked for, where 0 stands for another
+abbrev pub or_instead : ℕ → ℕ → ℕ
+or_instead n other = if n == 0 then other else n
+
+-- what 0 stands for in a session: the plan's quantum, of which no more seconds than fit a CC-Time (RFC 8506, section 8.21)
+abbrev pub quantum_in : PlanView → UnitKind → ℕ
+quantum_in plan Octets = plan.quantum
+quantum_in plan Time = min plan.quantum MAX_SECONDS
+quantum_in plan Units = plan.quantum
+
+-- what a service of a session asks for, where a Requested-Service-Unit is there
+abbrev pub session_asks : PlanView → Option UnitKind → AmountsView → ℕ
+session_asks plan None amounts = 0
+session_asks plan (Some counted) amounts = or_instead (amount_in (Some counted) amounts) (quantum_in plan counted)
 
 -- what a one-time event asks for: where that is nothing, or 0, it stands for 1
-abbrev pub asked_in : Option UnitKind → Option AmountsView → ℕ
-asked_in None asked = 0
-asked_in (Some counted) None = 1
-asked_in (Some counted) (Some amounts) = or_one (amount_in (Some counted) amounts)
+abbrev pub event_asks : Option UnitKind → Option AmountsView → ℕ
+event_asks None asked = 0
+event_asks (Some counted) None = 1
+event_asks (Some counted) (Some amounts) = or_instead (amount_in (Some counted) amounts) 1
 
--- the service of a one-time event, with what the plan says of its group at a moment
-abbrev pub service_of : PlanView → ℕ → requests.ServiceView → ServiceView
-service_of plan moment service =
+-- what a service asks for in a request of this type: in an event always something
+abbrev pub asked_in : RequestType → PlanView → Option UnitKind → Option AmountsView → Option ℕ
+asked_in type plan unit asked = if is_event type then Some (event_asks unit asked) else option_map (session_asks plan unit) asked
+
+-- a service of a request of this type, with what the plan says of its group at a moment
+abbrev pub service_of : PlanView → ℕ → RequestType → requests.ServiceView → ServiceView
+service_of plan moment type service =
     let group = group_of plan service.group in
     let unit = unit_of plan group in
     record {
       group = service.group;
       ids = service.ids;
       form = service.form;
-      asked = Some (asked_in unit service.asked);
+      asked = asked_in type plan unit service.asked;
       used = option_map (amount_in unit) service.used;
       unit = unit;
       tariff = option_map (λ found. found.1) (tariff_at plan group moment);
     }
 
+-- the session and the number of a request
+abbrev pub key_of : RequestView → RequestKey
+key_of request = record { sid = request.session; number = request.number }
+
+-- a request of a session
+abbrev pub session_of : PlanView → ℕ → RequestView → SessionRequest
+session_of plan moment request = record { key = key_of request; services = map (service_of plan moment request.type) request.services }
+
 -- a one-time event, which has one service
-abbrev pub event_of : PlanView → ℕ → RequestView → Action → List requests.ServiceView → Option Act
+abbrev pub event_of : PlanView → ℕ → RequestView → Action → List requests.ServiceView → Option Kind
 event_of plan moment request action [] = None
 event_of plan moment request action (service ∷ []) =
-    Some (record {
-      moment = moment;
-      kind = kind.Event (record {
-        key = record { sid = request.session; number = request.number };
-        action = action;
-        service = service_of plan moment service;
-      });
-    })
+    Some (kind.Event (record { key = key_of request; action = action; service = service_of plan moment request.type service }))
 event_of plan moment request action (service ∷ other ∷ others) = None
 
--- by what a request asks for: one-time events alone are served today
-abbrev pub act_for : PlanView → ℕ → RequestView → RequestType → Option Act
-act_for plan moment request Initial = None
-act_for plan moment request Update = None
-act_for plan moment request Termination = None
-act_for plan moment request (Event action) = event_of plan moment request action request.services
+-- what a request asks for, by its type
+abbrev pub kind_of : PlanView → ℕ → RequestView → RequestType → Option Kind
+kind_of plan moment request Initial = Some (kind.Initial (session_of plan moment request))
+kind_of plan moment request Update = Some (kind.Update (session_of plan moment request))
+kind_of plan moment request Termination = Some (kind.Termination (session_of plan moment request))
+kind_of plan moment request (Event action) = event_of plan moment request action request.services
 
--- the act that a request asks for at a moment, where it is served
+-- the act that a request asks for at a moment: every request that is read has one, since an event has one service
 unfoldable pub act_of : PlanView → RequestView → ℕ → Option Act
-act_of plan request moment = act_for plan moment request request.type
+act_of plan request moment = option_map (λ kind. record { moment = moment; kind = kind }) (kind_of plan moment request request.type)

@@ -1,5 +1,5 @@
 -- The octets of answers to credit-control requests (RFC 8506, section 3.2).
-use Rattle.std.specs.Prelude.{◌≡◌, ℕ, true, List, [], ◌∷◌, ◌++◌, map, option_map}
+use Rattle.std.specs.Prelude.{◌≡◌, ℕ, Bool, true, false, if◌then◌else◌, List, [], ◌∷◌, ◌++◌, map, Option, Some, None, option_map}
 use Rattle.std.specs.Int.{w32, cast_unsigned}
 use Rattle.std.specs.List.{flat_map}
 use Rattle.std.specs.Option.{option_to_list}
@@ -9,7 +9,7 @@ use Rattle.dcc_avp.specs.declared.codes.TheConstants.{SESSION_ID, RESULT_CODE, O
 use Rattle.dcc_avp.specs.declared.codes.TheConstants.{CC_REQUEST_TYPE, CC_REQUEST_NUMBER, GRANTED_SERVICE_UNIT, CC_TOTAL_OCTETS, CC_TIME}
 use Rattle.dcc_avp.specs.declared.codes.TheConstants.{CC_SERVICE_SPECIFIC_UNITS, MULTIPLE_SERVICES_CREDIT_CONTROL, SERVICE_IDENTIFIER}
 use Rattle.dcc_avp.specs.declared.codes.TheConstants.{RATING_GROUP, COST_INFORMATION, UNIT_VALUE, VALUE_DIGITS, EXPONENT, CURRENCY_CODE}
-use Rattle.dcc_avp.specs.declared.codes.TheConstants.{CHECK_BALANCE_RESULT}
+use Rattle.dcc_avp.specs.declared.codes.TheConstants.{CHECK_BALANCE_RESULT, VALIDITY_TIME, FINAL_UNIT_INDICATION, FINAL_UNIT_ACTION}
 use Rattle.dcc_message.specs.declared.applications.TheConstants.{CREDIT_CONTROL}
 use Rattle.dcc_message.specs.HeaderView.{HeaderView}
 use Rattle.dcc_message.specs.declared.identity.Identity.{Identity}
@@ -22,8 +22,9 @@ use Rattle.dcc_act.specs.declared.grant.Grant.{Grant}
 use Rattle.dcc_act.specs.declared.outcome.Answer.{Answer}
 use Rattle.dcc_act.specs.declared.outcome.Balance.{Balance}
 use Rattle.dcc_act.specs.declared.outcome.Outcome.{Outcome}
-use Rattle.dcc_act.specs.declared.outcome.Outcome.TheVariants.{Unknown, Answered, Added, Ceiling}
+use Rattle.dcc_act.specs.declared.outcome.Outcome.TheVariants.{Unknown, Answered, Added, Ceiling, Expired}
 use Rattle.dcc_act.specs.declared.outcome.RequestType.{RequestType}
+use Rattle.dcc_act.specs.declared.outcome.RequestType.TheVariants.{Initial, Update, Termination, Event}
 use Rattle.dcc_act.specs.declared.outcome.ServiceAnswer.{ServiceAnswer}
 use Rattle.dcc_act.specs.declared.request_key.RequestKey.{RequestKey}
 use Rattle.dcc_act.specs.declared.service.Form.{Form}
@@ -31,6 +32,7 @@ use Rattle.dcc_act.specs.declared.service.Form.TheVariants.{Single, Multi}
 use Rattle.dcc_act.specs.Answers.{AreAnswers}
 use Rattle.dcc_act.specs.Numbers.{request_type_number, result_number, balance_number}
 use Rattle.dcc_credit.specs.declared.answer.TheConstants.{USER_UNKNOWN}
+use Rattle.dcc_credit.specs.declared.use_of_grants.TheConstants.{TERMINATE}
 
 -- an amount in the AVP of its unit (RFC 8506, section 8.17)
 abbrev pub amount_avp : UnitKind → ℕ → AvpView
@@ -41,16 +43,43 @@ amount_avp Units units = sent64 CC_SERVICE_SPECIFIC_UNITS units
 abbrev pub granted : Grant → AvpView
 granted grant = grouped GRANTED_SERVICE_UNIT (amount_avp grant.unit grant.units ∷ [])
 
--- the grant, the identifiers and the group as sent, and the result of one service (RFC 8506, section 8.16)
-abbrev pub service_parts : ServiceAnswer → List AvpView
-service_parts service =
-    option_to_list (option_map granted service.grant) ++ map (sent32 SERVICE_IDENTIFIER) service.ids ++
-    option_to_list (option_map (sent32 RATING_GROUP) service.group) ++ sent32 RESULT_CODE (result_number service.result) ∷ []
+-- the request is one of a session
+abbrev pub in_session : RequestType → Bool
+in_session Initial = true
+in_session Update = true
+in_session Termination = true
+in_session Event = false
 
--- a service at the message's level shows its grant alone
-abbrev pub service_avps : Form → ServiceAnswer → List AvpView
-service_avps Single service = option_to_list (option_map granted service.grant)
-service_avps Multi service = grouped MULTIPLE_SERVICES_CREDIT_CONTROL (service_parts service) ∷ []
+-- for how many seconds a grant may be used (section 8.33); an event's is used at once
+abbrev pub validity_avps : RequestType → TermsView → Option Grant → List AvpView
+validity_avps type terms None = []
+validity_avps type terms (Some grant) = if in_session type then sent32 VALIDITY_TIME terms.validity ∷ [] else []
+
+-- that the service ends once the granted units are used, where they are the last (sections 8.34 and 8.35)
+abbrev pub final_avps : Bool → List AvpView
+final_avps false = []
+final_avps true = grouped FINAL_UNIT_INDICATION (sent32 FINAL_UNIT_ACTION TERMINATE ∷ []) ∷ []
+
+-- the grant, the identifiers and the group as sent, how long the grant may be used, the result, and whether it's the last, of one
+-- service (section 8.16)
+abbrev pub service_parts : RequestType → TermsView → ServiceAnswer → List AvpView
+service_parts type terms service =
+    option_to_list (option_map granted service.grant) ++ map (sent32 SERVICE_IDENTIFIER) service.ids ++
+    option_to_list (option_map (sent32 RATING_GROUP) service.group) ++ validity_avps type terms service.grant ++
+    sent32 RESULT_CODE (result_number service.result) ∷ final_avps service.is_final
+
+-- a service at the message's level shows its grant alone, and how it may be used behind a price and a balance
+abbrev pub service_avps : RequestType → TermsView → Form → ServiceAnswer → List AvpView
+service_avps type terms Single service = option_to_list (option_map granted service.grant)
+service_avps type terms Multi service = grouped MULTIPLE_SERVICES_CREDIT_CONTROL (service_parts type terms service) ∷ []
+
+abbrev pub single_validity : RequestType → TermsView → Form → ServiceAnswer → List AvpView
+single_validity type terms Single service = validity_avps type terms service.grant
+single_validity type terms Multi service = []
+
+abbrev pub single_final : Form → ServiceAnswer → List AvpView
+single_final Single service = final_avps service.is_final
+single_final Multi service = []
 
 -- a price in minor units: its digits, and the power of ten that a minor unit is of the currency, in two's complement where it's
 -- below nothing (RFC 8506, sections 8.8 to 8.10)
@@ -65,11 +94,14 @@ cost_avp terms cost = grouped COST_INFORMATION (unit_value terms cost ∷ sent32
 abbrev pub balance_avp : Balance → AvpView
 balance_avp balance = sent32 CHECK_BALANCE_RESULT (balance_number balance)
 
--- what an answer tells behind its beginning: the services, a price and a balance
+-- what an answer tells behind its beginning: the services, a price, which grant is the last, a balance, and how long a grant may
+-- be used (section 3.2)
 abbrev pub told_avps : TermsView → Answer → List AvpView
 told_avps terms answer =
-    flat_map (λ service. service_avps service.form service) answer.services ++ option_to_list (option_map (cost_avp terms) answer.cost) ++
-    option_to_list (option_map balance_avp answer.balance)
+    flat_map (λ service. service_avps answer.request terms service.form service) answer.services ++
+    option_to_list (option_map (cost_avp terms) answer.cost) ++ flat_map (λ service. single_final service.form service) answer.services ++
+    option_to_list (option_map balance_avp answer.balance) ++
+    flat_map (λ service. single_validity answer.request terms service.form service) answer.services
 
 -- what each answer to a request begins with
 abbrev pub head_avps : Identity → RequestType → RequestKey → ℕ → List AvpView
@@ -77,13 +109,14 @@ head_avps identity type key code =
     sent SESSION_ID key.sid ∷ sent32 RESULT_CODE code ∷ sent ORIGIN_HOST identity.host ∷ sent ORIGIN_REALM identity.realm ∷
     sent32 AUTH_APPLICATION_ID CREDIT_CONTROL ∷ sent32 CC_REQUEST_TYPE (request_type_number type) ∷ sent32 CC_REQUEST_NUMBER key.number ∷ []
 
--- the AVPs of an answer, in their order; a top-up's outcome has none
+-- the AVPs of an answer, in their order; the outcome of a top-up or an expiry has none
 unfoldable pub answer_avps : Identity → TermsView → Outcome → List AvpView
 answer_avps identity terms (Unknown type key) = head_avps identity type key USER_UNKNOWN
 answer_avps identity terms (Answered answer) =
     head_avps identity answer.request answer.key (result_number answer.result) ++ told_avps terms answer
 answer_avps identity terms Added = []
 answer_avps identity terms Ceiling = []
+answer_avps identity terms (Expired sessions) = []
 
 -- the answer to a request with an outcome, under the request's identifiers and P bit, with its proxies at the end
 unfoldable pub answer_octets : Identity → TermsView → HeaderView → List ℕ → Outcome → List ℕ
@@ -96,3 +129,4 @@ HasLimits (Unknown type key) = is_short key.sid ≡ true
 HasLimits (Answered answer) = (is_short answer.key.sid ≡ true) × AreAnswers answer.services
 HasLimits Added = Unit {0}
 HasLimits Ceiling = Unit {0}
+HasLimits (Expired sessions) = Unit {0}

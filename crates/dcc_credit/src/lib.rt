@@ -11,11 +11,10 @@ mod act;
 mod answer;
 mod laws;
 mod refusal;
-mod services;
 mod session;
-mod told;
+mod use_of_grants;
 
-pub use act::{ActFault, to_act};
+pub use act::to_act;
 pub use answer::{USER_UNKNOWN, write_cca};
 pub use laws::{read_back, told_apart};
 pub use refusal::{write_refusal, write_unread};

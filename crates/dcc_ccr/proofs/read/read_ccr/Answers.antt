@@ -5,6 +5,7 @@ use Rattle.dcc_ccr.specs.Services.{services_of}
 use Rattle.dcc_ccr.specs.Contradictions.{contradiction}
 use Rattle.dcc_ccr.specs.Requests.{ValuesView, values_of}
 use Rattle.dcc_ccr.proofs.Limits.{limits}
+use Rattle.dcc_ccr.proofs.Forms.{stand, one_service}
 use Rattle.dcc_ccr.proofs.Bounds.{Laws, clear_bounded}
 use Rattle.dcc_ccr.proofs.Sizes.{FewValues, values_bounded, values_few, few_ids}
 use Rattle.dcc_ccr.proofs.Shown.{contradiction_shown, stop_within}
@@ -20,7 +21,9 @@ invariant_of-result c =
     let laws : Laws = record { list = c.list_within.ensures; unread = c.shown_within.ensures.unread; missing = c.shown_within.ensures.missing; each = c.shown_within.ensures.list } in
     let few = values_few laws c.args.avps.now (omega arith) _ (c.in_ok-values.ensures.value ∙ ap (λ (v : ValuesView). Ok v) (sym c.values.view_is)) in
     let ids = few_ids (sum_by padded_len c.args.avps.now) v.kind v.single v.multi.items c.requires.small few.1 few.2 in
-    (search (rules), rw (sym made) keeps, rw (sym made) ids)
+    let right = stand v.kind v.single v.multi.items (search (rules)) in
+    let one = one_service v.kind v.single v.multi.items c.args.avps.now (search (rules)) agrees in
+    (search (rules), rw (sym made) keeps, rw (sym made) ids, rw (sym made) right, rw (sym made) one)
 
 pub returns-in_err-values-clause-shown : goal.returns-in_err-values-clause-shown
 returns-in_err-values-clause-shown c =
