@@ -2,4 +2,3 @@ pub mod Histories
 pub mod Requests
 pub mod Places
 pub mod LawProofs
-pub mod Lookback
