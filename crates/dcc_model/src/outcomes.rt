@@ -7,7 +7,7 @@ ghost use Rattle.dcc_model.specs.Outcomes.{command_result, served, bare, begun, 
 
 use crate::decide::CEILING;
 use crate::done::Done;
-use crate::grants::answers;
+use crate::granting::answers;
 use crate::money::{charges, funds};
 use crate::sessions::{count_open, is_open, was_opened};
 use dcc_act::{
@@ -117,11 +117,11 @@ fn served(
 fn command_result(answers: &[ServiceAnswer]) -> ResultCode
     ensures { result ≡ command_result answers.now }
 {
-    match answers.first() {
-        None => ResultCode::Success,
-        Some(answer) => match answer.form {
+    match answers {
+        [answer] => match answer.form {
             Form::Single => answer.result,
             Form::Multi => ResultCode::Success,
         },
+        _ => ResultCode::Success,
     }
 }

@@ -1,50 +1,100 @@
 //! What an act leaves in the books.
 
-ghost use Rattle.std.specs.Prelude.{◌≡◌, ◌++◌, List, option_map, IfOk, OnOk};
-ghost use Rattle.std.specs.Option.{option_to_list};
-ghost use Rattle.dcc_tariff.specs.Terms.{TermsView};
-ghost use Rattle.dcc_model.specs.Money.{asked_units, charged_by, charged_event, refunded_by, refunded_event, succeeded};
-ghost use Rattle.dcc_model.specs.Entries.{top_up_entry, debit_entry, refund_entry, entries_of_kind};
-ghost use Rattle.dcc_model.specs.declared.done.Done.{Done};
+ghost use Rattle.std.specs.Prelude.{◌≡◌, ◌++◌, ◌∷◌, [], ◌≤◌, if◌then◌else◌, reverse, option_map, IfOk, OnOk};
+ghost use Rattle.std.specs.Option.{option_to_list, ForSome};
+ghost use Rattle.dcc_tariff.specs.declared.limits.TheConstants.{MAX_PRICE};
+ghost use Rattle.dcc_model.specs.Results.{is_added};
+ghost use Rattle.dcc_model.specs.Money.{charged_event, refunded_event};
+ghost use Rattle.dcc_model.specs.Entries.{top_up_entry, debit_entry, refund_entry, charge_entry, charge_entries, entries_by};
 
-use crate::decide::{asked_units, price};
+use crate::decide::price;
+use crate::done::Done;
+use crate::looked_at::looked_at;
+use crate::money::{charge, charged_units, refunded_units};
+use crate::sessions::accepted;
 use dcc_act::{
-    Act, Action, Entry, EntryKind, EntryName, Grant, Kind, Moment, OneTimeEvent, Outcome,
-    ResultCode, TopUp,
+    Entry, EntryKind, EntryName, Grant, Kind, Moment, OneTimeEvent, Outcome, Service, SessionId,
+    TopUp,
 };
+use dcc_tariff::Terms;
 use std::alloc::{AllocError, Global};
 
-/// The entries of an act that came to this outcome at this place among the acts of its subscriber, from 1. The only error
-/// is want of memory.
-pub fn entries_by(
+/// The entries of an act after these. The only error is want of memory.
+pub(crate) fn entries_by(
+    alloc: Global,
+    terms: &Terms,
+    past: &[Done],
+    done: &Done,
+) -> Result<Vec<Entry>, AllocError>
+    ensures { IfOk result (λ entries. entries.items ≡ entries_by terms.now (reverse past.now) done.now) }
+{
+    let place = past.len() as u64 + 1;
+    let moment = done.act.moment;
+    match &done.act.kind {
+        Kind::TopUp(top_up) => top_up_entries(alloc, place, moment, top_up, &done.outcome),
+        Kind::Event(event) => event_entries(alloc, place, moment, event, &done.outcome),
+        kind => match accepted(done) {
+            None => Ok(Vec::new(alloc)),
+            Some(sid) => {
+                let services = looked_at(alloc, kind)?;
+                charge_entries(alloc, terms, past, place, moment, sid, &services)
+            }
+        },
+    }
+}
+
+/// The entries of a top-up: one where it was added.
+fn top_up_entries(
     alloc: Global,
     place: u64,
-    act: &Act,
+    moment: Moment,
+    top_up: &TopUp,
     outcome: &Outcome,
 ) -> Result<Vec<Entry>, AllocError>
-    ensures { IfOk result (λ entries. (terms : TermsView) (past : List Done)
-        → entries.items ≡ entries_of_kind terms past place act.now.moment act.now.kind outcome.now) }
+    ensures { IfOk result (λ entries. entries.items ≡ (if is_added outcome.now then top_up_entry place moment top_up.now ∷ [] else [])) }
 {
-    match &act.kind {
-        Kind::TopUp(top_up) => {
-            if !matches!(outcome, Outcome::Added) {
-                return Ok(Vec::new(alloc));
-            }
-            Ok(vec![in alloc; top_up_entry(place, act.moment, top_up)]?)
-        }
-        Kind::Event(event) => {
-            let mut entries = Vec::new(alloc);
-            append(
-                &mut entries,
-                debit_entry(place, act.moment, event, outcome)?,
-            )?;
-            append(
-                &mut entries,
-                refund_entry(place, act.moment, event, outcome)?,
-            )?;
-            Ok(entries)
-        }
+    if !matches!(outcome, Outcome::Added) {
+        return Ok(Vec::new(alloc));
     }
+    Ok(vec![in alloc; top_up_entry(place, moment, top_up)]?)
+}
+
+/// The entries of an event: of what it charged, and of what it gave back.
+fn event_entries(
+    alloc: Global,
+    place: u64,
+    moment: Moment,
+    event: &OneTimeEvent,
+    outcome: &Outcome,
+) -> Result<Vec<Entry>, AllocError>
+    ensures { IfOk result (λ entries. entries.items
+        ≡ option_to_list (option_map (debit_entry place moment event.now) (charged_event event.now outcome.now)) ++
+          option_to_list (option_map (refund_entry place moment event.now) (refunded_event event.now outcome.now))) }
+{
+    let mut entries = Vec::new(alloc);
+    append(&mut entries, debit_entry(place, moment, event, outcome)?)?;
+    append(&mut entries, refund_entry(place, moment, event, outcome)?)?;
+    Ok(entries)
+}
+
+/// The entries of a request's reports that are charged, in the order of its services.
+fn charge_entries(
+    alloc: Global,
+    terms: &Terms,
+    past: &[Done],
+    place: u64,
+    moment: Moment,
+    sid: &SessionId,
+    services: &[Service],
+) -> Result<Vec<Entry>, AllocError>
+    ensures { IfOk result (λ entries. entries.items ≡ charge_entries terms.now (reverse past.now) place moment sid.now services.now) }
+{
+    let mut entries = Vec::new(alloc);
+    for service in services {
+        let cost = charge(terms, past, sid, service);
+        append(&mut entries, charge_entry(place, moment, sid, service, cost)?)?;
+    }
+    Ok(entries)
 }
 
 /// Appends an entry, where there is one.
@@ -120,38 +170,27 @@ fn refund_entry(
     }))
 }
 
-/// What an event charged that came to this outcome.
-pub(crate) fn charged_units(event: &OneTimeEvent, outcome: &Outcome) -> Option<Grant>
-    ensures { result ≡ charged_event event.now outcome.now }
+/// The entry of a report that is charged so much, in minor units.
+fn charge_entry(
+    place: u64,
+    moment: Moment,
+    sid: &SessionId,
+    service: &Service,
+    cost: Option<u64>,
+) -> Result<Option<Entry>, AllocError>
+    requires { ForSome cost (λ cost. cost ≤ MAX_PRICE) }
+    ensures { IfOk result (λ entry. entry ≡ option_map (charge_entry place moment sid.now service.now) cost) }
 {
-    if !has_succeeded(outcome) {
-        return None;
-    }
-    match event.action {
-        Action::DirectDebiting => asked_units(&event.service),
-        Action::RefundAccount | Action::CheckBalance | Action::PriceEnquiry => None,
-    }
-}
-
-/// What an event gave back that came to this outcome.
-pub(crate) fn refunded_units(event: &OneTimeEvent, outcome: &Outcome) -> Option<Grant>
-    ensures { result ≡ refunded_event event.now outcome.now }
-{
-    if !has_succeeded(outcome) {
-        return None;
-    }
-    match event.action {
-        Action::RefundAccount => asked_units(&event.service),
-        Action::DirectDebiting | Action::CheckBalance | Action::PriceEnquiry => None,
-    }
-}
-
-/// Whether the command was answered with success.
-fn has_succeeded(outcome: &Outcome) -> bool
-    ensures { result ≡ succeeded outcome.now }
-{
-    match outcome {
-        Outcome::Answered(answer) => matches!(answer.result, ResultCode::Success),
-        _ => false,
-    }
+    let Some(cost) = cost else {
+        return Ok(None);
+    };
+    Ok(Some(Entry {
+        place,
+        moment,
+        kind: EntryKind::Charge,
+        group: service.group,
+        units: service.used.unwrap_or(0),
+        amount: -(cost as i64),
+        name: EntryName::Session(sid.copy()?),
+    }))
 }

@@ -22,9 +22,9 @@ pub(crate) fn answers(
     services: &[Service],
 ) -> Result<Vec<ServiceAnswer>, AllocError>
     requires { length services.now ≤ MAX_SERVICES }
-    ensures value { IfOk result (λ answers. answers.items ≡ answers terms.now (reverse past.now) sid.now services.now [] services.now) }
-    ensures as_many { IfOk result (λ answers. length answers.items ≡ length services.now) }
-    ensures ids { IfOk result (λ answers. sum_by (λ (answer : ServiceAnswer). length answer.ids) answers.items
+    ensures value { IfOk result (λ made. made.items ≡ answers terms.now (reverse past.now) sid.now services.now [] services.now) }
+    ensures as_many { IfOk result (λ made. length made.items ≡ length services.now) }
+    ensures ids { IfOk result (λ made. sum_by (λ (answer : ServiceAnswer). length answer.ids) made.items
         ≡ sum_by (λ (service : ServiceView). length service.ids) services.now) }
 {
     let mut answers = Vec::with_capacity(alloc, services.len())?;
