@@ -5,3 +5,4 @@ pub mod Money
 pub mod Outcomes
 pub mod Entries
 pub mod Laws
+pub mod inner

@@ -1,12 +1,21 @@
 //! The plain program: the definitions, step by step.
 
-ghost use Rattle.std.specs.Prelude.{◌≡◌, ◌≤◌, length, reverse, Some, IfOk};
-ghost use Rattle.dcc_model.specs.Outcomes.{judged, is_made, place_of, with_act, standing_of, outcome};
+ghost use Rattle.std.specs.Prelude.{◌≡◌, ◌≤◌, ◌+◌, if◌then◌else◌, length, map, reverse, Some, IfOk};
+ghost use Rattle.std.specs.Option.{option_copied, option_map_or};
+ghost use Rattle.dcc_model.specs.declared.done.Done.{Done};
+ghost use Rattle.dcc_model.specs.Outcomes.{has_account, counts, first_of, decided, settled, judged, is_made, with_act, history, act_made, place_of_key, place_of, standing_of, outcome};
 ghost use Rattle.dcc_model.specs.Entries.{entries_with};
 
+use crate::decide::{decide_event, decide_top_up};
 use crate::done::Done;
 use crate::judgement::Judgement;
-use dcc_act::{Act, Outcome};
+use crate::keys::{is_expiry, is_same_key, is_top_up, request_key};
+use crate::looked_at::looked_at;
+use crate::money::{free, funds, standing, standing_with};
+use crate::outcomes::{begun, reported};
+use crate::posting::entries_by;
+use crate::sessions::expired;
+use dcc_act::{Act, Kind, Moment, Outcome, RequestType};
 use dcc_tariff::Terms;
 use std::alloc::{AllocError, Global};
 
@@ -22,8 +31,8 @@ pub fn plain_answer(
     requires in_list { place ≤ length acts.now }
     ensures { IfOk result (λ answer. outcome terms.now acts.now place ≡ Some answer) }
 {
-    let _all = Vec::with_capacity(alloc, acts.len() + place).map(|all: Vec<u8>| all)?;
-    Err(AllocError)
+    let past = made(alloc, terms, &acts[..place - 1])?;
+    judged(alloc, terms, &past, &acts[place - 1])
 }
 
 /// What one more act comes to after these, which were made in this order, and what it does. The only error is want of
@@ -41,5 +50,174 @@ pub fn judge(
     ensures standing { IfOk result (λ judgement. judgement.standing
         ≡ standing_of terms.now (with_act terms.now (reverse past.now) act.now)) }
 {
-    Err(AllocError)
+    let is_new = is_made(terms, past, act);
+    let outcome = judged(alloc, terms, past, act)?;
+    let place = place_of(past, is_new, &act.kind);
+    if !is_new {
+        return Ok(Judgement {
+            outcome,
+            is_new,
+            place,
+            entries: Vec::new(alloc),
+            standing: standing(alloc, terms, past)?,
+        });
+    }
+    let done = Done {
+        act: act.copy()?,
+        outcome: outcome.copy()?,
+    };
+    Ok(Judgement {
+        outcome,
+        is_new,
+        place,
+        entries: entries_by(alloc, terms, past, &done)?,
+        standing: standing_with(alloc, terms, past, &done)?,
+    })
+}
+
+/// The acts that are made, in order.
+fn made(alloc: Global, terms: &Terms, acts: &[Act]) -> Result<Vec<Done>, AllocError>
+    ensures { IfOk result (λ made. reverse made.items ≡ history terms.now (reverse acts.now)) }
+{
+    let mut past = Vec::new(alloc);
+    for act in acts {
+        if is_made(terms, &past, act) {
+            let outcome = judged(alloc, terms, &past, act)?;
+            let act = act.copy()?;
+            past.push(Done { act, outcome })?;
+        }
+    }
+    Ok(past)
+}
+
+/// What an act comes to after these.
+fn judged(
+    alloc: Global,
+    terms: &Terms,
+    past: &[Done],
+    act: &Act,
+) -> Result<Outcome, AllocError>
+    ensures { IfOk result (λ outcome. outcome ≡ judged terms.now (reverse past.now) act.now) }
+{
+    if has_account(past) {
+        return settled(alloc, terms, past, act);
+    }
+    let (request, key) = match &act.kind {
+        Kind::TopUp(_) | Kind::Expiry => return settled(alloc, terms, past, act),
+        Kind::Initial(opening) => (RequestType::Initial, &opening.key),
+        Kind::Update(report) => (RequestType::Update, &report.key),
+        Kind::Termination(report) => (RequestType::Termination, &report.key),
+        Kind::Event(event) => (RequestType::Event, &event.key),
+    };
+    Ok(Outcome::Unknown {
+        request,
+        key: key.copy()?,
+    })
+}
+
+/// What an act comes to that has an account or needs none.
+fn settled(
+    alloc: Global,
+    terms: &Terms,
+    past: &[Done],
+    act: &Act,
+) -> Result<Outcome, AllocError>
+    ensures { IfOk result (λ outcome. outcome ≡ settled terms.now (reverse past.now) act.now) }
+{
+    match first(past, &act.kind) {
+        Some(done) => done.outcome.copy(),
+        None => decide(alloc, terms, past, act.moment, &act.kind),
+    }
+}
+
+/// Whether an act is made after these.
+fn is_made(terms: &Terms, past: &[Done], act: &Act) -> bool
+    ensures { result ≡ is_made terms.now (reverse past.now) act.now }
+{
+    if is_expiry(&act.kind) {
+        expired(terms, past, act.moment) > 0
+    } else {
+        is_counted(past, &act.kind) && first(past, &act.kind).is_none()
+    }
+}
+
+/// Whether an act counts: a request does once there is an account, all else always.
+fn is_counted(past: &[Done], kind: &Kind) -> bool
+    ensures { result ≡ counts (reverse past.now) kind.now }
+{
+    has_account(past) || request_key(kind).is_none()
+}
+
+/// Whether there is an account.
+fn has_account(past: &[Done]) -> bool
+    ensures { result ≡ has_account (reverse past.now) }
+{
+    past.iter().rev().any(|done| is_top_up(&done.act.kind))
+}
+
+/// The act of this key.
+fn first<'a>(past: &'a [Done], kind: &Kind) -> Option<&'a Done>
+    ensures { option_copied result ≡ first_of (reverse past.now) kind.now }
+{
+    past.iter()
+        .rev()
+        .find(|done| is_same_key(kind, &done.act.kind))
+}
+
+/// The place of an act after these, from 1, or that of the one that was made with its key.
+fn place_of(past: &[Done], is_new: bool, kind: &Kind) -> Option<u64>
+    ensures { result ≡ (if is_new then Some (length (reverse past.now) + 1) else place_of_key (map act_made (reverse past.now)) kind.now) }
+{
+    if is_new {
+        Some(past.len() as u64 + 1)
+    } else {
+        place_of_key(past, kind)
+    }
+}
+
+/// The place of the act of this key, from 1.
+fn place_of_key(past: &[Done], kind: &Kind) -> Option<u64>
+    ensures { result ≡ place_of_key (map act_made (reverse past.now)) kind.now }
+{
+    let mut found = None;
+    for (i, done) in past.iter().enumerate() {
+        if is_same_key(kind, &done.act.kind) {
+            found = Some(i as u64 + 1);
+        }
+    }
+    found
+}
+
+/// What an act comes to that is made.
+fn decide(
+    alloc: Global,
+    terms: &Terms,
+    past: &[Done],
+    moment: Moment,
+    kind: &Kind,
+) -> Result<Outcome, AllocError>
+    ensures { IfOk result (λ outcome. outcome ≡ decided terms.now (reverse past.now) moment kind.now) }
+{
+    match kind {
+        Kind::TopUp(top_up) => Ok(decide_top_up(funds(terms, past), top_up)),
+        Kind::Initial(opening) => {
+            let services = looked_at(alloc, kind)?;
+            begun(alloc, terms, past, &opening.key, &services)
+        }
+        Kind::Update(report) => {
+            let services = looked_at(alloc, kind)?;
+            reported(alloc, terms, past, RequestType::Update, &report.key, &services)
+        }
+        Kind::Termination(report) => {
+            let services = looked_at(alloc, kind)?;
+            reported(alloc, terms, past, RequestType::Termination, &report.key, &services)
+        }
+        Kind::Event(event) => {
+            let free = free(alloc, terms, past)?;
+            decide_event(alloc, funds(terms, past), free, event)
+        }
+        Kind::Expiry => Ok(Outcome::Expired {
+            sessions: expired(terms, past, moment),
+        }),
+    }
 }

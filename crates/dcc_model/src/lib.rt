@@ -9,9 +9,16 @@
 mod decide;
 mod done;
 mod evaluator;
+mod granting;
 mod judgement;
 mod keys;
 mod laws;
+mod looked_at;
+mod money;
+mod outcomes;
+mod posting;
+mod results;
+mod sessions;
 
 pub use decide::CEILING;
 pub use done::Done;

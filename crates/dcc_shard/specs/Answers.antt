@@ -67,6 +67,7 @@ told outcomes.Added (Some at) fresh = Some (Done at fresh)
 told outcomes.Ceiling (Some at) fresh = Some (Ceiling at fresh)
 told (outcomes.Unknown request key) (Some at) fresh = None
 told (outcomes.Answered answer) (Some at) fresh = None
+told (outcomes.Expired sessions) (Some at) fresh = None
 
 -- what a top-up is told that comes after these acts
 abbrev pub told_after : TermsView → List Act → Act → Option TopUpAnswer

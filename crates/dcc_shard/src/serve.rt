@@ -34,7 +34,10 @@ pub(crate) fn session_of_act(act: &Act) -> Option<&SessionId>
     ensures { option_map (λ session. session.now) result ≡ session_of_act act.now }
 {
     match &act.kind {
-        Kind::TopUp(_) => None,
+        Kind::TopUp(_) | Kind::Expiry => None,
+        Kind::Initial(request) | Kind::Update(request) | Kind::Termination(request) => {
+            Some(&request.key.sid)
+        }
         Kind::Event(event) => Some(&event.key.sid),
     }
 }

@@ -1,0 +1,6 @@
+use Rattle.std.proofs.Common.{◌≡◌, map, take}
+use Rattle.dcc_model.specs.Sessions.{without_report}
+use Rattle.dcc_model.proofs.looked_at.without_reports.Given as goal
+
+abbrev pub invariant-loop-service : goal.invariant-loop-service
+invariant-loop-service l = l.kept.items ≡ map without_report (take l.service-index l.services)

@@ -1,0 +1,117 @@
+//! The answers to the services of a request of a session.
+
+ghost use Rattle.std.specs.Prelude.{◌≡◌, ◌≤◌, [], length, reverse, sum_by, IfOk};
+ghost use Rattle.dcc_act.specs.Services.{ServiceView};
+ghost use Rattle.dcc_act.specs.declared.limits.TheConstants.{MAX_SERVICES};
+ghost use Rattle.dcc_act.specs.declared.outcome.ServiceAnswer.{ServiceAnswer};
+ghost use Rattle.dcc_model.specs.Outcomes.{answer_with, granted, granted_within, asked_answer, answer_to, answers};
+
+use crate::decide::asked_units;
+use crate::done::Done;
+use crate::money::{is_unrated, room};
+use dcc_act::{Grant, MAX_SERVICES, ResultCode, Service, ServiceAnswer, SessionId};
+use dcc_tariff::{Terms, most_units};
+use std::alloc::{AllocError, Global};
+
+/// The answers to these services in order, each in the room that those before leave.
+pub(crate) fn answers(
+    alloc: Global,
+    terms: &Terms,
+    past: &[Done],
+    sid: &SessionId,
+    services: &[Service],
+) -> Result<Vec<ServiceAnswer>, AllocError>
+    requires { length services.now ≤ MAX_SERVICES }
+    ensures value { IfOk result (λ made. made.items ≡ answers terms.now (reverse past.now) sid.now services.now [] services.now) }
+    ensures as_many { IfOk result (λ made. length made.items ≡ length services.now) }
+    ensures ids { IfOk result (λ made. sum_by (λ (answer : ServiceAnswer). length answer.ids) made.items
+        ≡ sum_by (λ (service : ServiceView). length service.ids) services.now) }
+{
+    let mut answers = Vec::with_capacity(alloc, services.len())?;
+    for service in services {
+        let space = room(alloc, terms, past, sid, services, &answers)?;
+        answers.push(answer_to(terms, past, sid, service, space)?)?;
+    }
+    Ok(answers)
+}
+
+/// The answer to a service in its room. A report that no tariff charges fails, and nothing is granted to its service.
+fn answer_to(
+    terms: &Terms,
+    past: &[Done],
+    sid: &SessionId,
+    service: &Service,
+    space: i128,
+) -> Result<ServiceAnswer, AllocError>
+    ensures { IfOk result (λ answer. answer ≡ answer_to terms.now (reverse past.now) sid.now service.now space) }
+{
+    if is_unrated(terms, past, sid, service) {
+        answer_with(service, ResultCode::RatingFailed, None, false)
+    } else {
+        asked_answer(service, space)
+    }
+}
+
+/// The answer to what a service asks for. One that asks for nothing succeeds.
+fn asked_answer(service: &Service, space: i128) -> Result<ServiceAnswer, AllocError>
+    ensures { IfOk result (λ answer. answer ≡ asked_answer service.now space) }
+{
+    if service.asked.is_none() {
+        answer_with(service, ResultCode::Success, None, false)
+    } else {
+        granted_within(service, space, asked_units(service))
+    }
+}
+
+/// The most of what a service asks for that its room covers. Without a tariff there is no price.
+fn granted_within(
+    service: &Service,
+    space: i128,
+    asked: Option<Grant>,
+) -> Result<ServiceAnswer, AllocError>
+    ensures { IfOk result (λ answer. answer ≡ granted_within service.now space asked) }
+{
+    match asked {
+        None => answer_with(service, ResultCode::RatingFailed, None, false),
+        Some(asked) => {
+            let units = most_units(asked.tariff, asked.units, space);
+            granted(service, asked, units)
+        }
+    }
+}
+
+/// So many of the units that are asked for, the last where they are less; none where that is nothing.
+fn granted(service: &Service, asked: Grant, units: u64) -> Result<ServiceAnswer, AllocError>
+    requires { units ≤ asked.units }
+    ensures { IfOk result (λ answer. answer ≡ granted service.now asked units) }
+{
+    if units == 0 {
+        return answer_with(service, ResultCode::CreditLimitReached, None, false);
+    }
+    let is_final = units < asked.units;
+    let grant = Grant {
+        unit: asked.unit,
+        units,
+        tariff: asked.tariff,
+    };
+    answer_with(service, ResultCode::Success, Some(grant), is_final)
+}
+
+/// What a service says of itself in its answer.
+pub(crate) fn answer_with(
+    service: &Service,
+    code: ResultCode,
+    grant: Option<Grant>,
+    is_final: bool,
+) -> Result<ServiceAnswer, AllocError>
+    ensures { IfOk result (λ answer. answer ≡ answer_with service.now code grant is_final) }
+{
+    Ok(ServiceAnswer {
+        group: service.group,
+        ids: service.ids.copy()?,
+        form: service.form,
+        result: code,
+        grant,
+        is_final,
+    })
+}

@@ -1,0 +1,356 @@
+//! Charges, funds, what is reserved and what is free, in minor units. Each function looks back over the acts that were
+//! made, in order.
+
+ghost use Rattle.std.specs.Prelude.{◌≡◌, ◌+◌, ◌*◌, ◌∷◌, ◌^◌, ◌≤◌, pos, neg_ℤ, ◌-ℤ◌, ◌≤ℤ◌, length, reverse, sum_by, unwrap_or, IfOk};
+ghost use Rattle.std.specs.Option.{ForSome};
+ghost use Rattle.dcc_model.specs.Laws.{services_of};
+ghost use Rattle.dcc_model.specs.Money.{charged_event, refunded_event, live_price, charge_tariff, charge, is_unrated, charges, overruns, credit, debit, charged, overran, funds_of, overrun_of, held_price, free_of, is_replaced, reserved_beside, made_price, room};
+ghost use Rattle.dcc_model.specs.Outcomes.{standing_of};
+
+use crate::decide::{asked_units, price};
+use crate::done::Done;
+use crate::judgement::Standing;
+use crate::results::has_succeeded;
+use crate::sessions::{Holding, accepted, live, lives, lives_with, names_any};
+use dcc_act::{
+    Action, Grant, Kind, MAX_AMOUNT, MAX_SERVICES, OneTimeEvent, Outcome, Service, ServiceAnswer,
+    ServiceKey, SessionId,
+};
+use dcc_tariff::{MAX_PRICE, Tariff, Terms, price_of};
+use std::alloc::{AllocError, Global};
+
+/// The most that one act may change the funds by: 16 charges and a debit.
+const MOST: u64 = 17_000_000_000_000_000_000;
+
+/// The charge for a service's report, where there is one and a tariff for it.
+pub(crate) fn charge(
+    terms: &Terms,
+    past: &[Done],
+    sid: &SessionId,
+    service: &Service,
+) -> Option<u64>
+    ensures value { result ≡ charge terms.now (reverse past.now) sid.now service.now }
+    ensures bound { ForSome result (λ cost. cost ≤ MAX_PRICE) }
+{
+    let units = service.used?;
+    let tariff = charge_tariff(terms, past, sid, service)?;
+    Some(price_of(tariff, units))
+}
+
+/// The tariff of a service's live grant, or else that of the act's moment.
+fn charge_tariff(terms: &Terms, past: &[Done], sid: &SessionId, service: &Service) -> Option<Tariff>
+    ensures { result ≡ charge_tariff terms.now (reverse past.now) sid.now service.now }
+{
+    match live(terms, past, sid, service.key()) {
+        Some(grant) => Some(grant.tariff),
+        None => service.tariff,
+    }
+}
+
+/// Whether no tariff charges a service's report.
+pub(crate) fn is_unrated(terms: &Terms, past: &[Done], sid: &SessionId, service: &Service) -> bool
+    ensures { result ≡ is_unrated terms.now (reverse past.now) sid.now service.now }
+{
+    service.used.is_some() && charge(terms, past, sid, service).is_none()
+}
+
+/// The charge for a service's report, or nothing.
+fn cost(terms: &Terms, past: &[Done], sid: &SessionId, service: &Service) -> u64
+    ensures value { result ≡ unwrap_or (charge terms.now (reverse past.now) sid.now service.now) 0 }
+    ensures bound { result ≤ MAX_PRICE }
+{
+    match charge(terms, past, sid, service) {
+        Some(cost) => cost,
+        None => 0,
+    }
+}
+
+/// The charges of a request's reports together.
+pub(crate) fn charges(terms: &Terms, past: &[Done], sid: &SessionId, services: &[Service]) -> u64
+    requires { length services.now ≤ MAX_SERVICES }
+    ensures value { result ≡ charges terms.now (reverse past.now) sid.now services.now }
+    ensures bound { result ≤ MAX_SERVICES * MAX_PRICE }
+{
+    let mut sum = 0;
+    for service in services {
+        sum += cost(terms, past, sid, service);
+    }
+    sum
+}
+
+/// The price of a service's live grant.
+fn live_price(terms: &Terms, past: &[Done], sid: &SessionId, key: ServiceKey) -> u64
+    ensures value { result ≡ live_price terms.now (reverse past.now) sid.now key }
+    ensures bound { result ≤ MAX_PRICE }
+{
+    match live(terms, past, sid, key) {
+        Some(grant) => price(&grant),
+        None => 0,
+    }
+}
+
+/// What each charge exceeds the price of the live grant by, together.
+fn overruns(terms: &Terms, past: &[Done], sid: &SessionId, services: &[Service]) -> u64
+    requires { length services.now ≤ MAX_SERVICES }
+    ensures value { result ≡ overruns terms.now (reverse past.now) sid.now services.now }
+    ensures bound { result ≤ MAX_SERVICES * MAX_PRICE }
+{
+    let mut sum = 0;
+    for service in services {
+        let reserved = live_price(terms, past, sid, service.key());
+        sum += cost(terms, past, sid, service).saturating_sub(reserved);
+    }
+    sum
+}
+
+/// What an event charged that came to this outcome.
+pub(crate) fn charged_units(event: &OneTimeEvent, outcome: &Outcome) -> Option<Grant>
+    ensures { result ≡ charged_event event.now outcome.now }
+{
+    if !has_succeeded(outcome) {
+        return None;
+    }
+    match event.action {
+        Action::DirectDebiting => asked_units(&event.service),
+        Action::RefundAccount | Action::CheckBalance | Action::PriceEnquiry => None,
+    }
+}
+
+/// What an event gave back that came to this outcome.
+pub(crate) fn refunded_units(event: &OneTimeEvent, outcome: &Outcome) -> Option<Grant>
+    ensures { result ≡ refunded_event event.now outcome.now }
+{
+    if !has_succeeded(outcome) {
+        return None;
+    }
+    match event.action {
+        Action::RefundAccount => asked_units(&event.service),
+        Action::DirectDebiting | Action::CheckBalance | Action::PriceEnquiry => None,
+    }
+}
+
+/// What an act added to the funds.
+fn credited(done: &Done) -> u64
+    ensures value { result ≡ credit done.now.act.kind done.now.outcome }
+    ensures bound { result ≤ MAX_AMOUNT }
+{
+    match &done.act.kind {
+        Kind::TopUp(top_up) => match done.outcome {
+            Outcome::Added => top_up.amount,
+            _ => 0,
+        },
+        Kind::Event(event) => match refunded_units(event, &done.outcome) {
+            None => 0,
+            Some(grant) => price(&grant),
+        },
+        _ => 0,
+    }
+}
+
+/// What a direct debit took from them.
+fn debited(done: &Done) -> u64
+    ensures value { result ≡ debit done.now.act.kind done.now.outcome }
+    ensures bound { result ≤ MAX_PRICE }
+{
+    match &done.act.kind {
+        Kind::Event(event) => match charged_units(event, &done.outcome) {
+            None => 0,
+            Some(grant) => price(&grant),
+        },
+        _ => 0,
+    }
+}
+
+/// The services of a request.
+pub(crate) fn services_of(kind: &Kind) -> &[Service]
+    ensures value { result.now ≡ services_of kind.now }
+    ensures few { length result.now ≤ MAX_SERVICES }
+{
+    match kind {
+        Kind::Initial(request) | Kind::Update(request) | Kind::Termination(request) => {
+            request.services.as_slice()
+        }
+        Kind::TopUp(_) | Kind::Event(_) | Kind::Expiry => &[],
+    }
+}
+
+/// What an accepted update or termination charged.
+fn charged(terms: &Terms, past: &[Done], done: &Done) -> u64
+    ensures value { result ≡ charged terms.now (reverse past.now) done.now }
+    ensures bound { result ≤ MAX_SERVICES * MAX_PRICE }
+{
+    match accepted(done) {
+        Some(sid) => charges(terms, past, sid, services_of(&done.act.kind)),
+        None => 0,
+    }
+}
+
+/// By how much its charges exceeded the live grants.
+fn overran(terms: &Terms, past: &[Done], done: &Done) -> u64
+    ensures value { result ≡ overran terms.now (reverse past.now) done.now }
+    ensures bound { result ≤ MAX_SERVICES * MAX_PRICE }
+{
+    match accepted(done) {
+        Some(sid) => overruns(terms, past, sid, services_of(&done.act.kind)),
+        None => 0,
+    }
+}
+
+/// What an act changed the funds by.
+fn change(terms: &Terms, past: &[Done], done: &Done) -> i128
+    ensures value { result ≡ pos (credit done.now.act.kind done.now.outcome)
+        -ℤ pos (debit done.now.act.kind done.now.outcome + charged terms.now (reverse past.now) done.now) }
+    ensures low { neg_ℤ (pos MOST) ≤ℤ result }
+    ensures high { result ≤ℤ pos MOST }
+{
+    i128::from(credited(done)) - i128::from(debited(done)) - i128::from(charged(terms, past, done))
+}
+
+/// The funds after these acts.
+pub(crate) fn funds(terms: &Terms, past: &[Done]) -> i128
+    ensures { result ≡ funds_of terms.now (reverse past.now) }
+{
+    funds_within(terms, past)
+}
+
+/// The funds after these acts, as far from nothing as the number of acts allows.
+fn funds_within(terms: &Terms, past: &[Done]) -> i128
+    ensures value { result ≡ funds_of terms.now (reverse past.now) }
+    ensures low { neg_ℤ (pos (MOST * length past.now)) ≤ℤ result }
+    ensures high { result ≤ℤ pos (MOST * length past.now) }
+{
+    let mut funds = 0;
+    for (i, done) in past.iter().enumerate() {
+        funds += change(terms, &past[..i], done);
+    }
+    funds
+}
+
+/// What was charged beyond what was reserved, over all acts.
+fn overrun(terms: &Terms, past: &[Done]) -> i128
+    ensures value { result ≡ pos (overrun_of terms.now (reverse past.now)) }
+    ensures high { result ≤ℤ pos (MOST * length past.now) }
+{
+    let mut overrun = 0;
+    for (i, done) in past.iter().enumerate() {
+        overrun += i128::from(overran(terms, &past[..i], done));
+    }
+    overrun
+}
+
+/// What is reserved: the prices of these grants.
+fn reserved(held: &[Holding]) -> i128
+    ensures value { result ≡ pos (sum_by held_price held.now) }
+    ensures high { result ≤ℤ pos (MAX_PRICE * length held.now) }
+{
+    let mut reserved = 0;
+    for holding in held {
+        reserved += i128::from(price(&holding.grant));
+    }
+    reserved
+}
+
+/// What is free of the funds. The only error is want of memory.
+pub(crate) fn free(alloc: Global, terms: &Terms, past: &[Done]) -> Result<i128, AllocError>
+    ensures { IfOk result (λ free. free ≡ free_of terms.now (reverse past.now)) }
+{
+    let held = lives(alloc, terms, past)?;
+    Ok(funds_within(terms, past) - reserved(&held))
+}
+
+/// The money after these acts. The only error is want of memory.
+pub(crate) fn standing(alloc: Global, terms: &Terms, past: &[Done]) -> Result<Standing, AllocError>
+    ensures { IfOk result (λ standing. standing ≡ standing_of terms.now (reverse past.now)) }
+{
+    Ok(Standing {
+        funds: funds(terms, past),
+        free: free(alloc, terms, past)?,
+        overrun: overrun(terms, past),
+    })
+}
+
+/// The money after these acts and one more. The only error is want of memory.
+pub(crate) fn standing_with(
+    alloc: Global,
+    terms: &Terms,
+    past: &[Done],
+    done: &Done,
+) -> Result<Standing, AllocError>
+    ensures { IfOk result (λ standing. standing ≡ standing_of terms.now (done.now ∷ reverse past.now)) }
+{
+    let held = lives_with(alloc, terms, past, done)?;
+    let funds = funds_within(terms, past) + change(terms, past, done);
+    Ok(Standing {
+        funds,
+        free: funds - reserved(&held),
+        overrun: overrun(terms, past) + i128::from(overran(terms, past, done)),
+    })
+}
+
+/// Whether a request of this session puts others in the place of a grant.
+fn is_replaced(sid: &SessionId, services: &[Service], held: &Holding) -> bool
+    ensures { result ≡ is_replaced sid.now services.now held.now }
+{
+    *sid == held.sid && names_any(services, held.key)
+}
+
+/// The prices of the live grants that a request leaves. The only error is want of memory.
+fn reserved_beside(
+    alloc: Global,
+    terms: &Terms,
+    past: &[Done],
+    sid: &SessionId,
+    services: &[Service],
+) -> Result<i128, AllocError>
+    ensures value { IfOk result (λ sum. sum ≡ pos (reserved_beside terms.now (reverse past.now) sid.now services.now)) }
+    ensures high { IfOk result (λ sum. sum ≤ℤ pos (MAX_PRICE * 2 ^ 63)) }
+{
+    let mut held = lives(alloc, terms, past)?;
+    held.retain(|holding| !is_replaced(sid, services, holding));
+    Ok(reserved(&held))
+}
+
+/// The price of a grant that was made.
+fn made_price(answer: &ServiceAnswer) -> u64
+    ensures value { result ≡ made_price answer.now }
+    ensures bound { result ≤ MAX_PRICE }
+{
+    match &answer.grant {
+        Some(grant) => price(grant),
+        None => 0,
+    }
+}
+
+/// The prices of the grants that were made.
+fn made_prices(answers: &[ServiceAnswer]) -> u64
+    requires { length answers.now ≤ MAX_SERVICES }
+    ensures value { result ≡ sum_by made_price answers.now }
+    ensures bound { result ≤ MAX_SERVICES * MAX_PRICE }
+{
+    let mut sum = 0;
+    for answer in answers {
+        sum += made_price(answer);
+    }
+    sum
+}
+
+/// The money for the next service's grant, after those that the request made to the services before. The only error is
+/// want of memory.
+pub(crate) fn room(
+    alloc: Global,
+    terms: &Terms,
+    past: &[Done],
+    sid: &SessionId,
+    services: &[Service],
+    before: &[ServiceAnswer],
+) -> Result<i128, AllocError>
+    requires services { length services.now ≤ MAX_SERVICES }
+    requires before { length before.now ≤ MAX_SERVICES }
+    ensures { IfOk result (λ money. money ≡ room terms.now (reverse past.now) sid.now services.now before.now) }
+{
+    let beside = reserved_beside(alloc, terms, past, sid, services)?;
+    let charged = charges(terms, past, sid, services);
+    let made = made_prices(before);
+    let taken = i128::from(charged) + beside + i128::from(made);
+    Ok(funds_within(terms, past) - taken)
+}

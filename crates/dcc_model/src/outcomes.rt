@@ -1,0 +1,127 @@
+//! What a request of a session comes to.
+
+ghost use Rattle.std.specs.Prelude.{◌≡◌, ◌≤◌, length, reverse, sum_by, IfOk};
+ghost use Rattle.dcc_act.specs.Services.{ServiceView};
+ghost use Rattle.dcc_act.specs.declared.limits.TheConstants.{MAX_SERVICES, MAX_IDS};
+ghost use Rattle.dcc_model.specs.Outcomes.{command_result, served, bare, begun, is_under, reported};
+
+use crate::decide::CEILING;
+use crate::done::Done;
+use crate::granting::answers;
+use crate::money::{charges, funds};
+use crate::sessions::{count_open, is_open, was_opened};
+use dcc_act::{
+    Answer, Form, MAX_SESSIONS, Outcome, RequestKey, RequestType, ResultCode, Service,
+    ServiceAnswer, ServiceAnswers,
+};
+use dcc_tariff::Terms;
+use std::alloc::{AllocError, Global};
+
+/// What an initial request comes to: a session opens once, and no more than 64 are open at a time.
+pub(crate) fn begun(
+    alloc: Global,
+    terms: &Terms,
+    past: &[Done],
+    key: &RequestKey,
+    services: &[Service],
+) -> Result<Outcome, AllocError>
+    requires few { length services.now ≤ MAX_SERVICES }
+    requires few_ids { sum_by (λ (service : ServiceView). length service.ids) services.now ≤ MAX_IDS }
+    ensures { IfOk result (λ outcome. outcome ≡ begun terms.now (reverse past.now) key.now services.now) }
+{
+    if was_opened(past, &key.sid) {
+        bare(alloc, RequestType::Initial, key, ResultCode::UnableToComply)
+    } else if count_open(terms, past) >= MAX_SESSIONS {
+        bare(alloc, RequestType::Initial, key, ResultCode::ResourcesExceeded)
+    } else {
+        served(alloc, terms, past, RequestType::Initial, key, services)
+    }
+}
+
+/// What an update or a termination comes to: its session has to be open, and the floor has to bear its charges.
+pub(crate) fn reported(
+    alloc: Global,
+    terms: &Terms,
+    past: &[Done],
+    request: RequestType,
+    key: &RequestKey,
+    services: &[Service],
+) -> Result<Outcome, AllocError>
+    requires few { length services.now ≤ MAX_SERVICES }
+    requires few_ids { sum_by (λ (service : ServiceView). length service.ids) services.now ≤ MAX_IDS }
+    ensures { IfOk result (λ outcome. outcome ≡ reported terms.now (reverse past.now) request key.now services.now) }
+{
+    if !is_open(terms, past, &key.sid) {
+        return bare(alloc, request, key, ResultCode::UnknownSession);
+    }
+    let charged = charges(terms, past, &key.sid, services);
+    if is_under(funds(terms, past), charged) {
+        bare(alloc, request, key, ResultCode::UnableToComply)
+    } else {
+        served(alloc, terms, past, request, key, services)
+    }
+}
+
+/// Whether these charges, in minor units, would take the funds below the floor.
+fn is_under(funds: i128, charged: u64) -> bool
+    ensures { result ≡ is_under funds charged }
+{
+    funds < i128::from(charged) - CEILING
+}
+
+/// An answer that carries nothing but its result.
+fn bare(
+    alloc: Global,
+    request: RequestType,
+    key: &RequestKey,
+    code: ResultCode,
+) -> Result<Outcome, AllocError>
+    ensures { IfOk result (λ outcome. outcome ≡ bare request key.now code) }
+{
+    Ok(Outcome::Answered(Answer {
+        request,
+        key: key.copy()?,
+        result: code,
+        services: ServiceAnswers::from_vec(Vec::new(alloc)).unwrap(),
+        cost: None,
+        balance: None,
+    }))
+}
+
+/// The answer to a request whose services are served.
+fn served(
+    alloc: Global,
+    terms: &Terms,
+    past: &[Done],
+    request: RequestType,
+    key: &RequestKey,
+    services: &[Service],
+) -> Result<Outcome, AllocError>
+    requires few { length services.now ≤ MAX_SERVICES }
+    requires few_ids { sum_by (λ (service : ServiceView). length service.ids) services.now ≤ MAX_IDS }
+    ensures { IfOk result (λ outcome. outcome ≡ served terms.now (reverse past.now) request key.now services.now) }
+{
+    let answers = answers(alloc, terms, past, &key.sid, services)?;
+    let code = command_result(&answers);
+    Ok(Outcome::Answered(Answer {
+        request,
+        key: key.copy()?,
+        result: code,
+        services: ServiceAnswers::from_vec(answers).unwrap(),
+        cost: None,
+        balance: None,
+    }))
+}
+
+/// The command's result: success, or that of the service that stands alone at the message's level.
+fn command_result(answers: &[ServiceAnswer]) -> ResultCode
+    ensures { result ≡ command_result answers.now }
+{
+    match answers {
+        [answer] => match answer.form {
+            Form::Single => answer.result,
+            Form::Multi => ResultCode::Success,
+        },
+        _ => ResultCode::Success,
+    }
+}

@@ -1,0 +1,29 @@
+//! What outcomes say of the command.
+
+ghost use Rattle.std.specs.Prelude.{◌≡◌};
+ghost use Rattle.dcc_model.specs.Results.{succeeded, refused};
+
+use dcc_act::{Outcome, ResultCode};
+
+/// Whether the command was answered with success.
+pub(crate) fn has_succeeded(outcome: &Outcome) -> bool
+    ensures { result ≡ succeeded outcome.now }
+{
+    match outcome {
+        Outcome::Answered(answer) => matches!(answer.result, ResultCode::Success),
+        _ => false,
+    }
+}
+
+/// Whether a request was refused as a whole.
+pub(crate) fn is_refused(outcome: &Outcome) -> bool
+    ensures { result ≡ refused outcome.now }
+{
+    match outcome {
+        Outcome::Answered(answer) => matches!(
+            answer.result,
+            ResultCode::UnknownSession | ResultCode::UnableToComply
+        ),
+        _ => false,
+    }
+}
