@@ -2,3 +2,4 @@ pub mod Histories
 pub mod Requests
 pub mod Places
 pub mod LawProofs
+pub mod Funds

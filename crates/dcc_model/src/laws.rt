@@ -5,6 +5,7 @@ ghost use Rattle.dcc_model.specs.Laws.{LaterChangesNothing, OneMoreAct, AfterSta
 ghost use Rattle.dcc_model.specs.Laws.{ActsAreActs, NoActs, KeptStay, AccountStays, NewIsLast, PlaceHolds, UnknownHasNoPlace};
 ghost use Rattle.dcc_model.specs.Laws.{IdleExpiryHasNoPlace, LastComesAfter, UnknownBefore, RepeatsAreFirsts};
 ghost use Rattle.dcc_model.specs.Laws.{RequestsAreAnswered, TopUpsAreAdded, ExpiriesEnd};
+ghost use Rattle.dcc_model.specs.Laws.{FundsAreLimited, EntriesAddUp};
 
 /// What comes later changes no outcome.
 pub fn later_acts_change_no_outcome()
@@ -49,4 +50,10 @@ pub fn acts_come_to_their_own()
     ensures top_ups { TopUpsAreAdded }
     ensures expiries { ExpiriesEnd }
     ensures repeats { RepeatsAreFirsts }
+{}
+
+/// Funds stay within their limits.
+pub fn funds_are_accounted_for()
+    ensures limited { FundsAreLimited }
+    ensures entries { EntriesAddUp }
 {}
