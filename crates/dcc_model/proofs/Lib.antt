@@ -3,3 +3,4 @@ pub mod Requests
 pub mod Places
 pub mod LawProofs
 pub mod Funds
+pub mod Rooms

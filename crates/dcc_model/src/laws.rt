@@ -5,7 +5,7 @@ ghost use Rattle.dcc_model.specs.Laws.{LaterChangesNothing, OneMoreAct, AfterSta
 ghost use Rattle.dcc_model.specs.Laws.{ActsAreActs, NoActs, KeptStay, AccountStays, NewIsLast, PlaceHolds, UnknownHasNoPlace};
 ghost use Rattle.dcc_model.specs.Laws.{IdleExpiryHasNoPlace, LastComesAfter, UnknownBefore, RepeatsAreFirsts};
 ghost use Rattle.dcc_model.specs.Laws.{RequestsAreAnswered, TopUpsAreAdded, ExpiriesEnd};
-ghost use Rattle.dcc_model.specs.Laws.{FundsAreLimited, EntriesAddUp};
+ghost use Rattle.dcc_model.specs.Laws.{FundsAreLimited, GrantsAreCovered, EntriesAddUp};
 
 /// What comes later changes no outcome.
 pub fn later_acts_change_no_outcome()
@@ -55,5 +55,6 @@ pub fn acts_come_to_their_own()
 /// Funds stay within their limits.
 pub fn funds_are_accounted_for()
     ensures limited { FundsAreLimited }
+    ensures granted { GrantsAreCovered }
     ensures entries { EntriesAddUp }
 {}
