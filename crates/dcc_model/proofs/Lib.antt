@@ -4,3 +4,7 @@ pub mod Places
 pub mod LawProofs
 pub mod Funds
 pub mod Rooms
+pub mod Sums
+pub mod Grants
+pub mod Escrow
+pub mod EscrowLaw

@@ -5,7 +5,7 @@ ghost use Rattle.dcc_model.specs.Laws.{LaterChangesNothing, OneMoreAct, AfterSta
 ghost use Rattle.dcc_model.specs.Laws.{ActsAreActs, NoActs, KeptStay, AccountStays, NewIsLast, PlaceHolds, UnknownHasNoPlace};
 ghost use Rattle.dcc_model.specs.Laws.{IdleExpiryHasNoPlace, LastComesAfter, UnknownBefore, RepeatsAreFirsts};
 ghost use Rattle.dcc_model.specs.Laws.{RequestsAreAnswered, TopUpsAreAdded, ExpiriesEnd};
-ghost use Rattle.dcc_model.specs.Laws.{FundsAreLimited, GrantsAreCovered, EntriesAddUp};
+ghost use Rattle.dcc_model.specs.Laws.{FundsAreLimited, FreeIsCovered, GrantsAreCovered, EntriesAddUp};
 
 /// What comes later changes no outcome.
 pub fn later_acts_change_no_outcome()
@@ -52,9 +52,11 @@ pub fn acts_come_to_their_own()
     ensures repeats { RepeatsAreFirsts }
 {}
 
-/// Funds stay within their limits.
+/// Funds stay within their limits; only what is overrun takes what is free below nothing; each grant costs nothing, or is
+/// within the room that the grants before it leave; and the entries in the books add up to the funds.
 pub fn funds_are_accounted_for()
     ensures limited { FundsAreLimited }
+    ensures covered { FreeIsCovered }
     ensures granted { GrantsAreCovered }
     ensures entries { EntriesAddUp }
 {}
