@@ -8,3 +8,4 @@ pub mod Sums
 pub mod Grants
 pub mod Escrow
 pub mod EscrowLaw
+pub mod OpenSessions

@@ -82,8 +82,8 @@ answers terms past sid services before (service ∷ rest) =
 
 -- the command's result is success, or that of the service that stands alone at the message's level
 abbrev pub command_result : List ServiceAnswer → ResultCode
-command_result [] = Success
-command_result (answer ∷ others) = elim answer.form as (λ _. ResultCode) [ Single ↦ answer.result | Multi ↦ Success ]
+command_result (answer ∷ []) = elim answer.form as (λ _. ResultCode) [ Single ↦ answer.result | Multi ↦ Success ]
+command_result _ = Success
 
 abbrev pub answered : RequestType → RequestKey → List ServiceAnswer → Outcome
 answered type key services =

@@ -5,7 +5,7 @@ ghost use Rattle.dcc_model.specs.Laws.{LaterChangesNothing, OneMoreAct, AfterSta
 ghost use Rattle.dcc_model.specs.Laws.{ActsAreActs, NoActs, KeptStay, AccountStays, NewIsLast, PlaceHolds, UnknownHasNoPlace};
 ghost use Rattle.dcc_model.specs.Laws.{IdleExpiryHasNoPlace, LastComesAfter, UnknownBefore, RepeatsAreFirsts};
 ghost use Rattle.dcc_model.specs.Laws.{RequestsAreAnswered, TopUpsAreAdded, ExpiriesEnd};
-ghost use Rattle.dcc_model.specs.Laws.{FundsAreLimited, FreeIsCovered, GrantsAreCovered, EntriesAddUp};
+ghost use Rattle.dcc_model.specs.Laws.{FundsAreLimited, FreeIsCovered, GrantsAreCovered, EntriesAddUp, FewAreOpen, SessionsOpenOnce};
 
 /// What comes later changes no outcome.
 pub fn later_acts_change_no_outcome()
@@ -59,4 +59,10 @@ pub fn funds_are_accounted_for()
     ensures covered { FreeIsCovered }
     ensures granted { GrantsAreCovered }
     ensures entries { EntriesAddUp }
+{}
+
+/// At most 64 sessions are open, and a session is opened once: never again, whether it is open or has ended.
+pub fn sessions_open_once()
+    ensures few { FewAreOpen }
+    ensures once { SessionsOpenOnce }
 {}
