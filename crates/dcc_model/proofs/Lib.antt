@@ -9,3 +9,4 @@ pub mod Grants
 pub mod Escrow
 pub mod EscrowLaw
 pub mod OpenSessions
+pub mod Lives
