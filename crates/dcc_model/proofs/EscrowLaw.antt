@@ -1,5 +1,5 @@
 -- The escrow law: only what is overrun takes what is free below nothing.
-use Rattle.std.proofs.Common.{◌≡◌, ℕ, ℤ, pos, ◌+ℤ◌, ◌≤ℤ◌, Bool, true, false, not, cond, List, [], ◌∷◌, ◌++◌, length, map, reverse, refl, sym, ap, subst, ◌∙◌, arith, inl, inr, ◌⊎◌, Option, Some, None}
+use Rattle.std.proofs.Common.{◌≡◌, ℕ, ℤ, pos, ◌≤ℤ◌, Bool, true, false, not, cond, List, [], ◌∷◌, ◌++◌, length, map, reverse, refl, sym, ap, subst, ◌∙◌, arith, inl, inr, ◌⊎◌, Option, Some, None}
 use Rattle.std.specs.Prelude.{nat_le}
 use Rattle.std.specs.List.{list_any, AllByRecursion}
 use Rattle.std.specs.Option.{option_map_or}
@@ -28,8 +28,8 @@ use Rattle.dcc_act.specs.declared.session_request.SessionRequest.{SessionRequest
 use Rattle.dcc_model.specs.declared.done.Done.{Done}
 use Rattle.dcc_model.specs.Results.{succeeded, refused, is_success, answers_of}
 use Rattle.dcc_model.specs.Sessions.{named, is_named, looked_at, without_report, without_asked, was_opened, is_open, open_sessions}
-use Rattle.dcc_model.specs.Money.{asked_units, charged_by, charges, grant_price, funds_of, free_of, overrun_of}
-use Rattle.dcc_model.specs.Outcomes.{bare, served, answers, begun, reported, is_under, is_over, event_result, decided, judged, is_made, history, free, overrun}
+use Rattle.dcc_model.specs.Money.{asked_units, charged_by, charges, grant_price, funds_of, free_of}
+use Rattle.dcc_model.specs.Outcomes.{bare, served, answers, begun, reported, is_under, is_over, event_result, decided, is_made, history, free, overrun}
 use Rattle.dcc_model.specs.Laws.{services_of, AreKeyed, FreeIsCovered}
 use Rattle.dcc_model.proofs.Histories.{judged_new}
 use Rattle.dcc_model.proofs.Funds.{covers_parts, done_as}

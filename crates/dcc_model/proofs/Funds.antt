@@ -1,6 +1,6 @@
 -- Funds stay within their limits, and the entries add up to them.
-use Rattle.std.proofs.Common.{ap, ◌∙◌, ◌≡◌, ℕ, ◌+◌, ℤ, pos, ◌+ℤ◌, ◌-ℤ◌, neg_ℤ, ◌≤ℤ◌, Bool, true, false, not, ◌==◌, cond, List, [], ◌∷◌, ◌++◌, length, filter_map, sum_by, reverse, refl, sym, subst, arith, inl, inr, ◌⊎◌, Option, Some, None}
-use Rattle.std.specs.Prelude.{int_le, int_lt, option_map, unwrap_or}
+use Rattle.std.proofs.Common.{◌≡◌, ℕ, ◌+◌, ℤ, pos, ◌+ℤ◌, ◌-ℤ◌, neg_ℤ, ◌≤ℤ◌, Bool, true, false, not, ◌==◌, cond, List, [], ◌∷◌, ◌++◌, length, reverse, refl, sym, subst, arith, inl, inr, ◌⊎◌, Option, Some, None}
+use Rattle.std.specs.Prelude.{int_le, option_map, unwrap_or}
 use Rattle.std.specs.List.{cons_option}
 use Rattle.std.specs.Option.{option_map_or, option_or, option_to_list}
 use Rattle.std.proofs.lemmas.Bool.{cases_Bool}
@@ -28,8 +28,8 @@ use Rattle.dcc_model.specs.declared.decide.TheConstants.{CEILING}
 use Rattle.dcc_model.specs.declared.decide.EventResult.{EventResult}
 use Rattle.dcc_model.specs.Results.{is_added, is_success, refused}
 use Rattle.dcc_model.specs.Sessions.{Sid, is_open, looked_at, accepted_by}
-use Rattle.dcc_model.specs.Money.{asked_units, charged_by, charged_event, refunded_by, refunded_event, grant_price, charge, charges, charged, credit, debit, funds_of, reserved_of, free_of}
-use Rattle.dcc_model.specs.Outcomes.{is_made, is_over, is_under, top_up_outcome, acted, event_result, decided, bare, served, reported, judged, history, funds}
+use Rattle.dcc_model.specs.Money.{asked_units, charged_by, charged_event, refunded_by, refunded_event, grant_price, charge, charges, charged, credit, debit, funds_of, reserved_of}
+use Rattle.dcc_model.specs.Outcomes.{is_made, is_over, is_under, top_up_outcome, acted, event_result, decided, bare, served, reported, history, funds}
 use Rattle.dcc_model.specs.Entries.{debit_entry, refund_entry, charge_entry, charge_entries, entries_of_kind, entries_by, entries_of, entries, sum_of}
 use Rattle.dcc_model.specs.Laws.{FundsAreLimited, EntriesAddUp}
 use Rattle.dcc_model.proofs.Histories.{judged_new}

@@ -1,14 +1,12 @@
 -- Each live grant is of an open session.
-use Rattle.std.proofs.Common.{◌≡◌, ℕ, ◌+◌, ◌<◌, ◌≤◌, ℤ, Bool, true, false, not, ◌&&◌, ◌||◌, ◌==◌, cond, List, [], ◌∷◌, ◌++◌, length, map, refl, sym, ap, subst, ◌∙◌, arith, inl, inr, ◌⊎◌, filter, filter_map, Option, Some, None, is_none, option_map}
-use Rattle.std.specs.Prelude.{⊤, nat_le}
-use Rattle.std.specs.List.{cons_option, list_all, AllByRecursion}
-use Rattle.std.proofs.lemmas.Bool.{cases_Bool, and_parts, not-true, or_parts}
-use Rattle.std.proofs.lemmas.Bool.Decides.{nat_tests}
+use Rattle.std.proofs.Common.{◌≡◌, ℕ, ℤ, Bool, true, false, not, ◌&&◌, ◌||◌, ◌==◌, cond, List, [], ◌∷◌, ◌++◌, map, refl, sym, ap, subst, ◌∙◌, inl, inr, ◌⊎◌, filter, filter_map, Option, Some, None, is_none, option_map}
+use Rattle.std.specs.Prelude.{⊤}
+use Rattle.std.specs.List.{cons_option, AllByRecursion}
+use Rattle.std.proofs.lemmas.Bool.{cases_Bool, not-true, or_parts}
 use Rattle.dcc_tariff.specs.Terms.{TermsView}
 use Rattle.dcc_tariff.specs.Prices.{best}
 use Rattle.dcc_act.specs.Answers.{answer_key}
-use Rattle.dcc_act.specs.Services.{ServiceView, service_key, is_multi, stand_right}
-use Rattle.dcc_act.specs.declared.act.Act.{Act}
+use Rattle.dcc_act.specs.Services.{ServiceView, service_key}
 use Rattle.dcc_act.specs.declared.act.Kind.{Kind}
 use Rattle.dcc_act.specs.declared.act.Kind.TheVariants as kind
 use Rattle.dcc_act.specs.declared.grant.Grant.{Grant}
@@ -26,7 +24,7 @@ use Rattle.dcc_model.specs.declared.done.Done.{Done}
 use Rattle.dcc_model.specs.Results.{is_success, succeeded, refused, answers_of}
 use Rattle.dcc_model.specs.Sessions.{Sid, Live, opens, ends, is_open, without_asked, looked_at, names, live_of, made_by, goes_on, lives}
 use Rattle.dcc_model.specs.Money.{asked_units, charges, funds_of, is_unrated, room}
-use Rattle.dcc_model.specs.Outcomes.{granted, granted_within, asked_answer, answer_to, answers, command_result, bare, served, reported, is_under, decided, judged, is_made, history}
+use Rattle.dcc_model.specs.Outcomes.{granted, granted_within, asked_answer, answer_to, answers, command_result, bare, served, reported, is_under, decided, is_made, history}
 use Rattle.dcc_model.specs.Laws.{LiveAreOpen}
 use Rattle.dcc_model.proofs.Histories.{judged_new}
 use Rattle.dcc_model.proofs.Funds.{done_as}

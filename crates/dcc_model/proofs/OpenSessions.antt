@@ -1,5 +1,5 @@
 -- A session is opened once, and few are open.
-use Rattle.std.proofs.Common.{◌≡◌, ℕ, suc, ◌+◌, ◌≤◌, Bool, true, false, not, ◌&&◌, ◌||◌, cond, List, [], ◌∷◌, length, refl, sym, ap, subst, ◌∙◌, arith, inl, inr, filter, filter_map, bytes_eq, Option, Some, None}
+use Rattle.std.proofs.Common.{◌≡◌, ℕ, ◌+◌, ◌≤◌, Bool, true, false, not, ◌&&◌, ◌||◌, cond, List, [], ◌∷◌, length, refl, sym, ap, subst, ◌∙◌, arith, inl, inr, filter, bytes_eq, Option, Some, None}
 use Rattle.std.specs.Prelude.{nat_le}
 use Rattle.std.specs.List.{cons_option, AllByRecursion}
 use Rattle.std.proofs.lemmas.Bool.{cases_Bool, and_parts, or_parts}
@@ -18,11 +18,10 @@ use Rattle.dcc_act.specs.declared.request_key.RequestKey.{RequestKey}
 use Rattle.dcc_model.specs.declared.done.Done.{Done}
 use Rattle.dcc_model.specs.Results.{succeeded}
 use Rattle.dcc_model.specs.Sessions.{Sid, opens_by, is_sid, opens, ends, is_open, was_opened, opened, open_sessions, looked_at}
-use Rattle.dcc_model.specs.Outcomes.{bare, served, begun, decided, judged, is_made, history}
+use Rattle.dcc_model.specs.Outcomes.{bare, served, begun, decided, is_made, history}
 use Rattle.dcc_model.specs.Laws.{IsOpenedOnce, SessionsOpenOnce, FewAreOpen}
 use Rattle.dcc_model.proofs.Histories.{judged_new}
-use Rattle.dcc_model.proofs.Funds.{done_as}
-use Rattle.dcc_model.proofs.Grants.{same_sid, sid_is_own}
+use Rattle.dcc_model.proofs.Grants.{same_sid}
 
 -- a session may be opened that never was, while few are open
 pub record MayOpen (terms : TermsView) (past : List Done) (sid : Sid) : Type 0 where
@@ -75,9 +74,11 @@ history_opens terms (act ∷ earlier) =
     let before = history_opens terms earlier in
     elim (cases_Bool (is_made terms past act)) [
       | inl t ↦ rw t (
-          let is = judged_new terms past act t in
-          (subst (λ (outcome : Outcome). Opens terms past (record { act = act; outcome = outcome })) (sym is)
-          (record { may = opens_what_may terms past act.moment act.kind }), before))
+          let is = judged_new terms past act t in (
+            subst (λ (outcome : Outcome). Opens terms past (record { act = act; outcome = outcome })) (sym is)
+                (record { may = opens_what_may terms past act.moment act.kind }),
+            before,
+          ))
       | inr f ↦ rw f before
     ]
 

@@ -1,5 +1,5 @@
 -- Each grant costs nothing, or is within its room.
-use Rattle.std.proofs.Common.{◌≡◌, ℕ, zero, suc, ℤ, Bool, true, false, refl, arith, inl, inr, ◌≢◌, ◌==◌, List, [], ◌∷◌, ◌++◌, Option, Some, None, is_none}
+use Rattle.std.proofs.Common.{◌≡◌, ℕ, zero, suc, ℤ, Bool, true, refl, arith, inl, inr, ◌≢◌, ◌==◌, List, [], ◌∷◌, ◌++◌, Option, Some, None, is_none}
 use Rattle.std.proofs.lemmas.Bool.Decides.{nat_tests}
 use Rattle.std.proofs.lemmas.Bool.{cases_Bool}
 use Rattle.dcc_tariff.specs.Terms.{TermsView, TariffView}
@@ -10,7 +10,7 @@ use Rattle.dcc_act.specs.declared.outcome.ServiceAnswer.{ServiceAnswer}
 use Rattle.dcc_model.specs.declared.done.Done.{Done}
 use Rattle.dcc_model.specs.Sessions.{Sid}
 use Rattle.dcc_model.specs.Money.{room, made_price, is_unrated, asked_units}
-use Rattle.dcc_model.specs.Outcomes.{granted, granted_within, asked_answer, answer_to, answers}
+use Rattle.dcc_model.specs.Outcomes.{granted_within, asked_answer, answer_to, answers}
 use Rattle.dcc_model.specs.Laws.{GrantsFit, GrantsAreCovered}
 
 -- the greatest number passes, or is nothing
