@@ -1,6 +1,5 @@
 -- The escrow law: only what is overrun takes what is free below nothing.
-use Rattle.std.proofs.Common.{◌≡◌, ℕ, ℤ, pos, ◌≤ℤ◌, Bool, true, false, not, cond, List, [], ◌∷◌, ◌++◌, length, map, reverse, refl, sym, ap, subst, ◌∙◌, arith, inl, inr, ◌⊎◌, Option, Some, None}
-use Rattle.std.specs.Prelude.{nat_le}
+use Rattle.std.proofs.Common.{◌≡◌, ℕ, ℤ, pos, ◌≤ℤ◌, true, false, not, cond, List, [], ◌∷◌, ◌++◌, map, reverse, refl, sym, ap, subst, ◌∙◌, arith, inl, inr, ◌⊎◌, Option, Some, None}
 use Rattle.std.specs.List.{list_any, AllByRecursion}
 use Rattle.std.specs.Option.{option_map_or}
 use Rattle.std.proofs.lemmas.Bool.{cases_Bool, and_from, not_from_false, or_parts}
@@ -14,24 +13,21 @@ use Rattle.dcc_act.specs.declared.act.Act.{Act}
 use Rattle.dcc_act.specs.declared.act.Kind.{Kind}
 use Rattle.dcc_act.specs.declared.act.Kind.TheVariants as kind
 use Rattle.dcc_act.specs.declared.grant.Grant.{Grant}
-use Rattle.dcc_act.specs.declared.limits.TheConstants.{MAX_SESSIONS}
 use Rattle.dcc_act.specs.declared.one_time_event.Action.{Action}
 use Rattle.dcc_act.specs.declared.one_time_event.Action.TheVariants.{DirectDebiting, RefundAccount, CheckBalance, PriceEnquiry}
 use Rattle.dcc_act.specs.declared.outcome.Outcome.{Outcome}
 use Rattle.dcc_act.specs.declared.outcome.RequestType.{RequestType}
-use Rattle.dcc_act.specs.declared.outcome.RequestType.TheVariants as request
-use Rattle.dcc_act.specs.declared.outcome.ResultCode.TheVariants.{UnknownSession, ResourcesExceeded, UnableToComply}
-use Rattle.dcc_act.specs.declared.outcome.ServiceAnswer.{ServiceAnswer}
 use Rattle.dcc_act.specs.declared.request_key.RequestKey.{RequestKey}
 use Rattle.dcc_act.specs.declared.service_key.ServiceKey.{ServiceKey}
 use Rattle.dcc_act.specs.declared.session_request.SessionRequest.{SessionRequest}
 use Rattle.dcc_model.specs.declared.done.Done.{Done}
 use Rattle.dcc_model.specs.Results.{succeeded, refused, is_success, answers_of}
-use Rattle.dcc_model.specs.Sessions.{named, is_named, looked_at, without_report, without_asked, was_opened, is_open, open_sessions}
-use Rattle.dcc_model.specs.Money.{asked_units, charged_by, charges, grant_price, funds_of, free_of}
-use Rattle.dcc_model.specs.Outcomes.{bare, served, answers, begun, reported, is_under, is_over, event_result, decided, is_made, history, free, overrun}
+use Rattle.dcc_model.specs.Sessions.{named, is_named, looked_at, without_report, without_asked}
+use Rattle.dcc_model.specs.Money.{asked_units, charged_by, grant_price, funds_of, free_of}
+use Rattle.dcc_model.specs.Outcomes.{answers, begun, reported, is_over, event_result, decided, is_made, history, free, overrun}
 use Rattle.dcc_model.specs.Laws.{services_of, AreKeyed, FreeIsCovered}
 use Rattle.dcc_model.proofs.Histories.{judged_new}
+use Rattle.dcc_model.proofs.Served.{begun_cases, reported_cases}
 use Rattle.dcc_model.proofs.Funds.{covers_parts, done_as}
 use Rattle.dcc_model.proofs.Escrow.{apart_parts, Holds, idle_step, open_step, report_step}
 
@@ -55,31 +51,15 @@ debit_free funds space RefundAccount (Some grant) =
 debit_free funds space CheckBalance (Some grant) = inl refl
 debit_free funds space PriceEnquiry (Some grant) = inl refl
 
-begun_or : (was full : Bool) (twice many served : Outcome) (made : List ServiceAnswer) → succeeded twice ≡ false → succeeded many ≡ false → answers_of served ≡ made
-    → (answers_of (cond was twice (cond full many served)) ≡ made) ⊎ (succeeded (cond was twice (cond full many served)) ≡ false)
-begun_or true full twice many served made a b c = inr a
-begun_or false true twice many served made a b c = inr b
-begun_or false false twice many served made a b c = inl c
-
 -- an initial request is served, or doesn't succeed
-begun_served : (terms : TermsView) (past : List Done) (key : RequestKey) (services : List ServiceView)
+pub begun_served : (terms : TermsView) (past : List Done) (key : RequestKey) (services : List ServiceView)
     → (answers_of (begun terms past key services) ≡ answers terms past key.sid services [] services) ⊎ (succeeded (begun terms past key services) ≡ false)
-begun_served terms past key services =
-    begun_or (was_opened past key.sid) (nat_le MAX_SESSIONS (length (open_sessions terms past)))
-    (bare request.Initial key UnableToComply) (bare request.Initial key ResourcesExceeded) (served terms past request.Initial key services) (answers terms past key.sid services [] services) refl refl refl
-
-reported_or : (is_open_now under : Bool) (shut floor served : Outcome) (made : List ServiceAnswer) → refused shut ≡ true → refused floor ≡ true → answers_of served ≡ made
-    → (answers_of (cond (not is_open_now) shut (cond under floor served)) ≡ made) ⊎ (refused (cond (not is_open_now) shut (cond under floor served)) ≡ true)
-reported_or false under shut floor served made a b c = inr a
-reported_or true true shut floor served made a b c = inr b
-reported_or true false shut floor served made a b c = inl c
+begun_served terms past key services = elim (begun_cases terms past key services) [ inl opening ↦ inl (ap answers_of opening.0) | inr f ↦ inr f ]
 
 -- a report is served, or refused as a whole
-reported_served : (terms : TermsView) (past : List Done) (type : RequestType) (key : RequestKey) (services : List ServiceView)
+pub reported_served : (terms : TermsView) (past : List Done) (type : RequestType) (key : RequestKey) (services : List ServiceView)
     → (answers_of (reported terms past type key services) ≡ answers terms past key.sid services [] services) ⊎ (refused (reported terms past type key services) ≡ true)
-reported_served terms past type key services =
-    reported_or (is_open terms past key.sid) (is_under (funds_of terms past) (charges terms past key.sid services))
-    (bare type key UnknownSession) (bare type key UnableToComply) (served terms past type key services) (answers terms past key.sid services [] services) refl refl refl
+reported_served terms past type key services = elim (reported_cases terms past type key services) [ inl report ↦ inl (ap answers_of report.0) | inr t ↦ inr t ]
 
 initial_step : (terms : TermsView) (past : List Done) (moment : ℕ) (opening : SessionRequest) (outcome : Outcome)
     → (answers_of outcome ≡ answers terms past opening.key.sid (looked_at (kind.Initial opening)) [] (looked_at (kind.Initial opening))) ⊎ (succeeded outcome ≡ false)

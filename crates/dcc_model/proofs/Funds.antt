@@ -1,5 +1,5 @@
 -- Funds stay within their limits, and the entries add up to them.
-use Rattle.std.proofs.Common.{◌≡◌, ℕ, ◌+◌, ℤ, pos, ◌+ℤ◌, ◌-ℤ◌, neg_ℤ, ◌≤ℤ◌, Bool, true, false, not, ◌==◌, cond, List, [], ◌∷◌, ◌++◌, length, reverse, refl, sym, subst, arith, inl, inr, ◌⊎◌, Option, Some, None}
+use Rattle.std.proofs.Common.{◌≡◌, ℕ, ◌+◌, ℤ, pos, ◌+ℤ◌, ◌-ℤ◌, neg_ℤ, ◌≤ℤ◌, Bool, true, false, ◌==◌, cond, List, [], ◌∷◌, ◌++◌, length, reverse, refl, sym, subst, arith, inl, inr, ◌⊎◌, Option, Some, None}
 use Rattle.std.specs.Prelude.{int_le, option_map, unwrap_or}
 use Rattle.std.specs.List.{cons_option}
 use Rattle.std.specs.Option.{option_map_or, option_or, option_to_list}
@@ -21,18 +21,18 @@ use Rattle.dcc_act.specs.declared.entry.Entry.{Entry}
 use Rattle.dcc_act.specs.declared.grant.Grant.{Grant}
 use Rattle.dcc_act.specs.declared.outcome.Outcome.{Outcome}
 use Rattle.dcc_act.specs.declared.outcome.RequestType.{RequestType}
-use Rattle.dcc_act.specs.declared.outcome.ResultCode.TheVariants.{UnknownSession, UnableToComply}
 use Rattle.dcc_act.specs.declared.request_key.RequestKey.{RequestKey}
 use Rattle.dcc_model.specs.declared.done.Done.{Done}
 use Rattle.dcc_model.specs.declared.decide.TheConstants.{CEILING}
 use Rattle.dcc_model.specs.declared.decide.EventResult.{EventResult}
 use Rattle.dcc_model.specs.Results.{is_added, is_success, refused}
-use Rattle.dcc_model.specs.Sessions.{Sid, is_open, looked_at, accepted_by}
+use Rattle.dcc_model.specs.Sessions.{Sid, looked_at, accepted_by}
 use Rattle.dcc_model.specs.Money.{asked_units, charged_by, charged_event, refunded_by, refunded_event, grant_price, charge, charges, charged, credit, debit, funds_of, reserved_of}
-use Rattle.dcc_model.specs.Outcomes.{is_made, is_over, is_under, top_up_outcome, acted, event_result, decided, bare, served, reported, history, funds}
+use Rattle.dcc_model.specs.Outcomes.{is_made, is_over, is_under, top_up_outcome, acted, event_result, decided, served, reported, history, funds}
 use Rattle.dcc_model.specs.Entries.{debit_entry, refund_entry, charge_entry, charge_entries, entries_of_kind, entries_by, entries_of, entries, sum_of}
 use Rattle.dcc_model.specs.Laws.{FundsAreLimited, EntriesAddUp}
 use Rattle.dcc_model.proofs.Histories.{judged_new}
+use Rattle.dcc_model.proofs.Served.{reported_cases}
 
 pub covers_parts : (money : ℤ) (cost : ℕ) → covers money cost ≡ true → (cost ≡ 0) ⊎ (pos cost ≤ℤ money)
 covers_parts money cost h =
@@ -96,18 +96,10 @@ resulted : (funds : ℤ) (reserved : ℕ) (action : Action) (asked : Option Gran
 resulted funds reserved action None are = unmoved funds are
 resulted funds reserved action (Some grant) are = acted_on funds reserved action grant are
 
-refused_or : (is_open_now under : Bool) (shut floor served : Outcome) → refused shut ≡ true → refused floor ≡ true
-    → (refused (cond (not is_open_now) shut (cond under floor served)) ≡ true) ⊎ (under ≡ false)
-refused_or false under shut floor served a b = inl a
-refused_or true true shut floor served a b = inl b
-refused_or true false shut floor served a b = inr refl
-
 -- a report is refused where its charges would pass the floor
-reported_within : (terms : TermsView) (past : List Done) (type : RequestType) (key : RequestKey) (services : List ServiceView)
+floor_bears : (terms : TermsView) (past : List Done) (type : RequestType) (key : RequestKey) (services : List ServiceView)
     → (refused (reported terms past type key services) ≡ true) ⊎ (is_under (funds_of terms past) (charges terms past key.sid services) ≡ false)
-reported_within terms past type key services =
-    refused_or (is_open terms past key.sid) (is_under (funds_of terms past) (charges terms past key.sid services))
-    (bare type key UnknownSession) (bare type key UnableToComply) (served terms past type key services) refl refl
+floor_bears terms past type key services = elim (reported_cases terms past type key services) [ inl served ↦ inr served.1.borne | inr t ↦ inl t ]
 
 borne : (funds : ℤ) (cost : ℕ) → AreFunds funds → is_under funds cost ≡ false → AreFunds ((funds +ℤ pos 0) -ℤ pos (0 + cost))
 borne funds cost are within =
@@ -137,10 +129,10 @@ decided_funds terms past moment (kind.TopUp top_up) are = topped_up (funds_of te
 decided_funds terms past moment (kind.Initial opening) are = unmoved (funds_of terms past) are
 decided_funds terms past moment (kind.Update report) are =
     updated (funds_of terms past) report.key.sid (λ sid. charges terms past sid (looked_at (kind.Update report))) (refused (decided terms past moment (kind.Update report))) are
-    (reported_within terms past _ report.key (looked_at (kind.Update report)))
+    (floor_bears terms past _ report.key (looked_at (kind.Update report)))
 decided_funds terms past moment (kind.Termination report) are =
     terminated (funds_of terms past) report.key.sid (λ sid. charges terms past sid (looked_at (kind.Termination report))) (refused (decided terms past moment (kind.Termination report))) are
-    (reported_within terms past _ report.key (looked_at (kind.Termination report)))
+    (floor_bears terms past _ report.key (looked_at (kind.Termination report)))
 decided_funds terms past moment (kind.Event event) are = resulted (funds_of terms past) (reserved_of terms past) event.action (asked_units event.service) are
 decided_funds terms past moment kind.Expiry are = unmoved (funds_of terms past) are
 

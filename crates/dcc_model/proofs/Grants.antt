@@ -80,7 +80,8 @@ among_of : (session : Option Sid) (sid : Sid) (key : ServiceKey) (answers : List
 among_of None sid key answers h = absurd cc
 among_of (Some own) sid key answers h = rw (same_sid own sid h) (among sid key answers)
 
-stays_at : (terms : TermsView) (past : List Done) (done : Done) (sid : Sid) (key : ServiceKey) → names done sid key ≡ false → ends terms past done sid ≡ false
+-- a grant goes on where its session goes on and its service isn't named
+pub stays_at : (terms : TermsView) (past : List Done) (done : Done) (sid : Sid) (key : ServiceKey) → names done sid key ≡ false → ends terms past done sid ≡ false
     → (held : Live) → is_at sid key held ≡ true → goes_on terms past done held ≡ true
 stays_at terms past done sid key unnamed unended held h =
     let p = and_parts (bytes_eq sid held.sid) (same_service held.key key) h in

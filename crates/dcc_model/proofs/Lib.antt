@@ -2,6 +2,7 @@ pub mod Histories
 pub mod Requests
 pub mod Places
 pub mod LawProofs
+pub mod Served
 pub mod Funds
 pub mod Rooms
 pub mod Sums
@@ -10,3 +11,4 @@ pub mod Escrow
 pub mod EscrowLaw
 pub mod OpenSessions
 pub mod Lives
+pub mod LiveGrants

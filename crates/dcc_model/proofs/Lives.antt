@@ -1,8 +1,8 @@
 -- Each live grant is of an open session.
-use Rattle.std.proofs.Common.{◌≡◌, ℕ, ℤ, Bool, true, false, not, ◌&&◌, ◌||◌, ◌==◌, cond, List, [], ◌∷◌, ◌++◌, map, refl, sym, ap, subst, ◌∙◌, inl, inr, ◌⊎◌, filter, filter_map, Option, Some, None, is_none, option_map}
+use Rattle.std.proofs.Common.{◌≡◌, ℕ, ℤ, Bool, true, false, not, ◌&&◌, ◌||◌, ◌==◌, List, [], ◌∷◌, ◌++◌, map, refl, sym, ap, subst, ◌∙◌, inl, inr, ◌⊎◌, filter, filter_map, Option, Some, None, is_none, option_map}
 use Rattle.std.specs.Prelude.{⊤}
 use Rattle.std.specs.List.{cons_option, AllByRecursion}
-use Rattle.std.proofs.lemmas.Bool.{cases_Bool, not-true, or_parts}
+use Rattle.std.proofs.lemmas.Bool.{cases_Bool, not-true, or_parts, or_left, or_right}
 use Rattle.dcc_tariff.specs.Terms.{TermsView}
 use Rattle.dcc_tariff.specs.Prices.{best}
 use Rattle.dcc_act.specs.Answers.{answer_key}
@@ -11,22 +11,21 @@ use Rattle.dcc_act.specs.declared.act.Kind.{Kind}
 use Rattle.dcc_act.specs.declared.act.Kind.TheVariants as kind
 use Rattle.dcc_act.specs.declared.grant.Grant.{Grant}
 use Rattle.dcc_act.specs.declared.outcome.Outcome.{Outcome}
-use Rattle.dcc_act.specs.declared.outcome.RequestType.{RequestType}
 use Rattle.dcc_act.specs.declared.outcome.RequestType.TheVariants as request
 use Rattle.dcc_act.specs.declared.outcome.ResultCode.{ResultCode}
-use Rattle.dcc_act.specs.declared.outcome.ResultCode.TheVariants.{Success, UnknownSession, UnableToComply}
+use Rattle.dcc_act.specs.declared.outcome.ResultCode.TheVariants.{Success}
 use Rattle.dcc_act.specs.declared.outcome.ServiceAnswer.{ServiceAnswer}
-use Rattle.dcc_act.specs.declared.request_key.RequestKey.{RequestKey}
 use Rattle.dcc_act.specs.declared.service.Form.{Form}
 use Rattle.dcc_act.specs.declared.service.Form.TheVariants.{Single, Multi}
 use Rattle.dcc_act.specs.declared.session_request.SessionRequest.{SessionRequest}
 use Rattle.dcc_model.specs.declared.done.Done.{Done}
 use Rattle.dcc_model.specs.Results.{is_success, succeeded, refused, answers_of}
 use Rattle.dcc_model.specs.Sessions.{Sid, Live, opens, ends, is_open, without_asked, looked_at, names, live_of, made_by, goes_on, lives}
-use Rattle.dcc_model.specs.Money.{asked_units, charges, funds_of, is_unrated, room}
-use Rattle.dcc_model.specs.Outcomes.{granted, granted_within, asked_answer, answer_to, answers, command_result, bare, served, reported, is_under, decided, is_made, history}
+use Rattle.dcc_model.specs.Money.{asked_units, is_unrated, room}
+use Rattle.dcc_model.specs.Outcomes.{granted, granted_within, asked_answer, answer_to, answers, command_result, served, decided, is_made, history}
 use Rattle.dcc_model.specs.Laws.{LiveAreOpen}
 use Rattle.dcc_model.proofs.Histories.{judged_new}
+use Rattle.dcc_model.proofs.Served.{MayReport, reported_cases}
 use Rattle.dcc_model.proofs.Funds.{done_as}
 use Rattle.dcc_model.proofs.Grants.{sid_is_own}
 
@@ -75,7 +74,7 @@ answers_suit terms past sid services before (service ∷ rest) =
     let space = room terms past sid services before in
     (answer_suits terms past sid service space, answers_suit terms past sid services (before ++ answer_to terms past sid service space ∷ []) rest)
 
-no_grant : (grant : Option Grant) (answer : ServiceAnswer) (sid : Sid) (rest : List Live) → is_none grant ≡ true
+pub no_grant : (grant : Option Grant) (answer : ServiceAnswer) (sid : Sid) (rest : List Live) → is_none grant ≡ true
     → cons_option (option_map (λ grant. record { sid = sid; key = answer_key answer; grant = grant }) grant) rest ≡ rest
 no_grant None answer sid rest h = refl
 no_grant (Some grant) answer sid rest h = absurd cc
@@ -130,10 +129,6 @@ none_open : (terms : TermsView) (past : List Done) (helds : List Live) → helds
 none_open terms past [] none = tt
 none_open terms past (held ∷ helds) none = absurd cc
 
-or_true : (a b : Bool) → a ≡ true → (a || b) ≡ true
-or_true true b h = refl
-or_true false b h = absurd cc
-
 initial_made : (terms : TermsView) (past : List Done) (moment : ℕ) (opening : SessionRequest) (outcome : Outcome)
     → AllAreOpen terms (done_as moment (kind.Initial opening) outcome ∷ past) (made_by (done_as moment (kind.Initial opening) outcome))
 initial_made terms past moment opening outcome =
@@ -141,7 +136,7 @@ initial_made terms past moment opening outcome =
     elim (cases_Bool (succeeded outcome)) [
       | inl t ↦
           let opened : opens done opening.key.sid ≡ true = rw t (sid_is_own opening.key.sid) in
-          let now : is_open terms (done ∷ past) opening.key.sid ≡ true = or_true (opens done opening.key.sid) (is_open terms past opening.key.sid && not (ends terms past done opening.key.sid)) opened in
+          let now : is_open terms (done ∷ past) opening.key.sid ≡ true = or_left (opens done opening.key.sid) (is_open terms past opening.key.sid && not (ends terms past done opening.key.sid)) opened in
           let made : made_by done ≡ filter_map (live_of opening.key.sid) (answers_of outcome) = rw t refl in
           subst (AllAreOpen terms (done ∷ past)) (sym made) (granted_open terms (done ∷ past) opening.key.sid (answers_of outcome) now)
       | inr f ↦
@@ -149,31 +144,18 @@ initial_made terms past moment opening outcome =
           none_open terms (done ∷ past) (made_by done) made
     ]
 
-served_or : (is_open_now under : Bool) (shut floor served : Outcome) → refused shut ≡ true → refused floor ≡ true
-    → ((cond (not is_open_now) shut (cond under floor served) ≡ served) × (is_open_now ≡ true)) ⊎ (refused (cond (not is_open_now) shut (cond under floor served)) ≡ true)
-served_or false under shut floor served a b = inr a
-served_or true true shut floor served a b = inr b
-served_or true false shut floor served a b = inl (refl, refl)
-
--- a report is served while its session is open, or refused as a whole
-pub reported_open : (terms : TermsView) (past : List Done) (type : RequestType) (key : RequestKey) (services : List ServiceView)
-    → ((reported terms past type key services ≡ served terms past type key services) × (is_open terms past key.sid ≡ true)) ⊎ (refused (reported terms past type key services) ≡ true)
-reported_open terms past type key services =
-    served_or (is_open terms past key.sid) (is_under (funds_of terms past) (charges terms past key.sid services))
-    (bare type key UnknownSession) (bare type key UnableToComply) (served terms past type key services) refl refl
-
 goes_on_open : (open_then ended : Bool) → open_then ≡ true → ended ≡ false → (open_then && not ended) ≡ true
 goes_on_open true ended now h = rw h refl
 goes_on_open false ended now h = absurd cc
 
 update_made : (terms : TermsView) (past : List Done) (moment : ℕ) (report : SessionRequest) (outcome : Outcome)
-    → ((outcome ≡ served terms past request.Update report.key (looked_at (kind.Update report))) × (is_open terms past report.key.sid ≡ true)) ⊎ (refused outcome ≡ true)
+    → ((outcome ≡ served terms past request.Update report.key (looked_at (kind.Update report))) × MayReport terms past report.key.sid (looked_at (kind.Update report))) ⊎ (refused outcome ≡ true)
     → AllAreOpen terms (done_as moment (kind.Update report) outcome ∷ past) (made_by (done_as moment (kind.Update report) outcome))
 update_made terms past moment report outcome (inr t) =
     let done = done_as moment (kind.Update report) outcome in
     let made : made_by done ≡ [] = rw t refl in
     none_open terms (done ∷ past) (made_by done) made
-update_made terms past moment report outcome (inl (is, was)) =
+update_made terms past moment report outcome (inl (is, may)) =
     let done = done_as moment (kind.Update report) outcome in
     let own = report.key.sid in
     let found = answers terms past own report.services [] report.services in
@@ -184,7 +166,7 @@ update_made terms past moment report outcome (inl (is, was)) =
           elim (cases_Bool (succeeded outcome)) [
             | inl t ↦
                 let unended : ends terms past done own ≡ false = rw (f, t, sid_is_own own) refl in
-                let now : is_open terms (done ∷ past) own ≡ true = goes_on_open (is_open terms past own) (ends terms past done own) was unended in
+                let now : is_open terms (done ∷ past) own ≡ true = goes_on_open (is_open terms past own) (ends terms past done own) may.now unended in
                 subst (AllAreOpen terms (done ∷ past)) (sym made) (granted_open terms (done ∷ past) own (answers_of outcome) now)
             | inr g ↦
                 let failed : is_success (command_result found) ≡ false = sym (ap succeeded is) ∙ g in
@@ -196,13 +178,13 @@ update_made terms past moment report outcome (inl (is, was)) =
     ]
 
 termination_made : (terms : TermsView) (past : List Done) (moment : ℕ) (report : SessionRequest) (outcome : Outcome)
-    → ((outcome ≡ served terms past request.Termination report.key (looked_at (kind.Termination report))) × (is_open terms past report.key.sid ≡ true)) ⊎ (refused outcome ≡ true)
+    → ((outcome ≡ served terms past request.Termination report.key (looked_at (kind.Termination report))) × MayReport terms past report.key.sid (looked_at (kind.Termination report))) ⊎ (refused outcome ≡ true)
     → AllAreOpen terms (done_as moment (kind.Termination report) outcome ∷ past) (made_by (done_as moment (kind.Termination report) outcome))
 termination_made terms past moment report outcome (inr t) =
     let done = done_as moment (kind.Termination report) outcome in
     let made : made_by done ≡ [] = rw t refl in
     none_open terms (done ∷ past) (made_by done) made
-termination_made terms past moment report outcome (inl (is, was)) =
+termination_made terms past moment report outcome (inl (is, may)) =
     let done = done_as moment (kind.Termination report) outcome in
     let own = report.key.sid in
     let services = looked_at (kind.Termination report) in
@@ -221,19 +203,15 @@ decided_made : (terms : TermsView) (past : List Done) (moment : ℕ) (k : Kind)
 decided_made terms past moment (kind.TopUp top_up) = tt
 decided_made terms past moment (kind.Initial opening) = initial_made terms past moment opening (decided terms past moment (kind.Initial opening))
 decided_made terms past moment (kind.Update report) =
-    update_made terms past moment report (decided terms past moment (kind.Update report)) (reported_open terms past request.Update report.key (looked_at (kind.Update report)))
+    update_made terms past moment report (decided terms past moment (kind.Update report)) (reported_cases terms past request.Update report.key (looked_at (kind.Update report)))
 decided_made terms past moment (kind.Termination report) =
-    termination_made terms past moment report (decided terms past moment (kind.Termination report)) (reported_open terms past request.Termination report.key (looked_at (kind.Termination report)))
+    termination_made terms past moment report (decided terms past moment (kind.Termination report)) (reported_cases terms past request.Termination report.key (looked_at (kind.Termination report)))
 decided_made terms past moment (kind.Event event) = tt
 decided_made terms past moment kind.Expiry = tt
 
 all_append : {X : Type 0} (P : X → Type 0) (xs ys : List X) → AllByRecursion P xs → AllByRecursion P ys → AllByRecursion P (xs ++ ys)
 all_append P [] ys all more = more
 all_append P (x ∷ xs) ys all more = (all.0, all_append P xs ys all.1 more)
-
-or_last : (a : Bool) → (a || true) ≡ true
-or_last true = refl
-or_last false = refl
 
 -- what goes on is of sessions that stay open
 went_on : (terms : TermsView) (past : List Done) (done : Done) (helds : List Live) → AllAreOpen terms past helds → AllAreOpen terms (done ∷ past) (filter (goes_on terms past done) helds)
@@ -244,10 +222,18 @@ went_on terms past done (held ∷ helds) all =
       | inl t ↦
           let unended = (or_parts (ends terms past done held.sid) (names done held.sid held.key) (not-true (ends terms past done held.sid || names done held.sid held.key) t)).0 in
           let stays = goes_on_open (is_open terms past held.sid) (ends terms past done held.sid) all.0 unended in
-          let now : is_open terms (done ∷ past) held.sid ≡ true = ap (λ (b : Bool). opens done held.sid || b) stays ∙ or_last (opens done held.sid) in
+          let now : is_open terms (done ∷ past) held.sid ≡ true = or_right (opens done held.sid) (is_open terms past held.sid && not (ends terms past done held.sid)) stays in
           rw t (now, rest)
       | inr f ↦ rw f rest
     ]
+
+-- one more act that is decided leaves live grants of open sessions alone
+pub decided_open : (terms : TermsView) (past : List Done) (moment : ℕ) (k : Kind) → AllAreOpen terms past (lives terms past)
+    → AllAreOpen terms (done_as moment k (decided terms past moment k) ∷ past) (lives terms (done_as moment k (decided terms past moment k) ∷ past))
+decided_open terms past moment k before =
+    let done = done_as moment k (decided terms past moment k) in
+    all_append (λ (held : Live). is_open terms (done ∷ past) held.sid ≡ true) (made_by done) (filter (goes_on terms past done) (lives terms past))
+    (decided_made terms past moment k) (went_on terms past done (lives terms past) before)
 
 pub live_are_open : LiveAreOpen
 live_are_open terms [] = tt
@@ -258,8 +244,6 @@ live_are_open terms (act ∷ earlier) =
       | inl t ↦ rw t (
           let is = judged_new terms past act t in
           subst (λ (outcome : Outcome). AllAreOpen terms (record { act = act; outcome = outcome } ∷ past) (lives terms (record { act = act; outcome = outcome } ∷ past))) (sym is)
-          (let done : Done = record { act = act; outcome = decided terms past act.moment act.kind } in
-          all_append (λ (held : Live). is_open terms (done ∷ past) held.sid ≡ true) (made_by done) (filter (goes_on terms past done) (lives terms past))
-          (decided_made terms past act.moment act.kind) (went_on terms past done (lives terms past) before)))
+          (decided_open terms past act.moment act.kind before))
       | inr f ↦ rw f before
     ]

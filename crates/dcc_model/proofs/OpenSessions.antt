@@ -1,9 +1,9 @@
 -- A session is opened once, and few are open.
-use Rattle.std.proofs.Common.{◌≡◌, ℕ, ◌+◌, ◌≤◌, Bool, true, false, not, ◌&&◌, ◌||◌, cond, List, [], ◌∷◌, length, refl, sym, ap, subst, ◌∙◌, arith, inl, inr, filter, bytes_eq, Option, Some, None}
-use Rattle.std.specs.Prelude.{nat_le}
+use Rattle.std.proofs.Common.{◌≡◌, ℕ, ◌+◌, ◌≤◌, Bool, true, false, not, ◌&&◌, ◌||◌, List, [], ◌∷◌, length, refl, sym, ap, subst, ◌∙◌, arith, inl, inr, filter, bytes_eq, Option, Some, None}
 use Rattle.std.specs.List.{cons_option, AllByRecursion}
 use Rattle.std.proofs.lemmas.Bool.{cases_Bool, and_parts, or_parts}
 use Rattle.std.proofs.lemmas.Bool.Decides.{nat_tests}
+use Rattle.std.proofs.lemmas.Option.{cond_some}
 use Rattle.std.proofs.lemmas.Slice.Eq.{bytes_eq-Decides}
 use Rattle.dcc_tariff.specs.Terms.{TermsView}
 use Rattle.dcc_act.specs.Services.{ServiceView}
@@ -12,42 +12,24 @@ use Rattle.dcc_act.specs.declared.act.Kind.{Kind}
 use Rattle.dcc_act.specs.declared.act.Kind.TheVariants as kind
 use Rattle.dcc_act.specs.declared.limits.TheConstants.{MAX_SESSIONS}
 use Rattle.dcc_act.specs.declared.outcome.Outcome.{Outcome}
-use Rattle.dcc_act.specs.declared.outcome.RequestType.TheVariants as request
-use Rattle.dcc_act.specs.declared.outcome.ResultCode.TheVariants.{ResourcesExceeded, UnableToComply}
 use Rattle.dcc_act.specs.declared.request_key.RequestKey.{RequestKey}
 use Rattle.dcc_model.specs.declared.done.Done.{Done}
 use Rattle.dcc_model.specs.Results.{succeeded}
 use Rattle.dcc_model.specs.Sessions.{Sid, opens_by, is_sid, opens, ends, is_open, was_opened, opened, open_sessions, looked_at}
-use Rattle.dcc_model.specs.Outcomes.{bare, served, begun, decided, is_made, history}
+use Rattle.dcc_model.specs.Outcomes.{begun, decided, is_made, history}
 use Rattle.dcc_model.specs.Laws.{IsOpenedOnce, SessionsOpenOnce, FewAreOpen}
 use Rattle.dcc_model.proofs.Histories.{judged_new}
+use Rattle.dcc_model.proofs.Served.{MayOpen, begun_cases}
 use Rattle.dcc_model.proofs.Grants.{same_sid}
 
--- a session may be opened that never was, while few are open
-pub record MayOpen (terms : TermsView) (past : List Done) (sid : Sid) : Type 0 where
-  pub new : was_opened past sid ≡ false
-  pub few : nat_le MAX_SESSIONS (length (open_sessions terms past)) ≡ false
-
-begun_new : (was full : Bool) (twice many served : Outcome) → succeeded twice ≡ false → succeeded many ≡ false → succeeded (cond was twice (cond full many served)) ≡ true → (was ≡ false) × (full ≡ false)
-begun_new true full twice many served a b h = absurd cc
-begun_new false true twice many served a b h = absurd cc
-begun_new false false twice many served a b h = (refl, refl)
-
 begun_may : (terms : TermsView) (past : List Done) (key : RequestKey) (services : List ServiceView) → succeeded (begun terms past key services) ≡ true → MayOpen terms past key.sid
-begun_may terms past key services h =
-    let parts = begun_new (was_opened past key.sid) (nat_le MAX_SESSIONS (length (open_sessions terms past)))
-    (bare request.Initial key UnableToComply) (bare request.Initial key ResourcesExceeded) (served terms past request.Initial key services) refl refl h in
-    record { new = parts.0; few = parts.1 }
-
-own_where : (b : Bool) (own sid : Sid) → cond b (Some own) None ≡ Some sid → (b ≡ true) × (own ≡ sid)
-own_where true own sid h = (refl, cc)
-own_where false own sid h = absurd cc
+begun_may terms past key services h = elim (begun_cases terms past key services) [ inl opening ↦ opening.1 | inr f ↦ absurd cc ]
 
 -- what is decided opens only what may be opened
 pub opens_what_may : (terms : TermsView) (past : List Done) (moment : ℕ) (k : Kind) (sid : Sid) → opens_by k (decided terms past moment k) ≡ Some sid → MayOpen terms past sid
 opens_what_may terms past moment (kind.TopUp top_up) sid h = absurd cc
 opens_what_may terms past moment (kind.Initial opening) sid h =
-    let parts = own_where (succeeded (decided terms past moment (kind.Initial opening))) opening.key.sid sid h in
+    let parts = cond_some (succeeded (decided terms past moment (kind.Initial opening))) opening.key.sid sid h in
     subst (MayOpen terms past) parts.1 (begun_may terms past opening.key (looked_at (kind.Initial opening)) parts.0)
 opens_what_may terms past moment (kind.Update report) sid h = absurd cc
 opens_what_may terms past moment (kind.Termination report) sid h = absurd cc
@@ -90,7 +72,7 @@ once_in terms (done ∷ past) all =
 pub sessions_open_once : SessionsOpenOnce
 sessions_open_once terms xs = once_in terms (history terms xs) (history_opens terms xs)
 
-apart_both_ways : (a b : Sid) → bytes_eq a b ≡ false → bytes_eq b a ≡ false
+pub apart_both_ways : (a b : Sid) → bytes_eq a b ≡ false → bytes_eq b a ≡ false
 apart_both_ways a b h =
     elim (cases_Bool (bytes_eq b a)) [
       | inl t ↦ let same : bytes_eq a b ≡ true = (bytes_eq-Decides a b).1 (sym (same_sid b a t)) in absurd cc
