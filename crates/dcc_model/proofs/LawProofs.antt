@@ -1,5 +1,5 @@
 -- The laws of outcomes and acts.
-use Rattle.std.proofs.Common.{◌≡◌, false, inl, inr, ℕ, ◌+◌, ◌-◌, true, List, ◌++◌, length, take, reverse, refl, sym, ap, ◌∙◌, arith, Option, Some, None, is_some, option_map}
+use Rattle.std.proofs.Common.{◌≡◌, inl, inr, ℕ, ◌+◌, ◌-◌, true, List, ◌++◌, length, take, reverse, refl, sym, ap, ◌∙◌, arith, Option, Some, None, is_some, option_map}
 use Rattle.std.specs.Prelude.{slice_get}
 use Rattle.std.proofs.lemmas.Bool.{cases_Bool}
 use Rattle.dcc_tariff.specs.Terms.{TermsView}
@@ -10,7 +10,7 @@ use Rattle.dcc_act.specs.declared.outcome.Outcome.{Outcome}
 use Rattle.dcc_model.specs.declared.done.Done.{Done}
 use Rattle.dcc_model.specs.Keys.{request_key, ticket, is_expiry}
 use Rattle.dcc_model.specs.Money.{funds_of, overrun_of, free_of}
-use Rattle.dcc_model.specs.Outcomes.{is_made, place_of, history, after, is_new, place, outcome, acts, funds, overrun, free, kept_of, kept, first_of, has_account, decided, settled, IsOfRequest, IsOfTopUp, IsOfExpiry}
+use Rattle.dcc_model.specs.Outcomes.{is_made, place_of, history, after, is_new, place, outcome, acts, funds, overrun, free, kept_of, kept, first_of, has_account, IsOfRequest, IsOfTopUp, IsOfExpiry}
 use Rattle.dcc_model.specs.Entries.{entries_of, entries}
 use Rattle.dcc_model.specs.Laws.{LaterChangesNothing, LastComesAfter, OneMoreAct, AfterStays, NewStays, PlaceStays, OutcomesStay, ActsStay, ActsAreActs, NoActs, KeptStay, AccountStays}
 use Rattle.dcc_model.specs.Laws.{UnknownBefore, RequestsAreAnswered, TopUpsAreAdded, ExpiriesEnd, RepeatsAreFirsts}

@@ -6,3 +6,13 @@ pub mod Services
 pub mod Lookback
 pub mod Holdings
 pub mod Answering
+pub mod Served
+pub mod Funds
+pub mod Rooms
+pub mod Sums
+pub mod Grants
+pub mod Escrow
+pub mod EscrowLaw
+pub mod OpenSessions
+pub mod Lives
+pub mod LiveGrants

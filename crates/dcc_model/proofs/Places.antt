@@ -1,10 +1,9 @@
 -- Where one more act stands among the acts, and which has no place.
-use Rattle.std.proofs.Common.{◌≡◌, ℕ, ◌+◌, ◌-◌, ◌≤◌, true, false, not, ◌⊎◌, ◌&&◌, ◌==◌, Option, None, List, [], ◌∷◌, ◌++◌, length, map, reverse, refl, sym, ap, ◌∙◌, arith, inl, inr, Some, is_none, slice_get}
-use Rattle.std.specs.Prelude.{int_lt, nat_le, pos, ◌+ℤ◌, bytes_eq, unwrap_or, IsSomeAnd}
+use Rattle.std.proofs.Common.{◌≡◌, ℕ, ◌+◌, ◌-◌, ◌≤◌, true, false, not, ◌⊎◌, ◌&&◌, Option, None, List, [], ◌∷◌, ◌++◌, length, map, reverse, refl, sym, ap, ◌∙◌, arith, inl, inr, Some, is_none, slice_get}
+use Rattle.std.specs.Prelude.{int_lt, nat_le, pos, ◌+ℤ◌, unwrap_or, IsSomeAnd}
 use Rattle.std.specs.Option.{option_map_or}
-use Rattle.std.proofs.lemmas.Bool.{cases_Bool, cond_both, and_parts, and_from, or_parts, or_from, eq-eqb}
+use Rattle.std.proofs.lemmas.Bool.{cases_Bool, cond_both, or_parts, or_from}
 use Rattle.std.proofs.lemmas.List.{reverse-append, reverse-reverse, length-reverse, length-map}
-use Rattle.std.proofs.lemmas.Slice.Eq.{bytes_eq-Decides}
 use Rattle.dcc_tariff.specs.Terms.{TermsView}
 use Rattle.dcc_act.specs.declared.act.Act.{Act}
 use Rattle.dcc_act.specs.declared.act.Kind.{Kind}
@@ -21,9 +20,9 @@ use Rattle.dcc_model.specs.declared.decide.TheConstants.{CEILING}
 use Rattle.dcc_model.specs.Keys.{request_key, same_key, is_top_up, is_expiry}
 use Rattle.dcc_model.specs.Sessions.{is_open, was_opened, open_sessions, looked_at}
 use Rattle.dcc_model.specs.Money.{charges, funds_of}
-use Rattle.dcc_model.specs.Outcomes.{begun, reported, is_under, has_account, counts, first_of, is_made, place_of_key, decided, unknown_of, is_unknown, settled, judged, history, act_made, after, is_new, place, outcome, acts}
+use Rattle.dcc_model.specs.Outcomes.{begun, reported, is_under, has_account, first_of, is_made, place_of_key, decided, unknown_of, is_unknown, settled, judged, history, act_made, after, is_new, place, outcome, acts}
 use Rattle.dcc_model.specs.Laws.{NewIsLast, StandsAt, PlaceHolds, UnknownHasNoPlace, IdleExpiryHasNoPlace}
-use Rattle.dcc_model.proofs.Histories.{judged_new, made_parts, expiry_first, history_of_made, history_of_acts, after_by_history, slice_get-behind, slice_get-before, outcome_last, outcome_before, one_more}
+use Rattle.dcc_model.proofs.Histories.{judged_new, made_parts, history_of_made, history_of_acts, after_by_history, slice_get-behind, slice_get-before, outcome_last, outcome_before, one_more}
 
 is_request : (k : Kind) → is_top_up k ≡ false → is_expiry k ≡ false → is_none (request_key k) ≡ false
 is_request (kind.TopUp top_up) h other = absurd cc

@@ -5,6 +5,7 @@ ghost use Rattle.dcc_model.specs.Laws.{LaterChangesNothing, OneMoreAct, AfterSta
 ghost use Rattle.dcc_model.specs.Laws.{ActsAreActs, NoActs, KeptStay, AccountStays, NewIsLast, PlaceHolds, UnknownHasNoPlace};
 ghost use Rattle.dcc_model.specs.Laws.{IdleExpiryHasNoPlace, LastComesAfter, UnknownBefore, RepeatsAreFirsts};
 ghost use Rattle.dcc_model.specs.Laws.{RequestsAreAnswered, TopUpsAreAdded, ExpiriesEnd};
+ghost use Rattle.dcc_model.specs.Laws.{FundsAreLimited, FreeIsCovered, GrantsAreCovered, EntriesAddUp, FewAreOpen, SessionsOpenOnce, LiveAreOpen};
 
 /// What comes later changes no outcome.
 pub fn later_acts_change_no_outcome()
@@ -49,4 +50,21 @@ pub fn acts_come_to_their_own()
     ensures top_ups { TopUpsAreAdded }
     ensures expiries { ExpiriesEnd }
     ensures repeats { RepeatsAreFirsts }
+{}
+
+/// Funds stay within their limits; only what is overrun takes what is free below nothing; each grant costs nothing, or is
+/// within the room that the grants before it leave; and the entries in the books add up to the funds.
+pub fn funds_are_accounted_for()
+    ensures limited { FundsAreLimited }
+    ensures covered { FreeIsCovered }
+    ensures granted { GrantsAreCovered }
+    ensures entries { EntriesAddUp }
+{}
+
+/// At most 64 sessions are open; a session is opened once, and never again, whether it is open or has ended; and each live
+/// grant is of an open session.
+pub fn sessions_open_once()
+    ensures few { FewAreOpen }
+    ensures once { SessionsOpenOnce }
+    ensures live { LiveAreOpen }
 {}
