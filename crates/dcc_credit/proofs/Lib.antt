@@ -1,4 +1,5 @@
 pub mod Acts
+pub mod Apart
 pub mod ServiceSizes
 pub mod Appended
 pub mod Taken

@@ -11,7 +11,9 @@ mod act;
 mod answer;
 mod laws;
 mod refusal;
+mod services;
 mod session;
+mod told;
 mod use_of_grants;
 
 pub use act::to_act;

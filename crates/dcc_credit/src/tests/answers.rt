@@ -21,6 +21,9 @@ const SESSION: &str = "000110000000040000001100000021\
 const MIDDLE: &str = "00000108400000136f63732e6578616d706c6500000001284000000f6578616d706c6500\
 000001024000000c00000004000001a04000000c000000040000019f4000000c00000000";
 
+/// The CC-Request-Type among them.
+const EVENT: &str = "000001a04000000c00000004";
+
 const TERMS: Terms = Terms {
     validity: 600,
     hold: 1200,
@@ -54,6 +57,7 @@ fn outcome(
         form,
         result: code,
         grant,
+        is_final: false,
     };
     let services = ServiceAnswers::from_vec(vec![in alloc; service]?).ok_or("answers")?;
     Ok(Outcome::Answered(Answer {
@@ -194,6 +198,101 @@ fn granted_in_a_group(rt: HostRuntime) -> Result<(), Fail> {
 000001b74000000c00000007000001b74000000c00000001000001b04000000c0000000a0000010c4000000c000007d1";
     let want = format!(in alloc; "010000d040{SESSION}0000010c4000000c000007d1{MIDDLE}{group}")?;
     check(&rt, 0xc0, "", &service, want.as_str())
+}
+
+/// What a request of a session of this type comes to whose one service, in group 10, has this last grant.
+fn last_granted(
+    alloc: Global,
+    request: RequestType,
+    form: Form,
+    grant: Option<Grant>,
+) -> Result<Outcome, Fail> {
+    let service = ServiceAnswer {
+        group: Some(10),
+        ids: ServiceIds::new(alloc),
+        form,
+        result: ResultCode::Success,
+        grant,
+        is_final: true,
+    };
+    let services = ServiceAnswers::from_vec(vec![in alloc; service]?).ok_or("answers")?;
+    Ok(Outcome::Answered(Answer {
+        request,
+        key: key(alloc)?,
+        result: ResultCode::Success,
+        services,
+        cost: None,
+        balance: None,
+    }))
+}
+
+#[test]
+fn last_grant_in_a_group(rt: HostRuntime) -> Result<(), Fail> {
+    let alloc = rt.alloc();
+    let octets = grant(UnitKind::Octets, 100_000);
+    let last = last_granted(alloc, RequestType::Initial, Form::Multi, octets)?;
+    let middle = edited(alloc, MIDDLE, EVENT, "000001a04000000c00000001")?;
+    let group = "000001c840000058000001af40000018000001a54000001000000000000186a0\
+000001b04000000c0000000a000001c04000000c000002580000010c4000000c000007d1\
+000001ae40000014000001c14000000c00000000";
+    let want = format!(in alloc; "010000d840{SESSION}0000010c4000000c000007d1{middle}{group}")?;
+    check(&rt, 0xc0, "", &last, want.as_str())
+}
+
+/// At the message's level the indication stands before a balance, and the time behind it.
+#[test]
+fn last_grant_of_the_message(rt: HostRuntime) -> Result<(), Fail> {
+    let alloc = rt.alloc();
+    let octets = grant(UnitKind::Octets, 100_000);
+    let last = last_granted(alloc, RequestType::Update, Form::Single, octets)?;
+    let Outcome::Answered(mut answer) = last else {
+        return Err("an answer".into());
+    };
+    let middle = edited(alloc, MIDDLE, EVENT, "000001a04000000c00000002")?;
+    let units = "000001af40000018000001a54000001000000000000186a0";
+    let last = "000001ae40000014000001c14000000c00000000";
+    let time = "000001c04000000c00000258";
+    answer.balance = Some(Balance::EnoughCredit);
+    let want = format!(in alloc;
+        "010000c440{SESSION}0000010c4000000c000007d1{middle}{units}{last}000001a64000000c00000000{time}"
+    )?;
+    check(&rt, 0xc0, "", &Outcome::Answered(answer), want.as_str())
+}
+
+/// A command of a session that is refused has no services.
+#[test]
+fn refused_sessions(rt: HostRuntime) -> Result<(), Fail> {
+    let alloc = rt.alloc();
+    for (request, result, kind, number) in [
+        (RequestType::Update, ResultCode::UnknownSession, 2, "138a"),
+        (
+            RequestType::Termination,
+            ResultCode::UnknownSession,
+            3,
+            "138a",
+        ),
+        (
+            RequestType::Initial,
+            ResultCode::ResourcesExceeded,
+            1,
+            "138e",
+        ),
+        (RequestType::Initial, ResultCode::UnableToComply, 1, "1394"),
+    ] {
+        let refused = Outcome::Answered(Answer {
+            request,
+            key: key(alloc)?,
+            result,
+            services: ServiceAnswers::from_vec(Vec::new(alloc)).ok_or("answers")?,
+            cost: None,
+            balance: None,
+        });
+        let kind = format!(in alloc; "000001a04000000c0000000{kind}")?;
+        let middle = edited(alloc, MIDDLE, EVENT, kind.as_str())?;
+        let want = format!(in alloc; "0100008040{SESSION}0000010c4000000c0000{number}{middle}")?;
+        check(&rt, 0xc0, "", &refused, want.as_str())?;
+    }
+    Ok(())
 }
 
 /// The longest name of a session is read and answered, and so is a message that is filled with proxies.

@@ -1,10 +1,10 @@
 //! Acts of requests.
 
 use super::octets::{decoded, edited};
-use crate::{ActFault, to_act};
-use dcc_act::{Act, Action, Kind, Moment, OneTimeEvent, Service};
+use crate::to_act;
+use dcc_act::{Act, Action, Kind, Moment, OneTimeEvent, Service, SessionRequest};
 use dcc_avp::read_list;
-use dcc_ccr::{Request, read_ccr};
+use dcc_ccr::read_ccr;
 use dcc_request::Stop;
 use dcc_samples::{DEBIT, PLAN};
 use dcc_tariff::Plan;
@@ -112,6 +112,51 @@ const SERVICES: [(&str, &str); 16] = [
     ),
 ];
 
+/// Services without a group, of group 20 and of group 30, each with an empty Requested-Service-Unit.
+const NOTHING_IN_EACH: &str = "000001c840000010000001b540000008\
+000001c84000001c000001b04000000c00000014000001b540000008\
+000001c84000001c000001b04000000c0000001e000001b540000008";
+
+/// In a session where the default group counts octets, what stands in place of the debit's Requested-Service-Unit, and the
+/// act's services.
+const SESSION_SERVICES: [(&str, &str); 9] = [
+    // nothing at all
+    ("", ""),
+    (ASKED, "Single - [] 1001 - Octets 5/1000;"),
+    // none in any unit, and 0
+    ("000001b540000008", "Single - [] 100000 - Octets 5/1000;"),
+    (
+        "000001b540000018000001a5400000100000000000000000",
+        "Single - [] 100000 - Octets 5/1000;",
+    ),
+    // a report alone, and an identifier alone
+    (
+        "000001be40000018000001a5400000100000000000009c41",
+        "Single - [] - 40001 Octets 5/1000;",
+    ),
+    (
+        "000001b74000000c00000007",
+        "Single - [7] - - Octets 5/1000;",
+    ),
+    // nothing in each group, octets where units of the service's own count, and of group 10, as sent, nothing is asked for
+    (
+        NOTHING_IN_EACH,
+        "Multi - [] 100000 - Octets 5/1000;Multi 20 [] 100000 - Time 2/60;Multi 30 [] 100000 - Units 0/1;",
+    ),
+    (
+        "000001c84000002c000001b04000000c0000001e000001b540000018000001a54000001000000000000003e9\
+000001c840000014000001b04000000c0000000a",
+        "Multi 30 [] 100000 - Units 0/1;Multi 10 [] - - Octets 5/1000;",
+    ),
+    // of a group that the plan doesn't have, nothing and 1,001 octets asked for, and with an identifier 40,001 used
+    (
+        "000001c84000001c000001b04000000c00000063000001b540000008\
+000001c840000038000001b04000000c00000063000001b74000000c00000007000001b540000018000001a54000001000000000000003e9\
+000001c840000038000001b04000000c00000063000001b74000000c00000009000001be40000018000001a5400000100000000000009c41",
+        "Multi 99 [] 0 - - -;Multi 99 [7] 0 - - -;Multi 99 [9] - 0 - -;",
+    ),
+];
+
 /// The octets of the debit's list with this in place of its Requested-Service-Unit.
 fn debit_with(alloc: Global, service: &str) -> Result<Vec<u8>, Fail> {
     let list = DEBIT.get(40..).unwrap_or_default();
@@ -144,42 +189,23 @@ fn told_service(alloc: Global, service: &Service) -> Result<String, Fail> {
     Ok(format!(in alloc; "{form:?} {group} {ids:?} {asked} {used} {unit} {tariff}")?)
 }
 
-/// What a request asks for at a moment: its act, or none where it isn't served yet.
-fn asked_by(
-    alloc: Global,
-    plan: &Plan,
-    request: &Request<'_>,
-    seconds: u64,
-) -> Result<Option<Act>, Fail> {
-    let moment = Moment::new(seconds).ok_or("a moment")?;
-    match to_act(alloc, plan, request, moment) {
-        Ok(act) => Ok(Some(act)),
-        Err(ActFault::Later) => Ok(None),
-        Err(ActFault::Memory) => Err("memory was refused".into()),
-    }
-}
-
 /// The act of the request that a list holds.
-fn act_of(alloc: Global, plan: &Plan, octets: &[u8], seconds: u64) -> Result<Option<Act>, Fail> {
+fn act_of(alloc: Global, plan: &Plan, octets: &[u8], seconds: u64) -> Result<Act, Fail> {
     if octets.len() > 65_509 {
         return Err("a list that is too long".into());
     }
+    let moment = Moment::new(seconds).ok_or("a moment")?;
     let avps = read_list(alloc, octets)?;
     match read_ccr(alloc, &avps) {
-        Ok(request) => asked_by(alloc, plan, &request, seconds),
+        Ok(request) => Ok(to_act(alloc, plan, &request, moment)?),
         Err(Stop::Refused(_)) => Err("a request that is refused".into()),
         Err(Stop::Memory) => Err("memory was refused".into()),
     }
 }
 
-fn event_of(act: Option<Act>) -> Result<OneTimeEvent, Fail> {
-    match act {
-        Some(
-            Act {
-                kind: Kind::Event(event),
-                ..
-            },
-        ) => Ok(event),
+fn event_of(act: Act) -> Result<OneTimeEvent, Fail> {
+    match act.kind {
+        Kind::Event(event) => Ok(event),
         _ => Err("no event".into()),
     }
 }
@@ -203,9 +229,9 @@ fn key_and_moment(rt: HostRuntime) -> Result<(), Fail> {
         "0000019f4000000c00000102",
     )?;
     let octets = decoded(alloc, text.as_str())?;
-    let act = act_of(alloc, &plan, &octets, JUNE)?.ok_or("an act")?;
+    let act = act_of(alloc, &plan, &octets, JUNE)?;
     assert_eq!(rt; act.moment.seconds(), JUNE);
-    let event = event_of(Some(act))?;
+    let event = event_of(act)?;
     assert_eq!(rt; event.key.sid.as_slice(), b"gw1.example;1;1".as_slice());
     assert_eq!(rt; event.key.number, 258);
     Ok(())
@@ -250,40 +276,94 @@ fn tariffs_of_moments(rt: HostRuntime) -> Result<(), Fail> {
     Ok(())
 }
 
-/// The action of the event of a list with this type and this action, where it has an act.
-fn action_of(alloc: Global, plan: &Plan, kind: u8, action: u8) -> Result<Option<Action>, Fail> {
+/// The list of the debit with this type, this action, and this in place of its Requested-Service-Unit.
+fn list_with(alloc: Global, kind: u8, action: u8, service: &str) -> Result<Vec<u8>, Fail> {
     let kind = format!(in alloc; "000001a04000000c0000000{kind}")?;
     let action = format!(in alloc; "000001b44000000c0000000{action}")?;
     let list = DEBIT.get(40..).unwrap_or_default();
     let typed = edited(alloc, list, "000001a04000000c00000004", kind.as_str())?;
-    let text = edited(
+    let acted = edited(
         alloc,
         typed.as_str(),
         "000001b44000000c00000000",
         action.as_str(),
     )?;
-    let octets = decoded(alloc, text.as_str())?;
-    match act_of(alloc, plan, &octets, JUNE)? {
-        Some(act) => Ok(Some(event_of(Some(act))?.action)),
-        None => Ok(None),
-    }
+    let text = edited(alloc, acted.as_str(), ASKED, service)?;
+    decoded(alloc, text.as_str())
 }
 
 #[test]
-fn events_alone_are_served(rt: HostRuntime) -> Result<(), Fail> {
+fn actions_of_events(rt: HostRuntime) -> Result<(), Fail> {
     let plan = Plan::read(rt.alloc(), PLAN)?;
-    for (kind, action, wanted) in [
-        (4, 0, Some(Action::DirectDebiting)),
-        (4, 1, Some(Action::RefundAccount)),
-        (4, 2, Some(Action::CheckBalance)),
-        (4, 3, Some(Action::PriceEnquiry)),
-        (1, 0, None),
-        (2, 0, None),
-        (3, 0, None),
+    for (action, wanted) in [
+        (0, Action::DirectDebiting),
+        (1, Action::RefundAccount),
+        (2, Action::CheckBalance),
+        (3, Action::PriceEnquiry),
     ] {
-        let served = action_of(rt.alloc(), &plan, kind, action)?;
-        assert_eq!(rt; served, wanted, "type {kind}, action {action}");
+        let octets = list_with(rt.alloc(), 4, action, ASKED)?;
+        let event = event_of(act_of(rt.alloc(), &plan, &octets, JUNE)?)?;
+        assert_eq!(rt; event.action, wanted, "action {action}");
     }
+    Ok(())
+}
+
+/// The type and what a request of a session says.
+fn session_in(act: Act) -> Result<(u8, SessionRequest), Fail> {
+    match act.kind {
+        Kind::Initial(request) => Ok((1, request)),
+        Kind::Update(request) => Ok((2, request)),
+        Kind::Termination(request) => Ok((3, request)),
+        _ => Err("no request of a session".into()),
+    }
+}
+
+/// The services of a request of this type with this in place of the debit's Requested-Service-Unit.
+fn session_services(
+    rt: &(impl Abort + AllocGlobal),
+    plan: &Plan,
+    kind: u8,
+    service: &str,
+) -> Result<String, Fail> {
+    let alloc = rt.alloc();
+    let octets = list_with(alloc, kind, 0, service)?;
+    let (told, request) = session_in(act_of(alloc, plan, &octets, JUNE)?)?;
+    assert_eq!(rt; told, kind);
+    assert_eq!(rt; request.key.sid.as_slice(), b"gw1.example;1;1".as_slice());
+    assert_eq!(rt; request.key.number, 0);
+    let mut text = String::new(alloc);
+    for service in request.services.as_slice() {
+        let one = told_service(alloc, service)?;
+        text.push_str(one.as_str())?;
+        text.push(';')?;
+    }
+    Ok(text)
+}
+
+#[test]
+fn services_of_sessions(rt: HostRuntime) -> Result<(), Fail> {
+    let plan = Plan::read(rt.alloc(), PLAN)?;
+    for kind in 1..=3 {
+        for (service, want) in &SESSION_SERVICES {
+            let told = session_services(&rt, &plan, kind, service)?;
+            assert_eq!(rt; told.as_str(), *want, "{service} in type {kind}");
+        }
+    }
+    Ok(())
+}
+
+/// In octets and in units of the service's own 0 stands for the whole quantum, in time for the most seconds of a CC-Time.
+#[test]
+fn greatest_quantum(rt: HostRuntime) -> Result<(), Fail> {
+    let alloc = rt.alloc();
+    let text = edited(alloc, PLAN, "quantum = 100000", "quantum = 1000000000000")?;
+    let plan = Plan::read(alloc, text.as_str())?;
+    let told = session_services(&rt, &plan, 1, NOTHING_IN_EACH)?;
+    assert_eq!(rt;
+        told.as_str(),
+        "Multi - [] 1000000000000 - Octets 5/1000;\
+Multi 20 [] 4294967295 - Time 2/60;Multi 30 [] 1000000000000 - Units 0/1;"
+    );
     Ok(())
 }
 
