@@ -1,4 +1,3 @@
-pub mod Acts
 pub mod Apart
 pub mod ServiceSizes
 pub mod Appended

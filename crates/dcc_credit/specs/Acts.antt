@@ -8,8 +8,10 @@ use Rattle.dcc_act.specs.declared.act.Kind.{Kind}
 use Rattle.dcc_act.specs.declared.act.Kind.TheVariants as kind
 use Rattle.dcc_act.specs.declared.limits.TheConstants.{MAX_SECONDS}
 use Rattle.dcc_act.specs.declared.one_time_event.Action.{Action}
+use Rattle.dcc_act.specs.declared.one_time_event.OneTimeEvent.{OneTimeEvent}
 use Rattle.dcc_act.specs.declared.request_key.RequestKey.{RequestKey}
 use Rattle.dcc_act.specs.declared.session_request.SessionRequest.{SessionRequest}
+use Rattle.dcc_act.specs.declared.service.Form.TheVariants.{Single}
 use Rattle.dcc_act.specs.Services.{ServiceView}
 use Rattle.dcc_ccr.specs.Amounts.{AmountsView}
 use Rattle.dcc_ccr.specs.Requests.{RequestView}
@@ -78,20 +80,23 @@ key_of request = record { sid = request.session; number = request.number }
 abbrev pub session_of : PlanView → ℕ → RequestView → SessionRequest
 session_of plan moment request = record { key = key_of request; services = map (service_of plan moment request.type) request.services }
 
--- a one-time event, which has one service
-abbrev pub event_of : PlanView → ℕ → RequestView → Action → List requests.ServiceView → Option Kind
-event_of plan moment request action [] = None
-event_of plan moment request action (service ∷ []) =
-    Some (kind.Event (record { key = key_of request; action = action; service = service_of plan moment request.type service }))
-event_of plan moment request action (service ∷ other ∷ others) = None
+-- the service of an event, which has just one; without it there would be one of which nothing is said
+abbrev pub only_service : List requests.ServiceView → requests.ServiceView
+only_service [] = record { form = Single; group = None; ids = []; asked = None; used = None }
+only_service (service ∷ others) = service
+
+-- a one-time event
+abbrev pub event_of : PlanView → ℕ → RequestView → Action → OneTimeEvent
+event_of plan moment request action =
+    record { key = key_of request; action = action; service = service_of plan moment request.type (only_service request.services) }
 
 -- what a request asks for, by its type
-abbrev pub kind_of : PlanView → ℕ → RequestView → RequestType → Option Kind
-kind_of plan moment request Initial = Some (kind.Initial (session_of plan moment request))
-kind_of plan moment request Update = Some (kind.Update (session_of plan moment request))
-kind_of plan moment request Termination = Some (kind.Termination (session_of plan moment request))
-kind_of plan moment request (Event action) = event_of plan moment request action request.services
+abbrev pub kind_of : PlanView → ℕ → RequestView → RequestType → Kind
+kind_of plan moment request Initial = kind.Initial (session_of plan moment request)
+kind_of plan moment request Update = kind.Update (session_of plan moment request)
+kind_of plan moment request Termination = kind.Termination (session_of plan moment request)
+kind_of plan moment request (Event action) = kind.Event (event_of plan moment request action)
 
--- the act that a request asks for at a moment: every request that is read has one, since an event has one service
-unfoldable pub act_of : PlanView → RequestView → ℕ → Option Act
-act_of plan request moment = option_map (λ kind. record { moment = moment; kind = kind }) (kind_of plan moment request request.type)
+-- the act that a request asks for at a moment
+unfoldable pub act_of : PlanView → RequestView → ℕ → Act
+act_of plan request moment = record { moment = moment; kind = kind_of plan moment request request.type }

@@ -22,17 +22,15 @@ use std::alloc::{AllocError, Global};
 ///
 /// In a session units are asked for where a Requested-Service-Unit is there, and an amount of 0 stands for the plan's
 /// quantum. In an event 1 is asked for where no amount is, or 0. Without memory there is no act.
-#[tactic(auto, using(crate::proofs::Acts::always_some), unfolding(crate::specs::Acts::act_of))]
+#[tactic(auto, unfolding(crate::specs::Acts::act_of))]
 pub fn to_act(
     alloc: Global,
     plan: &Plan,
     request: &Request<'_>,
     moment: Moment,
 ) -> Result<Act, AllocError>
-    ensures ok { IfOk result (λ act. act_of plan.now request.now moment ≡ Some act) }
-    ensures some { IsSome (act_of plan.now request.now moment) }
+    ensures { IfOk result (λ act. act ≡ act_of plan.now request.now moment) }
 {
-    let _services = request.services();
     let kind = match request.request_type() {
         RequestType::Initial => Kind::Initial(session_of(alloc, plan, request, moment)?),
         RequestType::Update => Kind::Update(session_of(alloc, plan, request, moment)?),
@@ -68,8 +66,7 @@ fn event_of(
     action: Action,
 ) -> Result<OneTimeEvent, AllocError>
     requires { request.now.type ≡ Event action }
-    ensures { IfOk result (λ event.
-        event_of plan.now moment request.now action request.now.services ≡ Some (kind.Event event)) }
+    ensures { IfOk result (λ event. event ≡ event_of plan.now moment request.now action) }
 {
     let [service] = request.services() else {
         unreachable!();
