@@ -169,7 +169,6 @@ source_is message (verdicts.Asks owner act) sub ask is =
       | inr f ↦ (let e = rw f at is in absurd cc)
     ]
 source_is message (verdicts.Refused octets) sub ask is = absurd cc
-source_is message verdicts.Unserved sub ask is = absurd cc
 
 -- one turn of a request, with peers as they were before it
 abbrev pub Judged : Setting → (ℕ → Option Peer) → ShardView → ShardView → ℕ → ℕ → List ℕ → List ℕ → Type 0
@@ -224,7 +223,6 @@ refused_judged setting peers old new id moment octets message given own received
 of_nobody : (identity : Identity) (message : MessageView) (verdict : Verdict) (octets : List ℕ) → is_refusal octets ≡ true → IsBusyOrNothing identity message octets → IsOfNobody identity message verdict octets
 of_nobody identity message (verdicts.Asks owner act) octets refused busy = tt
 of_nobody identity message (verdicts.Refused refusal) octets refused busy = rw refused busy
-of_nobody identity message verdicts.Unserved octets refused busy = busy
 
 refused_own : (message : MessageView) (verdict : Verdict) (sub : Sub) (out : Out) (before : List Act) → is_refusal out.octets ≡ true → own_with (request_ask message verdict sub) out sub before ≡ before
 refused_own message (verdicts.Asks owner act) sub out before refused =
@@ -233,7 +231,6 @@ refused_own message (verdicts.Asks owner act) sub out before refused =
       | inr f ↦ rw f refl
     ]
 refused_own message (verdicts.Refused octets) sub out before refused = refl
-refused_own message verdicts.Unserved sub out before refused = refl
 
 away_judged : (setting : Setting) (peers : ℕ → Option Peer) (old new : ShardView) (id moment : ℕ) (octets : List ℕ) (message : MessageView) (given : List ℕ)
     → ((s : Sub) → acts setting.plan.terms (held old s) ≡ held old s) → received_on (peers id) octets ≡ Received.Charging message → IsAway setting old new message given

@@ -28,6 +28,7 @@ told_counts outcomes.Added (Some at) fresh answer is = let one : answer ≡ Done
 told_counts outcomes.Ceiling (Some at) fresh answer is = let one : answer ≡ Ceiling at fresh = cc in (ap (λ (a : TopUpAnswer). is_refused_top_up (Some a)) one, ap is_judged_top_up one)
 told_counts (outcomes.Unknown request key) (Some at) fresh answer is = absurd cc
 told_counts (outcomes.Answered given) (Some at) fresh answer is = absurd cc
+told_counts (outcomes.Expired sessions) (Some at) fresh answer is = absurd cc
 
 -- what a top-up asks of a subscriber, where its amount may be
 top_up_asks : SameAreEqual → (owner sub : Sub) (asked ask : Ask) → (if same_sub owner sub then Some asked else None) ≡ Some ask → (owner ≡ sub) × (ask ≡ asked)

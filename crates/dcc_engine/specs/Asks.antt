@@ -48,12 +48,11 @@ pub record Ask : Type 0 where
   pub act : Act
   pub source : Source
 
--- a request that is served is its subscriber's
+-- a request is its subscriber's
 abbrev pub request_ask : MessageView → Verdict → Sub → Option Ask
 request_ask message (verdicts.Asks owner act) sub =
     if same_sub owner sub then Some (record { act = act; source = Message message }) else None
 request_ask message (verdicts.Refused octets) sub = None
-request_ask message verdicts.Unserved sub = None
 
 abbrev pub received_ask : Setting → ℕ → Received → Sub → Option Ask
 received_ask setting moment Received.Ignored sub = None
@@ -61,8 +60,8 @@ received_ask setting moment Received.Broken sub = None
 received_ask setting moment (Received.Charging message) sub = request_ask message (verdict_of setting moment message) sub
 received_ask setting moment (Received.Base peer message) sub = None
 
--- What an event asks of a subscriber: a request on a peer that is open is its subscriber's, where it isn't refused and is
--- served, a top-up of an amount that may be is its subscriber's, and all others are nobody's.
+-- What an event asks of a subscriber: a request on a peer that is open is its subscriber's, where what it says isn't refused, a
+-- top-up of an amount that may be is its subscriber's, and all others are nobody's.
 abbrev pub ask_for : Setting → Before → Event → Sub → Option Ask
 ask_for setting before (events.Connect peer host) sub = None
 ask_for setting before (events.Disconnect peer) sub = None
@@ -158,13 +157,12 @@ is_refused_message Received.Broken out = false
 is_refused_message (Received.Charging message) out = is_refusal out.octets
 is_refused_message (Received.Base peer message) out = hears peer message.header && is_refusal out.octets
 
--- A credit-control message that is nobody's is answered by the refusal of its request, or it is refused; where what it asks for isn't
--- served, it is always refused. What any other is answered, its subscriber's clause says.
+-- A credit-control message that is nobody's is answered by the refusal of what it says, or it is refused. What any other is answered,
+-- its subscriber's clause says.
 abbrev pub IsOfNobody : Identity → MessageView → Verdict → List ℕ → Type 0
 IsOfNobody identity message (verdicts.Asks sub act) octets = Unit {0}
 IsOfNobody identity message (verdicts.Refused refusal) octets =
     MatchBool (is_refusal octets) (IsBusyOrNothing identity message octets) (octets ≡ refusal)
-IsOfNobody identity message verdicts.Unserved octets = IsBusyOrNothing identity message octets
 
 abbrev pub IsMessageOut : Setting → ℕ → Received → ℕ → Out → Type 0
 IsMessageOut setting moment Received.Ignored peer out = out ≡ out_octets (Some peer) []

@@ -1,27 +1,21 @@
 -- What a credit-control message comes to (RFC 8506, section 3).
-use Rattle.std.specs.Prelude.{ℕ, List, Option, Some, None, Result, Ok, Err}
+use Rattle.std.specs.Prelude.{ℕ, List, Result, Ok, Err}
 use Rattle.dcc_avp.specs.Spelling.{AvpView}
 use Rattle.dcc_avp.specs.Reading.{FaultView}
 use Rattle.dcc_message.specs.HeaderView.{HeaderView}
 use Rattle.dcc_request.specs.Refusals.{Refusal}
 use Rattle.dcc_answer.specs.Proxies.{proxies_of}
-use Rattle.dcc_act.specs.declared.act.Act.{Act}
 use Rattle.dcc_ccr.specs.Requests.{RequestView, request_of}
 use Rattle.dcc_credit.specs.Acts.{act_of}
 use Rattle.dcc_credit.specs.Refusals.{taken_from, refusal_octets, unread_octets}
 use Rattle.dcc_engine.specs.Engines.{Setting}
 use Rattle.dcc_engine.specs.Messages.{MessageView}
 use Rattle.dcc_engine.specs.declared.verdict.Verdict.{Verdict}
-use Rattle.dcc_engine.specs.declared.verdict.Verdict.TheVariants.{Asks, Refused, Unserved}
+use Rattle.dcc_engine.specs.declared.verdict.Verdict.TheVariants.{Asks, Refused}
 
--- a request asks its subscriber's account for its act, where that is served
-abbrev pub asks : RequestView → Option Act → Verdict
-asks request (Some act) = Asks request.sub act
-asks request None = Unserved
-
--- a request, or the refusal of what its list says
+-- a request asks its subscriber's account for its act; or what its list says is refused
 abbrev pub judged : Setting → ℕ → HeaderView → List AvpView → Result RequestView Refusal → Verdict
-judged setting moment header avps (Ok request) = asks request (act_of setting.plan request moment)
+judged setting moment header avps (Ok request) = Asks request.sub (act_of setting.plan request moment)
 judged setting moment header avps (Err refusal) =
     Refused (refusal_octets setting.identity header (taken_from avps) (proxies_of avps) refusal)
 

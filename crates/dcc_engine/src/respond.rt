@@ -43,7 +43,6 @@ impl Engine {
                 octets_of(alloc, answer)
             }
             Verdict::Refused(octets) => octets,
-            Verdict::Unserved => message.busy(alloc, &self.identity),
         }
     }
 }

@@ -2,13 +2,14 @@
 
 ghost use Rattle.std.specs.Prelude.{◌≡◌, IfOk};
 ghost use Rattle.dcc_credit.specs.Acts.{act_of};
-ghost use Rattle.dcc_engine.specs.Verdicts.{asks, verdict_of};
+ghost use Rattle.dcc_engine.specs.Verdicts.{verdict_of};
+ghost use Rattle.dcc_engine.specs.declared.verdict.Verdict.TheVariants.{Asks};
 ghost use Rattle.dcc_engine.specs.inner.Turns.{IsVerdict};
 
 use crate::message::Message;
 use dcc_act::{Act, Moment, Sub};
 use dcc_ccr::{Request, read_ccr, subscriber};
-use dcc_credit::{ActFault, to_act, write_refusal, write_unread};
+use dcc_credit::{to_act, write_refusal, write_unread};
 use dcc_message::Identity;
 use dcc_octets::OctetString;
 use dcc_request::Stop;
@@ -22,8 +23,6 @@ pub enum Verdict {
     Asks { sub: Sub, act: Act },
     /// It is refused for what it says, by these octets.
     Refused(OctetString),
-    /// It asks for what isn't served yet.
-    Unserved,
 }
 
 impl<'a> Message<'a> {
@@ -58,21 +57,17 @@ impl<'a> Message<'a> {
     }
 }
 
-/// What a request asks of its subscriber's account, where that is served.
+/// What a request asks of its subscriber's account.
 fn asked(
     alloc: Global,
     plan: &Plan,
     request: &Request<'_>,
     moment: Moment,
 ) -> Result<Verdict, AllocError>
-    ensures { IfOk result (λ verdict. verdict ≡ asks request.now (act_of plan.now request.now moment)) }
+    ensures { IfOk result (λ verdict. verdict ≡ Asks request.now.sub (act_of plan.now request.now moment)) }
 {
-    match to_act(alloc, plan, request, moment) {
-        Ok(act) => Ok(Verdict::Asks {
-            sub: subscriber(request),
-            act,
-        }),
-        Err(ActFault::Later) => Ok(Verdict::Unserved),
-        Err(ActFault::Memory) => Err(AllocError),
-    }
+    Ok(Verdict::Asks {
+        sub: subscriber(request),
+        act: to_act(alloc, plan, request, moment)?,
+    })
 }

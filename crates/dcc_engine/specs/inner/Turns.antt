@@ -17,7 +17,7 @@ use Rattle.dcc_engine.specs.Messages as messages
 use Rattle.dcc_engine.specs.Messages.{MessageView}
 use Rattle.dcc_engine.specs.Verdicts.{verdict_of}
 use Rattle.dcc_engine.specs.declared.verdict.Verdict.{Verdict}
-use Rattle.dcc_engine.specs.declared.verdict.Verdict.TheVariants.{Asks, Refused, Unserved}
+use Rattle.dcc_engine.specs.declared.verdict.Verdict.TheVariants.{Asks, Refused}
 use Rattle.dcc_engine.specs.Asks.{Turn, Before, Ask, ask_for, own_with, moved_by, IsAnsweredFor, IsBusyOrNothing, IsOut, is_refusal}
 
 -- what an engine holds is what was before its next event
@@ -47,7 +47,6 @@ pub record IsTurnDone (old new : EngineView) (turn : Turn) : Type 0 where
 abbrev pub IsVerdict : MessageView → Verdict → Type 0
 IsVerdict message (Asks sub act) = (messages.session message ≡ session_of_act act) × (is_some (request_key act.kind) ≡ true)
 IsVerdict message (Refused octets) = is_refusal octets ≡ false
-IsVerdict message Unserved = Unit {0}
 
 -- the request was handed to the shard, whose answer this is
 pub record IsHandedOn

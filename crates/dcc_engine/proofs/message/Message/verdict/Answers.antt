@@ -1,7 +1,7 @@
 use Rattle.std.proofs.Common.{◌≡◌, Ok, Some, sym, ap, subst, ◌∙◌}
 use Rattle.std.proofs.lemmas.Result.{IfOk-weaker}
 use Rattle.dcc_credit.specs.Acts.{act_of}
-use Rattle.dcc_engine.specs.Verdicts.{asks}
+use Rattle.dcc_engine.specs.declared.verdict.Verdict.TheVariants.{Asks}
 use Rattle.dcc_request.specs.Sessions.{session_of}
 use Rattle.dcc_engine.specs.Asks.{is_refusal}
 use Rattle.dcc_engine.specs.Messages.{MessageView, session}
@@ -22,7 +22,7 @@ returns-in-Ok-read_ccr-clause-known c =
     let is_self : message ≡ c.args.self.now = rw c.in-Ok.is at c.self.view_is in
     let plan = c.args.plan.now in
     let moment = c.args.moment in
-    IfOk-weaker c.asked.result (λ verdict. verdict ≡ asks request (act_of plan request moment)) (λ verdict. IsVerdict c.args.self.now verdict)
+    IfOk-weaker c.asked.result (λ verdict. verdict ≡ Asks request.sub (act_of plan request moment)) (λ verdict. IsVerdict c.args.self.now verdict)
     (λ verdict is. subst (λ (m : MessageView). IsVerdict m verdict) is_self (subst (IsVerdict message) (sym is) (known_of plan moment message request named)))
     c.asked.ensures
 
