@@ -60,26 +60,28 @@ abbrev pub final_avps : Bool → List AvpView
 final_avps false = []
 final_avps true = grouped FINAL_UNIT_INDICATION (sent32 FINAL_UNIT_ACTION TERMINATE ∷ []) ∷ []
 
--- the grant, the identifiers and the group as sent, how long the grant may be used, the result, and whether it's the last, of one
--- service (section 8.16)
+-- of one service the grant, the identifiers and the group as sent, how long the grant may be used, the result, and whether the
+-- grant is the last (section 8.16)
 abbrev pub service_parts : RequestType → TermsView → ServiceAnswer → List AvpView
 service_parts type terms service =
     option_to_list (option_map granted service.grant) ++ map (sent32 SERVICE_IDENTIFIER) service.ids ++
     option_to_list (option_map (sent32 RATING_GROUP) service.group) ++ validity_avps type terms service.grant ++
     sent32 RESULT_CODE (result_number service.result) ∷ final_avps service.is_final
 
--- a service at the message's level shows its grant alone, and how it may be used behind a price and a balance
+-- one at the message's level shows its grant alone among the services
 abbrev pub service_avps : RequestType → TermsView → Form → ServiceAnswer → List AvpView
 service_avps type terms Single service = option_to_list (option_map granted service.grant)
 service_avps type terms Multi service = grouped MULTIPLE_SERVICES_CREDIT_CONTROL (service_parts type terms service) ∷ []
 
-abbrev pub single_validity : RequestType → TermsView → Form → ServiceAnswer → List AvpView
-single_validity type terms Single service = validity_avps type terms service.grant
-single_validity type terms Multi service = []
-
+-- whether the grant is the last then stands behind a price
 abbrev pub single_final : Form → ServiceAnswer → List AvpView
 single_final Single service = final_avps service.is_final
 single_final Multi service = []
+
+-- and how long it may be used behind a balance
+abbrev pub single_validity : RequestType → TermsView → Form → ServiceAnswer → List AvpView
+single_validity type terms Single service = validity_avps type terms service.grant
+single_validity type terms Multi service = []
 
 -- a price in minor units: its digits, and the power of ten that a minor unit is of the currency, in two's complement where it's
 -- below nothing (RFC 8506, sections 8.8 to 8.10)
