@@ -1,9 +1,9 @@
 -- What the layers above know of outcomes and acts without a look into them.
-use Rattle.std.specs.Prelude.{◌≡◌, ℕ, ◌+◌, ◌-◌, ◌≤◌, pos, ◌+ℤ◌, neg_ℤ, ◌≤ℤ◌, Bool, true, false, not, if◌then◌else◌, List, [], ◌∷◌, ◌++◌, length, map, reverse, slice_get, Some, is_some, is_none, IsSomeAnd, ◌⊎◌}
+use Rattle.std.specs.Prelude.{◌≡◌, ℕ, ◌+◌, ◌-◌, ◌≤◌, pos, ◌+ℤ◌, neg_ℤ, ◌≤ℤ◌, Bool, true, false, not, ◌&&◌, if◌then◌else◌, List, [], ◌∷◌, ◌++◌, length, map, reverse, find, slice_get, bytes_eq, Some, is_some, is_none, option_map, IsSomeAnd, ◌⊎◌}
 use Rattle.std.specs.List.{AllByRecursion}
 use Rattle.dcc_tariff.specs.Terms.{TermsView}
 use Rattle.dcc_tariff.specs.Prices.{covers}
-use Rattle.dcc_act.specs.ServiceKeys.{are_apart}
+use Rattle.dcc_act.specs.ServiceKeys.{same_service, are_apart}
 use Rattle.dcc_act.specs.Services.{ServiceView, service_key}
 use Rattle.dcc_act.specs.declared.act.Act.{Act}
 use Rattle.dcc_act.specs.declared.act.Kind.{Kind}
@@ -12,12 +12,13 @@ use Rattle.dcc_act.specs.declared.limits.TheConstants.{MAX_SESSIONS}
 use Rattle.dcc_act.specs.declared.outcome.Outcome.{Outcome}
 use Rattle.dcc_act.specs.declared.outcome.ServiceAnswer.{ServiceAnswer}
 use Rattle.dcc_act.specs.declared.request_key.RequestKey.{RequestKey}
+use Rattle.dcc_act.specs.declared.service_key.ServiceKey.{ServiceKey}
 use Rattle.dcc_model.specs.declared.decide.TheConstants.{CEILING}
 use Rattle.dcc_model.specs.declared.done.Done.{Done}
 use Rattle.dcc_model.specs.Keys.{request_key, ticket, same_key, is_expiry}
-use Rattle.dcc_model.specs.Sessions.{Sid, opens, was_opened, is_open, open_sessions, Live, lives}
+use Rattle.dcc_model.specs.Sessions.{Sid, opens, was_opened, is_open, open_sessions, live, Live, lives}
 use Rattle.dcc_model.specs.Money.{made_price, room}
-use Rattle.dcc_model.specs.Outcomes.{history, first_of, judged, answers, after, is_new, place, outcome, acts, funds, overrun, free, kept, has_top_up, unknown_of, is_unknown, IsOfRequest, IsOfTopUp, IsOfExpiry}
+use Rattle.dcc_model.specs.Outcomes.{history, first_of, answers, after, is_new, place, outcome, acts, funds, overrun, free, kept, has_top_up, unknown_of, is_unknown, IsOfRequest, IsOfTopUp, IsOfExpiry}
 use Rattle.dcc_model.specs.Entries.{entries, sum_of}
 
 -- what comes later changes no outcome
@@ -161,6 +162,16 @@ SessionsOpenOnce = (terms : TermsView) (xs : List Act) → IsOpenedOnce (history
 abbrev pub LiveAreOpen : Type 0
 LiveAreOpen = (terms : TermsView) (xs : List Act)
     → AllByRecursion (λ (held : Live). is_open terms (history terms xs) held.sid ≡ true) (lives terms (history terms xs))
+
+-- a live grant of this session and this service
+abbrev pub is_at : Sid → ServiceKey → Live → Bool
+is_at sid key held = bytes_eq sid held.sid && same_service held.key key
+
+-- a service's live grant, which the last act that named the service made, is the one that all live grants have for it
+abbrev pub LiveIsFound : Type 0
+LiveIsFound = (terms : TermsView) (xs : List Act) → AreKeyed xs → (sid : Sid) (key : ServiceKey)
+    → live terms (history terms (reverse xs)) sid key
+    ≡ option_map (λ (held : Live). held.grant) (find (is_at sid key) (lives terms (history terms (reverse xs))))
 
 -- a repeat comes to what the first of its key came to, of whatever type it is
 abbrev pub RepeatsAreFirsts : Type 0

@@ -5,7 +5,7 @@ ghost use Rattle.dcc_model.specs.Laws.{LaterChangesNothing, OneMoreAct, AfterSta
 ghost use Rattle.dcc_model.specs.Laws.{ActsAreActs, NoActs, KeptStay, AccountStays, NewIsLast, PlaceHolds, UnknownHasNoPlace};
 ghost use Rattle.dcc_model.specs.Laws.{IdleExpiryHasNoPlace, LastComesAfter, UnknownBefore, RepeatsAreFirsts};
 ghost use Rattle.dcc_model.specs.Laws.{RequestsAreAnswered, TopUpsAreAdded, ExpiriesEnd};
-ghost use Rattle.dcc_model.specs.Laws.{FundsAreLimited, FreeIsCovered, GrantsAreCovered, EntriesAddUp, FewAreOpen, SessionsOpenOnce, LiveAreOpen};
+ghost use Rattle.dcc_model.specs.Laws.{FundsAreLimited, FreeIsCovered, GrantsAreCovered, EntriesAddUp, FewAreOpen, SessionsOpenOnce, LiveAreOpen, LiveIsFound};
 
 /// What comes later changes no outcome.
 pub fn later_acts_change_no_outcome()
@@ -61,10 +61,12 @@ pub fn funds_are_accounted_for()
     ensures entries { EntriesAddUp }
 {}
 
-/// At most 64 sessions are open; a session is opened once, and never again, whether it is open or has ended; and each live
-/// grant is of an open session.
+/// At most 64 sessions are open. A session is opened once, and never again, whether it is open or has ended. Each live
+/// grant is of an open session. A service's live grant, which the last act that named the service made, is the one that all
+/// live grants have for it.
 pub fn sessions_open_once()
     ensures few { FewAreOpen }
     ensures once { SessionsOpenOnce }
     ensures live { LiveAreOpen }
+    ensures found { LiveIsFound }
 {}
