@@ -18,7 +18,7 @@ use Rattle.dcc_model.specs.declared.done.Done.{Done}
 use Rattle.dcc_model.specs.Keys.{request_key, ticket, same_key, is_expiry}
 use Rattle.dcc_model.specs.Sessions.{Sid, opens, was_opened, is_open, open_sessions, live, Live, lives}
 use Rattle.dcc_model.specs.Money.{made_price, room}
-use Rattle.dcc_model.specs.Outcomes.{history, first_of, answers, after, is_new, place, outcome, acts, funds, overrun, free, kept, has_top_up, unknown_of, is_unknown, IsOfRequest, IsOfTopUp, IsOfExpiry}
+use Rattle.dcc_model.specs.Outcomes.{history, answers, after, is_new, place, outcome, acts, funds, overrun, free, kept, has_top_up, unknown_of, is_unknown, IsOfRequest, IsOfTopUp, IsOfExpiry}
 use Rattle.dcc_model.specs.Entries.{entries, sum_of}
 
 -- what comes later changes no outcome
@@ -173,7 +173,12 @@ LiveIsFound = (terms : TermsView) (xs : List Act) → AreKeyed xs → (sid : Sid
     → live terms (history terms (reverse xs)) sid key
     ≡ option_map (λ (held : Live). held.grant) (find (is_at sid key) (lives terms (history terms (reverse xs))))
 
--- a repeat comes to what the first of its key came to, of whatever type it is
+-- a repeat of an act that was made comes to what that act came to, of whatever type it is, and whatever stands between
 abbrev pub RepeatsAreFirsts : Type 0
-RepeatsAreFirsts = (terms : TermsView) (xs : List Act) (act : Act) (first : Done)
-    → first_of (history terms (reverse xs)) act.kind ≡ Some first → after terms xs act ≡ first.outcome
+RepeatsAreFirsts = (terms : TermsView) (xs ys : List Act) (act again : Act) → is_new terms xs act ≡ true → same_key again.kind act.kind ≡ true
+    → after terms (xs ++ act ∷ ys) again ≡ after terms xs act
+
+-- nor is it made again
+abbrev pub RepeatsAreOld : Type 0
+RepeatsAreOld = (terms : TermsView) (xs ys : List Act) (act again : Act) → is_new terms xs act ≡ true → same_key again.kind act.kind ≡ true
+    → is_new terms (xs ++ act ∷ ys) again ≡ false

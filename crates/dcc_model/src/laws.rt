@@ -3,7 +3,7 @@
 
 ghost use Rattle.dcc_model.specs.Laws.{LaterChangesNothing, OneMoreAct, AfterStays, NewStays, PlaceStays, OutcomesStay, ActsStay};
 ghost use Rattle.dcc_model.specs.Laws.{ActsAreActs, NoActs, KeptStay, AccountStays, NewIsLast, PlaceHolds, UnknownHasNoPlace};
-ghost use Rattle.dcc_model.specs.Laws.{IdleExpiryHasNoPlace, LastComesAfter, UnknownBefore, RepeatsAreFirsts};
+ghost use Rattle.dcc_model.specs.Laws.{IdleExpiryHasNoPlace, LastComesAfter, UnknownBefore, RepeatsAreFirsts, RepeatsAreOld};
 ghost use Rattle.dcc_model.specs.Laws.{RequestsAreAnswered, TopUpsAreAdded, ExpiriesEnd};
 ghost use Rattle.dcc_model.specs.Laws.{FundsAreLimited, FreeIsCovered, GrantsAreCovered, EntriesAddUp, FewAreOpen, SessionsOpenOnce, LiveAreOpen, LiveIsFound};
 
@@ -40,9 +40,9 @@ pub fn places_hold()
     ensures idle { IdleExpiryHasNoPlace }
 {}
 
-/// The last act comes to what it does after those before it. A request comes to what a request may come to, before the
-/// first top-up to nothing, and again to what it came to first; a top-up is added, or passes the ceiling; an expiry ends
-/// some number of sessions.
+/// The last act comes to what it does after those before it. Before the first top-up a request is of an unknown user, and
+/// isn't made. A request comes to what a request may come to. A top-up is added, or passes the ceiling. An expiry ends some
+/// number of sessions. A repeat of an act that was made comes to what that act came to. It isn't made again.
 pub fn acts_come_to_their_own()
     ensures last { LastComesAfter }
     ensures unknown { UnknownBefore }
@@ -50,6 +50,7 @@ pub fn acts_come_to_their_own()
     ensures top_ups { TopUpsAreAdded }
     ensures expiries { ExpiriesEnd }
     ensures repeats { RepeatsAreFirsts }
+    ensures old { RepeatsAreOld }
 {}
 
 /// Funds stay within their limits; only what is overrun takes what is free below nothing; each grant costs nothing, or is
