@@ -16,9 +16,10 @@ use Rattle.dcc_act.specs.declared.service_key.ServiceKey.{ServiceKey}
 use Rattle.dcc_model.specs.declared.decide.TheConstants.{CEILING}
 use Rattle.dcc_model.specs.declared.done.Done.{Done}
 use Rattle.dcc_model.specs.Keys.{request_key, ticket, same_key, is_expiry}
-use Rattle.dcc_model.specs.Sessions.{Sid, opens, was_opened, is_open, open_sessions, live, Live, lives}
+use Rattle.dcc_model.specs.Results.{answers_of}
+use Rattle.dcc_model.specs.Sessions.{Sid, looked_at, opens, was_opened, is_open, open_sessions, live, Live, lives}
 use Rattle.dcc_model.specs.Money.{made_price, room}
-use Rattle.dcc_model.specs.Outcomes.{history, answers, after, is_new, place, outcome, acts, funds, overrun, free, kept, has_top_up, unknown_of, is_unknown, IsOfRequest, IsOfTopUp, IsOfExpiry}
+use Rattle.dcc_model.specs.Outcomes.{history, after, is_new, place, outcome, acts, funds, overrun, free, kept, has_top_up, unknown_of, is_unknown, IsOfRequest, IsOfTopUp, IsOfExpiry}
 use Rattle.dcc_model.specs.Entries.{entries, sum_of}
 
 -- what comes later changes no outcome
@@ -137,9 +138,20 @@ GrantsFit terms past sid services before [] = Unit {0}
 GrantsFit terms past sid services before (answer ∷ rest) =
     (covers (room terms past sid services before) (made_price answer) ≡ true) × GrantsFit terms past sid services (before ++ answer ∷ []) rest
 
+-- what one more act grants is covered: to a session each grant by its room, to a one-time event by what is free; nothing
+-- else grants
+abbrev pub AreCovered : TermsView → List Act → Kind → List ServiceAnswer → Type 0
+AreCovered terms xs (kind.TopUp top_up) made = made ≡ []
+AreCovered terms xs (kind.Initial request) made = GrantsFit terms (history terms (reverse xs)) request.key.sid (looked_at (kind.Initial request)) [] made
+AreCovered terms xs (kind.Update request) made = GrantsFit terms (history terms (reverse xs)) request.key.sid (looked_at (kind.Update request)) [] made
+AreCovered terms xs (kind.Termination request) made = GrantsFit terms (history terms (reverse xs)) request.key.sid (looked_at (kind.Termination request)) [] made
+AreCovered terms xs (kind.Event event) made = AllByRecursion (λ answer. covers (free terms xs) (made_price answer) ≡ true) made
+AreCovered terms xs kind.Expiry made = made ≡ []
+
+-- so is what each new act came to; a refusal has no answers
 abbrev pub GrantsAreCovered : Type 0
-GrantsAreCovered = (terms : TermsView) (past : List Done) (sid : Sid) (services : List ServiceView)
-    → GrantsFit terms past sid services [] (answers terms past sid services [] services)
+GrantsAreCovered = (terms : TermsView) (xs : List Act) (act : Act) → is_new terms xs act ≡ true
+    → AreCovered terms xs act.kind (answers_of (after terms xs act))
 
 -- the entries add up to the funds
 abbrev pub EntriesAddUp : Type 0

@@ -53,8 +53,9 @@ pub fn acts_come_to_their_own()
     ensures old { RepeatsAreOld }
 {}
 
-/// Funds stay within their limits; only what is overrun takes what is free below nothing; each grant costs nothing, or is
-/// within the room that the grants before it leave; and the entries in the books add up to the funds.
+/// Funds stay within 10^18 on either side. Only what is overrun takes what is free below nothing. What a new act grants costs
+/// nothing, or is within the room that the grants before it leave, or, to a one-time event, within what is free. The entries
+/// in the books add up to the funds.
 pub fn funds_are_accounted_for()
     ensures limited { FundsAreLimited }
     ensures covered { FreeIsCovered }
