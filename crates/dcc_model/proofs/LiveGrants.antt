@@ -29,7 +29,7 @@ use Rattle.dcc_model.proofs.Grants.{same_service-true, same_sid, sid_is_own, sta
 use Rattle.dcc_model.proofs.Escrow.{apart_parts}
 use Rattle.dcc_model.proofs.EscrowLaw.{begun_served, reported_served, keys_looked_at, all_reverse}
 use Rattle.dcc_model.proofs.OpenSessions.{Opens, opens_what_may, own_sid, apart_both_ways, open_before}
-use Rattle.dcc_model.proofs.Lives.{AllSuit, answers_suit, no_grant, AllAreOpen, decided_open, live_are_open}
+use Rattle.dcc_model.proofs.Lives.{AllSuit, answers_suit, no_grant, AllAreOpen, decided_open, history_live}
 
 abbrev pub grant_of : Live → Grant
 grant_of held = held.grant
@@ -330,7 +330,7 @@ found_in : (terms : TermsView) (xs : List Act) → AreKeyed xs → IsFound terms
 found_in terms [] keyed sid key = refl
 found_in terms (act ∷ earlier) keyed sid key =
     let past = history terms earlier in
-    let before = live_are_open terms earlier in
+    let before = history_live terms earlier in
     elim (cases_Bool (is_made terms past act)) [
       | inl t ↦ rw t (
           let is = judged_new terms past act t in

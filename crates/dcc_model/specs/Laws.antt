@@ -159,7 +159,7 @@ EntriesAddUp = (terms : TermsView) (xs : List Act) → sum_of (entries terms xs)
 
 -- a subscriber has at most 64 sessions open
 abbrev pub FewAreOpen : Type 0
-FewAreOpen = (terms : TermsView) (xs : List Act) → length (open_sessions terms (history terms xs)) ≤ MAX_SESSIONS
+FewAreOpen = (terms : TermsView) (xs : List Act) → length (open_sessions terms (history terms (reverse xs))) ≤ MAX_SESSIONS
 
 -- a session is opened once: never again, whether it is open or has ended
 abbrev pub IsOpenedOnce : List Done → Type 0
@@ -168,12 +168,12 @@ IsOpenedOnce (done ∷ past) =
     ((sid : Sid) → opens done sid ≡ true → was_opened past sid ≡ false) × IsOpenedOnce past
 
 abbrev pub SessionsOpenOnce : Type 0
-SessionsOpenOnce = (terms : TermsView) (xs : List Act) → IsOpenedOnce (history terms xs)
+SessionsOpenOnce = (terms : TermsView) (xs : List Act) → IsOpenedOnce (history terms (reverse xs))
 
 -- each live grant is of an open session
 abbrev pub LiveAreOpen : Type 0
 LiveAreOpen = (terms : TermsView) (xs : List Act)
-    → AllByRecursion (λ (held : Live). is_open terms (history terms xs) held.sid ≡ true) (lives terms (history terms xs))
+    → AllByRecursion (λ (held : Live). is_open terms (history terms (reverse xs)) held.sid ≡ true) (lives terms (history terms (reverse xs)))
 
 -- a live grant of this session and this service
 abbrev pub is_at : Sid → ServiceKey → Live → Bool
