@@ -160,6 +160,7 @@ fn make_reply(alloc: Global) -> Result<Reply> {
                 block: 1000,
             },
         }),
+        is_final: false,
     };
     let services = ServiceAnswers::from_vec(vec![in alloc; service]?).context("services")?;
     Ok(Reply {

@@ -1,5 +1,5 @@
 -- The answers to the services of a request, one after another.
-use Rattle.std.proofs.Common.{◌≡◌, ◌&&◌, ℕ, suc, ◌+◌, ◌<◌, ◌≤◌, Bool, true, false, cond, List, [], ◌∷◌, ◌++◌, length, take, drop, get_or, map, sum_by, refl, sym, ap, ◌∙◌, arith, inl, inr, Option, Some, None, is_none, ◌==◌}
+use Rattle.std.proofs.Common.{◌≡◌, ◌&&◌, ℕ, suc, ◌+◌, ◌<◌, ◌≤◌, true, List, [], ◌∷◌, ◌++◌, length, take, drop, get_or, map, sum_by, refl, sym, ap, ◌∙◌, arith, inl, inr, Option, Some, None, is_none, ◌==◌}
 use Rattle.std.specs.Prelude.{nat_le}
 use Rattle.std.specs.Prelude.{ℤ, pos, filter_map, option_map}
 use Rattle.std.specs.Option.{option_to_list}
@@ -22,7 +22,7 @@ use Rattle.dcc_model.specs.declared.done.Done.{Done}
 use Rattle.dcc_model.specs.Sessions.{Sid, without_report, without_asked}
 use Rattle.dcc_model.specs.declared.judgement.Standing.{Standing}
 use Rattle.dcc_model.specs.Money.{asked_units, is_unrated, charge, room, funds_of, free_of, overrun_of}
-use Rattle.dcc_model.specs.Outcomes.{answer_with, granted, granted_within, asked_answer, answer_to, answers, standing_of}
+use Rattle.dcc_model.specs.Outcomes.{granted, granted_within, asked_answer, answer_to, answers, standing_of}
 use Rattle.dcc_model.specs.Entries.{charge_entry, charge_entries}
 
 abbrev pub count_ids : List ServiceView → ℕ
@@ -56,18 +56,18 @@ ids_without_asked (service ∷ services) =
 
 -- an answer has the identifiers of its service
 granted_ids : (service : ServiceView) (asked : Grant) (units : ℕ) → (granted service asked units).ids ≡ service.ids
-granted_ids service asked units = elim (cases_Bool (units == 0)) [ | inl t ↦ rw t refl | inr f ↦ rw f refl ]
+granted_ids service asked units = elim (cases_Bool (units == 0)) [ inl t ↦ rw t refl | inr f ↦ rw f refl ]
 
 within_ids : (service : ServiceView) (space : ℤ) (asked : Option Grant) → (granted_within service space asked).ids ≡ service.ids
 within_ids service space None = refl
 within_ids service space (Some asked) = granted_ids service asked (best asked.tariff asked.units space)
 
 asked_ids : (service : ServiceView) (space : ℤ) → (asked_answer service space).ids ≡ service.ids
-asked_ids service space = elim (cases_Bool (is_none service.asked)) [ | inl t ↦ rw t refl | inr f ↦ rw f (within_ids service space (asked_units service)) ]
+asked_ids service space = elim (cases_Bool (is_none service.asked)) [ inl t ↦ rw t refl | inr f ↦ rw f (within_ids service space (asked_units service)) ]
 
 pub answer_ids : (terms : TermsView) (past : List Done) (sid : Sid) (service : ServiceView) (space : ℤ) → (answer_to terms past sid service space).ids ≡ service.ids
 answer_ids terms past sid service space =
-    elim (cases_Bool (is_unrated terms past sid service)) [ | inl t ↦ rw t refl | inr f ↦ rw f (asked_ids service space) ]
+    elim (cases_Bool (is_unrated terms past sid service)) [ inl t ↦ rw t refl | inr f ↦ rw f (asked_ids service space) ]
 
 -- one more service is answered in the room that those before leave
 pub answers_more : (terms : TermsView) (past : List Done) (sid : Sid) (services : List ServiceView) (before : List ServiceAnswer) (i : ℕ) (service : ServiceView) (answer : ServiceAnswer)

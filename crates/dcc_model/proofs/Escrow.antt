@@ -19,9 +19,9 @@ use Rattle.dcc_model.specs.Results.{answers_of}
 use Rattle.dcc_model.specs.Sessions.{Sid, Live, is_sid, accepted_by, session_of, ends, names, named, made_by, live_of, lives, goes_on, is_named, looked_at}
 use Rattle.dcc_model.specs.Money.{charge, charges, overruns, live_price, held_price, made_price, is_replaced, reserved_of, reserved_beside, charged, overran, credit, debit, funds_of, free_of, overrun_of, room}
 use Rattle.dcc_model.specs.Outcomes.{answers}
-use Rattle.dcc_model.specs.Laws.{GrantsFit}
+use Rattle.dcc_model.specs.Laws.{GrantsFit, is_at}
 use Rattle.dcc_model.proofs.Sums.{sum_filter_both, sum_filter_more, sum_filter_le}
-use Rattle.dcc_model.proofs.Grants.{is_at, live_among, same_service-true}
+use Rattle.dcc_model.proofs.Grants.{live_among, same_service-true}
 use Rattle.dcc_model.proofs.Funds.{covers_parts}
 use Rattle.dcc_model.proofs.Rooms.{grants_fit}
 

@@ -1,5 +1,5 @@
 -- A live grant is among all live grants.
-use Rattle.std.proofs.Common.{◌≡◌, ℕ, ◌≤◌, Bool, true, false, not, ◌&&◌, List, [], ◌∷◌, refl, sym, ap, ◌∙◌, arith, inl, inr, filter, filter_map, sum_by, bytes_eq, Option, Some, None, option_map}
+use Rattle.std.proofs.Common.{◌≡◌, ℕ, ◌≤◌, true, false, not, ◌&&◌, List, [], ◌∷◌, refl, sym, ap, ◌∙◌, arith, inl, inr, filter, filter_map, sum_by, bytes_eq, Option, Some, None, option_map}
 use Rattle.std.specs.Prelude.{find, unwrap_or}
 use Rattle.std.specs.List.{list_any, cons_option}
 use Rattle.std.specs.Option.{option_map_or, option_and_then}
@@ -18,6 +18,7 @@ use Rattle.dcc_model.specs.declared.done.Done.{Done}
 use Rattle.dcc_model.specs.Results.{answers_of}
 use Rattle.dcc_model.specs.Sessions.{Sid, Live, is_sid, session_of, opens, ends, names, named, made_by, live_of, is_open, lives, goes_on, looked_at}
 use Rattle.dcc_model.specs.Money.{grant_price, live_price, held_price}
+use Rattle.dcc_model.specs.Laws.{is_at}
 use Rattle.dcc_model.proofs.Sums.{sum_filter_twice}
 
 same_number-true : (a b : Option ℕ) → same_number a b ≡ true → a ≡ b
@@ -40,10 +41,6 @@ same_sid a b h = (bytes_eq-Decides a b).0 h
 
 pub sid_is_own : (a : Sid) → bytes_eq a a ≡ true
 sid_is_own a = (bytes_eq-Decides a a).1 refl
-
--- a live grant of this service
-abbrev pub is_at : Sid → ServiceKey → Live → Bool
-is_at sid key held = bytes_eq sid held.sid && same_service held.key key
 
 first_among : (sid : Sid) (key own : ServiceKey) (grant : Option Grant) (rest : List Live) → same_service own key ≡ true
     → option_map_or grant_price grant 0 ≤ sum_by held_price (filter (is_at sid key) (cons_option (option_map (λ grant. record { sid = sid; key = own; grant = grant }) grant) rest))

@@ -1,7 +1,6 @@
 -- The laws of outcomes and acts.
-use Rattle.std.proofs.Common.{◌≡◌, inl, inr, ℕ, ◌+◌, ◌-◌, true, List, ◌++◌, length, take, reverse, refl, sym, ap, ◌∙◌, arith, Option, Some, None, is_some, option_map}
+use Rattle.std.proofs.Common.{◌≡◌, ℕ, ◌+◌, ◌-◌, true, List, ◌++◌, length, take, reverse, refl, sym, ap, ◌∙◌, arith, Option, Some, None, is_some, option_map}
 use Rattle.std.specs.Prelude.{slice_get}
-use Rattle.std.proofs.lemmas.Bool.{cases_Bool}
 use Rattle.dcc_tariff.specs.Terms.{TermsView}
 use Rattle.dcc_act.specs.declared.act.Act.{Act}
 use Rattle.dcc_act.specs.declared.act.Kind.{Kind}
@@ -10,12 +9,11 @@ use Rattle.dcc_act.specs.declared.outcome.Outcome.{Outcome}
 use Rattle.dcc_model.specs.declared.done.Done.{Done}
 use Rattle.dcc_model.specs.Keys.{request_key, ticket, is_expiry}
 use Rattle.dcc_model.specs.Money.{funds_of, overrun_of, free_of}
-use Rattle.dcc_model.specs.Outcomes.{is_made, place_of, history, after, is_new, place, outcome, acts, funds, overrun, free, kept_of, kept, first_of, has_account, IsOfRequest, IsOfTopUp, IsOfExpiry}
+use Rattle.dcc_model.specs.Outcomes.{is_made, place_of, history, after, is_new, place, outcome, acts, funds, overrun, free, kept_of, kept, IsOfRequest, IsOfTopUp, IsOfExpiry}
 use Rattle.dcc_model.specs.Entries.{entries_of, entries}
 use Rattle.dcc_model.specs.Laws.{LaterChangesNothing, LastComesAfter, OneMoreAct, AfterStays, NewStays, PlaceStays, OutcomesStay, ActsStay, ActsAreActs, NoActs, KeptStay, AccountStays}
-use Rattle.dcc_model.specs.Laws.{UnknownBefore, RequestsAreAnswered, TopUpsAreAdded, ExpiriesEnd, RepeatsAreFirsts}
+use Rattle.dcc_model.specs.Laws.{UnknownBefore, RequestsAreAnswered, TopUpsAreAdded, ExpiriesEnd}
 use Rattle.dcc_model.proofs.Histories.{history-acts, acts_by_history, after_by_history, history_of_acts, outcome_behind, outcome_last, outcome_before, one_more}
-use Rattle.dcc_model.proofs.Places.{nothing_made}
 use Rattle.dcc_model.proofs.Requests.{IsOf, after_is_of, after_no_top_up, old_no_top_up}
 
 pub later_changes_nothing : LaterChangesNothing
@@ -110,17 +108,3 @@ top_ups_are_added terms xs act top = top_up_of act.kind (after terms xs act) top
 
 pub expiries_end : ExpiriesEnd
 expiries_end terms xs act expiry = expiry_of act.kind (after terms xs act) expiry (after_is_of terms xs act)
-
--- where an act of its key was made, there is an account
-account_where_made : (terms : TermsView) (all : List Act) (k : Kind) (first : Done) → first_of (history terms all) k ≡ Some first → has_account (history terms all) ≡ true
-account_where_made terms all k first is =
-    elim (cases_Bool (has_account (history terms all))) [
-      | inl t ↦ t
-      | inr f ↦ let none = nothing_made terms all f in let nothing : first_of (history terms all) k ≡ None = ap (λ (past : List Done). first_of past k) none in absurd cc
-    ]
-
-pub repeats_are_firsts : RepeatsAreFirsts
-unfolding after
-repeats_are_firsts terms xs act first is =
-    let account = account_where_made terms (reverse xs) act.kind first is in
-    rw (account, is) refl

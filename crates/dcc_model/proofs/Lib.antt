@@ -16,3 +16,4 @@ pub mod EscrowLaw
 pub mod OpenSessions
 pub mod Lives
 pub mod LiveGrants
+pub mod Repeats

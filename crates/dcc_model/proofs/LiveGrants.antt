@@ -1,5 +1,5 @@
 -- A service's live grant, by a look back, is the one that all live grants have for its session and its key.
-use Rattle.std.proofs.Common.{◌≡◌, ℕ, Bool, true, false, not, ◌&&◌, ◌||◌, List, [], ◌∷◌, map, refl, sym, ap, subst, ◌∙◌, inl, inr, ◌⊎◌, filter, filter_map, bytes_eq, Option, Some, None, is_some, is_none, option_map}
+use Rattle.std.proofs.Common.{◌≡◌, ℕ, Bool, true, false, not, ◌&&◌, ◌||◌, List, [], ◌∷◌, map, reverse, refl, sym, ap, subst, ◌∙◌, inl, inr, ◌⊎◌, filter, filter_map, bytes_eq, Option, Some, None, is_some, is_none, option_map}
 use Rattle.std.specs.Prelude.{find, unwrap_or}
 use Rattle.std.specs.List.{list_any, cons_option}
 use Rattle.std.specs.Option.{option_and_then, option_or}
@@ -22,14 +22,14 @@ use Rattle.dcc_model.specs.declared.done.Done.{Done}
 use Rattle.dcc_model.specs.Results.{succeeded, refused, answers_of}
 use Rattle.dcc_model.specs.Sessions.{Sid, Live, is_sid, opens_by, session_of, opens, ends, is_open, was_opened, named, is_named, looked_at, names, made, last_grant, live, live_of, made_by, goes_on, lives}
 use Rattle.dcc_model.specs.Outcomes.{answers, decided, is_made, history}
-use Rattle.dcc_model.specs.Laws.{services_of, AreKeyed}
+use Rattle.dcc_model.specs.Laws.{services_of, AreKeyed, is_at, LiveIsFound}
 use Rattle.dcc_model.proofs.Histories.{judged_new}
 use Rattle.dcc_model.proofs.Funds.{done_as}
-use Rattle.dcc_model.proofs.Grants.{is_at, same_service-true, same_sid, sid_is_own, stays_at}
+use Rattle.dcc_model.proofs.Grants.{same_service-true, same_sid, sid_is_own, stays_at}
 use Rattle.dcc_model.proofs.Escrow.{apart_parts}
-use Rattle.dcc_model.proofs.EscrowLaw.{begun_served, reported_served, keys_looked_at}
+use Rattle.dcc_model.proofs.EscrowLaw.{begun_served, reported_served, keys_looked_at, all_reverse}
 use Rattle.dcc_model.proofs.OpenSessions.{Opens, opens_what_may, own_sid, apart_both_ways, open_before}
-use Rattle.dcc_model.proofs.Lives.{AllSuit, answers_suit, no_grant, AllAreOpen, decided_open, live_are_open}
+use Rattle.dcc_model.proofs.Lives.{AllSuit, answers_suit, no_grant, AllAreOpen, decided_open, history_live}
 
 abbrev pub grant_of : Live → Grant
 grant_of held = held.grant
@@ -326,17 +326,21 @@ found_with terms past done new serves before all found sid key =
     ]
 
 -- a service's live grant is the one of its session and its key among all live grants
-pub live_is_found : (terms : TermsView) (xs : List Act) → AreKeyed xs → IsFound terms (history terms xs)
-live_is_found terms [] keyed sid key = refl
-live_is_found terms (act ∷ earlier) keyed sid key =
+found_in : (terms : TermsView) (xs : List Act) → AreKeyed xs → IsFound terms (history terms xs)
+found_in terms [] keyed sid key = refl
+found_in terms (act ∷ earlier) keyed sid key =
     let past = history terms earlier in
-    let before = live_are_open terms earlier in
+    let before = history_live terms earlier in
     elim (cases_Bool (is_made terms past act)) [
       | inl t ↦ rw t (
           let is = judged_new terms past act t in
           subst (λ (outcome : Outcome). live terms (record { act = act; outcome = outcome } ∷ past) sid key
           ≡ option_map grant_of (find (is_at sid key) (lives terms (record { act = act; outcome = outcome } ∷ past)))) (sym is)
           (found_with terms past (done_as act.moment act.kind (decided terms past act.moment act.kind)) (record { may = opens_what_may terms past act.moment act.kind })
-          (decided_serves terms past act.moment act.kind keyed.0) before (decided_open terms past act.moment act.kind before) (live_is_found terms earlier keyed.1) sid key))
-      | inr f ↦ rw f (live_is_found terms earlier keyed.1 sid key)
+          (decided_serves terms past act.moment act.kind keyed.0) before (decided_open terms past act.moment act.kind before) (found_in terms earlier keyed.1) sid key))
+      | inr f ↦ rw f (found_in terms earlier keyed.1 sid key)
     ]
+
+pub live_is_found : LiveIsFound
+live_is_found terms xs keyed =
+    found_in terms (reverse xs) (all_reverse (λ (act : Act). are_apart (map service_key (services_of act.kind)) ≡ true) xs keyed)

@@ -1,5 +1,5 @@
 -- Each live grant is of an open session.
-use Rattle.std.proofs.Common.{◌≡◌, ℕ, ℤ, Bool, true, false, not, ◌&&◌, ◌||◌, ◌==◌, List, [], ◌∷◌, ◌++◌, map, refl, sym, ap, subst, ◌∙◌, inl, inr, ◌⊎◌, filter, filter_map, Option, Some, None, is_none, option_map}
+use Rattle.std.proofs.Common.{◌≡◌, ℕ, ℤ, Bool, true, false, not, ◌&&◌, ◌||◌, ◌==◌, List, [], ◌∷◌, ◌++◌, map, reverse, refl, sym, ap, subst, ◌∙◌, inl, inr, ◌⊎◌, filter, filter_map, Option, Some, None, is_none, option_map}
 use Rattle.std.specs.Prelude.{⊤}
 use Rattle.std.specs.List.{cons_option, AllByRecursion}
 use Rattle.std.proofs.lemmas.Bool.{cases_Bool, not-true, or_parts, or_left, or_right}
@@ -7,6 +7,7 @@ use Rattle.dcc_tariff.specs.Terms.{TermsView}
 use Rattle.dcc_tariff.specs.Prices.{best}
 use Rattle.dcc_act.specs.Answers.{answer_key}
 use Rattle.dcc_act.specs.Services.{ServiceView, service_key}
+use Rattle.dcc_act.specs.declared.act.Act.{Act}
 use Rattle.dcc_act.specs.declared.act.Kind.{Kind}
 use Rattle.dcc_act.specs.declared.act.Kind.TheVariants as kind
 use Rattle.dcc_act.specs.declared.grant.Grant.{Grant}
@@ -235,11 +236,12 @@ decided_open terms past moment k before =
     all_append (λ (held : Live). is_open terms (done ∷ past) held.sid ≡ true) (made_by done) (filter (goes_on terms past done) (lives terms past))
     (decided_made terms past moment k) (went_on terms past done (lives terms past) before)
 
-pub live_are_open : LiveAreOpen
-live_are_open terms [] = tt
-live_are_open terms (act ∷ earlier) =
+-- each live grant after these, the latest first, is of an open session
+pub history_live : (terms : TermsView) (all : List Act) → AllAreOpen terms (history terms all) (lives terms (history terms all))
+history_live terms [] = tt
+history_live terms (act ∷ earlier) =
     let past = history terms earlier in
-    let before = live_are_open terms earlier in
+    let before = history_live terms earlier in
     elim (cases_Bool (is_made terms past act)) [
       | inl t ↦ rw t (
           let is = judged_new terms past act t in
@@ -247,3 +249,6 @@ live_are_open terms (act ∷ earlier) =
           (decided_open terms past act.moment act.kind before))
       | inr f ↦ rw f before
     ]
+
+pub live_are_open : LiveAreOpen
+live_are_open terms xs = history_live terms (reverse xs)

@@ -1,5 +1,5 @@
 -- A session is opened once, and few are open.
-use Rattle.std.proofs.Common.{◌≡◌, ℕ, ◌+◌, ◌≤◌, Bool, true, false, not, ◌&&◌, ◌||◌, List, [], ◌∷◌, length, refl, sym, ap, subst, ◌∙◌, arith, inl, inr, filter, bytes_eq, Option, Some, None}
+use Rattle.std.proofs.Common.{◌≡◌, ℕ, ◌+◌, ◌≤◌, Bool, true, false, not, ◌&&◌, ◌||◌, List, [], ◌∷◌, length, reverse, refl, sym, ap, subst, ◌∙◌, arith, inl, inr, filter, bytes_eq, Option, Some, None}
 use Rattle.std.specs.List.{cons_option, AllByRecursion}
 use Rattle.std.proofs.lemmas.Bool.{cases_Bool, and_parts, or_parts}
 use Rattle.std.proofs.lemmas.Bool.Decides.{nat_tests}
@@ -70,7 +70,7 @@ once_in terms (done ∷ past) all =
     ((λ sid h. let is = own_sid (opens_by done.act.kind done.outcome) sid h in (all.0.may sid is).new), once_in terms past all.1)
 
 pub sessions_open_once : SessionsOpenOnce
-sessions_open_once terms xs = once_in terms (history terms xs) (history_opens terms xs)
+sessions_open_once terms xs = once_in terms (history terms (reverse xs)) (history_opens terms (reverse xs))
 
 pub apart_both_ways : (a b : Sid) → bytes_eq a b ≡ false → bytes_eq b a ≡ false
 apart_both_ways a b h =
@@ -143,4 +143,4 @@ few_in terms [] all = omega arith
 few_in terms (done ∷ past) all = few_with terms past done (opens_by done.act.kind done.outcome) refl all.0 (few_in terms past all.1)
 
 pub few_are_open : FewAreOpen
-few_are_open terms xs = few_in terms (history terms xs) (history_opens terms xs)
+few_are_open terms xs = few_in terms (history terms (reverse xs)) (history_opens terms (reverse xs))

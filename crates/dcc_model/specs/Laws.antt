@@ -1,9 +1,9 @@
 -- What the layers above know of outcomes and acts without a look into them.
-use Rattle.std.specs.Prelude.{◌≡◌, ℕ, ◌+◌, ◌-◌, ◌≤◌, pos, ◌+ℤ◌, neg_ℤ, ◌≤ℤ◌, Bool, true, false, not, if◌then◌else◌, List, [], ◌∷◌, ◌++◌, length, map, reverse, slice_get, Some, is_some, is_none, IsSomeAnd, ◌⊎◌}
+use Rattle.std.specs.Prelude.{◌≡◌, ℕ, ◌+◌, ◌-◌, ◌≤◌, pos, ◌+ℤ◌, neg_ℤ, ◌≤ℤ◌, Bool, true, false, not, ◌&&◌, if◌then◌else◌, List, [], ◌∷◌, ◌++◌, length, map, reverse, find, slice_get, bytes_eq, Some, is_some, is_none, option_map, IsSomeAnd, ◌⊎◌}
 use Rattle.std.specs.List.{AllByRecursion}
 use Rattle.dcc_tariff.specs.Terms.{TermsView}
 use Rattle.dcc_tariff.specs.Prices.{covers}
-use Rattle.dcc_act.specs.ServiceKeys.{are_apart}
+use Rattle.dcc_act.specs.ServiceKeys.{same_service, are_apart}
 use Rattle.dcc_act.specs.Services.{ServiceView, service_key}
 use Rattle.dcc_act.specs.declared.act.Act.{Act}
 use Rattle.dcc_act.specs.declared.act.Kind.{Kind}
@@ -12,12 +12,14 @@ use Rattle.dcc_act.specs.declared.limits.TheConstants.{MAX_SESSIONS}
 use Rattle.dcc_act.specs.declared.outcome.Outcome.{Outcome}
 use Rattle.dcc_act.specs.declared.outcome.ServiceAnswer.{ServiceAnswer}
 use Rattle.dcc_act.specs.declared.request_key.RequestKey.{RequestKey}
+use Rattle.dcc_act.specs.declared.service_key.ServiceKey.{ServiceKey}
 use Rattle.dcc_model.specs.declared.decide.TheConstants.{CEILING}
 use Rattle.dcc_model.specs.declared.done.Done.{Done}
 use Rattle.dcc_model.specs.Keys.{request_key, ticket, same_key, is_expiry}
-use Rattle.dcc_model.specs.Sessions.{Sid, opens, was_opened, is_open, open_sessions, Live, lives}
+use Rattle.dcc_model.specs.Results.{answers_of}
+use Rattle.dcc_model.specs.Sessions.{Sid, looked_at, opens, was_opened, is_open, open_sessions, live, Live, lives}
 use Rattle.dcc_model.specs.Money.{made_price, room}
-use Rattle.dcc_model.specs.Outcomes.{history, first_of, judged, answers, after, is_new, place, outcome, acts, funds, overrun, free, kept, has_top_up, unknown_of, is_unknown, IsOfRequest, IsOfTopUp, IsOfExpiry}
+use Rattle.dcc_model.specs.Outcomes.{history, after, is_new, place, outcome, acts, funds, overrun, free, kept, has_top_up, unknown_of, is_unknown, IsOfRequest, IsOfTopUp, IsOfExpiry}
 use Rattle.dcc_model.specs.Entries.{entries, sum_of}
 
 -- what comes later changes no outcome
@@ -136,9 +138,20 @@ GrantsFit terms past sid services before [] = Unit {0}
 GrantsFit terms past sid services before (answer ∷ rest) =
     (covers (room terms past sid services before) (made_price answer) ≡ true) × GrantsFit terms past sid services (before ++ answer ∷ []) rest
 
+-- what one more act grants is covered: to a session each grant by its room, to a one-time event by what is free; nothing
+-- else grants
+abbrev pub AreCovered : TermsView → List Act → Kind → List ServiceAnswer → Type 0
+AreCovered terms xs (kind.TopUp top_up) made = made ≡ []
+AreCovered terms xs (kind.Initial request) made = GrantsFit terms (history terms (reverse xs)) request.key.sid (looked_at (kind.Initial request)) [] made
+AreCovered terms xs (kind.Update request) made = GrantsFit terms (history terms (reverse xs)) request.key.sid (looked_at (kind.Update request)) [] made
+AreCovered terms xs (kind.Termination request) made = GrantsFit terms (history terms (reverse xs)) request.key.sid (looked_at (kind.Termination request)) [] made
+AreCovered terms xs (kind.Event event) made = AllByRecursion (λ answer. covers (free terms xs) (made_price answer) ≡ true) made
+AreCovered terms xs kind.Expiry made = made ≡ []
+
+-- so is what each new act came to; a refusal has no answers
 abbrev pub GrantsAreCovered : Type 0
-GrantsAreCovered = (terms : TermsView) (past : List Done) (sid : Sid) (services : List ServiceView)
-    → GrantsFit terms past sid services [] (answers terms past sid services [] services)
+GrantsAreCovered = (terms : TermsView) (xs : List Act) (act : Act) → is_new terms xs act ≡ true
+    → AreCovered terms xs act.kind (answers_of (after terms xs act))
 
 -- the entries add up to the funds
 abbrev pub EntriesAddUp : Type 0
@@ -146,7 +159,7 @@ EntriesAddUp = (terms : TermsView) (xs : List Act) → sum_of (entries terms xs)
 
 -- a subscriber has at most 64 sessions open
 abbrev pub FewAreOpen : Type 0
-FewAreOpen = (terms : TermsView) (xs : List Act) → length (open_sessions terms (history terms xs)) ≤ MAX_SESSIONS
+FewAreOpen = (terms : TermsView) (xs : List Act) → length (open_sessions terms (history terms (reverse xs))) ≤ MAX_SESSIONS
 
 -- a session is opened once: never again, whether it is open or has ended
 abbrev pub IsOpenedOnce : List Done → Type 0
@@ -155,14 +168,29 @@ IsOpenedOnce (done ∷ past) =
     ((sid : Sid) → opens done sid ≡ true → was_opened past sid ≡ false) × IsOpenedOnce past
 
 abbrev pub SessionsOpenOnce : Type 0
-SessionsOpenOnce = (terms : TermsView) (xs : List Act) → IsOpenedOnce (history terms xs)
+SessionsOpenOnce = (terms : TermsView) (xs : List Act) → IsOpenedOnce (history terms (reverse xs))
 
 -- each live grant is of an open session
 abbrev pub LiveAreOpen : Type 0
 LiveAreOpen = (terms : TermsView) (xs : List Act)
-    → AllByRecursion (λ (held : Live). is_open terms (history terms xs) held.sid ≡ true) (lives terms (history terms xs))
+    → AllByRecursion (λ (held : Live). is_open terms (history terms (reverse xs)) held.sid ≡ true) (lives terms (history terms (reverse xs)))
 
--- a repeat comes to what the first of its key came to, of whatever type it is
+-- a live grant of this session and this service
+abbrev pub is_at : Sid → ServiceKey → Live → Bool
+is_at sid key held = bytes_eq sid held.sid && same_service held.key key
+
+-- a service's live grant, which the last act that named the service made, is the one that all live grants have for it
+abbrev pub LiveIsFound : Type 0
+LiveIsFound = (terms : TermsView) (xs : List Act) → AreKeyed xs → (sid : Sid) (key : ServiceKey)
+    → live terms (history terms (reverse xs)) sid key
+    ≡ option_map (λ (held : Live). held.grant) (find (is_at sid key) (lives terms (history terms (reverse xs))))
+
+-- a repeat of an act that was made comes to what that act came to, of whatever type it is, and whatever stands between
 abbrev pub RepeatsAreFirsts : Type 0
-RepeatsAreFirsts = (terms : TermsView) (xs : List Act) (act : Act) (first : Done)
-    → first_of (history terms (reverse xs)) act.kind ≡ Some first → after terms xs act ≡ first.outcome
+RepeatsAreFirsts = (terms : TermsView) (xs ys : List Act) (act again : Act) → is_new terms xs act ≡ true → same_key again.kind act.kind ≡ true
+    → after terms (xs ++ act ∷ ys) again ≡ after terms xs act
+
+-- nor is it made again
+abbrev pub RepeatsAreOld : Type 0
+RepeatsAreOld = (terms : TermsView) (xs ys : List Act) (act again : Act) → is_new terms xs act ≡ true → same_key again.kind act.kind ≡ true
+    → is_new terms (xs ++ act ∷ ys) again ≡ false

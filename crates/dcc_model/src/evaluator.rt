@@ -91,12 +91,7 @@ fn made(alloc: Global, terms: &Terms, acts: &[Act]) -> Result<Vec<Done>, AllocEr
 }
 
 /// What an act comes to after these.
-fn judged(
-    alloc: Global,
-    terms: &Terms,
-    past: &[Done],
-    act: &Act,
-) -> Result<Outcome, AllocError>
+fn judged(alloc: Global, terms: &Terms, past: &[Done], act: &Act) -> Result<Outcome, AllocError>
     ensures { IfOk result (λ outcome. outcome ≡ judged terms.now (reverse past.now) act.now) }
 {
     if has_account(past) {
@@ -116,12 +111,7 @@ fn judged(
 }
 
 /// What an act comes to that has an account or needs none.
-fn settled(
-    alloc: Global,
-    terms: &Terms,
-    past: &[Done],
-    act: &Act,
-) -> Result<Outcome, AllocError>
+fn settled(alloc: Global, terms: &Terms, past: &[Done], act: &Act) -> Result<Outcome, AllocError>
     ensures { IfOk result (λ outcome. outcome ≡ settled terms.now (reverse past.now) act.now) }
 {
     match first(past, &act.kind) {
@@ -206,11 +196,25 @@ fn decide(
         }
         Kind::Update(report) => {
             let services = looked_at(alloc, kind)?;
-            reported(alloc, terms, past, RequestType::Update, &report.key, &services)
+            reported(
+                alloc,
+                terms,
+                past,
+                RequestType::Update,
+                &report.key,
+                &services,
+            )
         }
         Kind::Termination(report) => {
             let services = looked_at(alloc, kind)?;
-            reported(alloc, terms, past, RequestType::Termination, &report.key, &services)
+            reported(
+                alloc,
+                terms,
+                past,
+                RequestType::Termination,
+                &report.key,
+                &services,
+            )
         }
         Kind::Event(event) => {
             let free = free(alloc, terms, past)?;

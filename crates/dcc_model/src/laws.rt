@@ -3,22 +3,22 @@
 
 ghost use Rattle.dcc_model.specs.Laws.{LaterChangesNothing, OneMoreAct, AfterStays, NewStays, PlaceStays, OutcomesStay, ActsStay};
 ghost use Rattle.dcc_model.specs.Laws.{ActsAreActs, NoActs, KeptStay, AccountStays, NewIsLast, PlaceHolds, UnknownHasNoPlace};
-ghost use Rattle.dcc_model.specs.Laws.{IdleExpiryHasNoPlace, LastComesAfter, UnknownBefore, RepeatsAreFirsts};
+ghost use Rattle.dcc_model.specs.Laws.{IdleExpiryHasNoPlace, LastComesAfter, UnknownBefore, RepeatsAreFirsts, RepeatsAreOld};
 ghost use Rattle.dcc_model.specs.Laws.{RequestsAreAnswered, TopUpsAreAdded, ExpiriesEnd};
-ghost use Rattle.dcc_model.specs.Laws.{FundsAreLimited, FreeIsCovered, GrantsAreCovered, EntriesAddUp, FewAreOpen, SessionsOpenOnce, LiveAreOpen};
+ghost use Rattle.dcc_model.specs.Laws.{FundsAreLimited, FreeIsCovered, GrantsAreCovered, EntriesAddUp, FewAreOpen, SessionsOpenOnce, LiveAreOpen, LiveIsFound};
 
 /// What comes later changes no outcome.
 pub fn later_acts_change_no_outcome()
     ensures { LaterChangesNothing }
 {}
 
-/// One more act stands behind the acts before it where it is new, and else changes none.
+/// One more act stands behind the acts before it where it is new, and else changes nothing.
 pub fn one_more_act()
     ensures { OneMoreAct }
 {}
 
 /// Leaving out what isn't made changes neither what one more act comes to, nor whether it is new, nor its place, nor the
-/// outcomes of what comes later, nor which acts are made; and the account stays as it is.
+/// outcomes of what comes later, nor which acts are made, nor the outcomes that are kept, nor the account.
 pub fn leaving_out_changes_nothing()
     ensures after { AfterStays }
     ensures is_new { NewStays }
@@ -31,8 +31,9 @@ pub fn leaving_out_changes_nothing()
     ensures account { AccountStays }
 {}
 
-/// A new act's place is behind all others; at the place of an act stands one of its key, with the outcome that it comes
-/// to; and only a request of an unknown user has no place, and an expiry that ends nothing.
+/// A new act's place is behind all others. At the place of an act stands that act or one of its key, with the outcome
+/// that it comes to. What is no expiry has no place just where it is of an unknown user. An expiry has none just where it
+/// ends nothing.
 pub fn places_hold()
     ensures last { NewIsLast }
     ensures stands { PlaceHolds }
@@ -40,9 +41,9 @@ pub fn places_hold()
     ensures idle { IdleExpiryHasNoPlace }
 {}
 
-/// The last act comes to what it does after those before it. A request comes to what a request may come to, before the
-/// first top-up to nothing, and again to what it came to first; a top-up is added, or passes the ceiling; an expiry ends
-/// some number of sessions.
+/// The last act comes to what it does after those before it. Before the first top-up a request is of an unknown user and
+/// isn't made. A request comes to what a request may come to. A top-up is added, or passes the ceiling. An expiry ends
+/// some number of sessions. A repeat of an act that was made comes to what that act came to. It isn't made again.
 pub fn acts_come_to_their_own()
     ensures last { LastComesAfter }
     ensures unknown { UnknownBefore }
@@ -50,10 +51,12 @@ pub fn acts_come_to_their_own()
     ensures top_ups { TopUpsAreAdded }
     ensures expiries { ExpiriesEnd }
     ensures repeats { RepeatsAreFirsts }
+    ensures old { RepeatsAreOld }
 {}
 
-/// Funds stay within their limits; only what is overrun takes what is free below nothing; each grant costs nothing, or is
-/// within the room that the grants before it leave; and the entries in the books add up to the funds.
+/// Funds stay within 10^18 on either side. Where each act's services have keys of their own, only what is overrun takes
+/// what is free below nothing. Each grant of a new act costs nothing, or is within its room, or in a one-time event within
+/// what is free. The entries in the books add up to the funds.
 pub fn funds_are_accounted_for()
     ensures limited { FundsAreLimited }
     ensures covered { FreeIsCovered }
@@ -61,10 +64,12 @@ pub fn funds_are_accounted_for()
     ensures entries { EntriesAddUp }
 {}
 
-/// At most 64 sessions are open; a session is opened once, and never again, whether it is open or has ended; and each live
-/// grant is of an open session.
+/// At most 64 sessions are open. A session is opened once, and never again, whether it is open or has ended. Each live
+/// grant is of an open session. Where each act's services have keys of their own, a service's live grant, which the last
+/// act that named the service made, is the one that all live grants have for it.
 pub fn sessions_open_once()
     ensures few { FewAreOpen }
     ensures once { SessionsOpenOnce }
     ensures live { LiveAreOpen }
+    ensures found { LiveIsFound }
 {}

@@ -32,7 +32,12 @@ pub(crate) fn begun(
     if was_opened(past, &key.sid) {
         bare(alloc, RequestType::Initial, key, ResultCode::UnableToComply)
     } else if count_open(terms, past) >= MAX_SESSIONS {
-        bare(alloc, RequestType::Initial, key, ResultCode::ResourcesExceeded)
+        bare(
+            alloc,
+            RequestType::Initial,
+            key,
+            ResultCode::ResourcesExceeded,
+        )
     } else {
         served(alloc, terms, past, RequestType::Initial, key, services)
     }

@@ -69,7 +69,7 @@ fn event_entries(
 ) -> Result<Vec<Entry>, AllocError>
     ensures { IfOk result (λ entries. entries.items
         ≡ option_to_list (option_map (debit_entry place moment event.now) (charged_event event.now outcome.now)) ++
-          option_to_list (option_map (refund_entry place moment event.now) (refunded_event event.now outcome.now))) }
+        option_to_list (option_map (refund_entry place moment event.now) (refunded_event event.now outcome.now))) }
 {
     let mut entries = Vec::new(alloc);
     append(&mut entries, debit_entry(place, moment, event, outcome)?)?;
@@ -92,7 +92,10 @@ fn charge_entries(
     let mut entries = Vec::new(alloc);
     for service in services {
         let cost = charge(terms, past, sid, service);
-        append(&mut entries, charge_entry(place, moment, sid, service, cost)?)?;
+        append(
+            &mut entries,
+            charge_entry(place, moment, sid, service, cost)?,
+        )?;
     }
     Ok(entries)
 }

@@ -5,6 +5,7 @@ mod octets;
 mod refusals;
 mod rows;
 mod scripts;
+mod sessions;
 mod streams;
 
 use crate::{ReplayFault, replay_run};

@@ -5,13 +5,13 @@
 //! and its answer, with type, number and the AVPs behind them, which are joined by `+` and have names where they come more than
 //! once; `cer/..` and `cea/5010/..` for a capabilities exchange; `raw/..` for a message of any header, whose length is put in.
 
-use super::prints;
+use super::{prints, sessions};
 use dcc_samples::{DEBIT, PROXY_INFO, WATCHDOG, WATCHDOG_ANSWER};
 use std::alloc::Global;
 use std::test::Fail;
 
 /// Names that stand in rows for AVPs.
-const NAMED: [(&str, &str); 17] = [
+const NAMED: [(&str, &str); 18] = [
     // Of a gateway: its name, and what it tells of itself beside it.
     (
         "gateway",
@@ -33,12 +33,18 @@ const NAMED: [(&str, &str); 17] = [
         "000001014000000e00017f00000100000000010a4000000c000000000000010d0000000b64636300\
 000001024000000c00000004",
     ),
-    // Of a request: from its Session-Id to its Service-Context-Id, the same without that, and the Session-Id alone.
+    // Of a request: from its Session-Id to its Service-Context-Id, the same without the one and without the other, and the
+    // Session-Id alone.
     (
         "request",
         "00000107400000176777312e6578616d706c653b313b310000000108400000136777312e6578616d706c6500\
 000001284000000f6578616d706c65000000011b4000000f6578616d706c6500000001024000000c00000004\
 000001cd4000001464617461406578616d706c65",
+    ),
+    (
+        "asks",
+        "00000108400000136777312e6578616d706c6500000001284000000f6578616d706c65000000011b4000000f6578616d706c650000000102\
+4000000c00000004000001cd4000001464617461406578616d706c65",
     ),
     (
         "contextless",
@@ -212,7 +218,7 @@ fn prints_each_exchange(rt: HostRuntime) -> Result<(), Fail> {
 }
 
 /// The lines with their words spelled out.
-fn spelled(alloc: Global, lines: &str) -> Result<String, Fail> {
+pub(crate) fn spelled(alloc: Global, lines: &str) -> Result<String, Fail> {
     let mut text = String::new(alloc);
     for line in lines.lines() {
         spell_line(&mut text, alloc, line)?;
@@ -257,6 +263,15 @@ fn octets_of(alloc: Global, word: &str) -> Result<String, Fail> {
             )?;
             message(alloc, "40000110000000040000001100000021", body.as_str())
         }
+        "ccs" => {
+            let number = parts.next().unwrap_or("");
+            let tail = parts.next().unwrap_or("");
+            let body = format!(in alloc;
+                "0000010740000009{first}000000+asks+000001a04000000c0000000{second}+0000019f4000000c0000000{number}+{tail}"
+            )?;
+            message(alloc, "c0000110000000040000001100000021", body.as_str())
+        }
+        "cas" => session_answer(alloc, word),
         "cer" => {
             let body = format!(in alloc; "capabilities+{first}")?;
             message(alloc, "80000101000000000000000300000004", body.as_str())
@@ -269,6 +284,20 @@ fn octets_of(alloc: Global, word: &str) -> Result<String, Fail> {
         "raw" => message(alloc, first, second),
         _ => Ok(String::from_str(alloc, word)?),
     }
+}
+
+/// The answer to a request of a session.
+fn session_answer(alloc: Global, word: &str) -> Result<String, Fail> {
+    let mut parts = word.split('/').skip(1);
+    let session = parts.next().unwrap_or("");
+    let code = code(alloc, parts.next().unwrap_or(""))?;
+    let request = parts.next().unwrap_or("");
+    let number = parts.next().unwrap_or("");
+    let tail = parts.next().unwrap_or("");
+    let body = format!(in alloc;
+        "0000010740000009{session}000000+{code}+server+app+000001a04000000c0000000{request}+0000019f4000000c0000000{number}+{tail}"
+    )?;
+    message(alloc, "40000110000000040000001100000021", body.as_str())
 }
 
 /// A Result-Code.
@@ -290,6 +319,11 @@ fn message(alloc: Global, header: &str, avps: &str) -> Result<String, Fail> {
 /// The octets that a name stands for, or the octets.
 fn named<'a>(avp: &'a str) -> &'a str {
     for (name, octets) in NAMED {
+        if avp == name {
+            return octets;
+        }
+    }
+    for (name, octets) in sessions::NAMED {
         if avp == name {
             return octets;
         }

@@ -1,4 +1,5 @@
-use Rattle.dcc_model.proofs.LawProofs.{last_comes_after, unknown_before, requests_are_answered, top_ups_are_added, expiries_end, repeats_are_firsts}
+use Rattle.dcc_model.proofs.LawProofs.{last_comes_after, unknown_before, requests_are_answered, top_ups_are_added, expiries_end}
+use Rattle.dcc_model.proofs.Repeats.{repeats_are_firsts, repeats_are_old}
 use Rattle.dcc_model.proofs.laws.acts_come_to_their_own.Goals as goal
 
 pub returns : goal.returns
@@ -10,4 +11,5 @@ returns c =
       top_ups = top_ups_are_added;
       expiries = expiries_end;
       repeats = repeats_are_firsts;
+      old = repeats_are_old;
     }

@@ -1,6 +1,5 @@
-use Rattle.std.proofs.Common.{List, sym, ap, ◌∙◌, arith}
+use Rattle.std.proofs.Common.{ap, ◌∙◌, arith}
 use Rattle.std.proofs.lemmas.Result.{IfOk-weaker}
-use Rattle.dcc_act.specs.Services.{ServiceView}
 use Rattle.dcc_model.proofs.Answering.{count_ids, few_ids, ids_without_report, ids_without_asked}
 use Rattle.dcc_model.proofs.looked_at.looked_at.Goals as goal
 

@@ -1,7 +1,7 @@
-use Rattle.std.proofs.Common.{◌≡◌, ◌∷◌, ◌∙◌, List, reverse, ap, to_z, of_z, pos, ◌+ℤ◌, ◌-ℤ◌, arith, sum_by}
+use Rattle.std.proofs.Common.{◌≡◌, ◌∷◌, ◌∙◌, List, reverse, ap, pos, arith, sum_by}
 use Rattle.std.proofs.lemmas.Int.{ints}
-use Rattle.dcc_model.specs.Sessions.{Live, lives}
-use Rattle.dcc_model.specs.Money.{held_price, reserved_of, funds_of, overrun_of}
+use Rattle.dcc_model.specs.Sessions.{Live}
+use Rattle.dcc_model.specs.Money.{held_price, reserved_of}
 use Rattle.dcc_model.proofs.Answering.{standing_is}
 use Rattle.dcc_model.proofs.money.standing_with.Goals as goal
 
