@@ -1,5 +1,5 @@
 -- An account with one more act.
-use Rattle.std.proofs.Common.{◌≡◌, ℕ, ◌+◌, ◌-◌, ◌≤◌, Option, Some, None, option_map, Bool, true, false, cond, List, [], ◌∷◌, ◌++◌, map, reverse, refl, sym, ap, ◌∙◌, arith, inl, inr, append-nil}
+use Rattle.std.proofs.Common.{◌≡◌, ℕ, ◌+◌, ◌-◌, ◌≤◌, Option, Some, None, option_map, Bool, true, cond, List, [], ◌∷◌, ◌++◌, map, reverse, refl, sym, ap, subst, ◌∙◌, arith, inl, inr, append-nil}
 use Rattle.std.specs.Prelude.{MatchOption}
 use Rattle.std.proofs.lemmas.Bool.{cases_Bool}
 use Rattle.std.proofs.lemmas.List.{reverse-append, reverse-reverse, map-append}
@@ -10,9 +10,9 @@ use Rattle.dcc_act.specs.declared.outcome.Outcome.{Outcome}
 use Rattle.dcc_act.specs.declared.request_key.RequestKey.{RequestKey}
 use Rattle.dcc_model.specs.declared.done.Done.{Done}
 use Rattle.dcc_model.specs.declared.judgement.Standing.{Standing}
-use Rattle.dcc_model.specs.Outcomes.{after, judged, history, with_act, is_made, is_new, place_of, place, act_made, acts, standing_of, standing, free, kept_of, kept}
+use Rattle.dcc_model.specs.Outcomes.{after, judged, history, with_act, is_made, is_new, place_of, place, act_made, acts, standing_of, standing, funds, free, kept_of, kept}
 use Rattle.dcc_model.specs.Entries.{entries_of, entries_with, entries}
-use Rattle.dcc_model.specs.Laws.{OneMoreAct}
+use Rattle.dcc_model.specs.Laws.{OneMoreAct, IsKeyed, AreKeyed}
 use Rattle.dcc_account.specs.Accounts.{AccountView}
 use Rattle.dcc_account.specs.inner.Kept.{IsKept}
 use Rattle.dcc_account.specs.inner.Fits.{HasMemory}
@@ -74,18 +74,24 @@ standing_at terms made given posted money after_it act kept same is =
     ∙ ap (λ (past : List Done). standing_of terms (with_act terms past act)) kept.own
     ∙ ap (standing_of terms) (sym (history_push terms (map act_made made) act))
 
+-- one more act whose services have keys of their own
+keyed_push : (all : List Act) (act : Act) → AreKeyed all → IsKeyed act → AreKeyed (all ++ act ∷ [])
+keyed_push [] act keyed one = (one, tt)
+keyed_push (first ∷ all) act keyed one = (keyed.0, keyed_push all act keyed.1 one)
+
 -- what an account keeps after a new act
 pub kept_with : (terms : TermsView) (made : List Done) (posted more : List Entry) (money after_it : Standing) (act : Act) (outcome : Outcome) → IsKept terms made posted money
     → outcome ≡ after terms (map act_made made) act → is_new terms (map act_made made) act ≡ true
     → entries terms (map act_made made ++ act ∷ []) ≡ entries terms (map act_made made) ++ more
-    → after_it ≡ standing terms (map act_made made ++ act ∷ [])
+    → after_it ≡ standing terms (map act_made made ++ act ∷ []) → IsKeyed act
     → IsKept terms (made ++ record { act = act; outcome = outcome } ∷ []) (posted ++ more) after_it
 unfolding after is_new
-kept_with terms made posted more money after_it act outcome kept outcome_is new entries_are standing_is =
+kept_with terms made posted more money after_it act outcome kept outcome_is new entries_are standing_is one_keyed =
     let one : Done = record { act = act; outcome = outcome } in
     let all = map act_made made in
     let pushed : map act_made (made ++ one ∷ []) ≡ all ++ act ∷ [] = map-append act_made made (one ∷ []) in
     record {
+      keyed = subst AreKeyed (sym pushed) (keyed_push all act kept.keyed one_keyed);
       own =
           reverse-append made (one ∷ []) ∙ ap (λ (past : List Done). one ∷ past) kept.own
           ∙ sym (ap (λ (xs : List Act). history terms (reverse xs)) pushed ∙ history_push terms all act ∙ rw new (ap (λ (o : Outcome). record { act = act; outcome = o } ∷ history terms (reverse all)) (sym outcome_is)));
@@ -125,3 +131,7 @@ fits_of size (Some v) held more capacity count wanted c w h = omega arith
 pub free_is : (terms : TermsView) (all : List Act) → (standing terms all).free ≡ free terms all
 unfolding standing free
 free_is terms all = refl
+
+pub funds_is : (terms : TermsView) (all : List Act) → (standing terms all).funds ≡ funds terms all
+unfolding standing funds
+funds_is terms all = refl

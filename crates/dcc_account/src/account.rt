@@ -1,15 +1,18 @@
 //! Accounts.
 
-ghost use Rattle.std.specs.Prelude.{◌≡◌, [], ◌∷◌, ◌++◌, map, pos, if◌then◌else◌, IfOk};
+ghost use Rattle.std.specs.Prelude.{◌≡◌, [], ◌∷◌, ◌++◌, map, pos, neg_ℤ, ◌+ℤ◌, ◌≤ℤ◌, if◌then◌else◌, IfOk};
 ghost use Rattle.std.specs.Option.{option_copied};
 ghost use Rattle.dcc_model.specs.Outcomes.{act_made, acts, funds, overrun, free, kept};
 ghost use Rattle.dcc_model.specs.Entries.{entries};
+ghost use Rattle.dcc_model.specs.declared.decide.TheConstants.{CEILING};
 
 use crate::growth::{append, grow, larger};
 use crate::kept::outcome_of_request;
 use crate::step::Step;
 use dcc_act::{Act, Entry, Outcome, RequestKey};
-use dcc_model::{Done, Judgement, Standing, judge, one_more_act};
+use dcc_model::{
+    Done, Judgement, Standing, funds_are_accounted_for, judge, keys_are_apart, one_more_act,
+};
 use dcc_tariff::Terms;
 use std::alloc::{AllocError, Global};
 use std::marker::Model;
@@ -85,17 +88,22 @@ impl Account {
         &self.entries
     }
 
-    /// The funds, in minor units.
+    /// The funds, in minor units: at most 10^18 on either side of nothing.
     pub fn funds(&self) -> i128
-        ensures { result ≡ funds self.now.terms self.now.acts }
+        ensures value { result ≡ funds self.now.terms self.now.acts }
+        ensures low { neg_ℤ CEILING ≤ℤ result }
+        ensures high { result ≤ℤ CEILING }
     {
+        funds_are_accounted_for();
         funds_in(&self.standing)
     }
 
-    /// What no live grant holds of the funds, in minor units.
+    /// What no live grant holds of the funds, in minor units. Only what was overrun takes it below nothing.
     pub fn free(&self) -> i128
-        ensures { result ≡ free self.now.terms self.now.acts }
+        ensures value { result ≡ free self.now.terms self.now.acts }
+        ensures covered { pos 0 ≤ℤ (result +ℤ pos (overrun self.now.terms self.now.acts)) }
     {
+        funds_are_accounted_for();
         free_in(&self.standing)
     }
 
@@ -151,6 +159,7 @@ impl Account {
     {
         one_more_act();
         if step.is_new {
+            keys_are_apart(&step.act);
             grow(&mut self.acts, step.larger_acts);
             grow(&mut self.entries, step.larger_entries);
             self.acts.push_reserved(Done {

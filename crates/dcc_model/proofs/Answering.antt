@@ -40,6 +40,13 @@ few_ids services h =
     let le = (and_parts few short (and_parts (few && short) apart keyed).0).1 in
     grind (arith, nat_tests)
 
+pub apart_of : (services : List ServiceView) → are_services services ≡ true → are_apart (map service_key services) ≡ true
+apart_of services h =
+    let few = nat_le (length services) MAX_SERVICES in
+    let short = nat_le (count_ids services) MAX_IDS in
+    let apart = are_apart (map service_key services) in
+    (and_parts (few && short) apart (and_parts ((few && short) && apart) (stand_right services) h).0).1
+
 pub ids_without_report : (services : List ServiceView) → count_ids (map without_report services) ≡ count_ids services
 ids_without_report [] = refl
 ids_without_report (service ∷ services) =

@@ -124,9 +124,12 @@ services_of (kind.Update request) = request.services
 services_of (kind.Termination request) = request.services
 services_of _ = []
 
--- each act's services have keys of their own, as the type of an act keeps it
+-- an act's services have keys of their own, as its type keeps it
+abbrev pub IsKeyed : Act → Type 0
+IsKeyed act = are_apart (map service_key (services_of act.kind)) ≡ true
+
 abbrev pub AreKeyed : List Act → Type 0
-AreKeyed xs = AllByRecursion (λ act. are_apart (map service_key (services_of act.kind)) ≡ true) xs
+AreKeyed xs = AllByRecursion (λ act. IsKeyed act) xs
 
 -- only what is overrun takes what is free below nothing (O'Neil's escrow method)
 abbrev pub FreeIsCovered : Type 0
@@ -175,7 +178,7 @@ abbrev pub LiveAreOpen : Type 0
 LiveAreOpen = (terms : TermsView) (xs : List Act)
     → AllByRecursion (λ (held : Live). is_open terms (history terms (reverse xs)) held.sid ≡ true) (lives terms (history terms (reverse xs)))
 
--- a live grant of this session and this service
+-- a live grant of a session and a service
 abbrev pub is_at : Sid → ServiceKey → Live → Bool
 is_at sid key held = bytes_eq sid held.sid && same_service held.key key
 

@@ -122,7 +122,7 @@ reserved_of terms past = sum_by held_price (lives terms past)
 abbrev pub free_of : TermsView → List Done → ℤ
 free_of terms past = funds_of terms past -ℤ pos (reserved_of terms past)
 
--- a request of this session puts others in the place of a service's grant
+-- a request of a session puts others in the place of a service's grant
 abbrev pub is_replaced : Sid → List ServiceView → Live → Bool
 is_replaced sid services held = bytes_eq sid held.sid && list_any (same_service held.key) (named services)
 

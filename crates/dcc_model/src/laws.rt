@@ -5,7 +5,10 @@ ghost use Rattle.dcc_model.specs.Laws.{LaterChangesNothing, OneMoreAct, AfterSta
 ghost use Rattle.dcc_model.specs.Laws.{ActsAreActs, NoActs, KeptStay, AccountStays, NewIsLast, PlaceHolds, UnknownHasNoPlace};
 ghost use Rattle.dcc_model.specs.Laws.{IdleExpiryHasNoPlace, LastComesAfter, UnknownBefore, RepeatsAreFirsts, RepeatsAreOld};
 ghost use Rattle.dcc_model.specs.Laws.{RequestsAreAnswered, TopUpsAreAdded, ExpiriesEnd};
-ghost use Rattle.dcc_model.specs.Laws.{FundsAreLimited, FreeIsCovered, GrantsAreCovered, EntriesAddUp, FewAreOpen, SessionsOpenOnce, LiveAreOpen, LiveIsFound};
+ghost use Rattle.dcc_model.specs.Laws.{IsKeyed, FundsAreLimited, FreeIsCovered, GrantsAreCovered, EntriesAddUp, FewAreOpen, SessionsOpenOnce, LiveAreOpen, LiveIsFound};
+
+use crate::money::services_of;
+use dcc_act::Act;
 
 /// What comes later changes no outcome.
 pub fn later_acts_change_no_outcome()
@@ -53,6 +56,14 @@ pub fn acts_come_to_their_own()
     ensures repeats { RepeatsAreFirsts }
     ensures old { RepeatsAreOld }
 {}
+
+/// An act's services have keys of their own.
+#[tactic(auto, using(crate::proofs::Answering::apart_of))]
+pub fn keys_are_apart(act: &Act)
+    ensures { IsKeyed act.now }
+{
+    let _services = services_of(&act.kind);
+}
 
 /// Funds stay within 10^18 on either side. Where each act's services have keys of their own, only what is overrun takes
 /// what is free below nothing. Each grant of a new act costs nothing, or is within its room, or in a one-time event within

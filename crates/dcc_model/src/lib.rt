@@ -25,6 +25,6 @@ pub use done::Done;
 pub use evaluator::{judge, plain_answer};
 pub use judgement::{Judgement, Standing};
 pub use laws::{
-    acts_come_to_their_own, funds_are_accounted_for, later_acts_change_no_outcome,
+    acts_come_to_their_own, funds_are_accounted_for, keys_are_apart, later_acts_change_no_outcome,
     leaving_out_changes_nothing, one_more_act, places_hold, sessions_open_once,
 };

@@ -1,8 +1,9 @@
 //! Charges, funds, what is reserved and what is free, in minor units. Each function looks back over the acts that were
 //! made, in order.
 
-ghost use Rattle.std.specs.Prelude.{◌≡◌, ◌+◌, ◌*◌, ◌∷◌, ◌^◌, ◌≤◌, pos, neg_ℤ, ◌-ℤ◌, ◌≤ℤ◌, length, reverse, sum_by, unwrap_or, IfOk};
+ghost use Rattle.std.specs.Prelude.{◌≡◌, ◌+◌, ◌*◌, ◌∷◌, ◌^◌, ◌≤◌, true, pos, neg_ℤ, ◌-ℤ◌, ◌≤ℤ◌, length, reverse, sum_by, unwrap_or, IfOk};
 ghost use Rattle.std.specs.Option.{ForSome};
+ghost use Rattle.dcc_act.specs.Services.{are_services};
 ghost use Rattle.dcc_model.specs.Laws.{services_of};
 ghost use Rattle.dcc_model.specs.Money.{charged_event, refunded_event, live_price, charge_tariff, charge, is_unrated, charges, overruns, credit, debit, charged, overran, funds_of, overrun_of, held_price, free_of, is_replaced, reserved_beside, made_price, room};
 ghost use Rattle.dcc_model.specs.Outcomes.{standing_of};
@@ -165,6 +166,7 @@ fn debited(done: &Done) -> u64
 pub(crate) fn services_of(kind: &Kind) -> &[Service]
     ensures value { result.now ≡ services_of kind.now }
     ensures few { length result.now ≤ MAX_SERVICES }
+    ensures limits { are_services result.now ≡ true }
 {
     match kind {
         Kind::Initial(request) | Kind::Update(request) | Kind::Termination(request) => {
@@ -287,7 +289,7 @@ pub(crate) fn standing_with(
     })
 }
 
-/// Whether a request of this session puts others in the place of a grant.
+/// Whether a request of a session puts others in the place of a grant.
 fn is_replaced(sid: &SessionId, services: &[Service], held: &Holding) -> bool
     ensures { result ≡ is_replaced sid.now services.now held.now }
 {

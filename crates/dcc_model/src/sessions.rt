@@ -50,7 +50,7 @@ fn terminated(done: &Done) -> Option<&SessionId>
     }
 }
 
-/// Whether an act opened this session.
+/// Whether an act opened a session.
 fn opens(done: &Done, sid: &SessionId) -> bool
     ensures { result ≡ opens done.now sid.now }
 {
@@ -60,7 +60,7 @@ fn opens(done: &Done, sid: &SessionId) -> bool
     }
 }
 
-/// Whether an act updated this session.
+/// Whether an act updated a session.
 fn updates(done: &Done, sid: &SessionId) -> bool
     ensures { result ≡ updates done.now sid.now }
 {
@@ -70,7 +70,7 @@ fn updates(done: &Done, sid: &SessionId) -> bool
     }
 }
 
-/// Whether an act terminated this session.
+/// Whether an act terminated a session.
 fn terminates(done: &Done, sid: &SessionId) -> bool
     ensures { result ≡ terminates done.now sid.now }
 {
@@ -94,7 +94,7 @@ pub(crate) fn deadline(terms: &Terms, past: &[Done], sid: &SessionId) -> u64
     deadline
 }
 
-/// Whether an act ended this session: a termination, an update that didn't succeed, or an expiry at or past its deadline.
+/// Whether an act ended a session: a termination, an update that didn't succeed, or an expiry at or past its deadline.
 fn ends(terms: &Terms, past: &[Done], done: &Done, sid: &SessionId) -> bool
     ensures { result ≡ ends terms.now (reverse past.now) done.now sid.now }
 {

@@ -6,9 +6,12 @@ use Rattle.dcc_model.specs.declared.done.Done.{Done}
 use Rattle.dcc_model.specs.declared.judgement.Standing.{Standing}
 use Rattle.dcc_model.specs.Outcomes.{act_made, history, standing}
 use Rattle.dcc_model.specs.Entries.{entries}
+use Rattle.dcc_model.specs.Laws.{AreKeyed}
 
--- the acts, each with what it came to, are those that their own list makes; entries and money are those of the definitions
+-- the acts, each with what it came to, are those that their own list makes, and their services have keys of their own; entries and
+-- money are those of the definitions
 pub record IsKept (terms : TermsView) (made : List Done) (posted : List Entry) (money : Standing) : Type 0 where
+  pub keyed : AreKeyed (map act_made made)
   pub own : reverse made ≡ history terms (reverse (map act_made made))
   pub entries_are : posted ≡ entries terms (map act_made made)
   pub standing_is : money ≡ standing terms (map act_made made)

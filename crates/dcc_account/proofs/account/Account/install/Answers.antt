@@ -1,6 +1,5 @@
 use Rattle.std.proofs.Common.{Bool, List, [], ◌∷◌, ◌++◌, map, cond, sym, ap, ◌∙◌}
 use Rattle.std.proofs.lemmas.List.{map-append}
-use Rattle.dcc_act.specs.declared.act.Act.{Act}
 use Rattle.dcc_act.specs.declared.entry.Entry.{Entry}
 use Rattle.dcc_model.specs.declared.done.Done.{Done}
 use Rattle.dcc_model.specs.Outcomes.{act_made, acts}
@@ -15,7 +14,7 @@ invariant_of-self c =
     let step = c.step.inside in
     let is = prepared_at _ _ _ _ c.requires c.self.view_is c.step.view_is in
     kept_at own.terms _ _ _ _ step.standing
-    (kept_with own.terms own.acts.items own.entries.items step.entries.items own.standing step.standing step.act step.outcome c.self.invariant is.outcome_is (sym is.new_is ∙ c.if-step.true) is.entries_are is.standing_is)
+    (kept_with own.terms own.acts.items own.entries.items step.entries.items own.standing step.standing step.act step.outcome c.self.invariant is.outcome_is (sym is.new_is ∙ c.if-step.true) is.entries_are is.standing_is c.keys_are_apart.ensures)
     (c.push_reserved.ensures.items ∙ ap (λ (made : List Done). made ++ record { act = step.act; outcome = step.outcome } ∷ []) c.grow.ensures.items)
     (c.append.ensures ∙ ap (λ (es : List Entry). es ++ step.entries.items) c.grow-then-step.ensures.items)
 

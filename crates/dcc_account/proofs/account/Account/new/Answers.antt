@@ -5,4 +5,4 @@ use Rattle.dcc_account.proofs.account.Account.new.Goals as goal
 
 pub invariant_of-result : goal.invariant_of-result
 unfolding entries standing
-invariant_of-result c = rw (c.new.ensures.items, c.new-2.ensures.items) (record { own = refl; entries_are = refl; standing_is = refl })
+invariant_of-result c = rw (c.new.ensures.items, c.new-2.ensures.items) (record { keyed = tt; own = refl; entries_are = refl; standing_is = refl })
