@@ -1,14 +1,16 @@
 //! Accounts beside the plain program.
 
-ghost use Rattle.std.specs.Prelude.{◌<◌};
+ghost use Rattle.std.specs.Prelude.{◌≤◌};
+ghost use Rattle.std.specs.Option.{ForSome};
+ghost use Rattle.dcc_tariff.specs.declared.limits.TheConstants.{MAX_UNITS};
 
 use crate::Account;
 use dcc_act::{
-    Act, Action, Form, Kind, MAX_AMOUNT, Moment, OneTimeEvent, Outcome, RequestKey, Service,
-    ServiceIds, SessionId, TopUp,
+    Act, Form, Kind, Moment, Outcome, RequestKey, Service, ServiceIds, Services, SessionId,
+    SessionRequest, TopUp,
 };
 use dcc_model::plain_answer;
-use dcc_tariff::{Tariff, Terms, UnitKind};
+use dcc_tariff::{MAX_UNITS, Tariff, Terms, UnitKind};
 use std::alloc::Global;
 use std::process::Abort;
 use std::test::Fail;
@@ -20,107 +22,76 @@ const TERMS: Terms = Terms {
     exponent: -2,
 };
 
-fn top_up(seconds: u64, ticket: u64, amount: u64) -> Result<Act, Fail> {
-    Ok(Act {
-        moment: Moment::new(seconds).ok_or("a moment")?,
-        kind: Kind::TopUp(TopUp::new(ticket, amount).ok_or("an amount")?),
-    })
+/// An act in short. A session's name has one octet; a request has a number, and reports and asks for so many octets, 0 for
+/// none.
+#[derive(Clone, Copy)]
+enum Ask {
+    /// Amount.
+    TopUp(u64),
+    /// Session, number, and what is asked for.
+    Initial(u8, u32, u64),
+    /// Session, number, what is reported, and what is asked for.
+    Update(u8, u32, u64, u64),
+    Expiry,
 }
 
-/// A request's key in a session of a one-letter name.
 fn key(alloc: Global, session: u8, number: u32) -> Result<RequestKey, Fail> {
     let sid = SessionId::from_vec([session].to_vec(alloc)?).ok_or("a name")?;
     Ok(RequestKey { sid, number })
 }
 
-/// A direct debit of octets in a group of its own, at this price for each block of them.
-fn debit(
-    alloc: Global,
-    seconds: u64,
-    key: RequestKey,
-    octets: u64,
-    tariff: Option<Tariff>,
-) -> Result<Act, Fail> {
-    if octets == 0 || octets > 1_000_000_000_000 {
-        return Err("an amount past its limits".into());
+/// So many units, where there are any.
+fn units(count: u64) -> Option<u64>
+    ensures least { ForSome result (λ units. 1 ≤ units) }
+    ensures most { ForSome result (λ units. units ≤ MAX_UNITS) }
+{
+    if count == 0 || count > MAX_UNITS {
+        return None;
+    }
+    Some(count)
+}
+
+/// A request's one service, of octets that cost 5 for each 1,000, where it reports or asks for some.
+fn services(alloc: Global, used: u64, asked: u64) -> Result<Services, Fail> {
+    if used == 0 && asked == 0 {
+        return Ok(Services::new(alloc));
     }
     let service = Service {
         group: Some(10),
         ids: ServiceIds::new(alloc),
         form: Form::Multi,
-        asked: Some(octets),
-        used: None,
+        asked: units(asked),
+        used: units(used),
         unit: Some(UnitKind::Octets),
-        tariff,
-    };
-    Ok(Act {
-        moment: Moment::new(seconds).ok_or("a moment")?,
-        kind: Kind::Event(OneTimeEvent {
-            key,
-            action: Action::DirectDebiting,
-            service,
+        tariff: Some(Tariff {
+            price: 5,
+            block: 1000,
         }),
+    };
+    Ok(Services::from_vec(vec![in alloc; service]?).ok_or("a service")?)
+}
+
+fn kind(alloc: Global, ask: Ask) -> Result<Kind, Fail> {
+    Ok(match ask {
+        Ask::TopUp(amount) => Kind::TopUp(TopUp::new(1, amount).ok_or("an amount")?),
+        Ask::Initial(session, number, asked) => Kind::Initial(SessionRequest {
+            key: key(alloc, session, number)?,
+            services: services(alloc, 0, asked)?,
+        }),
+        Ask::Update(session, number, used, asked) => Kind::Update(SessionRequest {
+            key: key(alloc, session, number)?,
+            services: services(alloc, used, asked)?,
+        }),
+        Ask::Expiry => Kind::Expiry,
     })
 }
 
-const TARIFF: Tariff = Tariff {
-    price: 5,
-    block: 1000,
-};
-
-/// A debit of 1,001 octets, which cost 10.
-fn octets(alloc: Global, number: u32) -> Result<Act, Fail> {
-    debit(alloc, 8, key(alloc, b'x', number)?, 1001, Some(TARIFF))
-}
-
-/// Prepares and installs the act.
-fn make(account: &mut Account, act: Act) -> Result<(), Fail> {
-    let step = account.prepare(act)?;
-    account.install(step);
-    Ok(())
-}
-
-/// An account with funds of 1,000.
-fn opened(alloc: Global) -> Result<Account, Fail> {
-    let mut account = Account::new(alloc, &TERMS);
-    make(&mut account, top_up(9, 1, 1000)?)?;
-    Ok(account)
-}
-
-#[test]
-fn unknown_account(rt: HostRuntime) -> Result<(), Fail> {
-    let mut account = Account::new(rt.alloc(), &TERMS);
-    make(&mut account, octets(rt.alloc(), 0)?)?;
-    assert_eq!(rt; (account.acts().len(), account.funds()), (0, 0));
-    assert!(rt; *account.terms() == TERMS);
-    Ok(())
-}
-
-#[test]
-fn discarded_step(rt: HostRuntime) -> Result<(), Fail> {
-    let account = opened(rt.alloc())?;
-    let act = octets(rt.alloc(), 0)?;
-    let step = account.prepare(act.copy()?)?;
-    assert!(rt; step.is_new() && *step.act() == act && step.place() == Some(2));
-    assert!(rt; matches!(step.outcome(), Outcome::Answered(_)));
-    assert_eq!(rt; step.entries().len(), 1);
-    Account::discard(step);
-    assert_eq!(rt; account.funds(), 1000);
-    Ok(())
-}
-
-#[test]
-fn installed_step(rt: HostRuntime) -> Result<(), Fail> {
-    let mut account = opened(rt.alloc())?;
-    make(&mut account, octets(rt.alloc(), 0)?)?;
-    assert_eq!(rt;
-        (account.funds(), account.free(), account.overrun()),
-        (990, 990, 0)
-    );
-    assert_eq!(rt; (account.acts().len(), account.entries().len()), (2, 2));
-    assert!(rt; account.kept(&key(rt.alloc(), b'x', 0)?).is_some());
-    assert!(rt; account.kept(&key(rt.alloc(), b'x', 1)?).is_none());
-    Ok(())
+/// The act so many seconds after 2025-06-01T00:00:00Z.
+fn act(alloc: Global, after: u32, ask: Ask) -> Result<Act, Fail> {
+    Ok(Act {
+        moment: Moment::new(1_748_736_000 + u64::from(after)).ok_or("a moment")?,
+        kind: kind(alloc, ask)?,
+    })
 }
 
 /// An account, and all that was asked of it.
@@ -131,13 +102,6 @@ struct Beside {
 }
 
 impl Beside {
-    fn new(alloc: Global) -> Beside {
-        Beside {
-            account: Account::new(alloc, &TERMS),
-            all: Vec::new(alloc),
-        }
-    }
-
     /// Makes the act, whose outcome the plain program has to say as well.
     fn make(&mut self, rt: &impl Abort, alloc: Global, act: Act) -> Result<(), Fail> {
         self.all.push(act.copy()?)?;
@@ -151,67 +115,77 @@ impl Beside {
     }
 }
 
-/// Numbers that look random.
-#[derive(Drop)]
-struct Dice(u64);
-
-impl Dice {
-    fn roll(&mut self, sides: u64) -> u64
-        requires { 0 < sides }
-        ensures { result < sides }
-    {
-        self.0 = self
-            .0
-            .wrapping_mul(6_364_136_223_846_793_005)
-            .wrapping_add(1_442_695_040_888_963_407);
-        (self.0 >> 33) % sides
+/// The account of these acts.
+fn account(rt: &impl Abort, alloc: Global, lines: &[(u32, Ask)]) -> Result<Account, Fail> {
+    let mut beside = Beside {
+        account: Account::new(alloc, &TERMS),
+        all: Vec::new(alloc),
+    };
+    for (after, ask) in lines {
+        beside.make(rt, alloc, act(alloc, *after, *ask)?)?;
     }
+    Ok(beside.account)
 }
 
-/// A top-up or a direct debit, with few tickets, sessions and numbers, and amounts about what is free.
-fn any_act(alloc: Global, dice: &mut Dice, free: i128) -> Result<Act, Fail> {
-    let seconds = dice.roll(1000);
-    let number = dice.roll(40) as u32;
-    if dice.roll(4) == 0 {
-        return top_up(seconds, u64::from(number), any_amount(dice));
-    }
-    let key = key(alloc, b'x' + dice.roll(2) as u8, number)?;
-    debit(alloc, seconds, key, any_units(dice, free), any_tariff(dice))
+/// Three sessions share a balance; then one reports less than it was granted, and another more.
+#[test]
+fn shared_balance(rt: HostRuntime) -> Result<(), Fail> {
+    let account = account(
+        &rt,
+        rt.alloc(),
+        &[
+            (0, Ask::TopUp(1000)),
+            (0, Ask::Initial(1, 0, 100_000)),
+            (0, Ask::Initial(2, 0, 200_000)),
+            (0, Ask::Initial(3, 0, 1)),
+            (0, Ask::Update(3, 1, 0, 0)),
+            (0, Ask::Update(1, 1, 40_001, 100_000)),
+            (0, Ask::Update(2, 1, 100_500, 0)),
+        ],
+    )?;
+    assert_eq!(rt;
+        (account.funds(), account.free(), account.overrun()),
+        (290, -5, 5)
+    );
+    assert_eq!(rt; (account.acts().len(), account.entries().len()), (7, 3));
+    assert!(rt; account.kept(&key(rt.alloc(), 1, 1)?).is_some());
+    assert!(rt; account.kept(&key(rt.alloc(), 1, 2)?).is_none());
+    Ok(())
 }
 
-fn any_amount(dice: &mut Dice) -> u64 {
-    match dice.roll(4) {
-        0 => MAX_AMOUNT,
-        1 => 1000,
-        2 => 7,
-        _ => 1,
-    }
-}
-
-/// As many units as are free, or one more.
-fn any_units(dice: &mut Dice, free: i128) -> u64 {
-    let units = u64::try_from(free).unwrap_or(0).min(999_999_999_999);
-    (units + dice.roll(2)).max(1)
-}
-
-fn any_tariff(dice: &mut Dice) -> Option<Tariff> {
-    match dice.roll(4) {
-        0 => None,
-        1 => Some(Tariff { price: 0, block: 1 }),
-        _ => Some(Tariff { price: 1, block: 1 }),
-    }
+/// A session ends at its deadline, and not before; a repeat after it is no new act, as is the expiry before it.
+#[test]
+fn expiry_at_the_deadline(rt: HostRuntime) -> Result<(), Fail> {
+    let account = account(
+        &rt,
+        rt.alloc(),
+        &[
+            (0, Ask::Update(1, 1, 0, 1000)),
+            (0, Ask::TopUp(1000)),
+            (0, Ask::Initial(1, 0, 0)),
+            (0, Ask::Update(1, 1, 0, 1000)),
+            (1199, Ask::Expiry),
+            (1200, Ask::Expiry),
+            (1200, Ask::Update(1, 2, 0, 0)),
+            (1200, Ask::Update(1, 1, 0, 1000)),
+            (1200, Ask::Initial(1, 3, 0)),
+        ],
+    )?;
+    assert_eq!(rt; (account.funds(), account.free()), (1000, 1000));
+    assert_eq!(rt; account.acts().len(), 6);
+    assert!(rt; *account.terms() == TERMS);
+    Ok(())
 }
 
 #[test]
-fn mixed_lists(rt: HostRuntime) -> Result<(), Fail> {
-    let alloc = rt.alloc();
-    let mut dice = Dice(1);
-    let mut beside = Beside::new(alloc);
-    for _ in 0..300u32 {
-        let act = any_act(alloc, &mut dice, beside.account.free())?;
-        beside.make(&rt, alloc, act)?;
-    }
-    assert!(rt; beside.account.acts().len() < 300);
-    assert!(rt; beside.account.entries().len() < beside.account.acts().len());
+fn discarded_step(rt: HostRuntime) -> Result<(), Fail> {
+    let account = Account::new(rt.alloc(), &TERMS);
+    let step = account.prepare(act(rt.alloc(), 0, Ask::TopUp(1000))?)?;
+    assert!(rt; step.is_new() && step.place() == Some(1));
+    assert!(rt; matches!(step.act().kind, Kind::TopUp(_)));
+    assert!(rt; matches!(step.outcome(), Outcome::Added));
+    assert_eq!(rt; step.entries().len(), 1);
+    Account::discard(step);
+    assert_eq!(rt; account.funds(), 0);
     Ok(())
 }

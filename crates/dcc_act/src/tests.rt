@@ -1,13 +1,21 @@
 //! Each public call once, on its happy path.
 
+ghost use Rattle.std.specs.Prelude.{IfOk};
+ghost use Rattle.dcc_act.specs.OneTimeEvents.{AsksUnits};
+
 use crate::{
-    Act, Action, Answer, Entry, EntryKind, EntryName, Form, Grant, Kind, MAX_AMOUNT, Moment,
+    Act, Action, Answer, Balance, Entry, EntryKind, EntryName, Form, Grant, Kind, Moment,
     OneTimeEvent, Outcome, RequestKey, RequestType, ResultCode, Service, ServiceAnswer,
-    ServiceAnswers, ServiceIds, SessionId, Sub, TopUp,
+    ServiceAnswers, ServiceIds, ServiceKey, Services, SessionId, SessionRequest, Sub, TopUp,
 };
 use dcc_tariff::{Tariff, UnitKind};
 use std::alloc::Global;
 use std::test::Fail;
+
+const TARIFF: Tariff = Tariff {
+    price: 5,
+    block: 1000,
+};
 
 #[test]
 fn subscribers(rt: HostRuntime) -> Result<(), Fail> {
@@ -17,28 +25,18 @@ fn subscribers(rt: HostRuntime) -> Result<(), Fail> {
     assert_eq!(rt; a.kind(), 0);
     assert_eq!(rt; a.name(), b"491700000001".as_slice());
     assert!(rt; c < a && a < b && a == a && a != c);
-    assert!(rt; Sub::new(5, b"1").is_none() && Sub::new(0, b"").is_none());
-    assert!(rt; Sub::new(0, b"4 9").is_none() && Sub::new(0, b"\x7f").is_none());
-    assert!(rt; Sub::new(4, &[0x21; 64]).is_some() && Sub::new(4, &[0x7e; 65]).is_none());
+    assert!(rt; Sub::new(0, b"4 9").is_none());
     Ok(())
 }
 
-#[test]
-fn moments(rt: HostRuntime) -> Result<(), Fail> {
-    let last = Moment::new(4_102_444_799).ok_or("a moment")?;
-    assert_eq!(rt; last.seconds(), 4_102_444_799);
-    assert!(rt; Moment::new(4_102_444_800).is_none());
-    Ok(())
+fn moment() -> Result<Moment, Fail> {
+    Ok(Moment::new(1_748_736_000).ok_or("a moment")?)
 }
 
 fn key(alloc: Global) -> Result<RequestKey, Fail> {
     let octets = b"gw1.example;1;1".to_vec(alloc)?;
     let sid = SessionId::from_vec(octets).ok_or("a session's name")?;
     Ok(RequestKey { sid, number: 7 })
-}
-
-fn ids(alloc: Global) -> Result<ServiceIds, Fail> {
-    Ok(ServiceIds::from_vec([3, 1].to_vec(alloc)?).ok_or("identifiers")?)
 }
 
 #[test]
@@ -48,8 +46,11 @@ fn names_of_sessions(rt: HostRuntime) -> Result<(), Fail> {
     assert!(rt; copy == key);
     assert_eq!(rt; copy.sid.as_slice(), b"gw1.example;1;1".as_slice());
     assert_eq!(rt; copy.sid.into_vec().len(), 15);
-    assert!(rt; SessionId::from_vec([0; 256].to_vec(rt.alloc())?).is_none());
     Ok(())
+}
+
+fn ids(alloc: Global) -> Result<ServiceIds, Fail> {
+    Ok(ServiceIds::from_vec([3, 1].to_vec(alloc)?).ok_or("identifiers")?)
 }
 
 #[test]
@@ -61,73 +62,128 @@ fn identifiers_of_services(rt: HostRuntime) -> Result<(), Fail> {
     Ok(())
 }
 
-#[test]
-fn acts(rt: HostRuntime) -> Result<(), Fail> {
-    let moment = Moment::new(1_748_736_000).ok_or("a moment")?;
-    let service = Service {
-        group: Some(10),
-        ids: ids(rt.alloc())?,
-        form: Form::Multi,
+/// A service that asks for 1,001 octets.
+fn service(alloc: Global, group: u32, form: Form) -> Result<Service, Fail>
+    ensures { IfOk result (λ service. AsksUnits service) }
+{
+    Ok(Service {
+        group: Some(group),
+        ids: ids(alloc)?,
+        form,
         asked: Some(1001),
         used: None,
         unit: Some(UnitKind::Octets),
-        tariff: Some(Tariff {
-            price: 5,
-            block: 1000,
-        }),
+        tariff: Some(TARIFF),
+    })
+}
+
+/// Two services, of which the first stands in this form.
+fn two_services(alloc: Global, groups: (u32, u32), form: Form) -> Result<Option<Services>, Fail> {
+    let first = service(alloc, groups.0, form)?;
+    let second = service(alloc, groups.1, Form::Multi)?;
+    Ok(Services::from_vec(vec![in alloc; first, second]?))
+}
+
+#[test]
+fn services(rt: HostRuntime) -> Result<(), Fail> {
+    let alloc = rt.alloc();
+    let services = two_services(alloc, (10, 20), Form::Multi)?.ok_or("services")?;
+    let [first, second] = services.as_slice() else {
+        return Err("two services".into());
     };
-    let event = OneTimeEvent {
-        key: key(rt.alloc())?,
-        action: Action::DirectDebiting,
-        service,
+    let key = ServiceKey {
+        group: Some(10),
+        id: Some(3),
     };
-    let debit = Act {
-        moment,
-        kind: Kind::Event(event),
-    };
-    let top_up = Act {
-        moment,
-        kind: Kind::TopUp(TopUp::new(1, 1000).ok_or("a top-up")?),
-    };
-    assert!(rt; debit.copy()? == debit && top_up.copy()? == top_up && debit != top_up);
+    assert!(rt; first.key().is_same(key) && !second.key().is_same(key));
+    assert_eq!(rt; services.copy()?.into_vec().len(), 2);
+    assert_eq!(rt; Services::new(alloc).as_slice().len(), 0);
+    assert!(rt; two_services(alloc, (10, 10), Form::Multi)?.is_none());
+    assert!(rt; two_services(alloc, (10, 20), Form::Single)?.is_none());
     Ok(())
+}
+
+fn request(alloc: Global) -> Result<SessionRequest, Fail> {
+    let services = two_services(alloc, (10, 20), Form::Multi)?.ok_or("services")?;
+    Ok(SessionRequest {
+        key: key(alloc)?,
+        services,
+    })
+}
+
+/// One of each kind.
+fn kinds(alloc: Global) -> Result<Vec<Kind>, Fail> {
+    let event = OneTimeEvent {
+        key: key(alloc)?,
+        action: Action::DirectDebiting,
+        service: service(alloc, 10, Form::Single)?,
+    };
+    Ok(vec![in alloc;
+        Kind::TopUp(TopUp::new(1, 1000).ok_or("a top-up")?),
+        Kind::Initial(request(alloc)?),
+        Kind::Update(request(alloc)?),
+        Kind::Termination(request(alloc)?),
+        Kind::Event(event),
+        Kind::Expiry,
+    ]?)
+}
+
+#[test]
+fn acts(rt: HostRuntime) -> Result<(), Fail> {
+    let alloc = rt.alloc();
+    let moment = moment()?;
+    for kind in kinds(alloc)? {
+        let act = Act { moment, kind };
+        let copy = format!(in alloc; "{:?}", act.copy()?)?;
+        let act = format!(in alloc; "{act:?}")?;
+        assert_eq!(rt; copy.as_str(), act.as_str());
+    }
+    assert_eq!(rt; moment.seconds(), 1_748_736_000);
+    Ok(())
+}
+
+/// The answer to a request of one service.
+fn answer(alloc: Global) -> Result<Answer, Fail> {
+    let service = ServiceAnswer {
+        group: None,
+        ids: ids(alloc)?,
+        form: Form::Single,
+        result: ResultCode::Success,
+        grant: Grant::new(UnitKind::Octets, 1001, TARIFF),
+        is_final: true,
+    };
+    Ok(Answer {
+        request: RequestType::Update,
+        key: key(alloc)?,
+        result: ResultCode::UnknownSession,
+        services: ServiceAnswers::from_vec(vec![in alloc; service]?).ok_or("an answer")?,
+        cost: None,
+        balance: Some(Balance::NoCredit),
+    })
 }
 
 #[test]
 fn outcomes(rt: HostRuntime) -> Result<(), Fail> {
-    let tariff = Tariff {
-        price: 5,
-        block: 1000,
-    };
-    let answer = ServiceAnswer {
-        group: None,
-        ids: ids(rt.alloc())?,
-        form: Form::Single,
-        result: ResultCode::Success,
-        grant: Grant::new(UnitKind::Octets, 1001, tariff),
-    };
-    let services = ServiceAnswers::from_vec(vec![in rt.alloc(); answer]?).ok_or("within limits")?;
-    let outcome = Outcome::Answered(Answer {
-        request: RequestType::Event,
-        key: key(rt.alloc())?,
-        result: ResultCode::Success,
-        services,
-        cost: None,
-        balance: None,
-    });
+    let alloc = rt.alloc();
     let unknown = Outcome::Unknown {
         request: RequestType::Event,
-        key: key(rt.alloc())?,
+        key: key(alloc)?,
     };
     assert!(rt; matches!(&unknown.copy()?, Outcome::Unknown { key, .. } if key.number == 7));
-    let Outcome::Answered(copy) = outcome.copy()? else {
+    let Outcome::Answered(copy) = Outcome::Answered(answer(alloc)?).copy()? else {
         return Err("an answer".into());
     };
-    assert_eq!(rt; (copy.request.number(), copy.result.number()), (4, 2001));
-    assert_eq!(rt; ResultCode::CreditLimitReached.number(), 4012);
-    assert_eq!(rt; ResultCode::UnableToComply.number(), 5012);
-    assert_eq!(rt; ResultCode::RatingFailed.number(), 5031);
-    assert_eq!(rt; copy.services.as_slice().len(), 1);
+    let numbers = (
+        copy.request.number(),
+        copy.result.number(),
+        copy.balance.map(|balance| balance.number()),
+    );
+    assert_eq!(rt; numbers, (2, 5002, Some(1)));
+    let [service] = copy.services.as_slice() else {
+        return Err("a service".into());
+    };
+    assert!(rt; service.key().group.is_none() && service.key().id == Some(3));
+    assert!(rt; service.grant.is_some() && service.is_final);
     assert_eq!(rt; copy.services.into_vec().len(), 1);
     Ok(())
 }
@@ -136,8 +192,8 @@ fn outcomes(rt: HostRuntime) -> Result<(), Fail> {
 fn entries(rt: HostRuntime) -> Result<(), Fail> {
     let entry = Entry {
         place: 2,
-        moment: Moment::new(0).ok_or("a moment")?,
-        kind: EntryKind::Debit,
+        moment: moment()?,
+        kind: EntryKind::Charge,
         group: None,
         units: 1001,
         amount: -10,

@@ -28,3 +28,6 @@ pub use laws::{
     acts_come_to_their_own, funds_are_accounted_for, keys_are_apart, later_acts_change_no_outcome,
     leaving_out_changes_nothing, one_more_act, places_hold, sessions_open_once,
 };
+
+#[cfg(test)]
+mod tests;
