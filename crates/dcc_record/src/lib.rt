@@ -1,0 +1,11 @@
+//! The record of an act: the octets that a store keeps of it, version 1, written and read back exactly.
+#![tactic(auto)]
+
+mod fault;
+mod fields;
+mod limits;
+mod reading;
+mod writing;
+
+pub use fault::RecordFault;
+pub use writing::write_act;
