@@ -1,10 +1,11 @@
 //! The limits of tariffs and of a service's amounts, tested.
 
-ghost use Rattle.std.specs.Prelude.{◌≡◌, true};
+ghost use Rattle.std.specs.Prelude.{◌≡◌, true, Option, is_some};
+ghost use Rattle.dcc_tariff.specs.Terms.{TariffView};
 ghost use Rattle.dcc_act.specs.Services.{IsService};
-ghost use Rattle.dcc_record.specs.inner.Reading.{is_tariff, tariff_from, is_nothing, is_used, most_asked, is_asked, is_service};
+ghost use Rattle.dcc_record.specs.inner.Reading.{is_tariff, tariff_from, is_nothing, is_used, most_asked, is_asked, is_service, service_from};
 
-use dcc_act::MAX_SECONDS;
+use dcc_act::{Form, MAX_SECONDS, Service, ServiceIds};
 use dcc_tariff::{MAX_BLOCK_PRICE, MAX_UNITS, Tariff, UnitKind};
 
 /// The tariff of a price and a block, if they are within their limits.
@@ -18,19 +19,40 @@ pub(crate) fn tariff_from(price: u32, block: u64) -> Option<Tariff>
     }
 }
 
-/// Whether a service of this unit and tariff may ask for so much and report so much.
-#[tactic(auto, unfolding(crate::specs::inner::Reading::is_service))]
-pub(crate) fn is_service(
+/// The service of these parts, if its amounts go with its unit.
+pub(crate) fn service_from(
+    form: Form,
+    group: Option<u32>,
+    ids: ServiceIds,
     asked: Option<u64>,
     used: Option<u64>,
     unit: Option<UnitKind>,
     tariff: Option<Tariff>,
-) -> bool
-    ensures exact { result ≡ is_service asked used unit tariff }
-    ensures limits { result ≡ true → IsService asked used unit tariff }
+) -> Option<Service>
+    ensures { result ≡ service_from (((((form, group), ids), asked), used), (unit, tariff)) }
+{
+    if !is_service(asked, used, unit, tariff.is_some()) {
+        return None;
+    }
+    Some(Service {
+        group,
+        ids,
+        form,
+        asked,
+        used,
+        unit,
+        tariff,
+    })
+}
+
+/// Whether a service of this unit, with a tariff or none, may ask for so much and report so much.
+#[tactic(auto, unfolding(crate::specs::inner::Reading::is_service))]
+fn is_service(asked: Option<u64>, used: Option<u64>, unit: Option<UnitKind>, rated: bool) -> bool
+    ensures exact { result ≡ is_service asked used unit rated }
+    ensures limits { (tariff : Option TariffView) → rated ≡ is_some tariff → result ≡ true → IsService asked used unit tariff }
 {
     match unit {
-        None => is_nothing(asked) && is_nothing(used) && tariff.is_none(),
+        None => is_nothing(asked) && is_nothing(used) && !rated,
         Some(unit) => is_asked(unit, asked) && is_used(used),
     }
 }

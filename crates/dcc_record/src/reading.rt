@@ -5,14 +5,14 @@ ghost use Rattle.std.specs.Int.{w32};
 ghost use Rattle.dcc_octets.specs.Names.{is_short};
 ghost use Rattle.dcc_act.specs.Services.{IsService};
 ghost use Rattle.dcc_record.specs.inner.Readers.{Gives, number_in, many_in, optional_in};
-ghost use Rattle.dcc_record.specs.inner.Reading.{top_up_in, string_in, session_in, key_in, form_in, unit_in, action_in, ids_in, tariff_in, is_service, service_in, services_in, request_in, event_in, kind_in, moment_in, act_in};
+ghost use Rattle.dcc_record.specs.inner.Reading.{top_up_in, string_in, session_in, key_in, form_in, unit_in, action_in, ids_in, tariff_in, is_service, service_in, services_in, request_in, event_in, kind_in, act_in};
 
 use crate::fault::RecordFault;
 use crate::fields::{
     behind_fixed, first_octet, first_octets, first_u16, first_u32, first_u64, optional_u32,
     optional_u64,
 };
-use crate::limits::{is_service, tariff_from};
+use crate::limits::{service_from, tariff_from};
 use crate::writing::VERSION;
 use dcc_act::{
     Act, Action, Form, Kind, Moment, OneTimeEvent, RequestKey, Service, ServiceIds, Services,
@@ -22,30 +22,21 @@ use dcc_tariff::{Tariff, UnitKind};
 use std::alloc::Global;
 
 /// The act that the octets record, all of them.
-#[tactic(auto, unfolding(crate::specs::inner::Reading::act_in))]
+#[tactic(auto, unfolding(crate::specs::inner::Reading::act_in, crate::specs::inner::Reading::moment_in))]
 fn act_of(alloc: Global, octets: &[u8]) -> Result<Act, RecordFault>
     ensures { Gives (λ act. act) result (act_in octets.now) }
 {
     let rest = behind_fixed(VERSION, octets)?;
     let (octet, rest) = first_octet(rest)?;
-    let (moment, rest) = first_moment(rest)?;
+    let (seconds, rest) = first_u64(rest)?;
+    let Some(moment) = Moment::new(seconds) else {
+        return Err(RecordFault::BadRecord);
+    };
     let (kind, rest) = first_kind(alloc, octet, rest)?;
     if !rest.is_empty() {
         return Err(RecordFault::BadRecord);
     }
     Ok(Act { moment, kind })
-}
-
-/// The moment in front.
-#[tactic(auto, unfolding(crate::specs::inner::Reading::moment_in))]
-fn first_moment(octets: &[u8]) -> Result<(Moment, &[u8]), RecordFault>
-    ensures { Gives (λ x. (x.0, x.1.now)) result (moment_in octets.now) }
-{
-    let (seconds, rest) = first_u64(octets)?;
-    match Moment::new(seconds) {
-        Some(moment) => Ok((moment, rest)),
-        None => Err(RecordFault::BadRecord),
-    }
 }
 
 /// What follows for a kind.
@@ -54,10 +45,10 @@ fn first_kind(alloc: Global, octet: u8, octets: &[u8]) -> Result<(Kind, &[u8]), 
     ensures { Gives (λ x. (x.0, x.1.now)) result (kind_in octet octets.now) }
 {
     match octet {
-        1 => {
-            let (top_up, rest) = first_top_up(octets)?;
-            Ok((Kind::TopUp(top_up), rest))
-        }
+        1 => match first_top_up(octets) {
+            Ok((top_up, rest)) => Ok((Kind::TopUp(top_up), rest)),
+            Err(fault) => Err(fault),
+        },
         2 => {
             let (request, rest) = first_request(alloc, octets)?;
             Ok((Kind::Initial(request), rest))
@@ -210,20 +201,13 @@ fn first_service(alloc: Global, octets: &[u8]) -> Result<(Service, &[u8]), Recor
     let (asked, rest) = optional_u64(rest)?;
     let (used, rest) = optional_u64(rest)?;
     let (unit, rest) = first_unit(rest)?;
-    let (tariff, rest) = optional_tariff(rest)?;
-    if !is_service(asked, used, unit, tariff) {
-        return Err(RecordFault::BadRecord);
+    match optional_tariff(rest) {
+        Ok((tariff, rest)) => match service_from(form, group, ids, asked, used, unit, tariff) {
+            Some(service) => Ok((service, rest)),
+            None => Err(RecordFault::BadRecord),
+        },
+        Err(fault) => Err(fault),
     }
-    let service = Service {
-        group,
-        ids,
-        form,
-        asked,
-        used,
-        unit,
-        tariff,
-    };
-    Ok((service, rest))
 }
 
 /// The form of a service in front.
@@ -288,10 +272,10 @@ fn optional_tariff(octets: &[u8]) -> Result<(Option<Tariff>, &[u8]), RecordFault
     let (flag, rest) = first_octet(octets)?;
     match flag {
         0 => Ok((None, rest)),
-        1 => {
-            let (tariff, rest) = first_tariff(rest)?;
-            Ok((Some(tariff), rest))
-        }
+        1 => match first_tariff(rest) {
+            Ok((tariff, rest)) => Ok((Some(tariff), rest)),
+            Err(fault) => Err(fault),
+        },
         _ => Err(RecordFault::BadRecord),
     }
 }

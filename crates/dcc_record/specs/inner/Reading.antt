@@ -1,5 +1,5 @@
 -- Reading a record, part for part.
-use Rattle.std.specs.Prelude.{ℕ, Bool, true, false, ◌&&◌, ◌==◌, nat_le, if◌then◌else◌, List, [], ◌∷◌, length, Option, Some, None, is_some, is_none}
+use Rattle.std.specs.Prelude.{ℕ, Bool, true, false, ◌&&◌, ◌==◌, nat_le, if◌then◌else◌, List, [], ◌∷◌, length, Option, Some, None, is_some, not}
 use Rattle.std.specs.Int.{w16, w32, w64}
 use Rattle.dcc_tariff.specs.Terms.{TariffView}
 use Rattle.dcc_tariff.specs.declared.limits.TheConstants.{LAST_SECOND, MAX_UNITS, MAX_BLOCK_PRICE}
@@ -101,10 +101,10 @@ abbrev pub is_asked : UnitKind → Option ℕ → Bool
 is_asked unit None = true
 is_asked unit (Some units) = nat_le 1 units && nat_le units (most_asked unit)
 
--- amounts that go with the unit
-unfoldable pub is_service : (asked used : Option ℕ) → Option UnitKind → Option TariffView → Bool
-is_service asked used None tariff = is_nothing asked && is_nothing used && is_none tariff
-is_service asked used (Some unit) tariff = is_asked unit asked && is_used used
+-- amounts that go with the unit, and with whether there is a tariff
+unfoldable pub is_service : (asked used : Option ℕ) → Option UnitKind → (rated : Bool) → Bool
+is_service asked used None rated = is_nothing asked && is_nothing used && not rated
+is_service asked used (Some unit) rated = is_asked unit asked && is_used used
 
 -- the parts of a service, in their order
 abbrev pub ServiceParts : Type 0
@@ -112,7 +112,7 @@ ServiceParts = ((((Form × Option ℕ) × List ℕ) × Option ℕ) × Option ℕ
 
 abbrev pub service_from : ServiceParts → Option ServiceView
 service_from parts =
-    if is_service parts.0.0.1 parts.0.1 parts.1.0 parts.1.1
+    if is_service parts.0.0.1 parts.0.1 parts.1.0 (is_some parts.1.1)
     then Some (record {
       group = parts.0.0.0.0.1;
       ids = parts.0.0.0.1;
