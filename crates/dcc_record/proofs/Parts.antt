@@ -1,5 +1,5 @@
 -- Parts of a record: what is read from the front of octets is spelled so, and what is spelled so is read, whatever follows.
-use Rattle.std.proofs.Common.{◌≡◌, ℕ, zero, suc, ◌+◌, ◌^◌, ◌<◌, ◌≤◌, Bool, true, false, cond, ltb, eqb, List, [], ◌∷◌, ◌++◌, length, get_or, take, drop, All, Option, Some, None, refl, sym, ap, subst, ◌∙◌, append_assoc, arith, inl, inr}
+use Rattle.std.proofs.Common.{◌≡◌, ℕ, zero, suc, ◌+◌, ◌^◌, ◌<◌, ◌≤◌, Bool, true, false, cond, ltb, eqb, List, [], ◌∷◌, ◌++◌, length, get_or, take, drop, All, Option, Some, None, refl, sym, ap, subst, ◌∙◌, append_assoc, arith, inl, inr, ◌⊎◌}
 use Rattle.std.specs.Prelude.{IfSome}
 use Rattle.std.specs.Int.{Width, w16, w32, w64, byte_len, from_be_bytes, to_be_bytes}
 use Rattle.std.specs.List.{flat_map, AllByRecursion}
@@ -194,3 +194,101 @@ fixed_makes expected lt = record {
 pub fixed_reads : (expected : ℕ) → expected < 256 → Reads one (λ octet. octet ≡ expected) (fixed_in expected)
 unfolding fixed_in
 fixed_reads expected lt = checked_reads one (λ octet. octet < 256) one (λ octet. octet ≡ expected) _ octet_in (fixed_makes expected lt) octet_reads
+
+-- ---- what may be absent
+
+none_is_not : {A : Type 0} (x : A) → None ≡ some x → ⊥
+none_is_not x e = cc
+
+-- one of two, by a test
+pub chosen : {A : Type 0} (b : Bool) (x y z : A) → cond b x y ≡ z → ((b ≡ true) × (x ≡ z)) ⊎ ((b ≡ false) × (y ≡ z))
+chosen true x y z e = inl (refl, e)
+chosen false x y z e = inr (refl, e)
+
+optional_there : {A : Type 0} (of : A → List ℕ) (Is : A → Type 0) (part : Reader A) → Reads of Is part
+    → (octet : ℕ) (octets rest : List ℕ) (x : Option A × List ℕ) → octet ≡ 1 → Takes octets (one octet) rest
+    → checked (λ value. Some (Some value)) part rest ≡ Some x → Takes octets (optional of x.0) x.1 × IfSome x.0 Is
+optional_there {A} of Is part r octet octets rest x is taken e =
+    let a = bind_some (part rest) (λ a. Some (Some a.0, a.1)) x e in
+    let t = r.takes rest a.0 taken.rest_fits a.1 in
+    let flag : Takes octets (one 1) rest = subst (λ (n : ℕ). Takes octets (one n) rest) is taken in
+    subst (λ (y : Option A × List ℕ). Takes octets (optional of y.0) y.1 × IfSome y.0 Is) (some_is (Some a.0.0, a.0.1) x a.2)
+    (Takes-then octets (one 1) rest (of a.0.0) a.0.1 flag t.0, t.1)
+
+optional_absent : {A : Type 0} (of : A → List ℕ) (Is : A → Type 0) (octet : ℕ) (octets rest : List ℕ) (x : Option A × List ℕ)
+    → octet ≡ 0 → Takes octets (one octet) rest → some (None, rest) ≡ Some x → Takes octets (optional of x.0) x.1 × IfSome x.0 Is
+optional_absent {A} of Is octet octets rest x is taken e =
+    let flag : Takes octets (one 0) rest = subst (λ (n : ℕ). Takes octets (one n) rest) is taken in
+    subst (λ (y : Option A × List ℕ). Takes octets (optional of y.0) y.1 × IfSome y.0 Is) (some_is (None, rest) x e) (flag, tt)
+
+optional_takes : {A : Type 0} (of : A → List ℕ) (Is : A → Type 0) (part : Reader A) → Reads of Is part
+    → (octets : List ℕ) (x : Option A × List ℕ) → IsOctets octets → optional_in part octets ≡ Some x
+    → Takes octets (optional of x.0) x.1 × IfSome x.0 Is
+optional_takes {A} of Is part r octets x fits e =
+    let f : ℕ × List ℕ → Option (Option A × List ℕ) = λ flag.
+    cond (eqb flag.0 0) (Some (None, flag.1)) (cond (eqb flag.0 1) (checked (λ value. Some (Some value)) part flag.1) None) in
+    let a = bind_some (octet_in octets) f x e in
+    let t = octet_takes octets a.0 fits a.1 in
+    elim (chosen (eqb a.0.0 0) (Some (None, a.0.1)) (cond (eqb a.0.0 1) (checked (λ value. Some (Some value)) part a.0.1) None) (Some x) a.2) [
+      | inl h ↦ optional_absent of Is a.0.0 octets a.0.1 x (eqb-true a.0.0 0 h.0) t.0 h.1
+      | inr h ↦ elim (chosen (eqb a.0.0 1) (checked (λ value. Some (Some value)) part a.0.1) None (Some x) h.1) [
+        | inl k ↦ optional_there of Is part r a.0.0 octets a.0.1 x (eqb-true a.0.0 1 k.0) t.0 k.1
+        | inr k ↦ absurd (none_is_not x k.1)
+      ]
+    ]
+
+optional_again : {A : Type 0} (of : A → List ℕ) (Is : A → Type 0) (part : Reader A) → Reads of Is part
+    → (value : Option A) (rest : List ℕ) → IfSome value Is → optional_in part (optional of value ++ rest) ≡ Some (value, rest)
+unfolding octet_in
+optional_again of Is part r None rest is = refl
+optional_again of Is part r (Some value) rest is = rw (r.again value rest is) refl
+
+pub optional_reads : {A : Type 0} (of : A → List ℕ) (Is : A → Type 0) (part : Reader A) → Reads of Is part
+    → Reads (optional of) (λ value. IfSome value Is) (optional_in part)
+optional_reads of Is part r = record { takes = optional_takes of Is part r; again = optional_again of Is part r }
+
+-- ---- so many parts
+
+many_takes : {A : Type 0} (of : A → List ℕ) (Is : A → Type 0) (part : Reader A) → Reads of Is part
+    → (count : ℕ) (octets : List ℕ) (x : List A × List ℕ) → IsOctets octets → many_in part count octets ≡ Some x
+    → Takes octets (flat_map of x.0) x.1 × (length x.0 ≡ count) × AllByRecursion Is x.0
+many_takes {A} of Is part r zero octets x fits e =
+    subst (λ (y : List A × List ℕ). Takes octets (flat_map of y.0) y.1 × (length y.0 ≡ 0) × AllByRecursion Is y.0) (some_is ([], octets) x e)
+    (record { parts = refl; rest_fits = fits }, refl, tt)
+many_takes {A} of Is part r (suc count) octets x fits e =
+    let a = bind_some (part octets) (λ first. many_in part count first.1 >>= λ others. Some (first.0 ∷ others.0, others.1)) x e in
+    let b = bind_some (many_in part count a.0.1) (λ others. Some (a.0.0 ∷ others.0, others.1)) x a.2 in
+    let t = r.takes octets a.0 fits a.1 in
+    let u = many_takes of Is part r count a.0.1 b.0 t.0.rest_fits b.1 in
+    let all = Takes-then octets (of a.0.0) a.0.1 (flat_map of b.0.0) b.0.1 t.0 u.0 in
+    let made : List A × List ℕ = (a.0.0 ∷ b.0.0, b.0.1) in
+    subst (λ (y : List A × List ℕ). Takes octets (flat_map of y.0) y.1 × (length y.0 ≡ suc count) × AllByRecursion Is y.0) (some_is made x b.2)
+    (rw flat_map-cons all, ap suc u.1, (t.1, u.2))
+
+many_again : {A : Type 0} (of : A → List ℕ) (Is : A → Type 0) (part : Reader A) → Reads of Is part
+    → (values : List A) (rest : List ℕ) → AllByRecursion Is values → many_in part (length values) (flat_map of values ++ rest) ≡ Some (values, rest)
+many_again of Is part r [] rest is = refl
+many_again of Is part r (value ∷ values) rest is =
+    let regrouped : flat_map of (value ∷ values) ++ rest ≡ of value ++ (flat_map of values ++ rest) = append_assoc (of value) (flat_map of values) rest in
+    ap (many_in part (suc (length values))) regrouped
+    ∙ rw (r.again value (flat_map of values ++ rest) is.0, many_again of Is part r values rest is.1) refl
+
+-- so many that their count is spelled
+pub record AreCounted {A : Type 0} (limit : ℕ) (Is : A → Type 0) (values : List A) : Type 0 where
+  pub few : length values < limit
+  pub each : AllByRecursion Is values
+
+pub counted_reads : {A : Type 0} (of_count : ℕ → List ℕ) (limit : ℕ) (count : Reader ℕ) (of : A → List ℕ) (Is : A → Type 0) (part : Reader A)
+    → Reads of_count (λ n. n < limit) count → Reads of Is part
+    → Reads {A = List A} (λ values. of_count (length values) ++ flat_map of values) (AreCounted limit Is) (counted_in count part)
+counted_reads {A} of_count limit count of Is part c r = record {
+  takes = λ octets x fits e.
+    let a = bind_some (count octets) (λ n. many_in part n.0 n.1) x e in
+    let t = c.takes octets a.0 fits a.1 in
+    let u = many_takes of Is part r a.0.0 a.0.1 x t.0.rest_fits a.2 in
+    let front : Takes octets (of_count (length x.0)) a.0.1 = subst (λ (n : ℕ). Takes octets (of_count n) a.0.1) (sym u.1) t.0 in
+    (Takes-then octets (of_count (length x.0)) a.0.1 (flat_map of x.0) x.1 front u.0, record { few = omega (arith, u.1, t.1); each = u.2 });
+  again = λ values rest is.
+    rw (append_assoc (of_count (length values)) (flat_map of values) rest, c.again (length values) (flat_map of values ++ rest) is.few)
+    (many_again of Is part r values rest is.each);
+}

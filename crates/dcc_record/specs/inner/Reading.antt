@@ -98,13 +98,13 @@ most_asked unit.Units = MAX_UNITS
 
 -- units that may be asked for
 abbrev pub is_asked : UnitKind → Option ℕ → Bool
-is_asked unit None = true
-is_asked unit (Some units) = nat_le 1 units && nat_le units (most_asked unit)
+is_asked kind None = true
+is_asked kind (Some units) = nat_le 1 units && nat_le units (most_asked kind)
 
 -- amounts that go with the unit, and with whether there is a tariff
 unfoldable pub is_service : (asked used : Option ℕ) → Option UnitKind → (rated : Bool) → Bool
 is_service asked used None rated = is_nothing asked && is_nothing used && not rated
-is_service asked used (Some unit) rated = is_asked unit asked && is_used used
+is_service asked used (Some kind) rated = is_asked kind asked && is_used used
 
 -- the parts of a service, in their order
 abbrev pub ServiceParts : Type 0
