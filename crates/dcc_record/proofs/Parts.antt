@@ -283,12 +283,12 @@ pub counted_reads : {A : Type 0} (of_count : ℕ → List ℕ) (limit : ℕ) (co
     → Reads {A = List A} (λ values. of_count (length values) ++ flat_map of values) (AreCounted limit Is) (counted_in count part)
 counted_reads {A} of_count limit count of Is part c r = record {
   takes = λ octets x fits e.
-    let a = bind_some (count octets) (λ n. many_in part n.0 n.1) x e in
-    let t = c.takes octets a.0 fits a.1 in
-    let u = many_takes of Is part r a.0.0 a.0.1 x t.0.rest_fits a.2 in
-    let front : Takes octets (of_count (length x.0)) a.0.1 = subst (λ (n : ℕ). Takes octets (of_count n) a.0.1) (sym u.1) t.0 in
-    (Takes-then octets (of_count (length x.0)) a.0.1 (flat_map of x.0) x.1 front u.0, record { few = omega (arith, u.1, t.1); each = u.2 });
+      let a = bind_some (count octets) (λ n. many_in part n.0 n.1) x e in
+      let t = c.takes octets a.0 fits a.1 in
+      let u = many_takes of Is part r a.0.0 a.0.1 x t.0.rest_fits a.2 in
+      let front : Takes octets (of_count (length x.0)) a.0.1 = subst (λ (n : ℕ). Takes octets (of_count n) a.0.1) (sym u.1) t.0 in
+      (Takes-then octets (of_count (length x.0)) a.0.1 (flat_map of x.0) x.1 front u.0, record { few = omega (arith, u.1, t.1); each = u.2 });
   again = λ values rest is.
-    rw (append_assoc (of_count (length values)) (flat_map of values) rest, c.again (length values) (flat_map of values ++ rest) is.few)
-    (many_again of Is part r values rest is.each);
+      rw (append_assoc (of_count (length values)) (flat_map of values) rest, c.again (length values) (flat_map of values ++ rest) is.few)
+      (many_again of Is part r values rest is.each);
 }

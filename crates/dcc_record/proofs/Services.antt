@@ -91,9 +91,9 @@ unit_back octet found e =
     picked unit_octet octet None
     (cond (eqb octet 1) (Some (Some unit.Octets)) (cond (eqb octet 2) (Some (Some unit.Time)) (cond (eqb octet 3) (Some (Some unit.Units)) None))) found e
     (λ e. picked unit_octet octet (Some unit.Octets)
-      (cond (eqb octet 2) (Some (Some unit.Time)) (cond (eqb octet 3) (Some (Some unit.Units)) None)) found e
-      (λ e. picked unit_octet octet (Some unit.Time) (cond (eqb octet 3) (Some (Some unit.Units)) None) found e
-        (λ e. picked unit_octet octet (Some unit.Units) None found e (λ e. not_none found e))))
+    (cond (eqb octet 2) (Some (Some unit.Time)) (cond (eqb octet 3) (Some (Some unit.Units)) None)) found e
+    (λ e. picked unit_octet octet (Some unit.Time) (cond (eqb octet 3) (Some (Some unit.Units)) None) found e
+    (λ e. picked unit_octet octet (Some unit.Units) None found e (λ e. not_none found e))))
 
 unit_small : (unit : Option UnitKind) → unit_octet unit < 256
 unit_small None = omega arith
@@ -127,11 +127,11 @@ ids_reads = checked_reads {A = List ℕ} (λ ids. to_be_bytes w16 (length ids) +
     (λ ids. cond (leb (length ids) MAX_IDS) (Some ids) None) (counted_in (number_in w16) (number_in w32))
     (record {
       made = λ ids found is e.
-        let p = passed (leb (length ids) MAX_IDS) ids found e in
-        subst (λ (v : List ℕ). (to_be_bytes w16 (length ids) ++ flat_map u32_octets ids ≡ ids_octets v) × AreIds v) p.1
-        (refl, (All-from_recursion Is32 ids is.each, leb-true _ _ p.0));
+          let p = passed (leb (length ids) MAX_IDS) ids found e in
+          subst (λ (v : List ℕ). (to_be_bytes w16 (length ids) ++ flat_map u32_octets ids ≡ ids_octets v) × AreIds v) p.1
+          (refl, (All-from_recursion Is32 ids is.each, leb-true _ _ p.0));
       from = λ ids is.
-        (ids, record { few = omega (arith, is.1); each = to_recursion Is32 ids is.0 }, passes (leb (length ids) MAX_IDS) ids (le-leb _ _ is.1), refl);
+          (ids, record { few = omega (arith, is.1); each = to_recursion Is32 ids is.0 }, passes (leb (length ids) MAX_IDS) ids (le-leb _ _ is.1), refl);
     })
     (counted_reads (to_be_bytes w16) (2 ^ 16) (number_in w16) u32_octets Is32 (number_in w32) (number_reads w16 (2 ^ 16) wide16) u32_reads)
 
@@ -152,11 +152,11 @@ tariff_reads = checked_reads {A = ℕ × ℕ} (λ p. u32_octets p.0 ++ u64_octet
     tariff_from (both (number_in w32) (number_in w64))
     (record {
       made = λ part found is e.
-        let p = passed (is_tariff part.0 part.1) (record { price = part.0; block = part.1 }) found e in
-        subst (λ (v : TariffView). (u32_octets part.0 ++ u64_octets part.1 ≡ tariff_octets v) × IsTariff v) p.1
-        (refl, tariff_right part.0 part.1 p.0);
+          let p = passed (is_tariff part.0 part.1) (record { price = part.0; block = part.1 }) found e in
+          subst (λ (v : TariffView). (u32_octets part.0 ++ u64_octets part.1 ≡ tariff_octets v) × IsTariff v) p.1
+          (refl, tariff_right part.0 part.1 p.0);
       from = λ tariff is.
-        ((tariff.price, tariff.block), (omega (arith, is.price), omega (arith, is.block)), passes (is_tariff tariff.price tariff.block) tariff (tariff_again tariff is), refl);
+          ((tariff.price, tariff.block), (omega (arith, is.price), omega (arith, is.block)), passes (is_tariff tariff.price tariff.block) tariff (tariff_again tariff is), refl);
     })
     (both_reads u32_octets Is32 (number_in w32) u64_octets Is64 (number_in w64) u32_reads u64_reads)
 
@@ -280,22 +280,32 @@ service_makes : Makes parts_octets AreParts service_octets WithinService service
 unfolding parts_octets AreParts service_octets
 service_makes = record {
   made = λ p found is e.
-    let made : ServiceView = record {
-      group = p.0.0.0.0.1; ids = p.0.0.0.1; form = p.0.0.0.0.0; asked = p.0.0.1; used = p.0.1; unit = p.1.0; tariff = p.1.1;
-    } in
-    let q = passed (is_service p.0.0.1 p.0.1 p.1.0 (is_some p.1.1)) made found e in
-    subst (λ (v : ServiceView). (parts_octets p ≡ service_octets v) × WithinService v) q.1
-    (refl, record {
-      group = is.0.0.0.0.1;
-      ids = is.0.0.0.1.0;
-      few_ids = is.0.0.0.1.1;
-      tariff = is.1.1;
-      amounts = service_right p.0.0.1 p.0.1 p.1.0 p.1.1 q.0;
-    });
-  from = λ s is.
-    ((((((s.form, s.group), s.ids), s.asked), s.used), (s.unit, s.tariff)),
+      let made : ServiceView = record {
+        group = p.0.0.0.0.1;
+        ids = p.0.0.0.1;
+        form = p.0.0.0.0.0;
+        asked = p.0.0.1;
+        used = p.0.1;
+        unit = p.1.0;
+        tariff = p.1.1;
+      } in
+      let q = passed (is_service p.0.0.1 p.0.1 p.1.0 (is_some p.1.1)) made found e in
+      subst (λ (v : ServiceView). (parts_octets p ≡ service_octets v) × WithinService v) q.1 (
+        refl,
+        record {
+          group = is.0.0.0.0.1;
+          ids = is.0.0.0.1.0;
+          few_ids = is.0.0.0.1.1;
+          tariff = is.1.1;
+          amounts = service_right p.0.0.1 p.0.1 p.1.0 p.1.1 q.0;
+        },
+      );
+  from = λ s is. (
+    (((((s.form, s.group), s.ids), s.asked), s.used), (s.unit, s.tariff)),
     (((((tt, is.group), (is.ids, is.few_ids)), amount_fits s.asked is.amounts.asked_in_range), amount_fits s.used is.amounts.used_in_range), (tt, is.tariff)),
-    passes (is_service s.asked s.used s.unit (is_some s.tariff)) s (service_passes s.asked s.used s.unit s.tariff is.amounts), refl);
+    passes (is_service s.asked s.used s.unit (is_some s.tariff)) s (service_passes s.asked s.used s.unit s.tariff is.amounts),
+    refl,
+  );
 }
 
 pub service_reads : Reads service_octets WithinService service_in
@@ -316,10 +326,10 @@ services_read = checked_reads {A = List ServiceView} (λ services. one (length s
     services_octets AreServices (λ services. cond (are_services services) (Some services) None) (counted_in octet_in service_in)
     (record {
       made = λ services found is e.
-        let p = passed (are_services services) services found e in
-        subst (λ (v : List ServiceView). (one (length services) ++ flat_map service_octets services ≡ services_octets v) × AreServices v) p.1
-        (refl, (All-from_recursion WithinService services is.each, p.0));
+          let p = passed (are_services services) services found e in
+          subst (λ (v : List ServiceView). (one (length services) ++ flat_map service_octets services ≡ services_octets v) × AreServices v) p.1
+          (refl, (All-from_recursion WithinService services is.each, p.0));
       from = λ services is.
-        (services, record { few = few_services services is.1; each = to_recursion WithinService services is.0 }, passes (are_services services) services is.1, refl);
+          (services, record { few = few_services services is.1; each = to_recursion WithinService services is.0 }, passes (are_services services) services is.1, refl);
     })
     (counted_reads one 256 octet_in service_octets WithinService service_in octet_reads service_reads)

@@ -3,9 +3,12 @@
 
 mod fault;
 mod fields;
+mod laws;
 mod limits;
 mod reading;
 mod writing;
 
 pub use fault::RecordFault;
+pub use laws::records_differ;
+pub use reading::read_act;
 pub use writing::write_act;

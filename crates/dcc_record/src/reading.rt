@@ -1,11 +1,11 @@
 //! Reading a record: one function for each part, in the order of the parts.
 
-ghost use Rattle.std.specs.Prelude.{◌≡◌, List, length, Some, IfOk, true};
+ghost use Rattle.std.specs.Prelude.{◌≡◌, ◌≢◌, IfOk, IfErr};
 ghost use Rattle.std.specs.Int.{w32};
-ghost use Rattle.dcc_octets.specs.Names.{is_short};
-ghost use Rattle.dcc_act.specs.Services.{IsService};
+ghost use Rattle.dcc_record.specs.Limits.{IsAct};
+ghost use Rattle.dcc_record.specs.Records.{record_of};
 ghost use Rattle.dcc_record.specs.inner.Readers.{Gives, number_in, many_in, optional_in};
-ghost use Rattle.dcc_record.specs.inner.Reading.{top_up_in, string_in, session_in, key_in, form_in, unit_in, action_in, ids_in, tariff_in, is_service, service_in, services_in, request_in, event_in, kind_in, act_in};
+ghost use Rattle.dcc_record.specs.inner.Reading.{top_up_in, string_in, session_in, key_in, form_in, unit_in, action_in, ids_in, tariff_in, is_service, service_in, services_in, request_in, event_in, kind_in, first_act_in, act_in};
 
 use crate::fault::RecordFault;
 use crate::fields::{
@@ -21,10 +21,33 @@ use dcc_act::{
 use dcc_tariff::{Tariff, UnitKind};
 use std::alloc::Global;
 
-/// The act that the octets record, all of them.
-#[tactic(auto, unfolding(crate::specs::inner::Reading::act_in, crate::specs::inner::Reading::moment_in))]
+/// Reads the record of an act: all of the octets, or the fault.
+pub fn read_act(alloc: Global, octets: &[u8]) -> Result<Act, RecordFault>
+    // What is read has these octets as its record.
+    ensures found { IfOk result (λ act. octets.now ≡ record_of act) }
+    ensures within { IfOk result IsAct }
+    // Octets that are refused are no act's record.
+    ensures refused { IfErr result (λ fault. fault ≡ RecordFault.BadRecord → (act : Act) → IsAct act → record_of act ≢ octets.now) }
+{
+    act_of(alloc, octets)
+}
+
+/// The act of all the octets.
+#[tactic(auto, unfolding(crate::specs::inner::Reading::act_in))]
 fn act_of(alloc: Global, octets: &[u8]) -> Result<Act, RecordFault>
     ensures { Gives (λ act. act) result (act_in octets.now) }
+{
+    match first_act(alloc, octets) {
+        Ok((act, [])) => Ok(act),
+        Ok(_) => Err(RecordFault::BadRecord),
+        Err(fault) => Err(fault),
+    }
+}
+
+/// The act in front.
+#[tactic(auto, unfolding(crate::specs::inner::Reading::first_act_in, crate::specs::inner::Reading::moment_in))]
+fn first_act(alloc: Global, octets: &[u8]) -> Result<(Act, &[u8]), RecordFault>
+    ensures { Gives (λ x. (x.0, x.1.now)) result (first_act_in octets.now) }
 {
     let rest = behind_fixed(VERSION, octets)?;
     let (octet, rest) = first_octet(rest)?;
@@ -33,10 +56,7 @@ fn act_of(alloc: Global, octets: &[u8]) -> Result<Act, RecordFault>
         return Err(RecordFault::BadRecord);
     };
     let (kind, rest) = first_kind(alloc, octet, rest)?;
-    if !rest.is_empty() {
-        return Err(RecordFault::BadRecord);
-    }
-    Ok(Act { moment, kind })
+    Ok((Act { moment, kind }, rest))
 }
 
 /// What follows for a kind.

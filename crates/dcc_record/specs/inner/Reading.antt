@@ -162,11 +162,17 @@ kind_in octet octets =
 unfoldable pub moment_in : Reader ℕ
 moment_in = checked (λ seconds. if nat_le seconds LAST_SECOND then Some seconds else None) (number_in w64)
 
--- all of the octets
-unfoldable pub act_in : List ℕ → Option Act
-act_in octets = do
+-- the act in front
+unfoldable pub first_act_in : Reader Act
+first_act_in octets = do
   version ← fixed_in 1 octets
   octet ← octet_in version.1
   moment ← moment_in octet.1
-  kind ← kind_in octet.0 moment.1
-  if length kind.1 == 0 then Some (record { moment = moment.0; kind = kind.0 }) else None
+  what ← kind_in octet.0 moment.1
+  Some (record { moment = moment.0; kind = what.0 }, what.1)
+
+-- the act of all the octets
+unfoldable pub act_in : List ℕ → Option Act
+act_in octets = do
+  found ← first_act_in octets
+  if length found.1 == 0 then Some found.0 else None
