@@ -12,3 +12,6 @@ pub use fault::RecordFault;
 pub use laws::records_differ;
 pub use reading::read_act;
 pub use writing::write_act;
+
+#[cfg(test)]
+mod tests;
