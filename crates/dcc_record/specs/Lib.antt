@@ -1,0 +1,4 @@
+pub mod Faults
+pub mod Records
+pub mod Limits
+pub mod inner

@@ -1,0 +1,108 @@
+-- The record of an act, version 1: the octets that spell it, each number with its highest octet first.
+use Rattle.std.specs.Prelude.{ℕ, List, [], ◌∷◌, ◌++◌, length, Option, Some, None}
+use Rattle.std.specs.Int.{w16, w32, w64, to_be_bytes}
+use Rattle.std.specs.List.{flat_map}
+use Rattle.dcc_tariff.specs.Terms.{TariffView}
+use Rattle.dcc_tariff.specs.declared.tariff.UnitKind.{UnitKind}
+use Rattle.dcc_tariff.specs.declared.tariff.UnitKind.TheVariants as unit
+use Rattle.dcc_act.specs.declared.act.Act.{Act}
+use Rattle.dcc_act.specs.declared.act.Kind.{Kind}
+use Rattle.dcc_act.specs.declared.act.Kind.TheVariants as kind
+use Rattle.dcc_act.specs.declared.one_time_event.Action.{Action}
+use Rattle.dcc_act.specs.declared.one_time_event.Action.TheVariants as action
+use Rattle.dcc_act.specs.declared.request_key.RequestKey.{RequestKey}
+use Rattle.dcc_act.specs.declared.service.Form.{Form}
+use Rattle.dcc_act.specs.declared.service.Form.TheVariants as form
+use Rattle.dcc_act.specs.declared.session_request.SessionRequest.{SessionRequest}
+use Rattle.dcc_act.specs.OneTimeEvents.{OneTimeEventView}
+use Rattle.dcc_act.specs.Services.{ServiceView}
+use Rattle.dcc_act.specs.TopUps.{TopUpView}
+
+-- numbers of four octets and of eight
+abbrev pub u32_octets : ℕ → List ℕ
+u32_octets number = to_be_bytes w32 number
+
+abbrev pub u64_octets : ℕ → List ℕ
+u64_octets number = to_be_bytes w64 number
+
+-- what may be absent: 0, or 1 and what is there
+abbrev pub optional : {A : Type 0} → (A → List ℕ) → Option A → List ℕ
+optional octets_of None = 0 ∷ []
+optional octets_of (Some value) = 1 ∷ octets_of value
+
+-- a top-up: its ticket and its amount
+unfoldable pub top_up_octets : TopUpView → List ℕ
+top_up_octets top_up = u64_octets top_up.ticket ++ u64_octets top_up.amount
+
+-- a Session-Id: its length in one octet, and its octets
+unfoldable pub session_octets : List ℕ → List ℕ
+session_octets sid = length sid ∷ sid
+
+-- a session and the number of the request in it
+unfoldable pub key_octets : RequestKey → List ℕ
+key_octets key = session_octets key.sid ++ u32_octets key.number
+
+-- the form of a service, what its units count, and what a one-time event asks for: one octet each
+abbrev pub form_octet : Form → ℕ
+form_octet form.Single = 0
+form_octet form.Multi = 1
+
+abbrev pub unit_octet : Option UnitKind → ℕ
+unit_octet None = 0
+unit_octet (Some unit.Octets) = 1
+unit_octet (Some unit.Time) = 2
+unit_octet (Some unit.Units) = 3
+
+abbrev pub action_octet : Action → ℕ
+action_octet action.DirectDebiting = 0
+action_octet action.RefundAccount = 1
+action_octet action.CheckBalance = 2
+action_octet action.PriceEnquiry = 3
+
+-- identifiers: their count in two octets, and each
+unfoldable pub ids_octets : List ℕ → List ℕ
+ids_octets ids = to_be_bytes w16 (length ids) ++ flat_map u32_octets ids
+
+-- a tariff: the price of a block, and the units of a block
+unfoldable pub tariff_octets : TariffView → List ℕ
+tariff_octets tariff = u32_octets tariff.price ++ u64_octets tariff.block
+
+-- a service: its form, its group, its identifiers, what it asks for and what it reports, what is counted, and its tariff
+unfoldable pub service_octets : ServiceView → List ℕ
+service_octets service =
+    form_octet service.form ∷ optional u32_octets service.group ++ ids_octets service.ids
+    ++ optional u64_octets service.asked ++ optional u64_octets service.used
+    ++ unit_octet service.unit ∷ optional tariff_octets service.tariff
+
+-- services: their count in one octet, and each
+unfoldable pub services_octets : List ServiceView → List ℕ
+services_octets services = length services ∷ flat_map service_octets services
+
+-- a request of a session: its session and number, and its services
+unfoldable pub request_octets : SessionRequest → List ℕ
+request_octets request = key_octets request.key ++ services_octets request.services
+
+-- a one-time event: its session and number, what it asks for, and its services, of which it has one
+unfoldable pub event_octets : OneTimeEventView → List ℕ
+event_octets event = key_octets event.key ++ action_octet event.action ∷ services_octets (event.service ∷ [])
+
+-- what stands for a kind, and what follows it
+abbrev pub kind_octet : Kind → ℕ
+kind_octet (kind.TopUp top_up) = 1
+kind_octet (kind.Initial request) = 2
+kind_octet (kind.Update request) = 3
+kind_octet (kind.Termination request) = 4
+kind_octet (kind.Event event) = 5
+kind_octet kind.Expiry = 6
+
+abbrev pub kind_octets : Kind → List ℕ
+kind_octets (kind.TopUp top_up) = top_up_octets top_up
+kind_octets (kind.Initial request) = request_octets request
+kind_octets (kind.Update request) = request_octets request
+kind_octets (kind.Termination request) = request_octets request
+kind_octets (kind.Event event) = event_octets event
+kind_octets kind.Expiry = []
+
+-- a record: the version, what stands for the kind, the act's moment, and what follows for its kind
+unfoldable pub record_of : Act → List ℕ
+record_of act = 1 ∷ kind_octet act.kind ∷ u64_octets act.moment ++ kind_octets act.kind
