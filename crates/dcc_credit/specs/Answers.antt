@@ -73,12 +73,12 @@ abbrev pub service_avps : RequestType → TermsView → Form → ServiceAnswer �
 service_avps type terms Single service = option_to_list (option_map granted service.grant)
 service_avps type terms Multi service = grouped MULTIPLE_SERVICES_CREDIT_CONTROL (service_parts type terms service) ∷ []
 
--- whether the grant is the last then stands behind a price
+-- at the message's level the Final-Unit-Indication stands behind a price
 abbrev pub single_final : Form → ServiceAnswer → List AvpView
 single_final Single service = final_avps service.is_final
 single_final Multi service = []
 
--- and how long it may be used behind a balance
+-- and the Validity-Time behind a balance
 abbrev pub single_validity : RequestType → TermsView → Form → ServiceAnswer → List AvpView
 single_validity type terms Single service = validity_avps type terms service.grant
 single_validity type terms Multi service = []

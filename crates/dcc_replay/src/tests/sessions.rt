@@ -9,7 +9,7 @@ use super::prints;
 use std::test::Fail;
 
 /// Names that stand in rows for AVPs.
-pub(crate) const NAMED: [(&str, &str); 38] = [
+pub(crate) const NAMED: [(&str, &str); 52] = [
     (
         "other",
         "000001bb40000028000001c24000000c00000000000001bc40000014343931373030303030303033",
@@ -130,6 +130,10 @@ pub(crate) const NAMED: [(&str, &str); 38] = [
         "99r5031",
         "000001c840000020000001b04000000c000000630000010c4000000c000013a7",
     ),
+    (
+        "10n7g1000",
+        "000001c84000005c000001af40000018000001a54000001000000000000003e8000001b74000000c00000007000001b74000000c00000009000001b04000000c0000000a000001c04000000c000002580000010c4000000c000007d1",
+    ),
     ("a1000", "000001b540000018000001a54000001000000000000003e8"),
     ("a0", "000001b540000008"),
     ("u1000", "000001be40000018000001a54000001000000000000003e8"),
@@ -147,9 +151,43 @@ pub(crate) const NAMED: [(&str, &str); 38] = [
         "10n7r4012",
         "000001c840000038000001b74000000c00000007000001b74000000c00000009000001b04000000c0000000a0000010c4000000c00000fac",
     ),
+    ("a2000", "000001b540000018000001a54000001000000000000007d0"),
+    ("a1", "000001b540000018000001a5400000100000000000000001"),
+    ("g1", "000001af40000018000001a5400000100000000000000001"),
+    ("final", "000001ae40000014000001c14000000c00000000"),
+    ("10", "000001c840000014000001b04000000c0000000a"),
+    (
+        "xa1000",
+        "000001c840000020000001b540000018000001a54000001000000000000003e8",
+    ),
+    (
+        "xg1000",
+        "000001c840000038000001af40000018000001a54000001000000000000003e8000001c04000000c000002580000010c4000000c000007d1",
+    ),
+    (
+        "10n9a1000",
+        "000001c840000038000001b74000000c00000009000001b04000000c0000000a000001b540000018000001a54000001000000000000003e8",
+    ),
+    (
+        "10n9g1000",
+        "000001c840000050000001af40000018000001a54000001000000000000003e8000001b74000000c00000009000001b04000000c0000000a000001c04000000c000002580000010c4000000c000007d1",
+    ),
+    (
+        "10n78u1000a1000",
+        "000001c84000005c000001b74000000c00000007000001b74000000c00000008000001b04000000c0000000a000001b540000018000001a54000001000000000000003e8000001be40000018000001a54000001000000000000003e8",
+    ),
+    (
+        "10n78g1000",
+        "000001c84000005c000001af40000018000001a54000001000000000000003e8000001b74000000c00000007000001b74000000c00000008000001b04000000c0000000a000001c04000000c000002580000010c4000000c000007d1",
+    ),
+    (
+        "99u0a0",
+        "000001c840000044000001b04000000c00000063000001b540000018000001a1400000100000000000000000000001be40000018000001a1400000100000000000000000",
+    ),
+    ("xr4012", "000001c8400000140000010c4000000c00000fac"),
 ];
 
-const ROWS: [(&str, &str); 9] = [
+const ROWS: [(&str, &str); 13] = [
     // Three sessions share a balance, and an update charges what was used: of 1,000, 500 and 500 are reserved, then 205 is charged and
     // 295 free. It comes again without its services, and is answered as first.
     (
@@ -195,13 +233,14 @@ message 1 1748736000 ccs/02/1/0/sub+10a200000\n",
         "1 -\n2 topup done\n3 answer 1 cas/01/2001/1/0/10g100000\n4 answer 1 cas/01/5012/1/1/\n\
 5 answer 1 cas/01/2001/2/2/10g1000\n6 answer 1 cas/02/2001/1/0/10f199000\n",
     ),
-    // Two services in one request: 75 for the one leave 25 for the other, of which 24 are spent; 700 seconds cost 24.
+    // Two services in one request: 75 for the one leave 25 for the other, of which 24 are reserved; 700 seconds cost 24.
     (
         "open 1 gw1.example\ntopup 0 0:491700000001 1 100\nmessage 1 1748736000 ccs/01/1/0/sub+10a15000+20a900\n\
 message 1 1748736000 ccs/01/2/1/sub+20u700+10a10000\n",
         "1 -\n2 topup done\n3 answer 1 cas/01/2001/1/0/10g15000+20f720\n4 answer 1 cas/01/2001/2/1/20r2001+10g10000\n",
     ),
-    // Nothing asked for, or 0, stands for the plan's quantum; a group that the plan doesn't have has no price; identifiers are told as sent.
+    // A Requested-Service-Unit without an amount, or of 0, stands for the plan's quantum; a group that the plan doesn't have has no
+    // price; identifiers are told as sent; what asks for nothing is granted nothing.
     (
         "open 1 gw1.example\ntopup 0 0:491700000001 1 1000\nmessage 1 1748736000 ccs/01/1/0/sub+10a0+99a0\n\
 message 1 1748736000 ccs/02/1/0/sub+a0\nmessage 1 1748736000 ccs/03/1/0/sub+10n7a1000\n\
@@ -217,7 +256,8 @@ message 1 1748736000 ccs/01/2/1/sub\n",
         "1 -\n2 answer 1 cas/01/5030/1/0/\n3 topup done\n4 answer 1 cas/01/2001/1/0/10g1000\n\
 5 answer 1 cas/01/2001/1/0/10g1000\n6 answer 1 cas/01/2001/2/1/\n",
     ),
-    // Sixty-four sessions are open, and no more; those of another subscriber don't count. The refusal is kept for its number.
+    // Sixty-four sessions are open, and no more; those of another subscriber don't count. The refusal is kept for its
+    // number; a session that was opened is told before one too many.
     (
         "open 1 gw1.example\ntopup 0 0:491700000001 1 1\ntopup 0 0:491700000003 1 1\nmessage 1 0 ccs/00/1/0/sub\n\
 message 1 0 ccs/01/1/0/sub\nmessage 1 0 ccs/02/1/0/sub\nmessage 1 0 ccs/03/1/0/sub\nmessage 1 0 ccs/04/1/0/sub\n\
@@ -236,7 +276,8 @@ message 1 0 ccs/31/1/0/sub\nmessage 1 0 ccs/32/1/0/sub\nmessage 1 0 ccs/33/1/0/s
 message 1 0 ccs/35/1/0/sub\nmessage 1 0 ccs/36/1/0/sub\nmessage 1 0 ccs/37/1/0/sub\nmessage 1 0 ccs/38/1/0/sub\n\
 message 1 0 ccs/39/1/0/sub\nmessage 1 0 ccs/3a/1/0/sub\nmessage 1 0 ccs/3b/1/0/sub\nmessage 1 0 ccs/3c/1/0/sub\n\
 message 1 0 ccs/3d/1/0/sub\nmessage 1 0 ccs/3e/1/0/sub\nmessage 1 0 ccs/3f/1/0/sub\nmessage 1 0 ccs/40/1/0/sub\n\
-message 1 0 ccs/40/1/0/other\nmessage 1 0 ccs/07/3/1/sub\nmessage 1 0 ccs/40/1/0/sub\nmessage 1 0 ccs/40/1/1/sub\n",
+message 1 0 ccs/40/1/0/other\nmessage 1 0 ccs/07/3/1/sub\nmessage 1 0 ccs/40/1/0/sub\nmessage 1 0 ccs/40/1/1/sub\n\
+message 1 0 ccs/08/1/1/sub\n",
         "1 -\n2 topup done\n3 topup done\n4 answer 1 cas/00/2001/1/0/\n5 answer 1 cas/01/2001/1/0/\n\
 6 answer 1 cas/02/2001/1/0/\n7 answer 1 cas/03/2001/1/0/\n8 answer 1 cas/04/2001/1/0/\n9 answer 1 cas/05/2001/1/0/\n\
 10 answer 1 cas/06/2001/1/0/\n11 answer 1 cas/07/2001/1/0/\n12 answer 1 cas/08/2001/1/0/\n\
@@ -259,7 +300,46 @@ message 1 0 ccs/40/1/0/other\nmessage 1 0 ccs/07/3/1/sub\nmessage 1 0 ccs/40/1/0
 61 answer 1 cas/39/2001/1/0/\n62 answer 1 cas/3a/2001/1/0/\n63 answer 1 cas/3b/2001/1/0/\n\
 64 answer 1 cas/3c/2001/1/0/\n65 answer 1 cas/3d/2001/1/0/\n66 answer 1 cas/3e/2001/1/0/\n\
 67 answer 1 cas/3f/2001/1/0/\n68 answer 1 cas/40/5006/1/0/\n69 answer 1 cas/40/2001/1/0/\n\
-70 answer 1 cas/07/2001/3/1/\n71 answer 1 cas/40/5006/1/0/\n72 answer 1 cas/40/2001/1/1/\n",
+70 answer 1 cas/07/2001/3/1/\n71 answer 1 cas/40/5006/1/0/\n72 answer 1 cas/40/2001/1/1/\n\
+73 answer 1 cas/08/5012/1/1/\n",
+    ),
+    // At the message's level the last units are told, and a service that is refused opens no session.
+    (
+        "open 1 gw1.example\ntopup 0 0:491700000001 1 5\ntopup 0 0:491700000003 1 4\n\
+message 1 1748736000 ccs/01/1/0/sub+a2000\nmessage 1 1748736000 ccs/01/1/0/other+a1\n\
+message 1 1748736000 ccs/01/2/1/other\ntopup 0 0:491700000003 2 1\nmessage 1 1748736000 ccs/01/1/2/other+a1\n",
+        "1 -\n2 topup done\n3 topup done\n4 answer 1 cas/01/2001/1/0/g1000+final+valid\n5 answer 1 cas/01/4012/1/0/\n\
+6 answer 1 cas/01/5002/2/1/\n7 topup done\n8 answer 1 cas/01/2001/1/2/g1+valid\n",
+    ),
+    // A service that neither reports nor asks keeps its 500. An initial request's report isn't charged, and a termination is granted
+    // nothing; it gives back what its session holds.
+    (
+        "open 1 gw1.example\ntopup 0 0:491700000001 1 1000\nmessage 1 1748736000 ccs/01/1/0/sub+10a100000\n\
+message 1 1748736000 ccs/01/2/1/sub+10\nmessage 1 1748736000 ccs/02/1/0/sub+10a200000\n\
+message 1 1748736000 ccs/03/1/0/sub+10u100500\nmessage 1 1748736000 ccs/03/3/1/sub+10a1000\n\
+message 1 1748736000 ccs/03/3/2/sub\nmessage 1 1748736000 ccs/01/3/2/sub\n\
+message 1 1748736000 ccs/04/1/0/sub+10a200000\n",
+        "1 -\n2 topup done\n3 answer 1 cas/01/2001/1/0/10g100000\n4 answer 1 cas/01/2001/2/1/10r2001\n\
+5 answer 1 cas/02/2001/1/0/10f100000\n6 answer 1 cas/03/2001/1/0/10r2001\n7 answer 1 cas/03/2001/3/1/10r2001\n\
+8 answer 1 cas/03/5002/3/2/\n9 answer 1 cas/01/2001/3/2/\n10 answer 1 cas/04/2001/1/0/10f100000\n",
+    ),
+    // A service is known by its group and its first identifier, as sent, each or none: of 30, four hold 5 each; one reports 5, and holds 5
+    // again; so 5 are free.
+    (
+        "open 1 gw1.example\ntopup 0 0:491700000001 1 30\n\
+message 1 1748736000 ccs/01/1/0/sub+xa1000+10a1000+10n7a1000+10n9a1000\n\
+message 1 1748736000 ccs/01/2/1/sub+10n78u1000a1000+99u0a0\nmessage 1 1748736000 ccs/01/2/2/sub\n\
+message 1 1748736000 ccs/02/1/0/sub+10a1000+xa1000\n",
+        "1 -\n2 topup done\n3 answer 1 cas/01/2001/1/0/xg1000+10g1000+10n7g1000+10n9g1000\n\
+4 answer 1 cas/01/2001/2/1/10n78g1000+99r5031\n5 answer 1 cas/01/2001/2/2/\n\
+6 answer 1 cas/02/2001/1/0/10g1000+xr4012\n",
+    ),
+    // A request that comes again is answered as first, under its own identifiers, P bit and proxies.
+    (
+        "open 1 gw1.example\ntopup 0 0:491700000001 1 1000\nmessage 1 1748736000 ccs/01/1/0/sub+10a1000\n\
+message 1 1748736000 raw/80000110000000040000003100000041/000001074000000901000000+asks+000001a04000000c00000001+0000019f4000000c00000000+sub+proxy\n",
+        "1 -\n2 topup done\n3 answer 1 cas/01/2001/1/0/10g1000\n\
+4 answer 1 raw/00000110000000040000003100000041/000001074000000901000000+0000010c4000000c000007d1+server+app+000001a04000000c00000001+0000019f4000000c00000000+10g1000+proxy\n",
     ),
 ];
 
