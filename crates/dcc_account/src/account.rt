@@ -1,8 +1,8 @@
 //! Accounts.
 
-ghost use Rattle.std.specs.Prelude.{◌≡◌, [], ◌∷◌, ◌++◌, map, pos, neg_ℤ, ◌+ℤ◌, ◌≤ℤ◌, if◌then◌else◌, IfOk};
+ghost use Rattle.std.specs.Prelude.{◌≡◌, [], ◌∷◌, ◌++◌, map, reverse, pos, neg_ℤ, ◌+ℤ◌, ◌≤ℤ◌, if◌then◌else◌, IfOk};
 ghost use Rattle.std.specs.Option.{option_copied};
-ghost use Rattle.dcc_model.specs.Outcomes.{act_made, acts, funds, overrun, free, kept};
+ghost use Rattle.dcc_model.specs.Outcomes.{act_made, history, acts, funds, overrun, free, kept};
 ghost use Rattle.dcc_model.specs.Entries.{entries};
 ghost use Rattle.dcc_model.specs.declared.decide.TheConstants.{CEILING};
 
@@ -76,6 +76,7 @@ impl Account {
     /// The acts that were made, in order, each with what it came to.
     pub fn acts(&self) -> &[Done]
         ensures value { map act_made result.now ≡ self.now.acts }
+        ensures outcomes { reverse result.now ≡ history self.now.terms (reverse self.now.acts) }
         ensures own { acts self.now.terms self.now.acts ≡ self.now.acts }
     {
         &self.acts

@@ -65,7 +65,7 @@ impl Step {
         &self.act
     }
 
-    /// Whether the act is made, and not a repeat nor a request without an account.
+    /// Whether the act is made, and not a repeat, nor a request without an account, nor an expiry that ends nothing.
     pub fn is_new(&self) -> bool
         ensures { result ≡ self.now.is_new }
     {
@@ -73,7 +73,7 @@ impl Step {
     }
 
     /// The act's place among the acts of its subscriber once it is made, from 1, or that of the act that was made with its
-    /// key; none for a request without an account.
+    /// key; none for a request without an account, and for an expiry that ends nothing.
     pub fn place(&self) -> Option<u64>
         ensures { result ≡ self.now.place }
     {
