@@ -107,6 +107,7 @@ fn tariff_of(group: u32) -> Tariff {
     }
 }
 
+/// The group of a service in short.
 fn group_of(want: Want) -> u32 {
     match want {
         Want::Asks(group, _) | Want::Used(group, _) | Want::Both(group, _, _) => group,
@@ -165,11 +166,13 @@ fn service(alloc: Global, want: Want) -> Service {
     }
 }
 
+/// A request's key in the session of this name.
 fn key(alloc: Global, session: u8, number: u32) -> Result<RequestKey, Fail> {
     let sid = SessionId::from_vec([session].to_vec(alloc)?).ok_or("a name")?;
     Ok(RequestKey { sid, number })
 }
 
+/// A request of a session.
 fn request(
     alloc: Global,
     session: u8,
@@ -186,6 +189,7 @@ fn request(
     })
 }
 
+/// A one-time event of a service in single form.
 fn event(alloc: Global, action: Action, number: u32, octets: u64) -> Result<OneTimeEvent, Fail> {
     let service = service(alloc, Want::Asks(SINGLE, octets));
     if service.asked.is_none() {
@@ -198,6 +202,7 @@ fn event(alloc: Global, action: Action, number: u32, octets: u64) -> Result<OneT
     })
 }
 
+/// What happens by an act in short.
 fn kind(alloc: Global, ask: Ask) -> Result<Kind, Fail> {
     Ok(match ask {
         Ask::TopUp(ticket, amount) => Kind::TopUp(TopUp::new(ticket, amount).ok_or("an amount")?),
@@ -215,6 +220,7 @@ fn kind(alloc: Global, ask: Ask) -> Result<Kind, Fail> {
     })
 }
 
+/// The act so many seconds after the start.
 fn act(alloc: Global, after: u64, ask: Ask) -> Result<Act, Fail> {
     let seconds = START.saturating_add(after);
     Ok(Act {
@@ -275,6 +281,7 @@ struct Book {
 }
 
 impl Book {
+    /// No acts.
     fn new(alloc: Global) -> Book {
         Book {
             all: Vec::new(alloc),
@@ -366,9 +373,20 @@ fn open_sessions(rt: HostRuntime) -> Result<(), Fail> {
     Ok(())
 }
 
-/// Place, group or 0, units and amount of each entry of a list of acts.
+/// Place, group or 0, units and amount of an entry.
 type Posted = (u64, u32, u64, i64);
 
+/// Lists of acts, each with the entries that its acts leave in the books.
+const ENTRIES: [(&[Line], &[Posted]); 3] = [
+    (rows::OVERRUN, &[(1, 0, 0, 500), (3, 10, 100_500, -505)]),
+    (rows::TWO_SERVICES, &[(1, 0, 0, 100), (3, 20, 700, -24)]),
+    (
+        rows::REFUND,
+        &[(1, 0, 0, 4), (3, 0, 1, 5), (4, 0, 1000, -5)],
+    ),
+];
+
+/// The entries of a list of acts.
 fn posted(alloc: Global, lines: &[Line]) -> Result<Vec<Posted>, Fail> {
     let mut book = Book::new(alloc);
     let mut posted = Vec::new(alloc);
@@ -388,15 +406,9 @@ fn posted(alloc: Global, lines: &[Line]) -> Result<Vec<Posted>, Fail> {
 
 #[test]
 fn entries(rt: HostRuntime) -> Result<(), Fail> {
-    let overrun = posted(rt.alloc(), rows::OVERRUN)?;
-    assert_eq!(rt;
-        overrun.as_slice(),
-        [(1, 0, 0, 500), (3, 10, 100_500, -505)].as_slice()
-    );
-    let two = posted(rt.alloc(), rows::TWO_SERVICES)?;
-    assert_eq!(rt;
-        two.as_slice(),
-        [(1, 0, 0, 100), (3, 20, 700, -24)].as_slice()
-    );
+    for (row, (lines, expected)) in ENTRIES.iter().enumerate() {
+        let posted = posted(rt.alloc(), lines)?;
+        assert_eq!(rt; posted.as_slice(), *expected, "row {row}");
+    }
     Ok(())
 }

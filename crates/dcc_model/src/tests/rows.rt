@@ -216,7 +216,7 @@ const TOLD: &[Line] = &[
 ];
 
 /// A refund, which comes again and counts once.
-const REFUND: &[Line] = &[
+pub(super) const REFUND: &[Line] = &[
     (0, Event(RefundAccount, 0, 1), &[(5030, 0)]),
     (0, TopUp(1, 4), &[(ADDED, 0)]),
     (0, Event(DirectDebiting, 1, 1), &[(4012, 0)]),
