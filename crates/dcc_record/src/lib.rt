@@ -3,12 +3,14 @@
 
 mod fault;
 mod fields;
+mod kept;
 mod laws;
 mod limits;
 mod reading;
 mod writing;
 
 pub use fault::RecordFault;
+pub use kept::keeps_limits;
 pub use laws::records_differ;
 pub use reading::read_act;
 pub use writing::write_act;
