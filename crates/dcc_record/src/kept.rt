@@ -64,8 +64,7 @@ fn key_keeps_limits(key: &RequestKey)
 /// Octets are of eight bits.
 fn octets_fit(octets: &[u8])
     ensures { All (λ octet. octet < 2 ^ 8) octets.now }
-{
-}
+{}
 
 /// Each service is within its limits.
 fn each_keeps_limits(services: &[Service])
@@ -88,14 +87,12 @@ fn service_keeps_limits(service: &Service)
 /// A group, if there is one, is of 32 bits.
 fn group_fits(group: Option<u32>)
     ensures { IfSome group (λ group. group < 2 ^ 32) }
-{
-}
+{}
 
 /// Identifiers are of 32 bits.
 fn ids_fit(ids: &[u32])
     ensures { All (λ id. id < 2 ^ 32) ids.now }
-{
-}
+{}
 
 /// A tariff, if there is one, is within its limits.
 fn tariff_keeps_limits(tariff: Option<Tariff>)
