@@ -1,9 +1,8 @@
 -- Acts: octets are read as an act just where they are its record.
-use Rattle.std.proofs.Common.{◌≡◌, ℕ, ◌+◌, ◌^◌, ◌<◌, ◌≤◌, Bool, true, false, cond, leb, eqb, List, [], ◌∷◌, ◌++◌, length, get_or, All, Option, Some, None, refl, sym, ap, subst, ◌∙◌, append_assoc, arith, inl, inr}
+use Rattle.std.proofs.Common.{◌≡◌, ℕ, ◌^◌, ◌<◌, ◌≤◌, true, cond, leb, eqb, List, [], ◌∷◌, ◌++◌, length, All, Option, Some, None, refl, sym, ap, subst, ◌∙◌, append_assoc, arith, inl, inr}
 use Rattle.std.specs.Prelude.{is_some, IfOk, IfErr, Result, Ok, Err, ◌≢◌}
 use Rattle.std.specs.Int.{w32, w64}
-use Rattle.std.specs.List.{flat_map}
-use Rattle.std.proofs.lemmas.Bool.{leb-true, le-leb, eqb-true, eq-eqb, and_parts, cases_lt}
+use Rattle.std.proofs.lemmas.Bool.{leb-true, le-leb, eqb-true, and_parts, cases_lt}
 use Rattle.std.proofs.lemmas.List.{append-nil, nil_from_length, get_or_default, get_or_past}
 use Rattle.dcc_tariff.specs.declared.limits.TheConstants.{LAST_SECOND}
 use Rattle.dcc_octets.specs.Names.{is_short}
@@ -23,7 +22,7 @@ use Rattle.dcc_record.specs.declared.fault.RecordFault.{RecordFault}
 use Rattle.dcc_record.specs.declared.fault.RecordFault.TheVariants.{BadRecord, Memory}
 use Rattle.dcc_record.specs.inner.Readers.{◌>>=◌, Reader, Gives, octet_in, front_in, number_in, fixed_in, both, checked}
 use Rattle.dcc_record.specs.inner.Reading.{top_up_from, top_up_in, string_in, session_in, key_in, action_from, action_in, service_in, services_in, request_in, event_from, event_in, kind_in, moment_in, first_act_in, act_in}
-use Rattle.dcc_record.proofs.Parts.{IsOctets, bind_some, some_is, passed, chosen, Takes, Takes-then, Reads, one, octet_reads, front_takes, front_again, number_reads, both_reads, Makes, checked_reads, fixed_reads}
+use Rattle.dcc_record.proofs.Parts.{IsOctets, bind_some, some_is, passed, chosen, Takes, Takes-then, Reads, one, octet_reads, front_takes, front_again, both_reads, Makes, checked_reads, fixed_reads}
 use Rattle.dcc_record.proofs.Services.{passes, Any, picked, not_none, Is32, Is64, u32_reads, u64_reads, service_reads, AreServices, services_read}
 
 abbrev some : {A : Type 0} → A → Option A

@@ -1,5 +1,5 @@
 -- Services: their parts are read just where they are spelled.
-use Rattle.std.proofs.Common.{◌≡◌, ℕ, ◌+◌, ◌^◌, ◌<◌, ◌≤◌, Bool, true, false, cond, leb, eqb, List, [], ◌∷◌, ◌++◌, length, get_or, All, Option, Some, None, refl, sym, ap, subst, ◌∙◌, arith, inl, inr}
+use Rattle.std.proofs.Common.{◌≡◌, ℕ, ◌^◌, ◌<◌, ◌≤◌, Bool, true, cond, leb, eqb, List, [], ◌∷◌, ◌++◌, length, All, Option, Some, None, refl, sym, ap, subst, ◌∙◌, arith, inl, inr}
 use Rattle.std.specs.Prelude.{IfSome, is_some, is_none, not, ◌&&◌}
 use Rattle.std.specs.Option.{ForSome}
 use Rattle.std.specs.Int.{w16, w32, w64, to_be_bytes}
@@ -16,7 +16,7 @@ use Rattle.dcc_act.specs.declared.service.Form.TheVariants as form
 use Rattle.dcc_act.specs.Services.{ServiceView, IsService, are_services}
 use Rattle.dcc_record.specs.Limits.{WithinService}
 use Rattle.dcc_record.specs.Records.{u32_octets, u64_octets, optional, form_octet, unit_octet, ids_octets, tariff_octets, service_octets, services_octets}
-use Rattle.dcc_record.specs.inner.Readers.{Reader, octet_in, number_in, both, optional_in, counted_in}
+use Rattle.dcc_record.specs.inner.Readers.{octet_in, number_in, both, counted_in}
 use Rattle.dcc_record.specs.inner.Reading.{form_from, unit_from, form_in, unit_in, ids_in, is_tariff, tariff_from, tariff_in, is_nothing, is_used, most_asked, is_asked, is_service, ServiceParts, service_from, service_parts_in, service_in, services_in}
 use Rattle.dcc_record.proofs.Parts.{some_is, passed, chosen, Reads, one, octet_reads, wide16, wide32, wide64, number_reads, both_reads, Makes, checked_reads, optional_reads, AreCounted, counted_reads}
 

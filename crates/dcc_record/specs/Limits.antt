@@ -1,5 +1,5 @@
 -- What holds of every act: the limits that its types keep.
-use Rattle.std.specs.Prelude.{◌≡◌, ℕ, ◌<◌, ◌≤◌, ◌^◌, true, List, length, Option, All, IfSome}
+use Rattle.std.specs.Prelude.{◌≡◌, ◌<◌, ◌≤◌, ◌^◌, true, length, All, IfSome}
 use Rattle.dcc_tariff.specs.Terms.{IsTariff}
 use Rattle.dcc_tariff.specs.declared.limits.TheConstants.{LAST_SECOND}
 use Rattle.dcc_octets.specs.Names.{is_short}

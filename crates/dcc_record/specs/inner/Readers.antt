@@ -1,6 +1,6 @@
 -- Readers: what a part of a record is read as from the front of octets, and the octets behind it; or none.
 use Rattle.std.specs.Prelude.{◌≡◌, ℕ, zero, suc, ◌==◌, nat_lt, if◌then◌else◌, List, [], ◌∷◌, length, take, drop, Option, Some, None, Result, Ok, Err}
-use Rattle.std.specs.Int.{Width, w16, w32, w64, byte_len, from_be_bytes}
+use Rattle.std.specs.Int.{Width, byte_len, from_be_bytes}
 use Rattle.dcc_record.specs.declared.fault.RecordFault.{RecordFault}
 use Rattle.dcc_record.specs.declared.fault.RecordFault.TheVariants.{BadRecord, Memory}
 

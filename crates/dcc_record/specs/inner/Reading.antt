@@ -1,5 +1,5 @@
 -- Reading a record, part for part.
-use Rattle.std.specs.Prelude.{ℕ, Bool, true, false, ◌&&◌, ◌==◌, nat_le, if◌then◌else◌, List, [], ◌∷◌, length, Option, Some, None, is_some, not}
+use Rattle.std.specs.Prelude.{ℕ, Bool, true, ◌&&◌, ◌==◌, nat_le, if◌then◌else◌, List, length, Option, Some, None, is_some, not}
 use Rattle.std.specs.Int.{w16, w32, w64}
 use Rattle.dcc_tariff.specs.Terms.{TariffView}
 use Rattle.dcc_tariff.specs.declared.limits.TheConstants.{LAST_SECOND, MAX_UNITS, MAX_BLOCK_PRICE}
@@ -19,7 +19,7 @@ use Rattle.dcc_act.specs.declared.session_request.SessionRequest.{SessionRequest
 use Rattle.dcc_act.specs.OneTimeEvents.{OneTimeEventView}
 use Rattle.dcc_act.specs.Services.{ServiceView, are_services}
 use Rattle.dcc_act.specs.TopUps.{TopUpView, is_amount}
-use Rattle.dcc_record.specs.inner.Readers.{◌>>=◌, Reader, octet_in, front_in, number_in, both, checked, fixed_in, optional_in, many_in, counted_in}
+use Rattle.dcc_record.specs.inner.Readers.{◌>>=◌, Reader, octet_in, front_in, number_in, both, checked, fixed_in, optional_in, counted_in}
 
 -- ---- top-ups
 
