@@ -1,5 +1,5 @@
 -- A sweep, subscriber by subscriber, and what it has then come to.
-use Rattle.std.proofs.Common.{◌≡◌, ◌≢◌, ℕ, zero, suc, ◌+◌, ◌<◌, Bool, true, false, if◌then◌else◌, ◌≤◌, List, [], ◌∷◌, ◌++◌, length, get_or, take, Option, Some, None, ◌⊎◌, refl, sym, ap, subst, ◌∙◌, arith, inl, inr}
+use Rattle.std.proofs.Common.{◌≡◌, ◌≢◌, ℕ, zero, suc, ◌+◌, ◌<◌, Bool, true, false, if◌then◌else◌, ◌≤◌, List, [], ◌∷◌, ◌++◌, length, get_or, take, Option, refl, sym, ap, subst, ◌∙◌, arith, inl, inr}
 use Rattle.std.specs.Prelude.{not, ◌&&◌, ◌||◌}
 use Rattle.std.proofs.lemmas.Bool.{cases_Bool, and_parts, and_from}
 use Rattle.std.proofs.lemmas.List.{length-append}
@@ -10,7 +10,7 @@ use Rattle.dcc_act.specs.declared.sub.Sub.{Sub}
 use Rattle.dcc_model.specs.Outcomes.{acts}
 use Rattle.dcc_shard.specs.Answers.{expiry_act}
 use Rattle.dcc_shard.specs.Shards.{ShardView, held, held_after, AreOwn, is_among, are_apart}
-use Rattle.dcc_engine.specs.Asks.{Ask, out_sweep}
+use Rattle.dcc_engine.specs.Asks.{out_sweep}
 use Rattle.dcc_engine.specs.Asks.Source.{Sweep}
 use Rattle.dcc_engine.specs.Engines.{Setting}
 use Rattle.dcc_engine.specs.inner.Sweeps.{IsSwept, IsOneSwept}

@@ -1,5 +1,5 @@
-use Rattle.std.proofs.Common.{◌≡◌, ◌∷◌, [], ◌++◌, ◌+◌, length, take, get_or, subst, sym, ap, ◌∙◌, arith, false, List, ℕ}
-use Rattle.std.proofs.lemmas.List.{take_all, take_more}
+use Rattle.std.proofs.Common.{◌≡◌, ◌∷◌, [], ◌++◌, ◌+◌, take, subst, sym, ap, ◌∙◌, arith, false, List}
+use Rattle.std.proofs.lemmas.List.{take_more}
 use Rattle.dcc_act.specs.declared.sub.Sub.{Sub}
 use Rattle.dcc_shard.specs.Answers.{expiry_act}
 use Rattle.dcc_shard.specs.Shards.{is_among}
