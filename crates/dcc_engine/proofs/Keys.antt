@@ -1,8 +1,6 @@
 -- The key of the act that a request asks for.
-use Rattle.std.proofs.Common.{◌≡◌, ℕ, true, Some, refl, ◌∙◌, sym}
-use Rattle.std.specs.Prelude.{is_some}
+use Rattle.std.proofs.Common.{◌≡◌, ℕ, Some, refl}
 use Rattle.dcc_tariff.specs.Plans.{PlanView}
-use Rattle.dcc_act.specs.declared.act.Act.{Act}
 use Rattle.dcc_act.specs.declared.act.Kind.{Kind}
 use Rattle.dcc_ccr.specs.Requests.{RequestView}
 use Rattle.dcc_ccr.specs.declared.request_type.RequestType.{RequestType}

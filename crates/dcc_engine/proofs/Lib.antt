@@ -11,3 +11,4 @@ pub mod Keys
 pub mod Requests
 pub mod TopUps
 pub mod Replies
+pub mod Sweeps

@@ -11,7 +11,7 @@ use Rattle.dcc_model.specs.Outcomes.{acts, after, place, is_new}
 use Rattle.dcc_shard.specs.Answers.{told}
 use Rattle.dcc_engine.specs.Asks.{Turn, Before, Ask, Source, Said, ask_for, received_ask, is_refused_for, IsAnsweredFor, IsOut, IsMessageOut, said_from}
 use Rattle.dcc_engine.specs.Asks.Said.{Told}
-use Rattle.dcc_engine.specs.Asks.Source.{Message, TopUp}
+use Rattle.dcc_engine.specs.Asks.Source.{Message, TopUp, Sweep}
 use Rattle.dcc_engine.specs.Engines.{Setting}
 use Rattle.dcc_engine.specs.Messages.{received_on}
 use Rattle.dcc_engine.specs.inner.Turns.{IsNext}
@@ -44,6 +44,7 @@ same_said stable setting act TopUp xs ys e =
     ap (λ (o : Outcome). Told (told o (place terms xs act) (is_new terms xs act))) (same_after stable terms act xs ys e)
     ∙ ap (λ (p : Option ℕ). Told (told (after terms ys act) p (is_new terms xs act))) (same_of terms (λ zs. place terms zs act) (λ zs. stable.place_stays terms zs act) xs ys e)
     ∙ ap (λ n. Told (told (after terms ys act) (place terms ys act) n)) (same_of terms (λ zs. is_new terms zs act) (λ zs. stable.new_stays terms zs act) xs ys e)
+same_said stable setting act Sweep xs ys e = refl
 
 answered_moved : AreStable → (setting : Setting) (ask : Ask) (sub : Sub) (out : Out) (xs ys : List Act) → acts setting.plan.terms xs ≡ acts setting.plan.terms ys
     → IsAnsweredFor setting xs ask sub out (Some (after setting.plan.terms xs ask.act)) → IsAnsweredFor setting ys ask sub out (Some (after setting.plan.terms ys ask.act))
@@ -59,12 +60,14 @@ ask_moved setting a b sub same (events.Connect peer host) = refl
 ask_moved setting a b sub same (events.Disconnect peer) = refl
 ask_moved setting a b sub same (events.Message peer moment octets) = ap (λ (p : Option Peer). received_ask setting moment (received_on p octets) sub) (same peer)
 ask_moved setting a b sub same (events.TopUp moment owner ticket amount) = refl
+ask_moved setting a b sub same (events.Sweep moment) = refl
 
 out_moved : (setting : Setting) (a b : Before) (out : Out) → ((id : ℕ) → a.peers id ≡ b.peers id) → (event : Event) → IsOut setting a event out → IsOut setting b event out
 out_moved setting a b out same (events.Connect peer host) is = is
 out_moved setting a b out same (events.Disconnect peer) is = is
 out_moved setting a b out same (events.Message peer moment octets) is = subst (λ (p : Option Peer). IsMessageOut setting moment (received_on p octets) peer out) (same peer) is
 out_moved setting a b out same (events.TopUp moment owner ticket amount) is = is
+out_moved setting a b out same (events.Sweep moment) is = is
 
 -- the same turn, from what comes to the same
 pub next_moved : AreStable → (setting : Setting) (a b : Before) (turn : Turn) → ((id : ℕ) → a.peers id ≡ b.peers id)
@@ -80,3 +83,4 @@ pub said_setting : (a b : Setting) (before : List Act) (act : Act) (source : Sou
     → said_from a before act source o ≡ said_from b before act source o
 said_setting a b before act (Message message) o identity terms = rw (identity, terms) refl
 said_setting a b before act TopUp o identity terms = rw terms refl
+said_setting a b before act Sweep o identity terms = refl

@@ -80,7 +80,7 @@ taken_made setting old new moment message octets sub act answer identity terms t
       others = taken.step.others;
     }
 
-one_or_other : SameAreEqual → (a b : Sub) → (a ≡ b) ⊎ (a ≢ b)
+pub one_or_other : SameAreEqual → (a b : Sub) → (a ≡ b) ⊎ (a ≢ b)
 one_or_other law a b =
     elim (cases_Bool (same_sub a b)) [
       | inl t ↦ inl ((law a b).0 t)

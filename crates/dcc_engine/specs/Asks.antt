@@ -15,7 +15,8 @@ use Rattle.dcc_base.specs.Peers.{hears, replied}
 use Rattle.dcc_base.specs.declared.peer.Peer.{Peer}
 use Rattle.dcc_base.specs.declared.peer.Peer.TheVariants.{Wait, Open, Closed}
 use Rattle.dcc_base.specs.declared.reply.Reply.{Reply}
-use Rattle.dcc_shard.specs.Answers.{top_up_act, told}
+use Rattle.dcc_shard.specs.Answers.{top_up_act, expiry_act, told}
+use Rattle.dcc_shard.specs.Shards.{is_among, are_apart}
 use Rattle.dcc_shard.specs.declared.answers.TopUpAnswer.{TopUpAnswer}
 use Rattle.dcc_shard.specs.declared.answers.TopUpAnswer.TheVariants.{Done, Ceiling, Refused, BadAmount}
 use Rattle.dcc_engine.specs.Engines.{Setting}
@@ -42,6 +43,7 @@ pub record Before : Type 0 where
 pub data Source : Type 0 where
   Message : MessageView → Source
   TopUp : Source
+  Sweep : Source
 
 -- what an event asks of a subscriber's account, and what brought it
 pub record Ask : Type 0 where
@@ -61,7 +63,7 @@ received_ask setting moment (Received.Charging message) sub = request_ask messag
 received_ask setting moment (Received.Base peer message) sub = None
 
 -- What an event asks of a subscriber: a request on a peer that is open is its subscriber's, where what it says isn't refused, a
--- top-up of an amount that may be is its subscriber's, and all others are nobody's.
+-- top-up of an amount that may be is its subscriber's, a sweep asks each subscriber's expiry, and all others are nobody's.
 abbrev pub ask_for : Setting → Before → Event → Sub → Option Ask
 ask_for setting before (events.Connect peer host) sub = None
 ask_for setting before (events.Disconnect peer) sub = None
@@ -69,8 +71,9 @@ ask_for setting before (events.Message peer moment octets) sub =
     received_ask setting moment (received_on (before.peers peer) octets) sub
 ask_for setting before (events.TopUp moment owner ticket amount) sub =
     if is_amount amount && same_sub owner sub then Some (record { act = top_up_act moment ticket amount; source = TopUp }) else None
+ask_for setting before (events.Sweep moment) sub = Some (record { act = expiry_act moment; source = Sweep })
 
--- a message is refused by the busy answer or by nothing, a top-up by being told so
+-- a message is refused by the busy answer or by nothing, a top-up by being told so, an expiry by telling of whom it was refused
 unfoldable pub is_refusal : List ℕ → Bool
 is_refusal octets = (length octets == 0) || is_busy octets
 
@@ -84,6 +87,7 @@ is_refused_top_up None = false
 abbrev pub is_refused_by : Source → Out → Sub → Bool
 is_refused_by (Message message) out sub = is_refusal out.octets
 is_refused_by TopUp out sub = is_refused_top_up out.top_up
+is_refused_by Sweep out sub = out.refused_all || is_among sub out.refused
 
 -- whether an out refuses what the event asked of this subscriber
 abbrev pub is_refused_for : Ask → Out → Sub → Bool
@@ -97,20 +101,23 @@ answer_to setting message outcome =
 abbrev pub busy_to : Identity → MessageView → List ℕ
 busy_to identity message = busy_octets identity (messages.session message) message.header (messages.proxies message)
 
--- What an out says to one subscriber: the octets of its answer, or what its top-up is told.
+-- What an out says to one subscriber: the octets of its answer, or what its top-up is told; of a sweep it says nothing.
 pub data Said : Type 0 where
   Octets : List ℕ → Said
   Told : Option TopUpAnswer → Said
+  Nothing : Said
 
 abbrev pub said_by : Source → Out → Said
 said_by (Message message) out = Octets out.octets
 said_by TopUp out = Told out.top_up
+said_by Sweep out = Nothing
 
 -- what is said of what an act comes to that is asked after these entries
 abbrev pub said_from : Setting → List Act → Act → Source → Outcome → Said
 said_from setting before act (Message message) outcome = Octets (answer_to setting message outcome)
 said_from setting before act TopUp outcome =
     Told (told outcome (place setting.plan.terms before act) (is_new setting.plan.terms before act))
+said_from setting before act Sweep outcome = Nothing
 
 abbrev pub said_of : Setting → List Act → Ask → Outcome → Said
 said_of setting before ask outcome = said_from setting before ask.act ask.source outcome
@@ -119,10 +126,11 @@ said_of setting before ask outcome = said_from setting before ask.act ask.source
 abbrev pub IsBusyOrNothing : Identity → MessageView → List ℕ → Type 0
 IsBusyOrNothing identity message octets = (octets ≡ busy_to identity message) ⊎ (octets ≡ [])
 
--- what a refusal is: the busy answer or nothing of a request, and of a top-up that it's told so
+-- what a refusal is: the busy answer or nothing of a request, and of a top-up that it's told so; of an expiry nothing more
 abbrev pub IsRefusalOfAsk : Identity → Source → Out → Type 0
 IsRefusalOfAsk identity (Message message) out = IsBusyOrNothing identity message out.octets
 IsRefusalOfAsk identity TopUp out = out.top_up ≡ Some Refused
+IsRefusalOfAsk identity Sweep out = Unit {0}
 
 -- The subscriber's own event is answered by its outcome, or refused.
 abbrev pub IsAnsweredFor : Setting → List Act → Ask → Sub → Out → Option Outcome → Type 0
@@ -132,19 +140,23 @@ IsAnsweredFor setting before ask sub out outcome =
 
 -- an out of nothing but octets, or of nothing at all
 abbrev pub out_octets : Option ℕ → List ℕ → Out
-out_octets peer octets = record { peer = peer; octets = octets; close = false; top_up = None }
+out_octets peer octets = record { peer = peer; octets = octets; close = false; top_up = None; refused = []; refused_all = false }
 
 -- an out of a peer's reply
 abbrev pub out_reply : ℕ → Reply → Out
-out_reply peer reply = record { peer = Some peer; octets = reply.octets; close = reply.close; top_up = None }
+out_reply peer reply = record { peer = Some peer; octets = reply.octets; close = reply.close; top_up = None; refused = []; refused_all = false }
 
 -- an out that closes a peer's connection
 abbrev pub out_close : ℕ → Out
-out_close peer = record { peer = Some peer; octets = []; close = true; top_up = None }
+out_close peer = record { peer = Some peer; octets = []; close = true; top_up = None; refused = []; refused_all = false }
 
 -- an out of what a top-up is told
 abbrev pub out_top_up : TopUpAnswer → Out
-out_top_up answer = record { peer = None; octets = []; close = false; top_up = Some answer }
+out_top_up answer = record { peer = None; octets = []; close = false; top_up = Some answer; refused = []; refused_all = false }
+
+-- an out of a sweep: of whom it was refused, or that it was of all
+abbrev pub out_sweep : List Sub → Bool → Out
+out_sweep refused all = record { peer = None; octets = []; close = false; top_up = None; refused = refused; refused_all = all }
 
 -- What a peer is replied to a message of the base protocol, by its own events alone, and what it is then.
 abbrev pub reply_to : Setting → Peer → MessageView → Reply × Peer
@@ -182,6 +194,8 @@ IsOut setting before (events.Message peer moment octets) out =
     IsMessageOut setting moment (received_on (before.peers peer) octets) peer out
 IsOut setting before (events.TopUp moment sub ticket amount) out =
     (answer : TopUpAnswer) × (out ≡ out_top_up answer) × (is_amount amount ≡ false → answer ≡ BadAmount)
+IsOut setting before (events.Sweep moment) out =
+    (out ≡ out_sweep out.refused out.refused_all) × (are_apart out.refused ≡ true) × (out.refused_all ≡ true → out.refused ≡ [])
 
 -- whether an event is of this peer
 abbrev pub is_from : ℕ → Event → Bool
@@ -189,6 +203,7 @@ is_from id (events.Connect peer host) = peer == id
 is_from id (events.Disconnect peer) = peer == id
 is_from id (events.Message peer moment octets) = peer == id
 is_from id (events.TopUp moment sub ticket amount) = false
+is_from id (events.Sweep moment) = false
 
 -- a peer whose connection is made: under a host's name it is open at once, else it waits
 abbrev pub connected : Option (List ℕ) → Peer
@@ -211,6 +226,7 @@ moved setting (events.Connect id host) out peer = Some (connected host)
 moved setting (events.Disconnect id) out peer = None
 moved setting (events.Message id moment octets) out peer = left_with setting (received_on peer octets) out peer
 moved setting (events.TopUp moment sub ticket amount) out peer = peer
+moved setting (events.Sweep moment) out peer = peer
 
 abbrev pub moved_by : Setting → ℕ → Turn → Option Peer → Option Peer
 moved_by setting id turn peer = if is_from id turn.event then moved setting turn.event turn.out peer else peer

@@ -148,6 +148,7 @@ impl Engine {
                 let answer = self.shard.top_up(alloc, *sub, *moment, *ticket, *amount);
                 telling(alloc, answer)
             }
+            Event::Sweep { moment } => self.sweep(alloc, *moment),
             Event::Message {
                 peer,
                 moment,
@@ -174,12 +175,12 @@ impl Engine {
             }
             Heading::Charging(header) => {
                 let answer = self.respond(alloc, moment, header, octets.as_slice());
-                sending(peer, answer)
+                sending(alloc, peer, answer)
             }
             Heading::Base(header) => {
                 let (peers, identity) = (&mut self.peers, &self.identity);
                 let reply = peers.reply(alloc, identity, peer, header, octets.as_slice());
-                replying(peer, reply)
+                replying(alloc, peer, reply)
             }
         }
     }

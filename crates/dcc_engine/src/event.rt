@@ -1,5 +1,6 @@
 //! What comes to an engine, and what goes out.
 
+use crate::subs::Subs;
 use dcc_act::{Moment, Sub};
 use dcc_base::Host;
 use dcc_octets::OctetString;
@@ -31,6 +32,10 @@ pub enum Event {
         ticket: u64,
         amount: u64,
     },
+    /// A look at all subscribers: each session ends that is held until this moment or an earlier one.
+    Sweep {
+        moment: Moment,
+    },
 }
 
 /// What an event is answered.
@@ -44,4 +49,8 @@ pub struct Out {
     pub close: bool,
     /// What a top-up is told.
     pub top_up: Option<TopUpAnswer>,
+    /// The subscribers whose expiry a sweep refused, each once; want of memory for one changes nothing of it.
+    pub refused: Subs,
+    /// Whether a sweep refused the expiry of all subscribers, as memory was short to tell who they are.
+    pub refused_all: bool,
 }

@@ -16,12 +16,15 @@ mod outs;
 mod peers;
 mod reply;
 mod respond;
+mod subs;
+mod sweep;
 mod verdict;
 
 pub use engine::Engine;
 pub use event::{Event, Out};
 pub use laws::{isolation, runs_in_turn};
 pub use peers::PeerRow;
+pub use subs::Subs;
 
 #[cfg(test)]
 mod tests;

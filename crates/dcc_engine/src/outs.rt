@@ -1,16 +1,17 @@
 //! Outs.
 
-ghost use Rattle.std.specs.Prelude.{◌≡◌, [], Some};
-ghost use Rattle.dcc_engine.specs.Asks.{out_octets, out_reply, out_close, out_top_up};
+ghost use Rattle.std.specs.Prelude.{◌≡◌, [], true, false, Some};
+ghost use Rattle.dcc_engine.specs.Asks.{out_octets, out_reply, out_close, out_top_up, out_sweep};
 
 use crate::event::Out;
+use crate::subs::Subs;
 use dcc_base::Reply;
 use dcc_octets::OctetString;
 use dcc_shard::TopUpAnswer;
 use std::alloc::Global;
 
 /// An out that sends a peer an answer, or nothing where there are no octets.
-pub(crate) fn sending(peer: u32, octets: OctetString) -> Out
+pub(crate) fn sending(alloc: Global, peer: u32, octets: OctetString) -> Out
     ensures { result ≡ out_octets (Some peer) octets }
 {
     Out {
@@ -18,6 +19,8 @@ pub(crate) fn sending(peer: u32, octets: OctetString) -> Out
         octets,
         close: false,
         top_up: None,
+        refused: Subs::new(alloc),
+        refused_all: false,
     }
 }
 
@@ -25,11 +28,11 @@ pub(crate) fn sending(peer: u32, octets: OctetString) -> Out
 pub(crate) fn quiet(alloc: Global, peer: u32) -> Out
     ensures { result ≡ out_octets (Some peer) [] }
 {
-    sending(peer, OctetString::new(alloc))
+    sending(alloc, peer, OctetString::new(alloc))
 }
 
 /// An out of what a peer is replied.
-pub(crate) fn replying(peer: u32, reply: Reply) -> Out
+pub(crate) fn replying(alloc: Global, peer: u32, reply: Reply) -> Out
     ensures { result ≡ out_reply peer reply }
 {
     Out {
@@ -37,6 +40,8 @@ pub(crate) fn replying(peer: u32, reply: Reply) -> Out
         octets: reply.octets,
         close: reply.close,
         top_up: None,
+        refused: Subs::new(alloc),
+        refused_all: false,
     }
 }
 
@@ -49,6 +54,8 @@ pub(crate) fn closing(alloc: Global, peer: u32) -> Out
         octets: OctetString::new(alloc),
         close: true,
         top_up: None,
+        refused: Subs::new(alloc),
+        refused_all: false,
     }
 }
 
@@ -61,5 +68,21 @@ pub(crate) fn telling(alloc: Global, answer: TopUpAnswer) -> Out
         octets: OctetString::new(alloc),
         close: false,
         top_up: Some(answer),
+        refused: Subs::new(alloc),
+        refused_all: false,
+    }
+}
+
+/// An out of a sweep, with the subscribers whose expiry was refused, or with all.
+pub(crate) fn sweeping(alloc: Global, refused: Subs, refused_all: bool) -> Out
+    ensures { result ≡ out_sweep refused refused_all }
+{
+    Out {
+        peer: None,
+        octets: OctetString::new(alloc),
+        close: false,
+        top_up: None,
+        refused,
+        refused_all,
     }
 }

@@ -1,3 +1,4 @@
 pub mod Subs
 pub mod BookRows
 pub mod BookSteps
+pub mod BookSubs

@@ -19,6 +19,8 @@ use Rattle.dcc_credit.specs.Answers.{answer_octets}
 use Rattle.dcc_shard.specs.Shards.{ShardView, held}
 use Rattle.dcc_shard.specs.declared.answers.RequestAnswer.{RequestAnswer}
 use Rattle.dcc_shard.specs.declared.answers.RequestAnswer.TheVariants as answers
+use Rattle.dcc_shard.specs.declared.answers.ExpiryAnswer.{ExpiryAnswer}
+use Rattle.dcc_shard.specs.declared.answers.ExpiryAnswer.TheVariants as expiries
 use Rattle.dcc_shard.specs.declared.answers.TopUpAnswer.{TopUpAnswer}
 use Rattle.dcc_shard.specs.declared.answers.TopUpAnswer.TheVariants.{Done, Ceiling, BadAmount, Refused}
 
@@ -86,6 +88,33 @@ is_judged_top_up (Done at fresh) = true
 is_judged_top_up (Ceiling at fresh) = true
 is_judged_top_up BadAmount = false
 is_judged_top_up Refused = false
+
+abbrev pub expiry_act : ℕ → Act
+expiry_act moment = record { moment = moment; kind = kind.Expiry }
+
+-- what is told of what an expiry comes to, and where; it comes to nothing else, and has a place just where it is made
+abbrev pub ended : Outcome → Option ℕ → Option ExpiryAnswer
+ended (outcomes.Expired sessions) (Some at) = Some (expiries.Closed sessions at)
+ended (outcomes.Expired sessions) None = Some expiries.Nothing
+ended outcomes.Added at = None
+ended outcomes.Ceiling at = None
+ended (outcomes.Unknown request key) at = None
+ended (outcomes.Answered answer) at = None
+
+-- what is told of an expiry that comes after these acts
+abbrev pub ended_after : TermsView → List Act → Act → Option ExpiryAnswer
+ended_after terms before act = ended (after terms before act) (place terms before act)
+
+-- an expiry is told what it comes to, or that it's refused
+abbrev pub IsExpired : ShardView → Sub → ℕ → ExpiryAnswer → Type 0
+IsExpired shard sub moment answer =
+    (Some answer ≡ ended_after shard.terms (held shard sub) (expiry_act moment)) ⊎ (answer ≡ expiries.Refused)
+
+-- whether the expiry was judged, and so may have been made
+abbrev pub is_judged_expiry : ExpiryAnswer → Bool
+is_judged_expiry (expiries.Closed sessions at) = true
+is_judged_expiry expiries.Nothing = true
+is_judged_expiry expiries.Refused = false
 
 -- the octets of an answer
 abbrev pub octets_of : RequestAnswer → List ℕ

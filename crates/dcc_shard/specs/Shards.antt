@@ -1,5 +1,6 @@
 -- What a shard holds, and for whom.
-use Rattle.std.specs.Prelude.{◌≡◌, ◌≢◌, Bool, if◌then◌else◌, List, [], ◌∷◌, ◌++◌, Option, Some, None}
+use Rattle.std.specs.Prelude.{◌≡◌, ◌≢◌, Bool, true, not, ◌&&◌, if◌then◌else◌, List, [], ◌∷◌, ◌++◌, map, Option, Some, None}
+use Rattle.std.specs.List.{list_any}
 use Rattle.std.specs.Option.{option_map_or}
 use Rattle.dcc_tariff.specs.Terms.{TermsView}
 use Rattle.dcc_message.specs.declared.identity.Identity.{Identity}
@@ -38,6 +39,19 @@ pub record IsStep (old new : ShardView) (is_judged : Bool) (sub : Sub) (act : Ac
   pub others : (other : Sub) → other ≢ sub → held new other ≡ held old other
   pub terms : new.terms ≡ old.terms
   pub identity : new.identity ≡ old.identity
+
+-- whether a subscriber is one of these
+abbrev pub is_among : Sub → List Sub → Bool
+is_among sub subs = list_any (λ one. same_sub one sub) subs
+
+-- whether each of these subscribers is there once
+abbrev pub are_apart : List Sub → Bool
+are_apart [] = true
+are_apart (sub ∷ subs) = not (is_among sub subs) && are_apart subs
+
+-- the subscribers of the accounts, in the order in which these came
+abbrev pub subs_of : List Row → List Sub
+subs_of rows = map (λ row. row.sub) rows
 
 -- what is held for each subscriber is what its own list makes
 abbrev pub AreOwn : ShardView → Type 0

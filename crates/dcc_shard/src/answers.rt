@@ -37,3 +37,14 @@ pub enum TopUpAnswer {
     /// Memory was short, and nothing changed.
     Refused,
 }
+
+/// What an expiry comes to.
+#[derive(Clone, Copy, Debug, PartialEq, Eq)]
+pub enum ExpiryAnswer {
+    /// So many sessions ended. Its place counts from 1 in the subscriber's list of acts.
+    Closed { sessions: u64, place: u64 },
+    /// No session was over; nothing is kept of it.
+    Nothing,
+    /// Memory was short, and nothing changed.
+    Refused,
+}

@@ -1,11 +1,11 @@
 //! The accounts of a shard's subscribers, and one more act of one of them: it is prepared, and then installed. What is
 //! refused comes with the preparing, which changes nothing that is held; the others stay as they were.
 
-ghost use Rattle.std.specs.Prelude.{◌≡◌, ◌≢◌, ◌<◌, [], vec_len, vec_capacity, IfOk, IfSome, IfNone};
+ghost use Rattle.std.specs.Prelude.{◌≡◌, ◌≢◌, ◌<◌, [], true, false, vec_len, vec_capacity, IfOk, IfSome, IfNone};
 ghost use Rattle.dcc_act.specs.declared.sub.Sub.{Sub};
 ghost use Rattle.dcc_model.specs.Outcomes.{acts};
 ghost use Rattle.dcc_account.specs.Prepared.{IsPrepared};
-ghost use Rattle.dcc_shard.specs.Shards.{held_in};
+ghost use Rattle.dcc_shard.specs.Shards.{held_in, is_among, are_apart, subs_of};
 ghost use Rattle.dcc_shard.specs.inner.Books.{IsAbsent, IsAdded, IsStepOfBooks};
 ghost use Rattle.dcc_shard.specs.inner.Pending.{step_of, Stands, IsPending};
 
@@ -74,6 +74,18 @@ impl Books {
         Some(&self.rows[i].account)
     }
 
+    /// The subscribers of the accounts.
+    #[tactic(auto, using(crate::proofs::BookSubs::none_held, crate::proofs::BookSubs::apart_of))]
+    pub(crate) fn subs(&self, alloc: Global) -> Result<Vec<Sub>, AllocError>
+        ensures order { IfOk result (λ subs. subs.items ≡ subs_of self.now.rows) }
+        ensures some { IfOk result (λ subs. (sub : Sub) → is_among sub subs.items ≡ true → held_in self.now.rows sub ≢ []) }
+        ensures none { IfOk result (λ subs. (sub : Sub) → is_among sub subs.items ≡ false → held_in self.now.rows sub ≡ []) }
+        ensures once { IfOk result (λ subs. are_apart subs.items ≡ true) }
+    {
+        let subs = subs_in(alloc, &self.rows)?;
+        Ok(subs)
+    }
+
     /// Prepares an act of a subscriber, who has an account or none.
     pub(crate) fn prepare(
         &mut self,
@@ -116,6 +128,17 @@ impl Books {
             Pending::First { account, step } => add(&mut self.rows, sub, account, step),
         }
     }
+}
+
+/// The subscribers of rows.
+fn subs_in(alloc: Global, rows: &[Row]) -> Result<Vec<Sub>, AllocError>
+    ensures { IfOk result (λ subs. subs.items ≡ subs_of rows.now) }
+{
+    let mut subs = Vec::with_capacity(alloc, rows.len())?;
+    for row in rows {
+        subs.push_reserved(row.sub);
+    }
+    Ok(subs)
 }
 
 /// Adds an account after its first step, where that has made anything.

@@ -13,7 +13,7 @@ mod row;
 mod serve;
 mod shard;
 
-pub use answers::{RequestAnswer, TopUpAnswer};
+pub use answers::{ExpiryAnswer, RequestAnswer, TopUpAnswer};
 pub use row::Row;
 pub use shard::Shard;
 

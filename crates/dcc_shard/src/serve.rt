@@ -1,15 +1,15 @@
-//! A request, or a top-up: what it comes to is answered and made, or it is refused and nothing has changed.
+//! A request, a top-up, or an expiry: what it comes to is answered and made, or it is refused and nothing has changed.
 
 ghost use Rattle.std.specs.Prelude.{◌≡◌, ◌≤◌, true, false, Some, length, option_map, is_some, IfOk, OnOk, OnErr};
 ghost use Rattle.dcc_message.specs.declared.length.TheConstants.{HEADER_LENGTH};
 ghost use Rattle.dcc_answer.specs.Results.{is_busy};
-ghost use Rattle.dcc_model.specs.Keys.{ticket};
+ghost use Rattle.dcc_model.specs.Keys.{ticket, is_expiry};
 ghost use Rattle.dcc_shard.specs.Shards.{held_in};
 ghost use Rattle.dcc_shard.specs.Answers.{answer_at, answer_after, session_of_act, IsRefusedBy, IsToldApart, is_judged};
-ghost use Rattle.dcc_shard.specs.Answers.{told, told_after, is_judged_top_up};
+ghost use Rattle.dcc_shard.specs.Answers.{told, told_after, is_judged_top_up, ended, ended_after, is_judged_expiry};
 ghost use Rattle.dcc_shard.specs.inner.Books.{IsStepOfBooks};
 
-use crate::answers::{RequestAnswer, TopUpAnswer};
+use crate::answers::{ExpiryAnswer, RequestAnswer, TopUpAnswer};
 use crate::books::Books;
 use dcc_account::Step;
 use dcc_act::{Act, Kind, Outcome, SessionId, Sub};
@@ -156,5 +156,42 @@ fn told_by(step: &Step) -> Option<TopUpAnswer>
         Outcome::Added => Some(TopUpAnswer::Done { place, fresh }),
         Outcome::Ceiling => Some(TopUpAnswer::Ceiling { place, fresh }),
         _ => None,
+    }
+}
+
+/// Tells an expiry what it comes to, and makes it where it ends a session.
+pub(crate) fn end(
+    books: &mut Books,
+    alloc: Global,
+    sub: Sub,
+    act: Act,
+) -> Result<ExpiryAnswer, AllocError>
+    requires expiry { is_expiry act.kind ≡ true }
+    ensures answer { IfOk result (λ answer. Some answer ≡ ended_after books.old.terms (held_in books.old.rows sub) act) }
+    ensures judged { IfOk result (λ answer. is_judged_expiry answer ≡ true) }
+    ensures step { OnOk result (IsStepOfBooks books.old books.new sub act) }
+    ensures err { OnErr result (books.new.rows ≡ books.old.rows) }
+    ensures terms { books.new.terms ≡ books.old.terms }
+{
+    let pending = books.prepare(alloc, &sub, act)?;
+    acts_come_to_their_own();
+    let answer = ended_by(pending.step()).unwrap();
+    books.install(sub, pending);
+    Ok(answer)
+}
+
+/// What is told of a step of an expiry.
+fn ended_by(step: &Step) -> Option<ExpiryAnswer>
+    ensures { result ≡ ended step.now.outcome step.now.place }
+{
+    let Outcome::Expired { sessions } = step.outcome() else {
+        return None;
+    };
+    match step.place() {
+        Some(place) => Some(ExpiryAnswer::Closed {
+            sessions: *sessions,
+            place,
+        }),
+        None => Some(ExpiryAnswer::Nothing),
     }
 }

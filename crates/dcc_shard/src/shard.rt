@@ -1,14 +1,15 @@
 //! The shard.
 
-ghost use Rattle.std.specs.Prelude.{◌≡◌, ◌≢◌, [], true, IfOk, IfSome, IfNone, is_some};
+ghost use Rattle.std.specs.Prelude.{◌≡◌, ◌≢◌, [], true, false, IfOk, IfSome, IfNone, is_some};
 ghost use Rattle.dcc_act.specs.declared.sub.Sub.{Sub};
 ghost use Rattle.dcc_model.specs.Keys.{request_key};
-ghost use Rattle.dcc_shard.specs.Shards.{held, AreOwn, IsStep};
+ghost use Rattle.dcc_shard.specs.Shards.{held, AreOwn, IsStep, is_among, are_apart, subs_of};
 ghost use Rattle.dcc_shard.specs.Answers.{IsAnswer, IsToldApart, IsTold, is_judged, is_judged_top_up, top_up_act};
+ghost use Rattle.dcc_shard.specs.Answers.{IsExpired, is_judged_expiry, expiry_act};
 
-use crate::answers::{RequestAnswer, TopUpAnswer};
+use crate::answers::{ExpiryAnswer, RequestAnswer, TopUpAnswer};
 use crate::books::Books;
-use crate::serve::{Envelope, answer, busy, copied, session_of_act, tell};
+use crate::serve::{Envelope, answer, busy, copied, end, session_of_act, tell};
 use dcc_account::Account;
 use dcc_act::{Act, Kind, Moment, Sub, TopUp};
 use dcc_answer::Proxies;
@@ -56,6 +57,16 @@ impl Shard {
         ensures none { IfNone result (held self.now sub ≡ []) }
     {
         self.books.account(&sub)
+    }
+
+    /// The subscribers that have acts, each once, in the order in which their accounts came.
+    pub fn subs(&self, alloc: Global) -> Result<Vec<Sub>, AllocError>
+        ensures order { IfOk result (λ subs. subs.items ≡ subs_of self.now.rows) }
+        ensures some { IfOk result (λ subs. (sub : Sub) → is_among sub subs.items ≡ true → held self.now sub ≢ []) }
+        ensures none { IfOk result (λ subs. (sub : Sub) → is_among sub subs.items ≡ false → held self.now sub ≡ []) }
+        ensures once { IfOk result (λ subs. are_apart subs.items ≡ true) }
+    {
+        self.books.subs(alloc)
     }
 
     /// Makes a request's act, and answers it under the request's header and with its proxies: with what the act comes to, or
@@ -119,6 +130,25 @@ impl Shard {
         match told {
             Ok(answer) => answer,
             Err(_) => TopUpAnswer::Refused,
+        }
+    }
+
+    /// Ends the subscriber's sessions that are held until this moment or an earlier one.
+    pub fn expire(&mut self, alloc: Global, sub: Sub, moment: Moment) -> ExpiryAnswer
+        ensures answer { IsExpired self.old sub moment result }
+        ensures step { IsStep self.old self.new (is_judged_expiry result) sub (expiry_act moment) }
+        ensures own { AreOwn self.new }
+    {
+        self.books.acts_are_own();
+        let act = Act {
+            moment,
+            kind: Kind::Expiry,
+        };
+        let ended = end(&mut self.books, alloc, sub, act);
+        self.books.acts_are_own();
+        match ended {
+            Ok(answer) => answer,
+            Err(_) => ExpiryAnswer::Refused,
         }
     }
 }

@@ -9,3 +9,4 @@ host_of (events.Connect peer host) = host
 host_of (events.Disconnect peer) = None
 host_of (events.Message peer moment octets) = None
 host_of (events.TopUp moment sub ticket amount) = None
+host_of (events.Sweep moment) = None

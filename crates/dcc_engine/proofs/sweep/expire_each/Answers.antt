@@ -1,0 +1,33 @@
+use Rattle.std.proofs.Common.{◌≡◌, ◌∷◌, [], ◌++◌, ◌+◌, take, subst, sym, ap, ◌∙◌, arith, false, List}
+use Rattle.std.proofs.lemmas.List.{take_more}
+use Rattle.dcc_act.specs.declared.sub.Sub.{Sub}
+use Rattle.dcc_shard.specs.Answers.{expiry_act}
+use Rattle.dcc_shard.specs.Shards.{is_among}
+use Rattle.dcc_engine.specs.inner.Sweeps.{IsSwept}
+use Rattle.dcc_engine.proofs.Sweeps.{first_here, few_more, swept_more}
+use Rattle.dcc_engine.proofs.sweep.expire_each.Goals as goal
+
+pub loop-sub-preserved : goal.loop-sub-preserved
+loop-sub-preserved c =
+    let law = c.same_subscribers_are_equal.ensures in
+    let subs = c.args.subs.now in
+    let i = c.loop-sub.sub-index in
+    let sub = c.sub-item.result in
+    let act = expiry_act c.args.moment in
+    let h = c.loop-sub.invariant in
+    let one = c.expire_one.ensures.swept in
+    let first : is_among sub (take i subs) ≡ false =
+        ap (λ (s : Sub). is_among s (take i subs)) c.sub-item.is ∙ first_here law subs i sub c.requires.once c.loop-sub-test.true in
+    let more : take i subs ++ sub ∷ [] ≡ take (i + 1) subs =
+        ap (λ (s : Sub). take i subs ++ s ∷ []) c.sub-item.is ∙ sym (take_more subs i sub c.loop-sub-test.true) in
+    let now = c.loop-sub.shard in
+    let new = c.expire_one.new.shard in
+    let before = c.loop-sub.refused.items in
+    let then_refused = c.expire_one.new.refused.items in
+    record {
+      swept = subst (λ (done : List Sub). IsSwept c.args.shard.now new done then_refused act) more
+          (swept_more law c.args.shard.now now new (take i subs) before then_refused sub act h.swept one first);
+      few = few_more now new before then_refused sub act i one h.few;
+      room = omega arith;
+      own = c.expire_one.ensures.own;
+    }

@@ -1,0 +1,13 @@
+use Rattle.std.proofs.Common.{◌≤◌, length, take, vec_capacity}
+use Rattle.dcc_shard.specs.Answers.{expiry_act}
+use Rattle.dcc_shard.specs.Shards.{AreOwn}
+use Rattle.dcc_engine.specs.inner.Sweeps.{IsSwept}
+use Rattle.dcc_engine.proofs.sweep.expire_each.Given as goal
+
+abbrev pub invariant-loop-sub : goal.invariant-loop-sub
+invariant-loop-sub l = record {
+  swept : IsSwept l.fn.shard l.shard (take l.sub-index l.subs) l.refused.items (expiry_act l.moment);
+  few : length l.refused.items ≤ l.sub-index;
+  room : length l.subs ≤ vec_capacity l.refused;
+  own : AreOwn l.shard;
+}
