@@ -1,7 +1,8 @@
 -- What is printed of the outs of a run.
-use Rattle.std.specs.Prelude.{ℕ, ◌+◌, ◌==◌, if◌then◌else◌, List, [], ◌∷◌, ◌++◌, length, codes, Some, None}
+use Rattle.std.specs.Prelude.{ℕ, ◌+◌, ◌==◌, if◌then◌else◌, List, [], ◌∷◌, ◌++◌, length, map, codes, Some, None}
 use Rattle.std.specs.Fmt.{decimal}
 use Rattle.hex.specs.Hex.{encode_lower}
+use Rattle.dcc_act.specs.declared.sub.Sub.{Sub}
 use Rattle.dcc_engine.specs.declared.event.Out.{Out}
 use Rattle.dcc_shard.specs.declared.answers.TopUpAnswer.{TopUpAnswer}
 use Rattle.dcc_shard.specs.declared.answers.TopUpAnswer.TheVariants.{Done, Ceiling, BadAmount, Refused}
@@ -31,6 +32,21 @@ closed out = elim out.peer [
 unfoldable pub topped_up : Out → List (List ℕ)
 topped_up out = elim out.top_up [ None ↦ [] | Some answer ↦ (codes "topup " ++ word_of answer) ∷ [] ]
 
+-- a subscriber whose expiry was refused, by its type and its data
+abbrev pub refused_of : Sub → List ℕ
+refused_of sub = codes "refused " ++ decimal sub.kind ++ codes ":" ++ sub.name
+
+abbrev pub all_refused : Out → List (List ℕ)
+all_refused out = if out.refused_all then codes "refused all" ∷ [] else []
+
+-- whose expiries a sweep refused
+unfoldable pub refused : Out → List (List ℕ)
+refused out = map refused_of out.refused ++ all_refused out
+
+-- what is told of a top-up, or of a sweep
+abbrev pub told : Out → List (List ℕ)
+told out = topped_up out ++ refused out
+
 -- a dash stands for nothing
 abbrev pub or_dash : List (List ℕ) → List (List ℕ)
 or_dash [] = codes "-" ∷ []
@@ -43,7 +59,7 @@ numbered n (phrase ∷ phrases) = (decimal n ++ codes " " ++ phrase ++ 10 ∷ []
 
 -- the lines of event n
 abbrev pub lines_of_out : ℕ → Out → List ℕ
-lines_of_out n out = numbered n (or_dash (answered out ++ closed out ++ topped_up out))
+lines_of_out n out = numbered n (or_dash (answered out ++ closed out ++ told out))
 
 -- the lines of outs of which the first is event n's
 unfoldable pub lines_from : ℕ → List Out → List ℕ

@@ -2,7 +2,7 @@
 use Rattle.std.specs.Prelude.{◌≡◌, ℕ, ◌+◌, Bool, true, ◌==◌, if◌then◌else◌, List, [], ◌∷◌, bytes_eq, codes, Option, Some, None, Result, Ok}
 use Rattle.std.specs.Prelude.{Err}
 use Rattle.dcc_engine.specs.declared.event.Event.{Event}
-use Rattle.dcc_engine.specs.declared.event.Event.TheVariants.{Connect, Disconnect, Message, TopUp}
+use Rattle.dcc_engine.specs.declared.event.Event.TheVariants.{Connect, Disconnect, Message, TopUp, Sweep}
 use Rattle.dcc_replay.specs.declared.script.ScriptFault.{ScriptFault}
 use Rattle.dcc_replay.specs.declared.script.ScriptFault.TheVariants.{Line, Memory}
 use Rattle.dcc_replay.specs.Words.{◌>>=◌, lines_of, words_of, peer, any_u64, moment, host, hex_octets, sub}
@@ -48,7 +48,14 @@ topped_up (m ∷ s ∷ t ∷ a ∷ []) = do
   Some (TopUp when who ticket amount)
 topped_up _ = None
 
--- the event of a line's words, if they have one of the five forms
+-- `sweep MOMENT`
+unfoldable pub swept : List (List ℕ) → Option Event
+swept (m ∷ []) = do
+  when ← moment m
+  Some (Sweep when)
+swept _ = None
+
+-- the event of a line's words, if they have one of the six forms
 unfoldable pub event_of : List (List ℕ) → Option Event
 event_of [] = None
 event_of (verb ∷ words) =
@@ -56,7 +63,8 @@ event_of (verb ∷ words) =
     else (if bytes_eq verb (codes "open") then opened words
     else (if bytes_eq verb (codes "disconnect") then disconnected words
     else (if bytes_eq verb (codes "message") then arrived words
-    else (if bytes_eq verb (codes "topup") then topped_up words else None))))
+    else (if bytes_eq verb (codes "topup") then topped_up words
+    else (if bytes_eq verb (codes "sweep") then swept words else None)))))
 
 -- a line without an event: it is empty, or begins with #
 abbrev pub is_remark : List ℕ → Bool

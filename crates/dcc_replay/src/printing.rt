@@ -1,15 +1,18 @@
 //! What is printed of the outs of a run.
 
-ghost use Rattle.std.specs.Prelude.{◌≡◌, ◌++◌, ◌==◌, OnOk, IfOk, string_bytes, is_some, not, length};
-ghost use Rattle.dcc_replay.specs.Printed.{word_of, answered, closed, topped_up, numbered, lines_of_out, printed};
+ghost use Rattle.std.specs.Prelude.{◌≡◌, ◌++◌, ◌==◌, ◌∷◌, [], true, OnOk, IfOk, map, string_bytes, not, length};
+ghost use Rattle.dcc_octets.specs.Names.{are_visible};
+ghost use Rattle.dcc_replay.specs.Printed.{word_of, answered, closed, topped_up, refused_of, all_refused, refused, told, numbered, lines_of_out, printed};
 
+use dcc_act::Sub;
 use dcc_engine::Out;
 use dcc_shard::TopUpAnswer;
 use std::alloc::{AllocError, Global};
 use std::fmt::Write;
+use std::str;
 
 /// The printed form of the outs of a run, whose events are numbered from 1: what applies of an answer's octets in hex, that
-/// its peer is closed, and what a top-up is told, each on a line of its own, or a dash.
+/// its peer is closed, what a top-up is told, and whose expiries a sweep refused, each on a line of its own, or a dash.
 pub fn printed(alloc: Global, outs: &[Out]) -> Result<String, AllocError>
     ensures { IfOk result (λ text. string_bytes text ≡ printed outs.now) }
 {
@@ -26,8 +29,8 @@ fn put_out(text: &mut String, alloc: Global, n: u64, out: &Out) -> Result<(), Al
 {
     let has_answer = put_answer(text, alloc, n, out)?;
     let has_closing = put_closing(text, n, out)?;
-    let has_top_up = put_top_up(text, n, out)?;
-    if !has_answer && !has_closing && !has_top_up {
+    let has_told = put_told(text, n, out)?;
+    if !has_answer && !has_closing && !has_told {
         writeln!(text, "{n} -")?;
     }
     Ok(())
@@ -66,6 +69,17 @@ fn put_closing(text: &mut String, n: u64, out: &Out) -> Result<bool, AllocError>
     Ok(true)
 }
 
+/// Appends the lines of what is told of a top-up or of a sweep, and says whether there are any.
+#[tactic(auto, using(crate::proofs::PrintingLemmas::both_told))]
+fn put_told(text: &mut String, n: u64, out: &Out) -> Result<bool, AllocError>
+    ensures line { OnOk result (string_bytes text.new ≡ string_bytes text.old ++ numbered n (told out.now)) }
+    ensures some { IfOk result (λ some. some ≡ not (length (told out.now) == 0)) }
+{
+    let has_top_up = put_top_up(text, n, out)?;
+    let has_refused = put_refused(text, n, out)?;
+    Ok(has_top_up || has_refused)
+}
+
 /// Appends the line of what a top-up is told, if the event was one, and says whether it was.
 #[tactic(auto, unfolding(crate::specs::Printed::topped_up))]
 fn put_top_up(text: &mut String, n: u64, out: &Out) -> Result<bool, AllocError>
@@ -89,4 +103,60 @@ fn word_of(answer: TopUpAnswer) -> &'static str
         TopUpAnswer::BadAmount => "bad",
         TopUpAnswer::Refused => "refused",
     }
+}
+
+/// Appends the lines of whose expiries a sweep refused, and says whether there are any.
+#[tactic(auto, using(crate::proofs::PrintingLemmas::both_refused))]
+fn put_refused(text: &mut String, n: u64, out: &Out) -> Result<bool, AllocError>
+    ensures line { OnOk result (string_bytes text.new ≡ string_bytes text.old ++ numbered n (refused out.now)) }
+    ensures some { IfOk result (λ some. some ≡ not (length (refused out.now) == 0)) }
+{
+    put_subs(text, n, out.refused.as_slice())?;
+    put_all(text, n, out)?;
+    Ok(!out.refused.as_slice().is_empty() || out.refused_all)
+}
+
+/// Appends a line for each subscriber whose expiry was refused.
+fn put_subs(text: &mut String, n: u64, subs: &[Sub]) -> Result<(), AllocError>
+    ensures { OnOk result (string_bytes text.new ≡ string_bytes text.old ++ numbered n (map refused_of subs.now)) }
+{
+    for sub in subs {
+        put_sub(text, n, sub)?;
+    }
+    Ok(())
+}
+
+fn put_sub(text: &mut String, n: u64, sub: &Sub) -> Result<(), AllocError>
+    ensures { OnOk result (string_bytes text.new ≡ string_bytes text.old ++ numbered n (refused_of sub.now ∷ [])) }
+{
+    let kind = sub.kind();
+    let name = name_of(sub);
+    writeln!(text, "{n} refused {kind}:{name}")?;
+    Ok(())
+}
+
+/// The data of a subscriber.
+fn name_of(sub: &Sub) -> &str
+    ensures { result.now ≡ sub.now.name }
+{
+    text_of(sub.name())
+}
+
+/// Visible characters of ASCII, as text.
+#[tactic(auto, using(crate::proofs::PrintingLemmas::is_text))]
+fn text_of(octets: &[u8]) -> &str
+    requires { are_visible octets.now ≡ true }
+    ensures { result.now ≡ octets.now }
+{
+    str::from_utf8(octets).unwrap()
+}
+
+/// Appends the line that all expiries were refused, where they were.
+fn put_all(text: &mut String, n: u64, out: &Out) -> Result<(), AllocError>
+    ensures { OnOk result (string_bytes text.new ≡ string_bytes text.old ++ numbered n (all_refused out.now)) }
+{
+    if out.refused_all {
+        writeln!(text, "{n} refused all")?;
+    }
+    Ok(())
 }

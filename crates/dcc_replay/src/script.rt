@@ -1,7 +1,7 @@
 //! The events of a script.
 
 ghost use Rattle.std.specs.Prelude.{◌≡◌, ◌<◌, map, length, IfOk, IfErr, OnOk, Ok, Err, ◌⊎◌};
-ghost use Rattle.dcc_replay.specs.Scripts.{connected, opened, disconnected, arrived, topped_up, event_of, is_remark, script_of, IsFaultOf};
+ghost use Rattle.dcc_replay.specs.Scripts.{connected, opened, disconnected, arrived, topped_up, swept, event_of, is_remark, script_of, IsFaultOf};
 ghost use Rattle.dcc_replay.specs.Words.{words_of};
 ghost use Rattle.dcc_replay.specs.declared.script.ScriptFault.TheVariants as fault;
 
@@ -89,6 +89,8 @@ fn event_of(alloc: Global, words: &[&[u8]]) -> Result<Option<Event>, AllocError>
         arrived(alloc, words)
     } else if verb == b"topup".as_slice() {
         Ok(topped_up(words))
+    } else if verb == b"sweep".as_slice() {
+        Ok(swept(words))
     } else {
         Ok(None)
     }
@@ -173,5 +175,18 @@ fn topped_up(words: &[&[u8]]) -> Option<Event>
         sub: sub(second)?,
         ticket: any_u64(third)?,
         amount: any_u64(fourth)?,
+    })
+}
+
+/// `sweep MOMENT`
+#[tactic(auto, unfolding(crate::specs::Scripts::swept))]
+fn swept(words: &[&[u8]]) -> Option<Event>
+    ensures { result ≡ swept (map (λ word. word.now) words.now) }
+{
+    let [word] = words else {
+        return None;
+    };
+    Some(Event::Sweep {
+        moment: moment(word)?,
     })
 }
