@@ -132,11 +132,11 @@ swept_more law old now new done before then_refused sub act swept one not_done =
     ] in
     let refused_is = λ (other : Sub). refused_with judged before then_refused sub other one.noted in
     let flags_are = λ (other : Sub). ap (λ (b : Bool). b && not (is_among other then_refused)) (among_push other sub done)
-        ∙ ap (λ (b : Bool). (is_among other done || same_sub sub other) && not b) (refused_is other) in
+    ∙ ap (λ (b : Bool). (is_among other done || same_sub sub other) && not b) (refused_is other) in
     let now_is : held now sub ≡ held old sub = swept.held_is sub ∙ ap (λ (b : Bool). held_after terms (b && not (is_among sub before)) (held old sub) act) not_done in
     let here : held new sub ≡ held_after terms (is_among sub (done ++ sub ∷ []) && not (is_among sub then_refused)) (held old sub) act =
-        one.step.own ∙ ap (λ (t : TermsView). held_after t judged (held now sub) act) swept.terms ∙ ap (λ (xs : List Act). held_after terms judged xs act) now_is
-        ∙ ap (λ (b : Bool). held_after terms b (held old sub) act) (sym (flags_are sub ∙ flags_here judged (is_among sub before) (is_among sub done) (same_sub sub sub) not_before not_done ((law sub sub).1 refl))) in
+    one.step.own ∙ ap (λ (t : TermsView). held_after t judged (held now sub) act) swept.terms ∙ ap (λ (xs : List Act). held_after terms judged xs act) now_is
+    ∙ ap (λ (b : Bool). held_after terms b (held old sub) act) (sym (flags_are sub ∙ flags_here judged (is_among sub before) (is_among sub done) (same_sub sub sub) not_before not_done ((law sub sub).1 refl))) in
     record {
       held_is = λ other. elim (one_or_other law other sub) [
         | inl e ↦ subst (λ (s : Sub). held new s ≡ held_after terms (is_among s (done ++ sub ∷ []) && not (is_among s then_refused)) (held old s) act) (sym e) here

@@ -1,8 +1,10 @@
-//! Each call once on its happy path: money, a debit, the same again, and a subscriber without an account.
+//! Each call once on its happy path: money, a debit, the same again, a subscriber without an account, and a session that
+//! expires.
 
 use super::*;
 use dcc_act::{
-    Act, Action, Form, Kind, Moment, OneTimeEvent, RequestKey, Service, ServiceIds, SessionId, Sub,
+    Act, Action, Form, Kind, Moment, OneTimeEvent, RequestKey, Service, ServiceIds, Services,
+    SessionId, SessionRequest, Sub,
 };
 use dcc_answer::Proxies;
 use dcc_message::{DiameterIdentity, Header, Identity, read_header};
@@ -30,10 +32,15 @@ fn header(alloc: Global) -> Result<Header, Fail> {
     Ok(header)
 }
 
-/// What the sample's request asks for: a direct debit of 1,001 octets at 5 minor units per 1,000.
-fn debit(alloc: Global) -> Result<Act, Fail> {
+/// The first request of the sample's session.
+fn first_key(alloc: Global) -> Result<RequestKey, Fail> {
     let sid = SessionId::from_vec(b"gw1.example;1;1".to_vec(alloc)?).ok_or("a name")?;
-    let service = Service {
+    Ok(RequestKey { sid, number: 0 })
+}
+
+/// The service of the sample's request: 1,001 octets at 5 minor units per 1,000.
+fn service(alloc: Global) -> Service {
+    Service {
         group: None,
         ids: ServiceIds::new(alloc),
         form: Form::Single,
@@ -44,13 +51,17 @@ fn debit(alloc: Global) -> Result<Act, Fail> {
             price: 5,
             block: 1000,
         }),
-    };
+    }
+}
+
+/// What the sample's request asks for: a direct debit.
+fn debit(alloc: Global) -> Result<Act, Fail> {
     Ok(Act {
         moment: Moment::new(1_751_328_000).ok_or("a moment")?,
         kind: Kind::Event(OneTimeEvent {
-            key: RequestKey { sid, number: 0 },
+            key: first_key(alloc)?,
             action: Action::DirectDebiting,
-            service,
+            service: service(alloc),
         }),
     })
 }
@@ -117,5 +128,55 @@ fn a_debit_is_made_once(rt: HostRuntime) -> Result<(), Fail> {
     );
     let account = shard.account(sub).ok_or("an account")?;
     assert_eq!(rt; account.funds(), 990);
+    Ok(())
+}
+
+/// What opens the sample's session.
+fn opening(alloc: Global) -> Result<Act, Fail> {
+    let services = Services::from_vec(vec![in alloc; service(alloc)]?).ok_or("services")?;
+    Ok(Act {
+        moment: Moment::new(1_751_328_000).ok_or("a moment")?,
+        kind: Kind::Initial(SessionRequest {
+            key: first_key(alloc)?,
+            services,
+        }),
+    })
+}
+
+/// The plan holds a session for 1,200 seconds. The moment after which it does no more ends it, once.
+#[test]
+fn a_session_expires_once(rt: HostRuntime) -> Result<(), Fail> {
+    let alloc = rt.alloc();
+    let plan = Plan::read(alloc, PLAN)?;
+    let mut shard = shard(alloc, &plan)?;
+    let sub = Sub::new(0, b"491700000001").ok_or("a subscriber")?;
+    let moment = Moment::new(1_751_328_000).ok_or("a moment")?;
+    assert!(rt; shard.subs(alloc)?.is_empty());
+    shard.top_up(alloc, sub, moment, 1, 1000);
+    let (header, act) = (header(alloc)?, opening(alloc)?);
+    if !matches!(act.kind, Kind::Initial(_)) {
+        return Err("a request".into());
+    }
+    let answer = shard.step(alloc, sub, act, &header, &Proxies::none(alloc));
+    assert!(rt;
+        matches!(
+            answer,
+            RequestAnswer::Done {
+                place: 2,
+                fresh: true,
+                ..
+            }
+        )
+    );
+    assert_eq!(rt; shard.subs(alloc)?.as_slice(), [sub].as_slice());
+    let closed = ExpiryAnswer::Closed {
+        sessions: 1,
+        place: 3,
+    };
+    let nothing = ExpiryAnswer::Nothing;
+    for (seconds, wanted) in [(1199, nothing), (1200, closed), (1200, nothing)] {
+        let later = Moment::new(1_751_328_000 + seconds).ok_or("a moment")?;
+        assert_eq!(rt; shard.expire(alloc, sub, later), wanted);
+    }
     Ok(())
 }

@@ -17,9 +17,9 @@ loop-sub-preserved c =
     let h = c.loop-sub.invariant in
     let one = c.expire_one.ensures.swept in
     let first : is_among sub (take i subs) ≡ false =
-        ap (λ (s : Sub). is_among s (take i subs)) c.sub-item.is ∙ first_here law subs i sub c.requires.once c.loop-sub-test.true in
+    ap (λ (s : Sub). is_among s (take i subs)) c.sub-item.is ∙ first_here law subs i sub c.requires.once c.loop-sub-test.true in
     let more : take i subs ++ sub ∷ [] ≡ take (i + 1) subs =
-        ap (λ (s : Sub). take i subs ++ s ∷ []) c.sub-item.is ∙ sym (take_more subs i sub c.loop-sub-test.true) in
+    ap (λ (s : Sub). take i subs ++ s ∷ []) c.sub-item.is ∙ sym (take_more subs i sub c.loop-sub-test.true) in
     let now = c.loop-sub.shard in
     let new = c.expire_one.new.shard in
     let before = c.loop-sub.refused.items in
