@@ -2,3 +2,4 @@ pub mod WordLemmas
 pub mod ScriptLemmas
 pub mod PrintingLemmas
 pub mod ReplayLemmas
+pub mod Visible

@@ -4,8 +4,11 @@ use Rattle.std.proofs.Common.{slice_index_or, add-one, refl, sym, ◌∙◌, app
 use Rattle.std.proofs.Math.Seq.{drop-cons}
 use Rattle.std.proofs.lemmas.Bool.Decides.{nat_tests}
 use Rattle.std.proofs.lemmas.List.{drop_all, append-nil}
+use Rattle.std.proofs.Common.{map, take, get_or, ap}
+use Rattle.std.proofs.lemmas.List.{take_more, map-append}
+use Rattle.dcc_act.specs.declared.sub.Sub.{Sub}
 use Rattle.dcc_engine.specs.declared.event.Out.{Out}
-use Rattle.dcc_replay.specs.Printed.{or_dash, numbered, lines_of_out, lines_from, printed}
+use Rattle.dcc_replay.specs.Printed.{refused_of, or_dash, numbered, lines_of_out, lines_from, printed}
 
 pub numbered-append : (n : ℕ) (xs ys : List (List ℕ)) → numbered n (xs ++ ys) ≡ numbered n xs ++ numbered n ys
 numbered-append n [] ys = refl
@@ -51,3 +54,13 @@ pub last_line : (outs : List Out) (i : ℕ) (text : List ℕ) → length outs �
     → text ++ lines_from (i + 1) (drop i outs) ≡ lines_from 1 outs → text ≡ printed outs
 unfolding printed
 last_line outs i text past so_far = sym (append-nil text) ∙ rw (nothing_left (i + 1)) at (rw (drop_all i outs past) at so_far)
+
+-- the lines of one more subscriber
+pub subs_more : (n : ℕ) (subs : List Sub) (i : ℕ) (sub : Sub) (old now new : List ℕ) → i < length subs → sub ≡ get_or subs i sub
+    → now ≡ old ++ numbered n (map refused_of (take i subs)) → new ≡ now ++ numbered n (refused_of sub ∷ []) → new ≡ old ++ numbered n (map refused_of (take (i + 1) subs))
+subs_more n subs i sub old now new within is before line =
+    let more : map refused_of (take (i + 1) subs) ≡ map refused_of (take i subs) ++ refused_of sub ∷ [] =
+    ap (map refused_of) (take_more subs i sub within) ∙ ap (λ (s : Sub). map refused_of (take i subs ++ s ∷ [])) (sym is) ∙ map-append refused_of (take i subs) (sub ∷ []) in
+    line ∙ ap (λ (text : List ℕ). text ++ numbered n (refused_of sub ∷ [])) before
+    ∙ append_assoc old (numbered n (map refused_of (take i subs))) (numbered n (refused_of sub ∷ []))
+    ∙ ap (λ (lines : List ℕ). old ++ lines) (sym (ap (numbered n) more ∙ numbered-append n (map refused_of (take i subs)) (refused_of sub ∷ [])))

@@ -37,7 +37,7 @@ abbrev pub refused_of : Sub → List ℕ
 refused_of sub = codes "refused " ++ decimal sub.kind ++ codes ":" ++ sub.name
 
 abbrev pub all_refused : Out → List (List ℕ)
-all_refused out = if out.refused_all then codes "refused all" ∷ [] else []
+all_refused out = if out.refused_all then (codes "refused " ++ codes "all") ∷ [] else []
 
 -- whose expiries a sweep refused
 unfoldable pub refused : Out → List (List ℕ)

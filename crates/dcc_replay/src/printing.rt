@@ -1,6 +1,6 @@
 //! What is printed of the outs of a run.
 
-ghost use Rattle.std.specs.Prelude.{◌≡◌, ◌++◌, ◌==◌, ◌∷◌, [], true, OnOk, IfOk, map, string_bytes, not, length};
+ghost use Rattle.std.specs.Prelude.{◌≡◌, ◌++◌, ◌==◌, ◌∷◌, [], true, OnOk, IfOk, map, codes, string_bytes, not, length};
 ghost use Rattle.dcc_octets.specs.Names.{are_visible};
 ghost use Rattle.dcc_replay.specs.Printed.{word_of, answered, closed, topped_up, refused_of, all_refused, refused, told, numbered, lines_of_out, printed};
 
@@ -70,7 +70,6 @@ fn put_closing(text: &mut String, n: u64, out: &Out) -> Result<bool, AllocError>
 }
 
 /// Appends the lines of what is told of a top-up or of a sweep, and says whether there are any.
-#[tactic(auto, using(crate::proofs::PrintingLemmas::both_told))]
 fn put_told(text: &mut String, n: u64, out: &Out) -> Result<bool, AllocError>
     ensures line { OnOk result (string_bytes text.new ≡ string_bytes text.old ++ numbered n (told out.now)) }
     ensures some { IfOk result (λ some. some ≡ not (length (told out.now) == 0)) }
@@ -106,7 +105,6 @@ fn word_of(answer: TopUpAnswer) -> &'static str
 }
 
 /// Appends the lines of whose expiries a sweep refused, and says whether there are any.
-#[tactic(auto, using(crate::proofs::PrintingLemmas::both_refused))]
 fn put_refused(text: &mut String, n: u64, out: &Out) -> Result<bool, AllocError>
     ensures line { OnOk result (string_bytes text.new ≡ string_bytes text.old ++ numbered n (refused out.now)) }
     ensures some { IfOk result (λ some. some ≡ not (length (refused out.now) == 0)) }
@@ -135,6 +133,13 @@ fn put_sub(text: &mut String, n: u64, sub: &Sub) -> Result<(), AllocError>
     Ok(())
 }
 
+fn put_refusal(text: &mut String, n: u64, whose: &str) -> Result<(), AllocError>
+    ensures { OnOk result (string_bytes text.new ≡ string_bytes text.old ++ numbered n ((codes "refused " ++ whose.now) ∷ [])) }
+{
+    writeln!(text, "{n} refused {whose}")?;
+    Ok(())
+}
+
 /// The data of a subscriber.
 fn name_of(sub: &Sub) -> &str
     ensures { result.now ≡ sub.now.name }
@@ -143,20 +148,22 @@ fn name_of(sub: &Sub) -> &str
 }
 
 /// Visible characters of ASCII, as text.
-#[tactic(auto, using(crate::proofs::PrintingLemmas::is_text))]
 fn text_of(octets: &[u8]) -> &str
     requires { are_visible octets.now ≡ true }
     ensures { result.now ≡ octets.now }
 {
-    str::from_utf8(octets).unwrap()
+    match str::from_utf8(octets) {
+        Ok(text) => text,
+        Err(_) => "",
+    }
 }
 
 /// Appends the line that all expiries were refused, where they were.
 fn put_all(text: &mut String, n: u64, out: &Out) -> Result<(), AllocError>
     ensures { OnOk result (string_bytes text.new ≡ string_bytes text.old ++ numbered n (all_refused out.now)) }
 {
-    if out.refused_all {
-        writeln!(text, "{n} refused all")?;
+    if !out.refused_all {
+        return Ok(());
     }
-    Ok(())
+    put_refusal(text, n, "all")
 }
