@@ -1,6 +1,8 @@
 //! Each call once on its happy path: money, a debit, the same again, a subscriber without an account, and a session that
 //! expires.
 
+ghost use Rattle.std.specs.Prelude.{◌≡◌, true, is_some};
+
 use super::*;
 use dcc_act::{
     Act, Action, Form, Kind, Moment, OneTimeEvent, RequestKey, Service, ServiceIds, Services,
@@ -39,7 +41,9 @@ fn first_key(alloc: Global) -> Result<RequestKey, Fail> {
 }
 
 /// The service of the sample's request: 1,001 octets at 5 minor units per 1,000.
-fn service(alloc: Global) -> Service {
+fn service(alloc: Global) -> Service
+    ensures { is_some result.asked ≡ true }
+{
     Service {
         group: None,
         ids: ServiceIds::new(alloc),
