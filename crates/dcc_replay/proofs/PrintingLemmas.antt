@@ -4,11 +4,11 @@ use Rattle.std.proofs.Common.{slice_index_or, add-one, refl, sym, ◌∙◌, app
 use Rattle.std.proofs.Math.Seq.{drop-cons}
 use Rattle.std.proofs.lemmas.Bool.Decides.{nat_tests}
 use Rattle.std.proofs.lemmas.List.{drop_all, append-nil}
-use Rattle.std.proofs.Common.{map, take, get_or, ap}
+use Rattle.std.proofs.Common.{map, take, get_or, ap, false, suc, ◌||◌, if◌then◌else◌}
 use Rattle.std.proofs.lemmas.List.{take_more, map-append}
 use Rattle.dcc_act.specs.declared.sub.Sub.{Sub}
 use Rattle.dcc_engine.specs.declared.event.Out.{Out}
-use Rattle.dcc_replay.specs.Printed.{refused_of, or_dash, numbered, lines_of_out, lines_from, printed}
+use Rattle.dcc_replay.specs.Printed.{refused_of, all_refused, refused, or_dash, numbered, lines_of_out, lines_from, printed}
 
 pub numbered-append : (n : ℕ) (xs ys : List (List ℕ)) → numbered n (xs ++ ys) ≡ numbered n xs ++ numbered n ys
 numbered-append n [] ys = refl
@@ -64,3 +64,32 @@ subs_more n subs i sub old now new within is before line =
     line ∙ ap (λ (text : List ℕ). text ++ numbered n (refused_of sub ∷ [])) before
     ∙ append_assoc old (numbered n (map refused_of (take i subs))) (numbered n (refused_of sub ∷ []))
     ∙ ap (λ (lines : List ℕ). old ++ lines) (sym (ap (numbered n) more ∙ numbered-append n (map refused_of (take i subs)) (refused_of sub ∷ [])))
+
+-- two lists of phrases, one after the other
+pub both_lines : (n : ℕ) (a b : List (List ℕ)) (old x y : List ℕ) → x ≡ old ++ numbered n a → y ≡ x ++ numbered n b → y ≡ old ++ numbered n (a ++ b)
+both_lines n a b old x y first second =
+    second ∙ ap (λ (text : List ℕ). text ++ numbered n b) first ∙ append_assoc old (numbered n a) (numbered n b)
+    ∙ ap (λ (lines : List ℕ). old ++ lines) (sym (numbered-append n a b))
+
+suc_some : (n : ℕ) → not (suc n == 0) ≡ true
+suc_some n = grind (arith, nat_tests)
+
+pub some_both : (a b : List (List ℕ)) → not (length (a ++ b) == 0) ≡ (not (length a == 0) || not (length b == 0))
+some_both [] b = refl
+some_both (phrase ∷ a) b = suc_some (length (a ++ b)) ∙ sym (ap (λ (some : Bool). some || not (length b == 0)) (suc_some (length a)))
+
+some_all : (all : Bool) (phrase : List ℕ) → not (length (if all then phrase ∷ [] else []) == 0) ≡ all
+some_all true phrase = refl
+some_all false phrase = refl
+
+some_subs : (subs : List Sub) → not (length (map refused_of subs) == 0) ≡ not (length subs == 0)
+some_subs [] = refl
+some_subs (sub ∷ subs) = suc_some (length (map refused_of subs)) ∙ sym (suc_some (length subs))
+
+-- a sweep refused one, or all
+pub some_refused : (out : Out) → not (length (refused out) == 0) ≡ (not (length out.refused == 0) || out.refused_all)
+unfolding refused
+some_refused out =
+    some_both (map refused_of out.refused) (all_refused out)
+    ∙ ap (λ (some : Bool). some || not (length (all_refused out) == 0)) (some_subs out.refused)
+    ∙ ap (λ (all : Bool). not (length out.refused == 0) || all) (some_all out.refused_all _)

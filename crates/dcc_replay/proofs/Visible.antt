@@ -1,7 +1,7 @@
 -- Visible characters of ASCII are text.
 use Rattle.std.proofs.Common.{◌≡◌, ℕ, zero, suc, ◌<◌, true, ◌&&◌, List, [], ◌∷◌, arith}
 use Rattle.std.specs.Prelude.{nat_le, slice_index}
-use Rattle.std.specs.Str.{IsAscii, IsUtf8}
+use Rattle.std.specs.Str.{IsUtf8}
 use Rattle.std.proofs.lemmas.Bool.{and_parts}
 use Rattle.std.proofs.lemmas.Bool.Decides.{nat_tests}
 use Rattle.std.proofs.lemmas.Str.{IsUtf8-from_ascii}

@@ -1,6 +1,6 @@
 //! What is printed of the outs of a run.
 
-ghost use Rattle.std.specs.Prelude.{◌≡◌, ◌++◌, ◌==◌, ◌∷◌, [], true, OnOk, IfOk, map, codes, string_bytes, not, length};
+ghost use Rattle.std.specs.Prelude.{◌≡◌, ◌++◌, ◌==◌, ◌||◌, ◌∷◌, [], true, OnOk, IfOk, map, codes, string_bytes, not, length};
 ghost use Rattle.dcc_octets.specs.Names.{are_visible};
 ghost use Rattle.dcc_replay.specs.Printed.{word_of, answered, closed, topped_up, refused_of, all_refused, refused, told, numbered, lines_of_out, printed};
 
@@ -76,7 +76,7 @@ fn put_told(text: &mut String, n: u64, out: &Out) -> Result<bool, AllocError>
 {
     let has_top_up = put_top_up(text, n, out)?;
     let has_refused = put_refused(text, n, out)?;
-    Ok(has_top_up || has_refused)
+    Ok(is_either(has_top_up, has_refused))
 }
 
 /// Appends the line of what a top-up is told, if the event was one, and says whether it was.
@@ -109,9 +109,17 @@ fn put_refused(text: &mut String, n: u64, out: &Out) -> Result<bool, AllocError>
     ensures line { OnOk result (string_bytes text.new ≡ string_bytes text.old ++ numbered n (refused out.now)) }
     ensures some { IfOk result (λ some. some ≡ not (length (refused out.now) == 0)) }
 {
-    put_subs(text, n, out.refused.as_slice())?;
+    let subs = out.refused.as_slice();
+    put_subs(text, n, subs)?;
     put_all(text, n, out)?;
-    Ok(!out.refused.as_slice().is_empty() || out.refused_all)
+    Ok(is_either(!subs.is_empty(), out.refused_all))
+}
+
+/// Whether one of the two holds.
+fn is_either(first: bool, second: bool) -> bool
+    ensures { result ≡ (first || second) }
+{
+    first || second
 }
 
 /// Appends a line for each subscriber whose expiry was refused.

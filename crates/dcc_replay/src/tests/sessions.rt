@@ -187,7 +187,7 @@ pub(crate) const NAMED: [(&str, &str); 52] = [
     ("xr4012", "000001c8400000140000010c4000000c00000fac"),
 ];
 
-const ROWS: [(&str, &str); 13] = [
+const ROWS: [(&str, &str); 15] = [
     // Three sessions share a balance, and an update charges what was used: of 1,000, 500 and 500 are reserved, then 205 is charged and
     // 295 free. It comes again without its services, and is answered as first.
     (
@@ -340,6 +340,27 @@ message 1 1748736000 ccs/02/1/0/sub+10a1000+xa1000\n",
 message 1 1748736000 raw/80000110000000040000003100000041/000001074000000901000000+asks+000001a04000000c00000001+0000019f4000000c00000000+sub+proxy\n",
         "1 -\n2 topup done\n3 answer 1 cas/01/2001/1/0/10g1000\n\
 4 answer 1 raw/00000110000000040000003100000041/000001074000000901000000+0000010c4000000c000007d1+server+app+000001a04000000c00000001+0000019f4000000c00000000+10g1000+proxy\n",
+    ),
+    // A session is held for 1,200 seconds after its last request: a sweep a second before ends nothing. What was answered stays answered.
+    (
+        "open 1 gw1.example\ntopup 0 0:491700000001 1 1000\nmessage 1 1748736000 ccs/01/1/0/sub+10a1000\n\
+message 1 1748736000 ccs/01/2/1/sub+10a1000\nsweep 1748737199\nmessage 1 1748736000 ccs/02/1/0/sub+10a200000\n\
+sweep 1748737200\nmessage 1 1748736000 ccs/01/2/2/sub\nmessage 1 1748736000 ccs/01/2/1/sub+10a1000\n\
+message 1 1748736000 ccs/01/1/3/sub\n",
+        "1 -\n2 topup done\n3 answer 1 cas/01/2001/1/0/10g1000\n4 answer 1 cas/01/2001/2/1/10g1000\n5 -\n\
+6 answer 1 cas/02/2001/1/0/10f199000\n7 -\n8 answer 1 cas/01/5002/2/2/\n9 answer 1 cas/01/2001/2/1/10g1000\n\
+10 answer 1 cas/01/5012/1/3/\n",
+    ),
+    // A sweep ends what is due, of each subscriber, and gives back what it held; a sweep at an earlier moment ends nothing.
+    (
+        "open 1 gw1.example\ntopup 0 0:491700000001 1 1000\ntopup 0 0:491700000003 1 500\n\
+message 1 1748736000 ccs/01/1/0/sub+10a100000\nmessage 1 1748736060 ccs/02/1/0/sub+10a100000\n\
+message 1 1748736000 ccs/78/1/0/other+10a100000\nsweep 1748737230\nmessage 1 1748736000 ccs/01/2/1/sub\n\
+message 1 1748736000 ccs/78/2/1/other\nmessage 1 1748736000 ccs/02/2/1/sub\n\
+message 1 1748736000 ccs/03/1/0/sub+10a200000\nsweep 1748736000\nmessage 1 1748736000 ccs/03/2/1/sub\n",
+        "1 -\n2 topup done\n3 topup done\n4 answer 1 cas/01/2001/1/0/10g100000\n5 answer 1 cas/02/2001/1/0/10g100000\n\
+6 answer 1 cas/78/2001/1/0/10g100000\n7 -\n8 answer 1 cas/01/5002/2/1/\n9 answer 1 cas/78/5002/2/1/\n\
+10 answer 1 cas/02/2001/2/1/\n11 answer 1 cas/03/2001/1/0/10f100000\n12 -\n13 answer 1 cas/03/2001/2/1/\n",
     ),
 ];
 
