@@ -138,6 +138,7 @@ fn takes_each_form_up_to_its_limits(rt: HostRuntime) -> Result<(), Fail> {
         (b"disconnect 0004294967295\ndisconnect 0\n", "1 -\n2 -\n"),
         (b"open 0004294967295 !~:#", "1 -\n"),
         (b"open 1 \t\xff\0\r\nopen 1 a\r", "1 -\n2 -\n"),
+        (b"sweep 4102444799\nsweep 00", "1 -\n2 -\n"),
         (b"message 4294967295 4102444799 aF\n", "1 -\n"),
         (
             b"topup 4102444799 4:a:b 18446744073709551615 18446744073709551615\n",
