@@ -147,33 +147,3 @@ fn a_refusal_opens_no_peer(rt: HostRuntime) -> Result<(), Fail> {
     }
     Err("memory was refused".into())
 }
-
-/// A sweep of a subscriber without sessions ends nothing. Where memory is refused, the subscriber is among the refused, or
-/// all are.
-#[test]
-fn a_sweep_refuses_nobody(rt: HostRuntime) -> Result<(), Fail> {
-    let alloc = rt.alloc();
-    let mut engine = engine(alloc)?;
-    let top_up = Event::TopUp {
-        moment: moment()?,
-        sub: subscriber()?,
-        ticket: 1,
-        amount: 1000,
-    };
-    let sweep = Event::Sweep { moment: moment()? };
-    let outs = engine.run(alloc, &vec![in alloc; top_up, sweep]?)?;
-    let [first, second] = outs.as_slice() else {
-        return Err("two outs".into());
-    };
-    assert!(rt; first.refused.as_slice().is_empty() && !first.refused_all);
-    let added = matches!(first.top_up, Some(TopUpAnswer::Done { .. }));
-    assert_eq!(rt; funds(&engine)?, if added { 1000 } else { 0 });
-    assert!(rt; second.peer.is_none() && second.octets.as_slice().is_empty());
-    if added && second.refused.as_slice().is_empty() && !second.refused_all {
-        return Ok(());
-    }
-    if second.refused_all {
-        assert!(rt; second.refused.as_slice().is_empty());
-    }
-    Err("memory was refused".into())
-}
