@@ -323,10 +323,5 @@ fn named<'a>(avp: &'a str) -> &'a str {
             return octets;
         }
     }
-    for (name, octets) in sessions::NAMED {
-        if avp == name {
-            return octets;
-        }
-    }
-    avp
+    sessions::named(avp)
 }
