@@ -310,18 +310,18 @@ fn code(alloc: Global, word: &str) -> Result<String, Fail> {
 fn message(alloc: Global, header: &str, avps: &str) -> Result<String, Fail> {
     let mut body = String::new(alloc);
     for avp in avps.split('+') {
-        body.push_str(named(avp))?;
+        body.push_str(named(&sessions::NAMED, named(&NAMED, avp)))?;
     }
     let length = body.len() / 2 + 20;
     Ok(format!(in alloc; "01{length:06x}{header}{body}")?)
 }
 
-/// The octets that a name stands for, or the octets.
-fn named<'a>(avp: &'a str) -> &'a str {
-    for (name, octets) in NAMED {
+/// The octets that a name of this table stands for, or what was given.
+fn named<'a>(table: &[(&'a str, &'a str)], avp: &'a str) -> &'a str {
+    for &(name, octets) in table {
         if avp == name {
             return octets;
         }
     }
-    sessions::named(avp)
+    avp
 }

@@ -9,7 +9,7 @@ use super::prints;
 use std::test::Fail;
 
 /// Names that stand in rows for AVPs.
-const NAMED: [(&str, &str); 52] = [
+pub(crate) const NAMED: [(&str, &str); 52] = [
     (
         "other",
         "000001bb40000028000001c24000000c00000000000001bc40000014343931373030303030303033",
@@ -372,14 +372,4 @@ fn prints_each_session(rt: HostRuntime) -> Result<(), Fail> {
         prints(&rt, script.as_str(), printed.as_str())?;
     }
     Ok(())
-}
-
-/// The octets that a name of a session's AVP stands for, or the octets.
-pub(crate) fn named<'a>(avp: &'a str) -> &'a str {
-    for (name, octets) in NAMED {
-        if avp == name {
-            return octets;
-        }
-    }
-    avp
 }
