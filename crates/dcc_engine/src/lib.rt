@@ -4,7 +4,8 @@
 //! requests and their refusals, and on the crates below them. The contract that it gives is that of `Engine::run`: for every list of
 //! events, a subscriber's request is answered with the octets of the outcome at its place in that subscriber's own entries, or
 //! refused with nothing changed; afterwards the subscriber's acts and money are those of the own entries. A message of no
-//! subscriber is answered by its definition, from the message and its peer's own events, or refused with nothing changed. The
+//! subscriber is answered by its definition, from the message and its peer's own events, or refused with nothing changed. A
+//! sweep is one expiry of each subscriber, each by itself, and what memory refused of it is told subscriber by subscriber. The
 //! law `isolation` follows: two runs that agree on a subscriber's own events agree on its answers, octet for octet.
 #![tactic(auto)]
 

@@ -3,7 +3,8 @@
 //! Stands on `dcc_account` for what an act comes to and on `dcc_credit` for the octets of its answer. The contract that it
 //! gives: a step answers its subscriber by what the definitions say of one more act after those that are held for it, and
 //! leaves what is held for every other subscriber as it was; a step that memory refuses answers so and leaves everything
-//! as it was. In each step what can be refused comes before what changes.
+//! as it was. In each step what can be refused comes before what changes. An expiry ends a subscriber's sessions that are due, and
+//! is such a step without octets.
 #![tactic(auto)]
 
 mod answers;
