@@ -55,8 +55,8 @@ enum Ask {
     Initial(u8, u32, &'static [Want]),
     Update(u8, u32, &'static [Want]),
     Termination(u8, u32, &'static [Want]),
-    /// Action, number and octets, in single form.
-    Event(Action, u32, u64),
+    /// Action, number, and the service that asks.
+    Event(Action, u32, Want),
     Expiry,
 }
 
@@ -189,9 +189,9 @@ fn request(
     })
 }
 
-/// A one-time event of a service in single form.
-fn event(alloc: Global, action: Action, number: u32, octets: u64) -> Result<OneTimeEvent, Fail> {
-    let service = service(alloc, Want::Asks(SINGLE, octets));
+/// A one-time event of a service.
+fn event(alloc: Global, action: Action, number: u32, want: Want) -> Result<OneTimeEvent, Fail> {
+    let service = service(alloc, want);
     if service.asked.is_none() {
         return Err("units".into());
     }
@@ -215,7 +215,7 @@ fn kind(alloc: Global, ask: Ask) -> Result<Kind, Fail> {
         Ask::Termination(session, number, wants) => {
             Kind::Termination(request(alloc, session, number, wants)?)
         }
-        Ask::Event(action, number, octets) => Kind::Event(event(alloc, action, number, octets)?),
+        Ask::Event(action, number, want) => Kind::Event(event(alloc, action, number, want)?),
         Ask::Expiry => Kind::Expiry,
     })
 }

@@ -7,7 +7,7 @@ use dcc_act::Action::{CheckBalance, DirectDebiting, PriceEnquiry, RefundAccount}
 use dcc_act::MAX_AMOUNT;
 
 /// The rows, each with funds, what is free and what is overrun after it.
-pub(super) const ROWS: [(&[Line], (i128, i128, i128)); 19] = [
+pub(super) const ROWS: [(&[Line], (i128, i128, i128)); 23] = [
     (SHARED, (795, 0, 0)),
     (OVERRUN, (-5, -5, 5)),
     (ALONE_FINAL, (5, 0, 0)),
@@ -27,6 +27,10 @@ pub(super) const ROWS: [(&[Line], (i128, i128, i128)); 19] = [
     (UNRATED_REPORTS, (1000, 1000, 0)),
     (KEY_OF_INITIAL, (1000, 995, 0)),
     (EARLIER_UPDATE, (1, 1, 0)),
+    (LEAST_DEBIT, (995, 995, 0)),
+    (UNRATED_DEBIT, (10, 10, 0)),
+    (TOLD_IN_GROUPS, (4, 4, 0)),
+    (REFUND_IN_GROUP, (20, 20, 0)),
 ];
 
 /// As far as funds may be from nothing.
@@ -174,7 +178,7 @@ const SWEEP: &[Line] = &[
         Initial(2, 0, &[Asks(10, 100_000)]),
         &[(2001, 0), (2001, 100_000)],
     ),
-    (60, Event(CheckBalance, 0, 1), &[(2001, 101)]),
+    (60, Event(CheckBalance, 0, Asks(SINGLE, 1)), &[(2001, 101)]),
     (1230, Expiry, &[(ENDS, 1)]),
     (1230, Update(1, 1, &[]), &[(5002, 0)]),
     (1230, Update(2, 1, &[]), OK),
@@ -184,16 +188,32 @@ const SWEEP: &[Line] = &[
 /// A direct debit of 1,001 octets.
 const DEBIT: &[Line] = &[
     (0, TopUp(1, 1000), &[(ADDED, 0)]),
-    (0, Event(DirectDebiting, 0, 1001), &[(2001, 1001)]),
+    (
+        0,
+        Event(DirectDebiting, 0, Asks(SINGLE, 1001)),
+        &[(2001, 1001)],
+    ),
 ];
 
 /// An unknown user, then the request again, and one that isn't covered.
 const UNKNOWN_USER: &[Line] = &[
-    (0, Event(DirectDebiting, 0, 1001), &[(5030, 0)]),
+    (
+        0,
+        Event(DirectDebiting, 0, Asks(SINGLE, 1001)),
+        &[(5030, 0)],
+    ),
     (0, TopUp(1, 10), &[(ADDED, 0)]),
-    (0, Event(DirectDebiting, 0, 1001), &[(2001, 1001)]),
-    (0, Event(DirectDebiting, 0, 7), &[(2001, 1001)]),
-    (0, Event(DirectDebiting, 1, 1), &[(4012, 0)]),
+    (
+        0,
+        Event(DirectDebiting, 0, Asks(SINGLE, 1001)),
+        &[(2001, 1001)],
+    ),
+    (
+        0,
+        Event(DirectDebiting, 0, Asks(SINGLE, 7)),
+        &[(2001, 1001)],
+    ),
+    (0, Event(DirectDebiting, 1, Asks(SINGLE, 1)), &[(4012, 0)]),
 ];
 
 /// The ceiling, and each ticket again.
@@ -207,32 +227,56 @@ const MOST_FUNDS: &[Line] = &[
 /// A price enquired, and a balance that covers one price and not another.
 const TOLD: &[Line] = &[
     (0, TopUp(1, 5), &[(ADDED, 0)]),
-    (0, Event(PriceEnquiry, 0, 1001), &[(2001, 10)]),
-    (0, Event(CheckBalance, 1, 1000), &[(2001, 100)]),
-    (0, Event(CheckBalance, 2, 1001), &[(2001, 101)]),
-    (0, Event(DirectDebiting, 3, 1000), &[(2001, 1000)]),
-    (0, Event(CheckBalance, 1, 1000), &[(2001, 100)]),
-    (0, Event(CheckBalance, 4, 1), &[(2001, 101)]),
+    (0, Event(PriceEnquiry, 0, Asks(SINGLE, 1001)), &[(2001, 10)]),
+    (
+        0,
+        Event(CheckBalance, 1, Asks(SINGLE, 1000)),
+        &[(2001, 100)],
+    ),
+    (
+        0,
+        Event(CheckBalance, 2, Asks(SINGLE, 1001)),
+        &[(2001, 101)],
+    ),
+    (
+        0,
+        Event(DirectDebiting, 3, Asks(SINGLE, 1000)),
+        &[(2001, 1000)],
+    ),
+    (
+        0,
+        Event(CheckBalance, 1, Asks(SINGLE, 1000)),
+        &[(2001, 100)],
+    ),
+    (0, Event(CheckBalance, 4, Asks(SINGLE, 1)), &[(2001, 101)]),
 ];
 
 /// A refund, which comes again and counts once.
 pub(super) const REFUND: &[Line] = &[
-    (0, Event(RefundAccount, 0, 1), &[(5030, 0)]),
+    (0, Event(RefundAccount, 0, Asks(SINGLE, 1)), &[(5030, 0)]),
     (0, TopUp(1, 4), &[(ADDED, 0)]),
-    (0, Event(DirectDebiting, 1, 1), &[(4012, 0)]),
-    (0, Event(RefundAccount, 0, 1), OK),
-    (0, Event(RefundAccount, 0, 1), OK),
-    (0, Event(DirectDebiting, 2, 1000), &[(2001, 1000)]),
-    (0, Event(DirectDebiting, 3, 1000), &[(4012, 0)]),
+    (0, Event(DirectDebiting, 1, Asks(SINGLE, 1)), &[(4012, 0)]),
+    (0, Event(RefundAccount, 0, Asks(SINGLE, 1)), OK),
+    (0, Event(RefundAccount, 0, Asks(SINGLE, 1)), OK),
+    (
+        0,
+        Event(DirectDebiting, 2, Asks(SINGLE, 1000)),
+        &[(2001, 1000)],
+    ),
+    (
+        0,
+        Event(DirectDebiting, 3, Asks(SINGLE, 1000)),
+        &[(4012, 0)],
+    ),
 ];
 
 /// A refund at the ceiling.
 const REFUND_AT_CEILING: &[Line] = &[
     (0, TopUp(1, MAX_AMOUNT - 5), &[(ADDED, 0)]),
-    (0, Event(RefundAccount, 0, 1001), &[(5012, 0)]),
-    (0, Event(RefundAccount, 1, 1000), OK),
+    (0, Event(RefundAccount, 0, Asks(SINGLE, 1001)), &[(5012, 0)]),
+    (0, Event(RefundAccount, 1, Asks(SINGLE, 1000)), OK),
     (0, TopUp(2, 1), &[(CEILING, 0)]),
-    (0, Event(RefundAccount, 0, 1), &[(5012, 0)]),
+    (0, Event(RefundAccount, 0, Asks(SINGLE, 1)), &[(5012, 0)]),
 ];
 
 /// Reports without a tariff and without a live grant: the session goes on in multi form, and ends in single form.
@@ -263,4 +307,60 @@ const EARLIER_UPDATE: &[Line] = &[
     (0, Update(1, 1, &[]), OK),
     (1199, Expiry, &[(ENDS, 0)]),
     (1200, Expiry, &[(ENDS, 1)]),
+];
+
+/// A direct debit that names no amount, which stands for one octet.
+const LEAST_DEBIT: &[Line] = &[
+    (0, TopUp(1, 1000), &[(ADDED, 0)]),
+    (0, Event(DirectDebiting, 0, Asks(SINGLE, 1)), &[(2001, 1)]),
+];
+
+/// A debit in a group without a tariff, which is kept: under its key a group with one is refused as first.
+const UNRATED_DEBIT: &[Line] = &[
+    (0, TopUp(1, 10), &[(ADDED, 0)]),
+    (
+        0,
+        Event(DirectDebiting, 0, Asks(99, 1001)),
+        &[(5031, 0), (5031, 0)],
+    ),
+    (
+        0,
+        Event(DirectDebiting, 0, Asks(10, 1001)),
+        &[(5031, 0), (5031, 0)],
+    ),
+];
+
+/// A price enquired in a group of seconds, and a balance that covers a second block and not a third.
+const TOLD_IN_GROUPS: &[Line] = &[
+    (0, TopUp(1, 4), &[(ADDED, 0)]),
+    (
+        0,
+        Event(PriceEnquiry, 0, Asks(20, 61)),
+        &[(2001, 4), (2001, 0)],
+    ),
+    (
+        0,
+        Event(CheckBalance, 1, Asks(20, 61)),
+        &[(2001, 100), (2001, 0)],
+    ),
+    (
+        0,
+        Event(CheckBalance, 2, Asks(20, 121)),
+        &[(2001, 101), (2001, 0)],
+    ),
+];
+
+/// A refund in a group, which comes again and counts once.
+const REFUND_IN_GROUP: &[Line] = &[
+    (0, TopUp(1, 10), &[(ADDED, 0)]),
+    (
+        0,
+        Event(RefundAccount, 0, Asks(10, 1001)),
+        &[(2001, 0), (2001, 0)],
+    ),
+    (
+        0,
+        Event(RefundAccount, 0, Asks(10, 1001)),
+        &[(2001, 0), (2001, 0)],
+    ),
 ];
