@@ -69,7 +69,7 @@ within_ids : (service : ServiceView) (space : ℤ) (asked : Option Grant) → (g
 within_ids service space None = refl
 within_ids service space (Some asked) = granted_ids service asked (best asked.tariff asked.units space)
 
-asked_ids : (service : ServiceView) (space : ℤ) → (asked_answer service space).ids ≡ service.ids
+pub asked_ids : (service : ServiceView) (space : ℤ) → (asked_answer service space).ids ≡ service.ids
 asked_ids service space = elim (cases_Bool (is_none service.asked)) [ inl t ↦ rw t refl | inr f ↦ rw f (within_ids service space (asked_units service)) ]
 
 pub answer_ids : (terms : TermsView) (past : List Done) (sid : Sid) (service : ServiceView) (space : ℤ) → (answer_to terms past sid service space).ids ≡ service.ids

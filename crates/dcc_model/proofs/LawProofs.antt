@@ -12,8 +12,8 @@ use Rattle.dcc_model.specs.Money.{funds_of, overrun_of, free_of}
 use Rattle.dcc_model.specs.Outcomes.{is_made, place_of, history, after, is_new, place, outcome, acts, funds, overrun, free, kept_of, kept, IsOfRequest, IsOfTopUp, IsOfExpiry}
 use Rattle.dcc_model.specs.Entries.{entries_of, entries}
 use Rattle.dcc_model.specs.Laws.{LaterChangesNothing, LastComesAfter, OneMoreAct, AfterStays, NewStays, PlaceStays, OutcomesStay, ActsStay, ActsAreActs, NoActs, KeptStay, AccountStays}
-use Rattle.dcc_model.specs.Laws.{UnknownBefore, RequestsAreAnswered, TopUpsAreAdded, ExpiriesEnd}
-use Rattle.dcc_model.proofs.Histories.{history-acts, acts_by_history, after_by_history, history_of_acts, outcome_behind, outcome_last, outcome_before, one_more}
+use Rattle.dcc_model.specs.Laws.{UnknownBefore, NewAreDecided, RequestsAreAnswered, TopUpsAreAdded, ExpiriesEnd}
+use Rattle.dcc_model.proofs.Histories.{judged_new, history-acts, acts_by_history, after_by_history, history_of_acts, outcome_behind, outcome_last, outcome_before, one_more}
 use Rattle.dcc_model.proofs.Requests.{IsOf, after_is_of, after_no_top_up, old_no_top_up}
 
 pub later_changes_nothing : LaterChangesNothing
@@ -99,6 +99,9 @@ expiry_of (kind.Update report) outcome expiry is = absurd cc
 expiry_of (kind.Termination report) outcome expiry is = absurd cc
 expiry_of (kind.Event event) outcome expiry is = absurd cc
 expiry_of kind.Expiry outcome expiry is = is
+
+pub new_are_decided : NewAreDecided
+new_are_decided terms xs act made = judged_new terms (history terms (reverse xs)) act made
 
 pub requests_are_answered : RequestsAreAnswered
 requests_are_answered terms xs act request = request_of act.kind (after terms xs act) request (after_is_of terms xs act)

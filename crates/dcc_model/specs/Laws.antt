@@ -19,7 +19,7 @@ use Rattle.dcc_model.specs.Keys.{request_key, ticket, same_key, is_expiry}
 use Rattle.dcc_model.specs.Results.{answers_of}
 use Rattle.dcc_model.specs.Sessions.{Sid, looked_at, opens, was_opened, is_open, open_sessions, live, Live, lives}
 use Rattle.dcc_model.specs.Money.{made_price, room}
-use Rattle.dcc_model.specs.Outcomes.{history, after, is_new, place, outcome, acts, funds, overrun, free, kept, has_top_up, unknown_of, is_unknown, IsOfRequest, IsOfTopUp, IsOfExpiry}
+use Rattle.dcc_model.specs.Outcomes.{decided, judged, is_made, history, after, is_new, place, outcome, acts, funds, overrun, free, kept, has_top_up, unknown_of, is_unknown, IsOfRequest, IsOfTopUp, IsOfExpiry}
 use Rattle.dcc_model.specs.Entries.{entries, sum_of}
 
 -- what comes later changes no outcome
@@ -100,6 +100,11 @@ IdleExpiryHasNoPlace = (terms : TermsView) (xs : List Act) (act : Act) → is_ex
 abbrev pub UnknownBefore : Type 0
 UnknownBefore = (terms : TermsView) (xs : List Act) (act : Act) (unknown : Outcome) → has_top_up xs ≡ false
     → unknown_of act.kind ≡ Some unknown → (after terms xs act ≡ unknown) × (is_new terms xs act ≡ false)
+
+-- what is made comes to what is decided of it: no act before it has its key
+abbrev pub NewAreDecided : Type 0
+NewAreDecided = (terms : TermsView) (xs : List Act) (act : Act) → is_made terms (history terms (reverse xs)) act ≡ true
+    → judged terms (history terms (reverse xs)) act ≡ decided terms (history terms (reverse xs)) act.moment act.kind
 
 -- a request comes to what a request may come to
 abbrev pub RequestsAreAnswered : Type 0

@@ -16,7 +16,7 @@ use std::alloc::{AllocError, Global};
 pub const CEILING: i128 = MAX_AMOUNT as i128;
 
 /// What a new top-up comes to at these funds, in minor units.
-pub(crate) fn decide_top_up(funds: i128, top_up: &TopUp) -> Outcome
+pub fn decide_top_up(funds: i128, top_up: &TopUp) -> Outcome
     ensures { result ≡ top_up_outcome funds top_up.now }
 {
     if is_over(funds, top_up.amount) {
@@ -28,7 +28,7 @@ pub(crate) fn decide_top_up(funds: i128, top_up: &TopUp) -> Outcome
 
 /// What a new event comes to at these funds, of which so much is free, both in minor units. The only error is want of
 /// memory.
-pub(crate) fn decide_event(
+pub fn decide_event(
     alloc: Global,
     funds: i128,
     free: i128,
@@ -167,7 +167,7 @@ pub(crate) fn asked_units(service: &Service) -> Option<Grant>
 }
 
 /// What is charged for granted units, in minor units.
-pub(crate) fn price(grant: &Grant) -> u64
+pub fn price(grant: &Grant) -> u64
     ensures value { result ≡ grant_price grant.now }
     ensures bound { result ≤ MAX_PRICE }
 {

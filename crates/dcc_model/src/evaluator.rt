@@ -3,14 +3,14 @@
 ghost use Rattle.std.specs.Prelude.{◌≡◌, ◌≤◌, ◌+◌, if◌then◌else◌, length, map, reverse, Some, IfOk};
 ghost use Rattle.std.specs.Option.{option_copied, option_map_or};
 ghost use Rattle.dcc_model.specs.declared.done.Done.{Done};
-ghost use Rattle.dcc_model.specs.Outcomes.{has_account, counts, first_of, decided, settled, judged, is_made, with_act, history, act_made, place_of_key, place_of, standing_of, outcome};
+ghost use Rattle.dcc_model.specs.Outcomes.{has_account, counts, first_of, unknown_of, decided, settled, judged, is_made, with_act, history, act_made, place_of_key, place_of, standing_of, outcome};
 ghost use Rattle.dcc_model.specs.Entries.{entries_with};
 
 use crate::decide::{decide_event, decide_top_up};
 use crate::done::Done;
 use crate::judgement::Judgement;
 use crate::keys::{is_expiry, is_same_key, is_top_up, request_key};
-use crate::looked_at::looked_at;
+use crate::looked_at::services_looked_at;
 use crate::money::{free, funds, standing, standing_with};
 use crate::outcomes::{begun, reported};
 use crate::posting::entries_by;
@@ -97,17 +97,27 @@ fn judged(alloc: Global, terms: &Terms, past: &[Done], act: &Act) -> Result<Outc
     if has_account(past) {
         return settled(alloc, terms, past, act);
     }
-    let (request, key) = match &act.kind {
-        Kind::TopUp(_) | Kind::Expiry => return settled(alloc, terms, past, act),
+    match unknown(&act.kind)? {
+        Some(outcome) => Ok(outcome),
+        None => settled(alloc, terms, past, act),
+    }
+}
+
+/// What a request comes to that has no account; a top-up and an expiry need none. The only error is want of memory.
+pub fn unknown(kind: &Kind) -> Result<Option<Outcome>, AllocError>
+    ensures { IfOk result (λ outcome. outcome ≡ unknown_of kind.now) }
+{
+    let (request, key) = match kind {
+        Kind::TopUp(_) | Kind::Expiry => return Ok(None),
         Kind::Initial(opening) => (RequestType::Initial, &opening.key),
         Kind::Update(report) => (RequestType::Update, &report.key),
         Kind::Termination(report) => (RequestType::Termination, &report.key),
         Kind::Event(event) => (RequestType::Event, &event.key),
     };
-    Ok(Outcome::Unknown {
+    Ok(Some(Outcome::Unknown {
         request,
         key: key.copy()?,
-    })
+    }))
 }
 
 /// What an act comes to that has an account or needs none.
@@ -138,15 +148,15 @@ fn is_counted(past: &[Done], kind: &Kind) -> bool
     has_account(past) || request_key(kind).is_none()
 }
 
-/// Whether there is an account.
-fn has_account(past: &[Done]) -> bool
+/// Whether one of these acts opened the account.
+pub fn has_account(past: &[Done]) -> bool
     ensures { result ≡ has_account (reverse past.now) }
 {
     past.iter().rev().any(|done| is_top_up(&done.act.kind))
 }
 
-/// The act of this key.
-fn first<'a>(past: &'a [Done], kind: &Kind) -> Option<&'a Done>
+/// The act among these that has the key of one of this kind.
+pub fn first<'a>(past: &'a [Done], kind: &Kind) -> Option<&'a Done>
     ensures { option_copied result ≡ first_of (reverse past.now) kind.now }
 {
     past.iter()
@@ -165,8 +175,8 @@ fn place_of(past: &[Done], is_new: bool, kind: &Kind) -> Option<u64>
     }
 }
 
-/// The place of the act of this key, from 1.
-fn place_of_key(past: &[Done], kind: &Kind) -> Option<u64>
+/// Its place among them, from 1.
+pub fn place_of_key(past: &[Done], kind: &Kind) -> Option<u64>
     ensures { result ≡ place_of_key (map act_made (reverse past.now)) kind.now }
 {
     let mut found = None;
@@ -191,11 +201,11 @@ fn decide(
     match kind {
         Kind::TopUp(top_up) => Ok(decide_top_up(funds(terms, past), top_up)),
         Kind::Initial(opening) => {
-            let services = looked_at(alloc, kind)?;
+            let services = services_looked_at(alloc, kind)?;
             begun(alloc, terms, past, &opening.key, &services)
         }
         Kind::Update(report) => {
-            let services = looked_at(alloc, kind)?;
+            let services = services_looked_at(alloc, kind)?;
             reported(
                 alloc,
                 terms,
@@ -206,7 +216,7 @@ fn decide(
             )
         }
         Kind::Termination(report) => {
-            let services = looked_at(alloc, kind)?;
+            let services = services_looked_at(alloc, kind)?;
             reported(
                 alloc,
                 terms,

@@ -52,9 +52,12 @@ fn answer_to(
     }
 }
 
-/// The answer to what a service asks for. One that asks for nothing succeeds.
-fn asked_answer(service: &Service, space: i128) -> Result<ServiceAnswer, AllocError>
-    ensures { IfOk result (λ answer. answer ≡ asked_answer service.now space) }
+/// The answer to what a service asks for, in its room, in minor units. One that asks for nothing succeeds. The only error is
+/// want of memory.
+#[tactic(auto, using(crate::proofs::Answering::asked_ids))]
+pub fn asked_answer(service: &Service, space: i128) -> Result<ServiceAnswer, AllocError>
+    ensures value { IfOk result (λ answer. answer ≡ asked_answer service.now space) }
+    ensures ids { IfOk result (λ answer. answer.ids ≡ service.now.ids) }
 {
     if service.asked.is_none() {
         answer_with(service, ResultCode::Success, None, false)
@@ -97,8 +100,8 @@ fn granted(service: &Service, asked: Grant, units: u64) -> Result<ServiceAnswer,
     answer_with(service, ResultCode::Success, Some(grant), is_final)
 }
 
-/// What a service says of itself in its answer.
-pub(crate) fn answer_with(
+/// What a service says of itself in its answer. The only error is want of memory.
+pub fn answer_with(
     service: &Service,
     code: ResultCode,
     grant: Option<Grant>,

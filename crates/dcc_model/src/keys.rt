@@ -6,7 +6,7 @@ ghost use Rattle.dcc_model.specs.Keys.{request_key, same_key, is_top_up, is_expi
 use dcc_act::{Kind, RequestKey};
 
 /// The key of a request.
-pub(crate) fn request_key(kind: &Kind) -> Option<&RequestKey>
+pub fn request_key(kind: &Kind) -> Option<&RequestKey>
     ensures { option_map (λ key. key.now) result ≡ request_key kind.now }
 {
     match kind {
@@ -39,7 +39,7 @@ pub(crate) fn is_top_up(kind: &Kind) -> bool
 }
 
 /// Whether the act is an expiry.
-pub(crate) fn is_expiry(kind: &Kind) -> bool
+pub fn is_expiry(kind: &Kind) -> bool
     ensures { result ≡ is_expiry kind.now }
 {
     matches!(kind, Kind::Expiry)

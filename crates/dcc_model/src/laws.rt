@@ -3,7 +3,7 @@
 
 ghost use Rattle.dcc_model.specs.Laws.{LaterChangesNothing, OneMoreAct, AfterStays, NewStays, PlaceStays, OutcomesStay, ActsStay};
 ghost use Rattle.dcc_model.specs.Laws.{ActsAreActs, NoActs, KeptStay, AccountStays, NewIsLast, PlaceHolds, UnknownHasNoPlace};
-ghost use Rattle.dcc_model.specs.Laws.{IdleExpiryHasNoPlace, LastComesAfter, UnknownBefore, RepeatsAreFirsts, RepeatsAreOld};
+ghost use Rattle.dcc_model.specs.Laws.{IdleExpiryHasNoPlace, LastComesAfter, UnknownBefore, NewAreDecided, RepeatsAreFirsts, RepeatsAreOld};
 ghost use Rattle.dcc_model.specs.Laws.{RequestsAreAnswered, TopUpsAreAdded, ExpiriesEnd};
 ghost use Rattle.dcc_model.specs.Laws.{IsKeyed, FundsAreLimited, FreeIsCovered, GrantsAreCovered, EntriesAddUp, FewAreOpen, SessionsOpenOnce, LiveAreOpen, LiveIsFound};
 
@@ -45,11 +45,13 @@ pub fn places_hold()
 {}
 
 /// The last act comes to what it does after those before it. Before the first top-up a request is of an unknown user and
-/// isn't made. A request comes to what a request may come to. A top-up is added, or passes the ceiling. An expiry ends
-/// some number of sessions. A repeat of an act that was made comes to what that act came to. It isn't made again.
+/// isn't made. What is made comes to what is decided of it. A request comes to what a request may come to. A top-up is
+/// added, or passes the ceiling. An expiry ends some number of sessions. A repeat of an act that was made comes to what that
+/// act came to. It isn't made again.
 pub fn acts_come_to_their_own()
     ensures last { LastComesAfter }
     ensures unknown { UnknownBefore }
+    ensures decided { NewAreDecided }
     ensures requests { RequestsAreAnswered }
     ensures top_ups { TopUpsAreAdded }
     ensures expiries { ExpiriesEnd }

@@ -10,7 +10,7 @@ use std::alloc::{AllocError, Global};
 
 /// The services of an act as it looks at them: an initial request at no reports, a termination at no units that are asked
 /// for. They are as few as those of a request.
-pub(crate) fn looked_at(alloc: Global, kind: &Kind) -> Result<Vec<Service>, AllocError>
+pub fn services_looked_at(alloc: Global, kind: &Kind) -> Result<Vec<Service>, AllocError>
     ensures value { IfOk result (λ services. services.items ≡ looked_at kind.now) }
     ensures few { IfOk result (λ services. length services.items ≤ MAX_SERVICES) }
     ensures few_ids { IfOk result (λ services. sum_by (λ (service : ServiceView). length service.ids) services.items ≤ MAX_IDS) }

@@ -130,17 +130,17 @@ pub(crate) fn refunded_units(event: &OneTimeEvent, outcome: &Outcome) -> Option<
     }
 }
 
-/// What an act added to the funds.
-fn credited(done: &Done) -> u64
-    ensures value { result ≡ credit done.now.act.kind done.now.outcome }
+/// What an act added to the funds, in minor units.
+pub fn credited(kind: &Kind, outcome: &Outcome) -> u64
+    ensures value { result ≡ credit kind.now outcome.now }
     ensures bound { result ≤ MAX_AMOUNT }
 {
-    match &done.act.kind {
-        Kind::TopUp(top_up) => match done.outcome {
+    match kind {
+        Kind::TopUp(top_up) => match outcome {
             Outcome::Added => top_up.amount,
             _ => 0,
         },
-        Kind::Event(event) => match refunded_units(event, &done.outcome) {
+        Kind::Event(event) => match refunded_units(event, outcome) {
             None => 0,
             Some(grant) => price(&grant),
         },
@@ -148,13 +148,13 @@ fn credited(done: &Done) -> u64
     }
 }
 
-/// What a direct debit took from them.
-fn debited(done: &Done) -> u64
-    ensures value { result ≡ debit done.now.act.kind done.now.outcome }
+/// What a direct debit took from them, in minor units.
+pub fn debited(kind: &Kind, outcome: &Outcome) -> u64
+    ensures value { result ≡ debit kind.now outcome.now }
     ensures bound { result ≤ MAX_PRICE }
 {
-    match &done.act.kind {
-        Kind::Event(event) => match charged_units(event, &done.outcome) {
+    match kind {
+        Kind::Event(event) => match charged_units(event, outcome) {
             None => 0,
             Some(grant) => price(&grant),
         },
@@ -205,7 +205,9 @@ fn change(terms: &Terms, past: &[Done], done: &Done) -> i128
     ensures low { neg_ℤ (pos MOST) ≤ℤ result }
     ensures high { result ≤ℤ pos MOST }
 {
-    i128::from(credited(done)) - i128::from(debited(done)) - i128::from(charged(terms, past, done))
+    let credited = i128::from(credited(&done.act.kind, &done.outcome));
+    let debited = i128::from(debited(&done.act.kind, &done.outcome));
+    credited - debited - i128::from(charged(terms, past, done))
 }
 
 /// The funds after these acts.

@@ -67,15 +67,15 @@ pub(crate) fn reported(
     }
 }
 
-/// Whether these charges, in minor units, would take the funds below the floor.
-fn is_under(funds: i128, charged: u64) -> bool
+/// Whether these charges would take the funds below the floor, both in minor units.
+pub fn is_under(funds: i128, charged: u64) -> bool
     ensures { result ≡ is_under funds charged }
 {
     funds < i128::from(charged) - CEILING
 }
 
-/// An answer that carries nothing but its result.
-fn bare(
+/// An answer that carries nothing but its result. The only error is want of memory.
+pub fn bare(
     alloc: Global,
     request: RequestType,
     key: &RequestKey,
@@ -119,7 +119,7 @@ fn served(
 }
 
 /// The command's result: success, or that of the service that stands alone at the message's level.
-fn command_result(answers: &[ServiceAnswer]) -> ResultCode
+pub fn command_result(answers: &[ServiceAnswer]) -> ResultCode
     ensures { result ≡ command_result answers.now }
 {
     match answers {

@@ -9,7 +9,7 @@ ghost use Rattle.dcc_model.specs.Entries.{top_up_entry, debit_entry, refund_entr
 
 use crate::decide::price;
 use crate::done::Done;
-use crate::looked_at::looked_at;
+use crate::looked_at::services_looked_at;
 use crate::money::{charge, charged_units, refunded_units};
 use crate::sessions::accepted;
 use dcc_act::{
@@ -36,15 +36,15 @@ pub(crate) fn entries_by(
         kind => match accepted(done) {
             None => Ok(Vec::new(alloc)),
             Some(sid) => {
-                let services = looked_at(alloc, kind)?;
+                let services = services_looked_at(alloc, kind)?;
                 charge_entries(alloc, terms, past, place, moment, sid, &services)
             }
         },
     }
 }
 
-/// The entries of a top-up: one where it was added.
-fn top_up_entries(
+/// The entries of a top-up at this place: one where it was added. The only error is want of memory.
+pub fn top_up_entries(
     alloc: Global,
     place: u64,
     moment: Moment,
@@ -59,8 +59,8 @@ fn top_up_entries(
     Ok(vec![in alloc; top_up_entry(place, moment, top_up)]?)
 }
 
-/// The entries of an event: of what it charged, and of what it gave back.
-fn event_entries(
+/// The entries of an event at this place: of what it charged, and of what it gave back. The only error is want of memory.
+pub fn event_entries(
     alloc: Global,
     place: u64,
     moment: Moment,
@@ -173,8 +173,8 @@ fn refund_entry(
     }))
 }
 
-/// The entry of a report that is charged so much, in minor units.
-fn charge_entry(
+/// The entry, at this place, of a report that is charged so much, in minor units. The only error is want of memory.
+pub fn charge_entry(
     place: u64,
     moment: Moment,
     sid: &SessionId,

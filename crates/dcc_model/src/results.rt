@@ -6,7 +6,7 @@ ghost use Rattle.dcc_model.specs.Results.{succeeded, refused};
 use dcc_act::{Outcome, ResultCode};
 
 /// Whether the command was answered with success.
-pub(crate) fn has_succeeded(outcome: &Outcome) -> bool
+pub fn has_succeeded(outcome: &Outcome) -> bool
     ensures { result ≡ succeeded outcome.now }
 {
     match outcome {
@@ -16,7 +16,7 @@ pub(crate) fn has_succeeded(outcome: &Outcome) -> bool
 }
 
 /// Whether a request was refused as a whole.
-pub(crate) fn is_refused(outcome: &Outcome) -> bool
+pub fn is_refused(outcome: &Outcome) -> bool
     ensures { result ≡ refused outcome.now }
 {
     match outcome {

@@ -114,8 +114,8 @@ pub(crate) fn is_open(terms: &Terms, past: &[Done], sid: &SessionId) -> bool
     is_open
 }
 
-/// Whether a session was opened before, be it open or ended.
-pub(crate) fn was_opened(past: &[Done], sid: &SessionId) -> bool
+/// Whether one of these acts opened the session, be it open or ended.
+pub fn was_opened(past: &[Done], sid: &SessionId) -> bool
     ensures { result ≡ was_opened (reverse past.now) sid.now }
 {
     past.iter().rev().any(|done| opens(done, sid))
@@ -196,7 +196,7 @@ fn names_service(kind: &Kind, key: ServiceKey) -> bool
 
 /// Whether one of these services has this key, and asks for units or reports some.
 #[tactic(auto, using(crate::proofs::Services::named_any))]
-pub(crate) fn names_any(services: &[Service], key: ServiceKey) -> bool
+pub fn names_any(services: &[Service], key: ServiceKey) -> bool
     ensures { result ≡ list_any (same_service key) (named services.now) }
 {
     asks_for(services, key) || reports_of(services, key)
@@ -325,7 +325,7 @@ fn made_by(alloc: Global, done: &Done) -> Result<Vec<Holding>, AllocError>
 }
 
 /// What an outcome says of services.
-fn answers_of(outcome: &Outcome) -> &[ServiceAnswer]
+pub fn answers_of(outcome: &Outcome) -> &[ServiceAnswer]
     ensures { result.now ≡ answers_of outcome.now }
 {
     match outcome {

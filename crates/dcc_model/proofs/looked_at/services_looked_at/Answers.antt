@@ -1,7 +1,7 @@
 use Rattle.std.proofs.Common.{ap, ◌∙◌, arith}
 use Rattle.std.proofs.lemmas.Result.{IfOk-weaker}
 use Rattle.dcc_model.proofs.Answering.{count_ids, few_ids, ids_without_report, ids_without_asked}
-use Rattle.dcc_model.proofs.looked_at.looked_at.Goals as goal
+use Rattle.dcc_model.proofs.looked_at.services_looked_at.Goals as goal
 
 pub returns-in-Initial-clause-few_ids : goal.returns-in-Initial-clause-few_ids
 returns-in-Initial-clause-few_ids c =
