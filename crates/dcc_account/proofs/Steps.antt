@@ -1,8 +1,9 @@
 -- An account with one more act.
-use Rattle.std.proofs.Common.{◌≡◌, ℕ, ◌+◌, ◌-◌, ◌≤◌, Option, Some, None, option_map, Bool, true, cond, List, [], ◌∷◌, ◌++◌, map, reverse, refl, sym, ap, subst, ◌∙◌, arith, inl, inr, append-nil}
+use Rattle.std.proofs.Common.{◌≡◌, ℕ, ◌+◌, ◌-◌, ◌*◌, ◌<◌, ◌≤◌, pos, ◌≤ℤ◌, length, Option, Some, None, option_map, Bool, true, cond, List, [], ◌∷◌, ◌++◌, map, reverse, refl, sym, ap, subst, ◌∙◌, arith, inl, inr, append-nil}
 use Rattle.std.specs.Prelude.{MatchOption}
 use Rattle.std.proofs.lemmas.Bool.{cases_Bool}
-use Rattle.std.proofs.lemmas.List.{reverse-append, reverse-reverse, map-append}
+use Rattle.std.proofs.lemmas.Int.{ints}
+use Rattle.std.proofs.lemmas.List.{reverse-append, reverse-reverse, map-append, length-reverse, length_push}
 use Rattle.dcc_tariff.specs.Terms.{TermsView}
 use Rattle.dcc_act.specs.declared.act.Act.{Act}
 use Rattle.dcc_act.specs.declared.entry.Entry.{Entry}
@@ -10,11 +11,15 @@ use Rattle.dcc_act.specs.declared.outcome.Outcome.{Outcome}
 use Rattle.dcc_act.specs.declared.request_key.RequestKey.{RequestKey}
 use Rattle.dcc_model.specs.declared.done.Done.{Done}
 use Rattle.dcc_model.specs.declared.judgement.Standing.{Standing}
-use Rattle.dcc_model.specs.Outcomes.{after, judged, history, with_act, is_made, is_new, place_of, place, act_made, acts, standing_of, standing, funds, free, kept_of, kept}
+use Rattle.dcc_model.specs.Keys.{request_key}
+use Rattle.dcc_model.specs.Outcomes.{after, judged, has_account, first_of, outcome_of, place_of_key, history, with_act, is_made, is_new, place_of, place, act_made, acts, standing_of, standing, funds, free, kept_of, kept}
 use Rattle.dcc_model.specs.Entries.{entries_of, entries_with, entries}
 use Rattle.dcc_model.specs.Laws.{OneMoreAct, IsKeyed, AreKeyed}
+use Rattle.dcc_state.specs.declared.facts.Facts.{Facts}
+use Rattle.dcc_state.specs.Known.{was_opened_by, IsKnown, IsWithin, MoneyIsWithin}
+use Rattle.dcc_state.specs.OpenSessions.{SessionView, AreOpen}
 use Rattle.dcc_account.specs.Accounts.{AccountView}
-use Rattle.dcc_account.specs.inner.Kept.{IsKept}
+use Rattle.dcc_account.specs.inner.Kept.{IsKept, IsRunning, MAX_OVERRUN}
 use Rattle.dcc_account.specs.inner.Fits.{HasMemory}
 use Rattle.dcc_account.specs.Prepared.{StepView, IsPrepared}
 
@@ -33,22 +38,6 @@ own_acts terms made posted money kept =
 history_push : (terms : TermsView) (all : List Act) (act : Act) → history terms (reverse (all ++ act ∷ [])) ≡ with_act terms (history terms (reverse all)) act
 history_push terms all act = ap (history terms) (reverse-append all (act ∷ []))
 
--- what was judged of the acts that were made is what it is after their list
-pub outcome_at : (terms : TermsView) (made given : List Done) (posted : List Entry) (money : Standing) (act : Act) (outcome : Outcome) → IsKept terms made posted money → given ≡ made
-    → outcome ≡ judged terms (reverse given) act → outcome ≡ after terms (map act_made made) act
-unfolding after
-outcome_at terms made given posted money act outcome kept same is = is ∙ ap (λ (past : List Done). judged terms (reverse past) act) same ∙ ap (λ (past : List Done). judged terms past act) kept.own
-
-pub new_at : (terms : TermsView) (made given : List Done) (posted : List Entry) (money : Standing) (act : Act) (new : Bool) → IsKept terms made posted money → given ≡ made
-    → new ≡ is_made terms (reverse given) act → new ≡ is_new terms (map act_made made) act
-unfolding is_new
-new_at terms made given posted money act new kept same is = is ∙ ap (λ (past : List Done). is_made terms (reverse past) act) same ∙ ap (λ (past : List Done). is_made terms past act) kept.own
-
-pub place_at : (terms : TermsView) (made given : List Done) (posted : List Entry) (money : Standing) (act : Act) (found : Option ℕ) → IsKept terms made posted money → given ≡ made
-    → found ≡ place_of terms (reverse given) act → found ≡ place terms (map act_made made) act
-unfolding place
-place_at terms made given posted money act found kept same is = is ∙ ap (λ (past : List Done). place_of terms (reverse past) act) same ∙ ap (λ (past : List Done). place_of terms past act) kept.own
-
 -- the entries with those of one more act
 entries_more : (terms : TermsView) (past : List Done) (act : Act) → entries_of terms (with_act terms past act) ≡ entries_of terms past ++ entries_with terms past act
 entries_more terms past act =
@@ -57,22 +46,15 @@ entries_more terms past act =
       | inr f ↦ rw f (sym (append-nil (entries_of terms past)))
     ]
 
-pub entries_at : (terms : TermsView) (made given : List Done) (posted added : List Entry) (money : Standing) (act : Act) → IsKept terms made posted money → given ≡ made
-    → added ≡ entries_with terms (reverse given) act → entries terms (map act_made made ++ act ∷ []) ≡ entries terms (map act_made made) ++ added
+pub entries_at : (terms : TermsView) (xs : List Act) (added : List Entry) (act : Act) → added ≡ entries_with terms (history terms (reverse xs)) act → entries terms (xs ++ act ∷ []) ≡ entries terms xs ++ added
 unfolding entries
-entries_at terms made given posted added money act kept same is =
-    let past = history terms (reverse (map act_made made)) in
-    let more : added ≡ entries_with terms past act = is ∙ ap (λ (past : List Done). entries_with terms (reverse past) act) same ∙ ap (λ (past : List Done). entries_with terms past act) kept.own in
-    ap (entries_of terms) (history_push terms (map act_made made) act) ∙ entries_more terms past act
-    ∙ ap (λ (es : List Entry). entries_of terms past ++ es) (sym more)
+entries_at terms xs added act is =
+    let past = history terms (reverse xs) in
+    ap (entries_of terms) (history_push terms xs act) ∙ entries_more terms past act ∙ ap (λ (es : List Entry). entries_of terms past ++ es) (sym is)
 
-pub standing_at : (terms : TermsView) (made given : List Done) (posted : List Entry) (money after_it : Standing) (act : Act) → IsKept terms made posted money → given ≡ made
-    → after_it ≡ standing_of terms (with_act terms (reverse given) act) → after_it ≡ standing terms (map act_made made ++ act ∷ [])
+pub standing_at : (terms : TermsView) (xs : List Act) (after_it : Standing) (act : Act) → after_it ≡ standing_of terms (with_act terms (history terms (reverse xs)) act) → after_it ≡ standing terms (xs ++ act ∷ [])
 unfolding standing
-standing_at terms made given posted money after_it act kept same is =
-    is ∙ ap (λ (past : List Done). standing_of terms (with_act terms (reverse past) act)) same
-    ∙ ap (λ (past : List Done). standing_of terms (with_act terms past act)) kept.own
-    ∙ ap (standing_of terms) (sym (history_push terms (map act_made made) act))
+standing_at terms xs after_it act is = is ∙ sym (ap (standing_of terms) (history_push terms xs act))
 
 -- one more act whose services have keys of their own
 keyed_push : (all : List Act) (act : Act) → AreKeyed all → IsKeyed act → AreKeyed (all ++ act ∷ [])
@@ -135,3 +117,49 @@ free_is terms all = refl
 pub funds_is : (terms : TermsView) (all : List Act) → (standing terms all).funds ≡ funds terms all
 unfolding standing funds
 funds_is terms all = refl
+
+-- what is known of the acts that were made
+pub known_at : (terms : TermsView) (made : List Done) (posted : List Entry) (money : Standing) (sessions given : List SessionView) (act : Act) (facts : Facts) (first : Option Outcome) → IsRunning terms made posted money sessions
+    → given ≡ sessions → facts.count ≡ length made → facts.has_account ≡ has_account (reverse made) → facts.was_opened ≡ was_opened_by (reverse made) (request_key act.kind)
+    → facts.place ≡ place_of_key (map act_made (reverse made)) act.kind → first ≡ option_map outcome_of (first_of (reverse made) act.kind) → facts.standing ≡ money
+    → IsKnown terms (map act_made made) act facts first given
+unfolding standing
+known_at terms made posted money sessions given act facts first is same count account opened place first_is standing_is =
+    let past = history terms (reverse (map act_made made)) in
+    let own = is.kept.own in
+    record {
+      keyed = is.kept.keyed;
+      count_is = count ∙ sym (length-reverse made) ∙ ap (λ (before : List Done). length before) own;
+      account_is = account ∙ ap has_account own;
+      opened_is = opened ∙ ap (λ (before : List Done). was_opened_by before (request_key act.kind)) own;
+      first_is = first_is ∙ ap (λ (before : List Done). option_map outcome_of (first_of before act.kind)) own;
+      place_is = place ∙ ap (λ (before : List Done). place_of_key (map act_made before) act.kind) own;
+      standing_is = standing_is ∙ is.kept.standing_is;
+      sessions_are = subst (AreOpen terms past) (sym same) is.sessions_are;
+    }
+
+-- the money of an account can be reckoned with
+pub within_at : MoneyIsWithin → (terms : TermsView) (made : List Done) (posted : List Entry) (money : Standing) (sessions given : List SessionView) → IsRunning terms made posted money sessions
+    → given ≡ sessions → length made < 9_223_372_036_854_775_808 → IsWithin money given
+unfolding standing
+within_at law terms made posted money sessions given is same few =
+    let past = history terms (reverse (map act_made made)) in
+    let over = is.overrun_is in
+    law terms (map act_made made) money given is.kept.keyed is.kept.standing_is (subst (AreOpen terms past) (sym same) is.sessions_are) (omega (arith, ints))
+
+-- the sessions after one more act, and what is overrun then
+pub running_with : (terms : TermsView) (made : List Done) (posted : List Entry) (money : Standing) (sessions : List SessionView) (done : Done)
+    → IsKept terms (made ++ done ∷ []) posted money → AreOpen terms (with_act terms (history terms (reverse (map act_made made))) done.act) sessions
+    → money.overrun ≤ℤ pos (MAX_OVERRUN * (length made + 1)) → IsRunning terms (made ++ done ∷ []) posted money sessions
+running_with terms made posted money sessions done kept are over =
+    let pushed : map act_made (made ++ done ∷ []) ≡ map act_made made ++ done.act ∷ [] = map-append act_made made (done ∷ []) in
+    let more = length_push made done in
+    record {
+      kept = kept;
+      sessions_are = subst (λ (past : List Done). AreOpen terms past sessions) (sym (ap (λ (xs : List Act). history terms (reverse xs)) pushed ∙ history_push terms (map act_made made) done.act)) are;
+      overrun_is = subst (λ (n : ℕ). money.overrun ≤ℤ pos (MAX_OVERRUN * n)) (sym more) over;
+    }
+
+pub running_at : (terms : TermsView) (made made' : List Done) (posted posted' : List Entry) (money : Standing) (sessions sessions' : List SessionView) → IsRunning terms made posted money sessions
+    → made' ≡ made → posted' ≡ posted → sessions' ≡ sessions → IsRunning terms made' posted' money sessions'
+running_at terms made made' posted posted' money sessions sessions' is m p s = rw (m, p, s) is

@@ -2,10 +2,13 @@
 use Rattle.std.specs.Prelude.{List}
 use Rattle.dcc_tariff.specs.Terms.{TermsView}
 use Rattle.dcc_act.specs.declared.act.Act.{Act}
+use Rattle.dcc_state.specs.OpenSessions.{SessionView}
 use Rattle.dcc_account.specs.inner.Memory.{Room}
 
--- an account is the acts that were made, under the terms by which they are judged, with memory for some more
+-- an account is the acts that were made, under the terms by which they are judged, with the sessions that are open after them,
+-- and memory for some more
 pub record AccountView : Type 0 where
   pub terms : TermsView
   pub acts : List Act
+  pub sessions : List SessionView
   pub room : Room

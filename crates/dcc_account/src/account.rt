@@ -7,12 +7,14 @@ ghost use Rattle.dcc_model.specs.Entries.{entries};
 ghost use Rattle.dcc_model.specs.declared.decide.TheConstants.{CEILING};
 
 use crate::growth::{append, grow, larger};
-use crate::kept::outcome_of_request;
+use crate::kept::{outcome_of_first, outcome_of_request, was_opened_before};
 use crate::step::Step;
 use dcc_act::{Act, Entry, Outcome, RequestKey};
 use dcc_model::{
-    Done, Judgement, Standing, funds_are_accounted_for, judge, keys_are_apart, one_more_act,
+    Done, Standing, funds_are_accounted_for, has_account, keys_are_apart, one_more_act,
+    place_of_key,
 };
+use dcc_state::{Facts, Judgement, OpenSession, judge, money_is_within};
 use dcc_tariff::Terms;
 use std::alloc::{AllocError, Global};
 use std::marker::Model;
@@ -24,26 +26,29 @@ pub struct Account {
     acts: Vec<Done>,
     entries: Vec<Entry>,
     standing: Standing,
+    sessions: Vec<OpenSession>,
 }
 
 impl Model for Account {
     ghost use Rattle.std.specs.Prelude.{◌-◌, map, vec_len, vec_capacity};
     ghost use Rattle.dcc_model.specs.Outcomes.{act_made};
     ghost use Rattle.dcc_account.specs.Accounts.{AccountView};
-    ghost use Rattle.dcc_account.specs.inner.Kept.{IsKept};
+    ghost use Rattle.dcc_account.specs.inner.Kept.{IsRunning};
 
     ghost Value = { AccountView };
 
     ghost view = { λ a. record {
       terms = a.terms;
       acts = map act_made a.acts.items;
+      sessions = a.sessions.items;
       room = record {
         acts = vec_capacity a.acts - vec_len a.acts;
         entries = vec_capacity a.entries - vec_len a.entries;
+        sessions = vec_capacity a.sessions - vec_len a.sessions;
       };
     } };
 
-    ghost invariant = { λ a. IsKept a.terms a.acts.items a.entries.items a.standing };
+    ghost invariant = { λ a. IsRunning a.terms a.acts.items a.entries.items a.standing a.sessions.items };
 }
 
 impl Account {
@@ -63,6 +68,7 @@ impl Account {
                 free: 0,
                 overrun: 0,
             },
+            sessions: Vec::new(alloc),
         }
     }
 
@@ -131,24 +137,36 @@ impl Account {
             ≡ (if step.is_new then self.now.acts ++ act ∷ [] else self.now.acts)) }
     {
         one_more_act();
+        money_is_within();
         let alloc = *self.acts.allocator();
+        let facts = Facts {
+            count: self.acts.len() as u64,
+            has_account: has_account(&self.acts),
+            was_opened: was_opened_before(&self.acts, &act.kind),
+            place: place_of_key(&self.acts, &act.kind),
+            standing: self.standing,
+        };
+        let first = outcome_of_first(&self.acts, &act.kind);
         let Judgement {
             outcome,
             is_new,
             place,
             entries,
             standing,
-        } = judge(alloc, &self.terms, &self.acts, &act)?;
+            change,
+        } = judge(alloc, &self.terms, &facts, first, &self.sessions, &act)?;
         let more = usize::from(is_new);
         Ok(Step {
             larger_acts: larger(alloc, &self.acts, more)?,
             larger_entries: larger(alloc, &self.entries, entries.len())?,
+            larger_sessions: larger(alloc, &self.sessions, 1)?,
             act,
             outcome,
             is_new,
             place,
             entries,
             standing,
+            change,
         })
     }
 
@@ -163,11 +181,13 @@ impl Account {
             keys_are_apart(&step.act);
             grow(&mut self.acts, step.larger_acts);
             grow(&mut self.entries, step.larger_entries);
+            grow(&mut self.sessions, step.larger_sessions);
             self.acts.push_reserved(Done {
                 act: step.act,
                 outcome: step.outcome,
             });
             append(&mut self.entries, step.entries);
+            step.change.apply(&mut self.sessions);
             self.standing = step.standing;
         }
     }

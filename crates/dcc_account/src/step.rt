@@ -4,10 +4,11 @@ ghost use Rattle.std.specs.Prelude.{◌≡◌};
 
 use dcc_act::{Act, Entry, Outcome};
 use dcc_model::{Done, Standing};
+use dcc_state::{Change, OpenSession};
 use std::marker::Model;
 
 /// A step of an account that is prepared and not yet installed: an act, what it comes to, the entries that it adds, the
-/// money after it, and all the memory that it takes to install it.
+/// money after it, what it does to the sessions that are open, and all the memory that it takes to install it.
 #[derive(Drop)]
 pub struct Step {
     pub(crate) act: Act,
@@ -16,8 +17,10 @@ pub struct Step {
     pub(crate) place: Option<u64>,
     pub(crate) entries: Vec<Entry>,
     pub(crate) standing: Standing,
+    pub(crate) change: Change,
     pub(crate) larger_acts: Option<Vec<Done>>,
     pub(crate) larger_entries: Option<Vec<Entry>>,
+    pub(crate) larger_sessions: Option<Vec<OpenSession>>,
 }
 
 impl Model for Step {
@@ -34,13 +37,16 @@ impl Model for Step {
       place = s.place;
       entries = s.entries.items;
       standing = s.standing;
+      change = s.change;
       space = record {
         acts = option_map (λ v. vec_capacity v) s.larger_acts;
         entries = option_map (λ v. vec_capacity v) s.larger_entries;
+        sessions = option_map (λ v. vec_capacity v) s.larger_sessions;
       };
     } };
 
-    ghost invariant = { λ s. ForSome s.larger_acts (λ v. v.items ≡ []) × ForSome s.larger_entries (λ v. v.items ≡ []) };
+    ghost invariant = { λ s. ForSome s.larger_acts (λ v. v.items ≡ []) × ForSome s.larger_entries (λ v. v.items ≡ [])
+        × ForSome s.larger_sessions (λ v. v.items ≡ []) };
 }
 
 impl Step {

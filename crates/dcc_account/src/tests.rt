@@ -4,6 +4,8 @@ ghost use Rattle.std.specs.Prelude.{◌≤◌};
 ghost use Rattle.std.specs.Option.{ForSome};
 ghost use Rattle.dcc_tariff.specs.declared.limits.TheConstants.{MAX_UNITS};
 
+mod thrown;
+
 use crate::Account;
 use dcc_act::{
     Act, Form, Kind, Moment, Outcome, RequestKey, Service, ServiceIds, Services, SessionId,

@@ -1,11 +1,13 @@
-use Rattle.std.proofs.Common.{Bool, List, [], ◌∷◌, ◌++◌, map, cond, sym, ap, ◌∙◌}
-use Rattle.std.proofs.lemmas.List.{map-append}
+use Rattle.std.proofs.Common.{◌≡◌, ℕ, ◌+◌, ◌*◌, pos, ◌≤ℤ◌, length, subst, Bool, List, [], ◌∷◌, ◌++◌, map, cond, sym, ap, ◌∙◌}
+use Rattle.std.proofs.lemmas.List.{map-append, length-map}
 use Rattle.dcc_act.specs.declared.entry.Entry.{Entry}
 use Rattle.dcc_model.specs.declared.done.Done.{Done}
 use Rattle.dcc_model.specs.Outcomes.{act_made, acts}
+use Rattle.dcc_state.specs.Known.{changed}
 use Rattle.dcc_account.specs.Accounts.{AccountView}
 use Rattle.dcc_account.specs.Prepared.{StepView}
-use Rattle.dcc_account.proofs.Steps.{kept_with, kept_at, acts_with, prepared_at}
+use Rattle.dcc_account.specs.inner.Kept.{MAX_OVERRUN}
+use Rattle.dcc_account.proofs.Steps.{kept_with, running_with, running_at, acts_with, prepared_at}
 use Rattle.dcc_account.proofs.account.Account.install.Goals as goal
 
 pub invariant_of-self : goal.invariant_of-self
@@ -13,10 +15,16 @@ invariant_of-self c =
     let own = c.self.inside in
     let step = c.step.inside in
     let is = prepared_at _ _ _ _ c.requires c.self.view_is c.step.view_is in
-    kept_at own.terms _ _ _ _ step.standing
-    (kept_with own.terms own.acts.items own.entries.items step.entries.items own.standing step.standing step.act step.outcome c.self.invariant is.outcome_is (sym is.new_is ∙ c.if-step.true) is.entries_are is.standing_is c.keys_are_apart.ensures)
-    (c.push_reserved.ensures.items ∙ ap (λ (made : List Done). made ++ record { act = step.act; outcome = step.outcome } ∷ []) c.grow.ensures.items)
+    let made = own.acts.items in
+    let done : Done = record { act = step.act; outcome = step.outcome } in
+    let kept =
+    kept_with own.terms made own.entries.items step.entries.items own.standing step.standing step.act step.outcome c.self.invariant.kept is.outcome_is (sym is.new_is ∙ c.if-step.true) is.entries_are is.standing_is c.keys_are_apart.ensures in
+    let many : length (map act_made made) ≡ length made = length-map made act_made in
+    let over = subst (λ (n : ℕ). step.standing.overrun ≤ℤ pos (MAX_OVERRUN * (n + 1))) many is.overrun_is in
+    running_at own.terms _ _ _ _ step.standing _ _ (running_with own.terms made (own.entries.items ++ step.entries.items) step.standing (changed step.change own.sessions.items) done kept is.sessions_are over)
+    (c.push_reserved.ensures.items ∙ ap (λ (made : List Done). made ++ done ∷ []) c.grow.ensures.items)
     (c.append.ensures ∙ ap (λ (es : List Entry). es ++ step.entries.items) c.grow-then-step.ensures.items)
+    (c.apply.ensures ∙ ap (changed step.change) c.grow-then-step-2.ensures.items)
 
 pub returns-then-step-clause-acts : goal.returns-then-step-clause-acts
 returns-then-step-clause-acts c =
@@ -25,7 +33,7 @@ returns-then-step-clause-acts c =
     let all = map act_made own.acts.items in
     let one : Done = record { act = step.act; outcome = step.outcome } in
     let is = prepared_at _ _ _ _ c.requires c.self.view_is c.step.view_is in
-    let made = acts_with c.one_more_act.ensures own.terms own.acts.items own.entries.items own.standing step.act step.is_new c.self.invariant is.new_is in
+    let made = acts_with c.one_more_act.ensures own.terms own.acts.items own.entries.items own.standing step.act step.is_new c.self.invariant.kept is.new_is in
     ap (map act_made) (c.push_reserved.ensures.items ∙ ap (λ (made : List Done). made ++ one ∷ []) c.grow.ensures.items)
     ∙ map-append act_made own.acts.items (one ∷ [])
     ∙ sym (made ∙ ap (λ (b : Bool). cond b (all ++ step.act ∷ []) all) c.if-step.true)
@@ -38,7 +46,7 @@ returns-else-step-clause-acts c =
     let step = c.step.inside in
     let all = map act_made own.acts.items in
     let is = prepared_at _ _ _ _ c.requires c.self.view_is c.step.view_is in
-    let made = acts_with c.one_more_act.ensures own.terms own.acts.items own.entries.items own.standing step.act step.is_new c.self.invariant is.new_is in
+    let made = acts_with c.one_more_act.ensures own.terms own.acts.items own.entries.items own.standing step.act step.is_new c.self.invariant.kept is.new_is in
     sym (ap (λ (a : AccountView). a.acts) c.self.view_is)
     ∙ sym (made ∙ ap (λ (b : Bool). cond b (all ++ step.act ∷ []) all) c.if-step.false)
     ∙ ap (λ (a : AccountView). acts a.terms (a.acts ++ step.act ∷ [])) c.self.view_is

@@ -9,5 +9,5 @@ unfolding standing overrun
 returns c =
     rw (← c.self.view_is)
     (let found = c.overrun_in.ensures in
-    let kept = ap (λ (money : Standing). money.overrun) c.self.invariant.standing_is in
+    let kept = ap (λ (money : Standing). money.overrun) c.self.invariant.kept.standing_is in
     omega (arith, ints))

@@ -1,11 +1,18 @@
-use Rattle.std.proofs.Common.{◌≡◌, ℕ, Bool, true, false, List, ◌∷◌, [], ◌++◌, length, map, cond, sym, ap, ◌∙◌, arith}
+use Rattle.std.proofs.Common.{◌≡◌, ℕ, Bool, true, false, List, ◌∷◌, [], ◌++◌, refl, length, map, reverse, option_map, cond, sym, ap, subst, ◌∙◌, arith}
 use Rattle.std.specs.Prelude.{vec_capacity}
+use Rattle.std.specs.Option.{option_copied}
+use Rattle.std.proofs.lemmas.Int.{ints}
 use Rattle.std.proofs.lemmas.List.{length-map}
 use Rattle.dcc_act.specs.declared.entry.Entry.{Entry}
-use Rattle.dcc_model.specs.Outcomes.{act_made, acts}
+use Rattle.dcc_model.specs.declared.done.Done.{Done}
+use Rattle.dcc_model.specs.Keys.{request_key}
+use Rattle.dcc_model.specs.Outcomes.{act_made, acts, after, is_new, place, history, with_act, has_account, first_of, outcome_of, place_of_key}
+use Rattle.dcc_state.specs.declared.facts.Facts.{Facts}
+use Rattle.dcc_state.specs.Known.{was_opened_by, changed}
+use Rattle.dcc_state.specs.OpenSessions.{SessionView, AreOpen}
 use Rattle.dcc_model.specs.Entries.{entries}
 use Rattle.dcc_account.specs.Accounts.{AccountView}
-use Rattle.dcc_account.proofs.Steps.{outcome_at, new_at, place_at, entries_at, standing_at, acts_with, fits_of}
+use Rattle.dcc_account.proofs.Steps.{entries_at, standing_at, known_at, within_at, acts_with, fits_of}
 use mir.Val.{bool_byte}
 use Rattle.dcc_account.proofs.account.Account.prepare.Goals as goal
 
@@ -14,40 +21,83 @@ one_more : (new : Bool) (n : ℕ) → new ≡ true → n ≡ bool_byte new → 1
 one_more true n h is = sym is
 one_more false n h is = absurd cc
 
+pub judge-requires-clause-within : goal.judge-requires-clause-within
+judge-requires-clause-within c =
+    let own = c.self.inside in
+    within_at c.money_is_within.ensures own.terms own.acts.items own.entries.items own.standing own.sessions.items c.deref-5.result.now c.self.invariant c.deref-5.ensures.value (omega arith)
+
 pub returns-clause-prepared : goal.returns-clause-prepared
+unfolding after is_new place
 returns-clause-prepared c =
     let own = c.self.inside in
     let made = own.acts.items in
     let posted = own.entries.items in
-    let same = c.deref.ensures.value in
+    let xs = map act_made made in
     let found = c.in_ok-outcome.field-0 in
-    let held : own.acts.len ≡ length (map act_made made) = omega (arith, length-map made act_made) in
+    let facts : Facts = record {
+      count = c.len.result;
+      has_account = c.has_account.result;
+      was_opened = c.was_opened_before.result;
+      place = c.place_of_key.result;
+      standing = own.standing;
+    } in
+    let known =
+    known_at own.terms made posted own.standing own.sessions.items c.deref-5.result.now c.args.act facts (option_copied c.outcome_of_first-first.result) c.self.invariant c.deref-5.ensures.value (omega arith)
+    (c.has_account.ensures ∙ ap (λ (all : List Done). has_account (reverse all)) c.deref.ensures.value)
+    (c.was_opened_before.ensures ∙ ap (λ (all : List Done). was_opened_by (reverse all) (request_key c.args.act.kind)) c.deref-2.ensures.value)
+    (c.place_of_key.ensures ∙ ap (λ (all : List Done). place_of_key (map act_made (reverse all)) c.args.act.kind) c.deref-3.ensures.value)
+    (c.outcome_of_first-first.ensures ∙ ap (λ (all : List Done). option_map outcome_of (first_of (reverse all) c.args.act.kind)) c.deref-4.ensures.value) refl in
+    let judged = c.in_ok-outcome.ensures in
+    let many = length-map made act_made in
+    let held : own.acts.len ≡ length xs = omega (arith, many) in
     let written : own.entries.len ≡ length posted = omega arith in
-    let more : c.len.result ≡ length found.entries.items = omega arith in
+    let open_ones : own.sessions.len ≡ length own.sessions.items = omega arith in
+    let more : c.len-2.result ≡ length found.entries.items = omega arith in
+    let over = judged.overrun in
+    let before = c.self.invariant.overrun_is in
     rw (← c.self.view_is)
     (record {
-      outcome_is = outcome_at own.terms made _ posted own.standing c.args.act found.outcome c.self.invariant same c.in_ok-outcome.ensures.outcome;
-      new_is = new_at own.terms made _ posted own.standing c.args.act found.is_new c.self.invariant same c.in_ok-outcome.ensures.is_new;
-      place_is = place_at own.terms made _ posted own.standing c.args.act found.place c.self.invariant same c.in_ok-outcome.ensures.place;
-      entries_are = entries_at own.terms made _ posted found.entries.items own.standing c.args.act c.self.invariant same c.in_ok-outcome.ensures.entries;
-      standing_is = standing_at own.terms made _ posted own.standing found.standing c.args.act c.self.invariant same c.in_ok-outcome.ensures.standing;
+      outcome_is = judged.outcome xs known;
+      new_is = judged.is_new xs known;
+      place_is = judged.place xs known;
+      entries_are = entries_at own.terms xs found.entries.items c.args.act (judged.entries xs known);
+      standing_is = standing_at own.terms xs found.standing c.args.act (judged.standing xs known);
+      overrun_is = omega (arith, ints);
+      sessions_are =
+          subst (λ (sessions : List SessionView). AreOpen own.terms (with_act own.terms (history own.terms (reverse xs)) c.args.act) (changed found.change sessions)) c.deref-5.ensures.value (judged.sessions xs known);
       fits =
           λ new.
           let one = one_more found.is_new c.from-more.result new c.from-more.ensures in
           record {
-            acts = fits_of (λ v. vec_capacity v) c.in_ok-larger.field-0 own.acts.len c.from-more.result own.acts.cap (length (map act_made made)) 1 (sym held) one c.in_ok-larger.ensures.room;
+            acts = fits_of (λ v. vec_capacity v) c.in_ok-larger.field-0 own.acts.len c.from-more.result own.acts.cap (length xs) 1 (sym held) one c.in_ok-larger.ensures.room;
             entries =
-                fits_of (λ v. vec_capacity v) c.in_ok-larger-2.field-0 own.entries.len c.len.result own.entries.cap (length (entries own.terms (map act_made made))) (length found.entries.items)
-                (sym (written ∙ ap (λ (es : List Entry). length es) c.self.invariant.entries_are)) (sym more) c.in_ok-larger-2.ensures.room;
+                fits_of (λ v. vec_capacity v) c.in_ok-larger-2.field-0 own.entries.len c.len-2.result own.entries.cap (length (entries own.terms xs)) (length found.entries.items)
+                (sym (written ∙ ap (λ (es : List Entry). length es) c.self.invariant.kept.entries_are)) (sym more) c.in_ok-larger-2.ensures.room;
+            sessions = fits_of (λ v. vec_capacity v) c.in_ok-larger-3.field-0 own.sessions.len 1 own.sessions.cap (length own.sessions.items) 1 (sym open_ones) refl c.in_ok-larger-3.ensures.room;
           };
     })
 
 pub returns-clause-acts : goal.returns-clause-acts
+unfolding is_new
 returns-clause-acts c =
     let own = c.self.inside in
     let made = own.acts.items in
+    let posted = own.entries.items in
+    let xs = map act_made made in
     let found = c.in_ok-outcome.field-0 in
-    let new_is = new_at own.terms made _ own.entries.items own.standing c.args.act found.is_new c.self.invariant c.deref.ensures.value c.in_ok-outcome.ensures.is_new in
+    let facts : Facts = record {
+      count = c.len.result;
+      has_account = c.has_account.result;
+      was_opened = c.was_opened_before.result;
+      place = c.place_of_key.result;
+      standing = own.standing;
+    } in
+    let known =
+    known_at own.terms made posted own.standing own.sessions.items c.deref-5.result.now c.args.act facts (option_copied c.outcome_of_first-first.result) c.self.invariant c.deref-5.ensures.value (omega arith)
+    (c.has_account.ensures ∙ ap (λ (all : List Done). has_account (reverse all)) c.deref.ensures.value)
+    (c.was_opened_before.ensures ∙ ap (λ (all : List Done). was_opened_by (reverse all) (request_key c.args.act.kind)) c.deref-2.ensures.value)
+    (c.place_of_key.ensures ∙ ap (λ (all : List Done). place_of_key (map act_made (reverse all)) c.args.act.kind) c.deref-3.ensures.value)
+    (c.outcome_of_first-first.ensures ∙ ap (λ (all : List Done). option_map outcome_of (first_of (reverse all) c.args.act.kind)) c.deref-4.ensures.value) refl in
     sym (ap (λ (a : AccountView). acts a.terms (a.acts ++ c.args.act ∷ [])) c.self.view_is)
-    ∙ acts_with c.one_more_act.ensures own.terms made own.entries.items own.standing c.args.act found.is_new c.self.invariant new_is
+    ∙ acts_with c.one_more_act.ensures own.terms made posted own.standing c.args.act found.is_new c.self.invariant.kept (c.in_ok-outcome.ensures.is_new xs known)
     ∙ ap (λ (a : AccountView). cond found.is_new (a.acts ++ c.args.act ∷ []) a.acts) c.self.view_is

@@ -1,0 +1,13 @@
+mod Answering
+mod Walks
+mod Sums
+mod Finds
+mod OwnGrants
+mod Names
+mod OpenOnes
+mod Totals
+mod Decided
+mod NextSessions
+mod NewSessions
+mod Judged
+mod Within

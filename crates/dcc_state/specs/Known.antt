@@ -1,0 +1,66 @@
+-- What an account keeps of the acts that were made, so that it judges the next one without looking back.
+use Rattle.std.specs.Prelude.{◌≡◌, ℕ, pos, neg_ℤ, ◌+ℤ◌, ◌≤ℤ◌, Bool, false, not, List, [], ◌∷◌, ◌++◌, length, map, reverse, filter, sum_by, Option, Some, None, option_map}
+use Rattle.dcc_tariff.specs.Terms.{TermsView}
+use Rattle.dcc_act.specs.declared.act.Act.{Act}
+use Rattle.dcc_act.specs.declared.outcome.Outcome.{Outcome}
+use Rattle.dcc_act.specs.declared.request_key.RequestKey.{RequestKey}
+use Rattle.dcc_model.specs.declared.decide.TheConstants.{CEILING}
+use Rattle.dcc_model.specs.declared.done.Done.{Done}
+use Rattle.dcc_model.specs.declared.judgement.Standing.{Standing}
+use Rattle.dcc_model.specs.Keys.{request_key}
+use Rattle.dcc_model.specs.Laws.{AreKeyed}
+use Rattle.dcc_model.specs.Money.{grant_price}
+use Rattle.dcc_model.specs.Outcomes.{history, has_account, first_of, outcome_of, act_made, place_of_key, standing_of}
+use Rattle.dcc_model.specs.Sessions.{was_opened}
+use Rattle.dcc_state.specs.declared.change.Change.{Change}
+use Rattle.dcc_state.specs.declared.change.Change.TheVariants.{Nothing, Open, End, Expire}
+use Rattle.dcc_state.specs.declared.facts.Facts.{Facts}
+use Rattle.dcc_state.specs.declared.held.Held.{Held}
+use Rattle.dcc_state.specs.declared.limits.TheConstants.{FARTHEST}
+use Rattle.dcc_state.specs.OpenSessions.{SessionView, is_session, is_over_at, AreOpen}
+
+-- the sessions after a change
+abbrev pub changed : Change → List SessionView → List SessionView
+changed Nothing sessions = sessions
+changed (Open session) sessions = filter (λ other. not (is_session session.sid other)) sessions ++ session ∷ []
+changed (End sid) sessions = filter (λ other. not (is_session sid other)) sessions
+changed (Expire moment) sessions = filter (λ other. not (is_over_at moment other)) sessions
+
+-- the prices of the grants of a session
+abbrev pub prices : List Held → ℕ
+prices grants = sum_by (λ held. grant_price held.grant) grants
+
+abbrev pub prices_of : SessionView → ℕ
+prices_of session = prices session.grants
+
+-- the money that is known, and what the sessions hold of it, is far from what can't be reckoned with
+pub record IsWithin (standing : Standing) (sessions : List SessionView) : Type 0 where
+  pub funds_low : neg_ℤ CEILING ≤ℤ standing.funds
+  pub funds_high : standing.funds ≤ℤ CEILING
+  pub free_low : neg_ℤ FARTHEST ≤ℤ standing.free
+  pub free_high : standing.free ≤ℤ CEILING
+  pub overrun_low : pos 0 ≤ℤ standing.overrun
+  pub overrun_high : standing.overrun ≤ℤ FARTHEST
+  pub held : pos (sum_by prices_of sessions) ≤ℤ FARTHEST
+
+-- whether the session of a request was opened; what is no request has none
+abbrev pub was_opened_by : List Done → Option RequestKey → Bool
+was_opened_by past None = false
+was_opened_by past (Some key) = was_opened past key.sid
+
+-- this is what is known where an act is judged after these
+pub record IsKnown (terms : TermsView) (xs : List Act) (act : Act) (facts : Facts) (first : Option Outcome) (sessions : List SessionView) : Type 0 where
+  pub keyed : AreKeyed xs
+  pub count_is : facts.count ≡ length (history terms (reverse xs))
+  pub account_is : facts.has_account ≡ has_account (history terms (reverse xs))
+  pub opened_is : facts.was_opened ≡ was_opened_by (history terms (reverse xs)) (request_key act.kind)
+  pub first_is : first ≡ option_map outcome_of (first_of (history terms (reverse xs)) act.kind)
+  pub place_is : facts.place ≡ place_of_key (map act_made (history terms (reverse xs))) act.kind
+  pub standing_is : facts.standing ≡ standing_of terms (history terms (reverse xs))
+  pub sessions_are : AreOpen terms (history terms (reverse xs)) sessions
+
+-- the money of an account is so far from what can't be reckoned with, where what is overrun is
+abbrev pub MoneyIsWithin : Type 0
+MoneyIsWithin = (terms : TermsView) (xs : List Act) (standing : Standing) (sessions : List SessionView) → AreKeyed xs
+    → standing ≡ standing_of terms (history terms (reverse xs)) → AreOpen terms (history terms (reverse xs)) sessions
+    → (standing.overrun +ℤ CEILING) ≤ℤ FARTHEST → IsWithin standing sessions

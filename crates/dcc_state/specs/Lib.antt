@@ -1,0 +1,3 @@
+pub mod OpenSessions
+pub mod Known
+pub mod inner

@@ -1,0 +1,49 @@
+-- The sessions that are open, each with its live grants.
+use Rattle.std.specs.Prelude.{◌≡◌, ℕ, Bool, false, nat_le, if◌then◌else◌, List, [], ◌∷◌, map, filter, find, bytes_eq, Option, Some, None}
+use Rattle.std.specs.List.{list_any}
+use Rattle.dcc_tariff.specs.Terms.{TermsView}
+use Rattle.dcc_model.specs.declared.done.Done.{Done}
+use Rattle.dcc_model.specs.Sessions.{Sid, Live, deadline, is_open, lives}
+use Rattle.dcc_state.specs.declared.held.Held.{Held}
+
+-- an open session: its name, until when it is held, and its live grants
+pub record SessionView : Type 0 where
+  pub sid : Sid
+  pub deadline : ℕ
+  pub grants : List Held
+
+abbrev pub held_of : Live → Held
+held_of live = record { key = live.key; grant = live.grant }
+
+abbrev pub is_of : Sid → Live → Bool
+is_of sid live = bytes_eq sid live.sid
+
+-- the live grants of a session
+abbrev pub grants_of : TermsView → List Done → Sid → List Held
+grants_of terms past sid = map held_of (filter (is_of sid) (lives terms past))
+
+-- a session as it is open after these acts, the latest first; none where it isn't
+abbrev pub session_at : TermsView → List Done → Sid → Option SessionView
+session_at terms past sid =
+    if is_open terms past sid then Some (record { sid = sid; deadline = deadline terms past sid; grants = grants_of terms past sid }) else None
+
+abbrev pub is_session : Sid → SessionView → Bool
+is_session sid session = bytes_eq session.sid sid
+
+-- the session of this name among these
+abbrev pub session_in : List SessionView → Sid → Option SessionView
+session_in sessions sid = find (is_session sid) sessions
+
+-- no two of them have one name
+abbrev pub AreApart : List SessionView → Type 0
+AreApart [] = Unit {0}
+AreApart (session ∷ rest) = (list_any (is_session session.sid) rest ≡ false) × AreApart rest
+
+-- these are the sessions that are open after these acts, each once
+pub record AreOpen (terms : TermsView) (past : List Done) (sessions : List SessionView) : Type 0 where
+  pub found : (sid : Sid) → session_in sessions sid ≡ session_at terms past sid
+  pub apart : AreApart sessions
+
+-- the time of a session is over at this moment
+abbrev pub is_over_at : ℕ → SessionView → Bool
+is_over_at moment session = nat_le session.deadline moment

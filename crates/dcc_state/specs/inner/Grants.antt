@@ -1,0 +1,81 @@
+-- What a request of a session comes to, by the grants that its session holds and the money that is free.
+use Rattle.std.specs.Prelude.{ℕ, ◌+◌, ◌-◌, ℤ, pos, ◌+ℤ◌, ◌-ℤ◌, Bool, false, not, ◌&&◌, if◌then◌else◌, List, [], ◌∷◌, ◌++◌, filter, filter_map, find, sum_by, Option, Some, None, is_some, is_none, option_map, unwrap_or}
+use Rattle.std.specs.List.{list_any}
+use Rattle.std.specs.Option.{option_and_then, option_or, option_map_or}
+use Rattle.dcc_tariff.specs.Prices.{price}
+use Rattle.dcc_tariff.specs.Terms.{TariffView}
+use Rattle.dcc_act.specs.Answers.{answer_key}
+use Rattle.dcc_act.specs.ServiceKeys.{same_service}
+use Rattle.dcc_act.specs.Services.{ServiceView, service_key}
+use Rattle.dcc_act.specs.declared.entry.Entry.{Entry}
+use Rattle.dcc_act.specs.declared.grant.Grant.{Grant}
+use Rattle.dcc_act.specs.declared.outcome.Outcome.{Outcome}
+use Rattle.dcc_act.specs.declared.outcome.RequestType.{RequestType}
+use Rattle.dcc_act.specs.declared.outcome.ResultCode.TheVariants.{RatingFailed}
+use Rattle.dcc_act.specs.declared.outcome.ServiceAnswer.{ServiceAnswer}
+use Rattle.dcc_act.specs.declared.request_key.RequestKey.{RequestKey}
+use Rattle.dcc_act.specs.declared.service_key.ServiceKey.{ServiceKey}
+use Rattle.dcc_model.specs.Entries.{charge_entry}
+use Rattle.dcc_model.specs.Money.{grant_price, made_price}
+use Rattle.dcc_model.specs.Outcomes.{answer_with, asked_answer, answered}
+use Rattle.dcc_model.specs.Results.{answers_of}
+use Rattle.dcc_model.specs.Sessions.{Sid, named}
+use Rattle.dcc_state.specs.declared.held.Held.{Held}
+use Rattle.dcc_state.specs.Known.{prices}
+
+-- the grant that a service holds
+abbrev pub live_in : List Held → ServiceKey → Option Grant
+live_in own key = option_map (λ (held : Held). held.grant) (find (λ (held : Held). same_service held.key key) own)
+
+abbrev pub charge_tariff_in : List Held → ServiceView → Option TariffView
+charge_tariff_in own service = option_or (option_map (λ (grant : Grant). grant.tariff) (live_in own (service_key service))) service.tariff
+
+abbrev pub charge_in : List Held → ServiceView → Option ℕ
+charge_in own service = option_and_then (λ units. option_map (λ tariff. price tariff units) (charge_tariff_in own service)) service.used
+
+abbrev pub is_unrated_in : List Held → ServiceView → Bool
+is_unrated_in own service = is_some service.used && is_none (charge_in own service)
+
+abbrev pub charges_in : List Held → List ServiceView → ℕ
+charges_in own services = sum_by (λ service. unwrap_or (charge_in own service) 0) services
+
+abbrev pub live_price_in : List Held → ServiceKey → ℕ
+live_price_in own key = option_map_or grant_price (live_in own key) 0
+
+abbrev pub overruns_in : List Held → List ServiceView → ℕ
+overruns_in own services = sum_by (λ service. unwrap_or (charge_in own service) 0 - live_price_in own (service_key service)) services
+
+-- a request gives back the grants of the services that it names
+abbrev pub is_given_back : List ServiceView → Held → Bool
+is_given_back services held = list_any (same_service held.key) (named services)
+
+abbrev pub given_back : List Held → List ServiceView → ℕ
+given_back own services = prices (filter (is_given_back services) own)
+
+-- the money for the next service's grant: what is free and given back, less the charges and the grants before
+abbrev pub room_in : ℤ → List Held → List ServiceView → List ServiceAnswer → ℤ
+room_in free own services before = (free +ℤ pos (given_back own services)) -ℤ pos (charges_in own services + sum_by made_price before)
+
+abbrev pub answer_to_in : List Held → ServiceView → ℤ → ServiceAnswer
+answer_to_in own service space = if is_unrated_in own service then answer_with service RatingFailed None false else asked_answer service space
+
+abbrev pub answers_in : ℤ → List Held → List ServiceView → (before : List ServiceAnswer) → List ServiceView → List ServiceAnswer
+answers_in free own services before [] = []
+answers_in free own services before (service ∷ rest) =
+    let answer = answer_to_in own service (room_in free own services before) in
+    answer ∷ answers_in free own services (before ++ answer ∷ []) rest
+
+abbrev pub served_in : ℤ → List Held → RequestType → RequestKey → List ServiceView → Outcome
+served_in free own type key services = answered type key (answers_in free own services [] services)
+
+-- the grants that an answer made
+abbrev pub held_by : ServiceAnswer → Option Held
+held_by answer = option_map (λ grant. record { key = answer_key answer; grant = grant }) answer.grant
+
+-- what the session holds after its request: what that granted, and what it did not give back
+abbrev pub grants_after : List Held → List ServiceView → List ServiceAnswer → List Held
+grants_after own services made = filter_map held_by made ++ filter (λ held. not (is_given_back services held)) own
+
+-- the entries of the reports that are charged
+abbrev pub charge_entries_in : List Held → ℕ → ℕ → Sid → List ServiceView → List Entry
+charge_entries_in own place moment sid services = filter_map (λ service. option_map (charge_entry place moment sid service) (charge_in own service)) services

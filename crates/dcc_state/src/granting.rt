@@ -1,0 +1,88 @@
+//! The answers to the services of a request of a session.
+
+ghost use Rattle.std.specs.Prelude.{◌≡◌, ◌≤◌, ◌*◌, [], neg_ℤ, ◌≤ℤ◌, length, sum_by, IfOk};
+ghost use Rattle.dcc_act.specs.Services.{ServiceView};
+ghost use Rattle.dcc_act.specs.declared.limits.TheConstants.{MAX_SERVICES};
+ghost use Rattle.dcc_act.specs.declared.outcome.ServiceAnswer.{ServiceAnswer};
+ghost use Rattle.dcc_model.specs.Money.{made_price};
+ghost use Rattle.dcc_state.specs.inner.Grants.{room_in, answer_to_in, answers_in};
+
+use crate::grants::{charges, given_back, is_unrated};
+use crate::held::Held;
+use crate::limits::FARTHEST;
+use dcc_act::{MAX_SERVICES, ResultCode, Service, ServiceAnswer};
+use dcc_model::{CEILING, answer_with, asked_answer, price};
+use dcc_tariff::MAX_PRICE;
+use std::alloc::{AllocError, Global};
+
+/// The answers to these services in order, each in the room that those before leave, at so much free money.
+pub(crate) fn answers(
+    alloc: Global,
+    free: i128,
+    own: &[Held],
+    services: &[Service],
+) -> Result<Vec<ServiceAnswer>, AllocError>
+    requires few { length services.now ≤ MAX_SERVICES }
+    requires free_low { neg_ℤ FARTHEST ≤ℤ free }
+    requires free_high { free ≤ℤ CEILING }
+    ensures value { IfOk result (λ made. made.items ≡ answers_in free own.now services.now [] services.now) }
+    ensures as_many { IfOk result (λ made. length made.items ≡ length services.now) }
+    ensures ids { IfOk result (λ made. sum_by (λ (answer : ServiceAnswer). length answer.ids) made.items
+        ≡ sum_by (λ (service : ServiceView). length service.ids) services.now) }
+{
+    let mut answers = Vec::with_capacity(alloc, services.len())?;
+    for service in services {
+        let space = room(free, own, services, &answers);
+        answers.push(answer_to(own, service, space)?)?;
+    }
+    Ok(answers)
+}
+
+/// The answer to a service in its room. A report that no tariff charges fails, and nothing is granted to its service.
+fn answer_to(own: &[Held], service: &Service, space: i128) -> Result<ServiceAnswer, AllocError>
+    ensures value { IfOk result (λ answer. answer ≡ answer_to_in own.now service.now space) }
+    ensures ids { IfOk result (λ answer. answer.ids ≡ service.now.ids) }
+{
+    if is_unrated(own, service) {
+        answer_with(service, ResultCode::RatingFailed, None, false)
+    } else {
+        asked_answer(service, space)
+    }
+}
+
+/// The money for the next service's grant, after those that the request made to the services before.
+fn room(free: i128, own: &[Held], services: &[Service], before: &[ServiceAnswer]) -> i128
+    requires few { length services.now ≤ MAX_SERVICES }
+    requires few_before { length before.now ≤ MAX_SERVICES }
+    requires free_low { neg_ℤ FARTHEST ≤ℤ free }
+    requires free_high { free ≤ℤ CEILING }
+    ensures { result ≡ room_in free own.now services.now before.now }
+{
+    let charged = i128::from(charges(own, services));
+    let made = i128::from(made_prices(before));
+    free + given_back(own, services) - (charged + made)
+}
+
+/// The price of a grant that was made.
+fn made_price(answer: &ServiceAnswer) -> u64
+    ensures value { result ≡ made_price answer.now }
+    ensures bound { result ≤ MAX_PRICE }
+{
+    match &answer.grant {
+        Some(grant) => price(grant),
+        None => 0,
+    }
+}
+
+/// The prices of the grants that were made.
+fn made_prices(answers: &[ServiceAnswer]) -> u64
+    requires { length answers.now ≤ MAX_SERVICES }
+    ensures value { result ≡ sum_by made_price answers.now }
+    ensures bound { result ≤ MAX_SERVICES * MAX_PRICE }
+{
+    let mut sum = 0;
+    for answer in answers {
+        sum += made_price(answer);
+    }
+    sum
+}

@@ -1,0 +1,139 @@
+//! Charges and overruns, in minor units, by the grants that a session holds.
+
+ghost use Rattle.std.specs.Prelude.{◌≡◌, ◌≤◌, ◌*◌, ◌^◌, pos, ◌≤ℤ◌, length, filter, find, sum_by, unwrap_or, IfOk};
+ghost use Rattle.std.specs.Option.{ForSome, option_copied};
+ghost use Rattle.dcc_act.specs.ServiceKeys.{same_service};
+ghost use Rattle.dcc_act.specs.declared.limits.TheConstants.{MAX_SERVICES};
+ghost use Rattle.dcc_state.specs.Known.{prices};
+ghost use Rattle.dcc_state.specs.inner.Grants.{live_in, charge_tariff_in, charge_in, is_unrated_in, charges_in, live_price_in, overruns_in, is_given_back, given_back};
+
+use crate::held::Held;
+use dcc_act::{Grant, MAX_SERVICES, Service, ServiceKey};
+use dcc_model::{names_any, price};
+use dcc_tariff::{MAX_PRICE, Tariff, price_of};
+
+/// The grant that a service holds.
+fn live(own: &[Held], key: ServiceKey) -> Option<Grant>
+    ensures { result ≡ live_in own.now key }
+{
+    match held_for(own, key) {
+        Some(held) => Some(held.grant),
+        None => None,
+    }
+}
+
+/// The first of these that a service of this key holds.
+fn held_for(own: &[Held], key: ServiceKey) -> Option<&Held>
+    ensures { option_copied result ≡ find (λ held. same_service held.key key) own.now }
+{
+    own.iter().find(|held| held.key.is_same(key))
+}
+
+/// The tariff of a service's live grant, or else that of the act's moment.
+fn charge_tariff(own: &[Held], service: &Service) -> Option<Tariff>
+    ensures { result ≡ charge_tariff_in own.now service.now }
+{
+    match live(own, service.key()) {
+        Some(grant) => Some(grant.tariff),
+        None => service.tariff,
+    }
+}
+
+/// The charge for a service's report, where there is one and a tariff for it.
+pub(crate) fn charge(own: &[Held], service: &Service) -> Option<u64>
+    ensures value { result ≡ charge_in own.now service.now }
+    ensures bound { ForSome result (λ cost. cost ≤ MAX_PRICE) }
+{
+    let units = service.used?;
+    let tariff = charge_tariff(own, service)?;
+    Some(price_of(tariff, units))
+}
+
+/// Whether no tariff charges a service's report.
+pub(crate) fn is_unrated(own: &[Held], service: &Service) -> bool
+    ensures { result ≡ is_unrated_in own.now service.now }
+{
+    service.used.is_some() && charge(own, service).is_none()
+}
+
+/// The charge for a service's report, or nothing.
+fn cost(own: &[Held], service: &Service) -> u64
+    ensures value { result ≡ unwrap_or (charge_in own.now service.now) 0 }
+    ensures bound { result ≤ MAX_PRICE }
+{
+    match charge(own, service) {
+        Some(cost) => cost,
+        None => 0,
+    }
+}
+
+/// The charges of a request's reports together.
+pub(crate) fn charges(own: &[Held], services: &[Service]) -> u64
+    requires { length services.now ≤ MAX_SERVICES }
+    ensures value { result ≡ charges_in own.now services.now }
+    ensures bound { result ≤ MAX_SERVICES * MAX_PRICE }
+{
+    let mut sum = 0;
+    for service in services {
+        sum += cost(own, service);
+    }
+    sum
+}
+
+/// The price of a service's live grant.
+fn live_price(own: &[Held], key: ServiceKey) -> u64
+    ensures value { result ≡ live_price_in own.now key }
+    ensures bound { result ≤ MAX_PRICE }
+{
+    match live(own, key) {
+        Some(grant) => price(&grant),
+        None => 0,
+    }
+}
+
+/// What each charge exceeds the price of the live grant by, together.
+pub(crate) fn overruns(own: &[Held], services: &[Service]) -> u64
+    requires { length services.now ≤ MAX_SERVICES }
+    ensures value { result ≡ overruns_in own.now services.now }
+    ensures bound { result ≤ MAX_SERVICES * MAX_PRICE }
+{
+    let mut sum = 0;
+    for service in services {
+        let held = live_price(own, service.key());
+        sum += cost(own, service).saturating_sub(held);
+    }
+    sum
+}
+
+/// Whether a request gives back what a service holds.
+pub(crate) fn is_given_back(services: &[Service], held: &Held) -> bool
+    ensures { result ≡ is_given_back services.now held.now }
+{
+    names_any(services, held.key)
+}
+
+/// The prices of the grants that a request gives back.
+pub(crate) fn given_back(own: &[Held], services: &[Service]) -> i128
+    ensures value { result ≡ pos (given_back own.now services.now) }
+    ensures bound { result ≤ℤ pos (MAX_PRICE * length own.now) }
+{
+    let mut sum = 0;
+    for held in own {
+        if is_given_back(services, held) {
+            sum += i128::from(price(&held.grant));
+        }
+    }
+    sum
+}
+
+/// The prices of these grants.
+pub(crate) fn prices(own: &[Held]) -> i128
+    ensures value { result ≡ pos (prices own.now) }
+    ensures bound { result ≤ℤ pos (MAX_PRICE * length own.now) }
+{
+    let mut sum = 0;
+    for held in own {
+        sum += i128::from(price(&held.grant));
+    }
+    sum
+}

@@ -1,0 +1,217 @@
+//! What one more act comes to, and what it does.
+
+ghost use Rattle.std.specs.Prelude.{◌≡◌, ◌≤◌, ◌+◌, ◌*◌, ◌<◌, ◌^◌, List, reverse, pos, ◌+ℤ◌, length, count_by, sum_by, neg_ℤ, ◌≤ℤ◌, if◌then◌else◌, unwrap_or, IfOk};
+ghost use Rattle.std.specs.Option.{option_copied};
+ghost use Rattle.dcc_act.specs.Services.{ServiceView};
+ghost use Rattle.dcc_act.specs.declared.limits.TheConstants.{MAX_SERVICES, MAX_IDS};
+ghost use Rattle.dcc_act.specs.declared.act.Act.{Act};
+ghost use Rattle.dcc_model.specs.Entries.{entries_with};
+ghost use Rattle.dcc_model.specs.Outcomes.{judged, is_made, place_of, with_act, history, standing_of};
+ghost use Rattle.dcc_model.specs.Sessions.{looked_at};
+ghost use Rattle.dcc_state.specs.Known.{changed, IsWithin, IsKnown};
+ghost use Rattle.dcc_state.specs.OpenSessions.{is_over_at, AreOpen};
+ghost use Rattle.dcc_state.specs.inner.Judged.{expired_in, decided_in, settled_in, judged_in, is_made_in, place_in, entries_by_in, change_of, standing_after, entries_after, change_after, money_after};
+
+use crate::after::{change_of, entries_by, standing_after};
+use crate::change::Change;
+use crate::facts::Facts;
+use crate::judgement::Judgement;
+use crate::limits::FARTHEST;
+use crate::open_session::{OpenSession, is_over};
+use crate::requests::{begun, reported};
+use dcc_act::{Act, Kind, MAX_SERVICES, Moment, Outcome, RequestType, Service};
+use dcc_model::{
+    CEILING, acts_come_to_their_own, decide_event, decide_top_up, is_expiry, request_key,
+    services_looked_at, sessions_open_once, unknown,
+};
+use dcc_tariff::{MAX_PRICE, Terms};
+use std::alloc::{AllocError, Global};
+
+/// What one more act comes to after those that were made, and what it does, by what is known of these: a few facts, what the
+/// one that has its key came to, and the sessions that are open. It looks at the grants of the act's own session, and for an
+/// expiry at those of the sessions that it ends. The only error is want of memory.
+pub fn judge(
+    alloc: Global,
+    terms: &Terms,
+    facts: &Facts,
+    first: Option<&Outcome>,
+    sessions: &[OpenSession],
+    act: &Act,
+) -> Result<Judgement, AllocError>
+    requires within { IsWithin facts.now.standing sessions.now }
+    requires few { facts.now.count + 1 < 2 ^ 64 }
+    ensures outcome { (xs : List Act) → IsKnown terms.now xs act.now facts.now (option_copied first.entry) sessions.now
+        → IfOk result (λ judgement. judgement.outcome ≡ judged terms.now (history terms.now (reverse xs)) act.now) }
+    ensures is_new { (xs : List Act) → IsKnown terms.now xs act.now facts.now (option_copied first.entry) sessions.now
+        → IfOk result (λ judgement. judgement.is_new ≡ is_made terms.now (history terms.now (reverse xs)) act.now) }
+    ensures place { (xs : List Act) → IsKnown terms.now xs act.now facts.now (option_copied first.entry) sessions.now
+        → IfOk result (λ judgement. judgement.place ≡ place_of terms.now (history terms.now (reverse xs)) act.now) }
+    ensures entries { (xs : List Act) → IsKnown terms.now xs act.now facts.now (option_copied first.entry) sessions.now
+        → IfOk result (λ judgement. judgement.entries.items ≡ entries_with terms.now (history terms.now (reverse xs)) act.now) }
+    ensures standing { (xs : List Act) → IsKnown terms.now xs act.now facts.now (option_copied first.entry) sessions.now
+        → IfOk result (λ judgement. judgement.standing ≡ standing_of terms.now (with_act terms.now (history terms.now (reverse xs)) act.now)) }
+    ensures sessions { (xs : List Act) → IsKnown terms.now xs act.now facts.now (option_copied first.entry) sessions.now
+        → IfOk result (λ judgement. AreOpen terms.now (with_act terms.now (history terms.now (reverse xs)) act.now) (changed judgement.change sessions.now)) }
+    ensures overrun { IfOk result (λ judgement. judgement.standing.overrun ≤ℤ (facts.now.standing.overrun +ℤ pos (MAX_SERVICES * MAX_PRICE))) }
+{
+    acts_come_to_their_own();
+    sessions_open_once();
+    judge_known(alloc, terms, facts, first, sessions, act)
+}
+
+/// What one more act comes to, and what it does, by what is known.
+fn judge_known(
+    alloc: Global,
+    terms: &Terms,
+    facts: &Facts,
+    first: Option<&Outcome>,
+    sessions: &[OpenSession],
+    act: &Act,
+) -> Result<Judgement, AllocError>
+    requires within { IsWithin facts.now.standing sessions.now }
+    requires few { facts.now.count + 1 < 2 ^ 64 }
+    ensures outcome { IfOk result (λ judgement. judgement.outcome ≡ judged_in facts.now (option_copied first.entry) sessions.now act.now) }
+    ensures is_new { IfOk result (λ judgement. judgement.is_new ≡ is_made_in facts.now (option_copied first.entry) sessions.now act.now) }
+    ensures place { IfOk result (λ judgement. judgement.place ≡ place_in facts.now judgement.is_new) }
+    ensures entries { IfOk result (λ judgement. judgement.entries.items ≡ entries_after facts.now sessions.now act.now judgement.is_new judgement.outcome) }
+    ensures change { IfOk result (λ judgement. judgement.change ≡ change_after terms.now sessions.now act.now judgement.is_new judgement.outcome) }
+    ensures standing { IfOk result (λ judgement. judgement.standing ≡ money_after facts.now sessions.now act.now judgement.is_new judgement.outcome judgement.change) }
+    ensures overrun { IfOk result (λ judgement. judgement.standing.overrun ≤ℤ (facts.now.standing.overrun +ℤ pos (MAX_SERVICES * MAX_PRICE))) }
+{
+    let services = services_looked_at(alloc, &act.kind)?;
+    let outcome = outcome(alloc, facts, first, sessions, act, &services)?;
+    let is_new = is_made(facts, first, sessions, act);
+    if !is_new {
+        return Ok(Judgement {
+            outcome,
+            is_new,
+            place: facts.place,
+            entries: Vec::new(alloc),
+            standing: facts.standing,
+            change: Change::Nothing,
+        });
+    }
+    let place = facts.count + 1;
+    let (moment, kind) = (act.moment, &act.kind);
+    let entries = entries_by(alloc, sessions, place, moment, kind, &services, &outcome)?;
+    let change = change_of(alloc, terms, sessions, moment, kind, &services, &outcome)?;
+    let standing = standing_after(
+        &facts.standing,
+        sessions,
+        kind,
+        &services,
+        &outcome,
+        &change,
+    );
+    Ok(Judgement {
+        outcome,
+        is_new,
+        place: Some(place),
+        entries,
+        standing,
+        change,
+    })
+}
+
+/// What an act comes to.
+fn outcome(
+    alloc: Global,
+    facts: &Facts,
+    first: Option<&Outcome>,
+    sessions: &[OpenSession],
+    act: &Act,
+    services: &[Service],
+) -> Result<Outcome, AllocError>
+    requires few { length services.now ≤ MAX_SERVICES }
+    requires few_ids { sum_by (λ (service : ServiceView). length service.ids) services.now ≤ MAX_IDS }
+    requires looked { services.now ≡ looked_at act.now.kind }
+    requires free_low { neg_ℤ FARTHEST ≤ℤ facts.now.standing.free }
+    requires free_high { facts.now.standing.free ≤ℤ CEILING }
+    ensures { IfOk result (λ outcome. outcome ≡ judged_in facts.now (option_copied first.entry) sessions.now act.now) }
+{
+    if facts.has_account {
+        return settled(alloc, facts, first, sessions, act, services);
+    }
+    match unknown(&act.kind)? {
+        Some(outcome) => Ok(outcome),
+        None => settled(alloc, facts, first, sessions, act, services),
+    }
+}
+
+/// What an act comes to that has an account or needs none: a repeat to what the first came to.
+fn settled(
+    alloc: Global,
+    facts: &Facts,
+    first: Option<&Outcome>,
+    sessions: &[OpenSession],
+    act: &Act,
+    services: &[Service],
+) -> Result<Outcome, AllocError>
+    requires few { length services.now ≤ MAX_SERVICES }
+    requires few_ids { sum_by (λ (service : ServiceView). length service.ids) services.now ≤ MAX_IDS }
+    requires looked { services.now ≡ looked_at act.now.kind }
+    requires free_low { neg_ℤ FARTHEST ≤ℤ facts.now.standing.free }
+    requires free_high { facts.now.standing.free ≤ℤ CEILING }
+    ensures { IfOk result (λ outcome. outcome ≡ settled_in facts.now (option_copied first.entry) sessions.now act.now) }
+{
+    match first {
+        Some(outcome) => outcome.copy(),
+        None => decide(alloc, facts, sessions, act.moment, &act.kind, services),
+    }
+}
+
+/// What an act comes to that is made.
+fn decide(
+    alloc: Global,
+    facts: &Facts,
+    sessions: &[OpenSession],
+    moment: Moment,
+    kind: &Kind,
+    services: &[Service],
+) -> Result<Outcome, AllocError>
+    requires few { length services.now ≤ MAX_SERVICES }
+    requires few_ids { sum_by (λ (service : ServiceView). length service.ids) services.now ≤ MAX_IDS }
+    requires looked { services.now ≡ looked_at kind.now }
+    requires free_low { neg_ℤ FARTHEST ≤ℤ facts.now.standing.free }
+    requires free_high { facts.now.standing.free ≤ℤ CEILING }
+    ensures { IfOk result (λ outcome. outcome ≡ decided_in facts.now sessions.now moment kind.now) }
+{
+    let money = &facts.standing;
+    let (request, report) = match kind {
+        Kind::TopUp(top_up) => return Ok(decide_top_up(money.funds, top_up)),
+        Kind::Event(event) => return decide_event(alloc, money.funds, money.free, event),
+        Kind::Expiry => {
+            return Ok(Outcome::Expired {
+                sessions: expired(sessions, moment),
+            });
+        }
+        Kind::Initial(opening) => return begun(alloc, facts, sessions, &opening.key, services),
+        Kind::Update(report) => (RequestType::Update, report),
+        Kind::Termination(report) => (RequestType::Termination, report),
+    };
+    reported(alloc, facts, sessions, request, &report.key, services)
+}
+
+/// How many of these sessions an expiry at this moment ends.
+fn expired(sessions: &[OpenSession], moment: Moment) -> u64
+    ensures { result ≡ expired_in sessions.now moment }
+{
+    let mut count = 0;
+    for session in sessions {
+        if is_over(session, moment) {
+            count += 1;
+        }
+    }
+    count
+}
+
+/// Whether an act is made.
+fn is_made(facts: &Facts, first: Option<&Outcome>, sessions: &[OpenSession], act: &Act) -> bool
+    ensures { result ≡ is_made_in facts.now (option_copied first.entry) sessions.now act.now }
+{
+    if is_expiry(&act.kind) {
+        expired(sessions, act.moment) > 0
+    } else {
+        (facts.has_account || request_key(&act.kind).is_none()) && first.is_none()
+    }
+}

@@ -1,0 +1,32 @@
+//! What one more act comes to, by what an account keeps of those before it.
+//!
+//! Stands on `dcc_model`, `dcc_act` and `dcc_tariff`. An account keeps its money, the sessions that are open with their live
+//! grants, and a few facts; `judge` looks at these alone, and never back over the acts. The contract that it gives: where
+//! these are what the acts before say, the outcome, the place, the entries and the money are those of the definitions, and
+//! the change that it tells leads to the sessions that are open after the act.
+#![tactic(auto)]
+
+mod after;
+mod change;
+mod facts;
+mod granting;
+mod grants;
+mod held;
+mod judgement;
+mod judging;
+mod laws;
+mod limits;
+mod open_session;
+mod requests;
+
+pub use change::Change;
+pub use facts::Facts;
+pub use held::Held;
+pub use judgement::Judgement;
+pub use judging::judge;
+pub use laws::money_is_within;
+pub use limits::FARTHEST;
+pub use open_session::OpenSession;
+
+#[cfg(test)]
+mod tests;

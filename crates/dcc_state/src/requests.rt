@@ -1,0 +1,130 @@
+//! What a request of a session comes to.
+
+ghost use Rattle.std.specs.Prelude.{◌≡◌, ◌≤◌, neg_ℤ, ◌≤ℤ◌, length, find, sum_by, option_map, IfOk};
+ghost use Rattle.dcc_act.specs.Services.{ServiceView};
+ghost use Rattle.dcc_act.specs.declared.limits.TheConstants.{MAX_SERVICES, MAX_IDS};
+ghost use Rattle.dcc_state.specs.OpenSessions.{session_in};
+ghost use Rattle.dcc_state.specs.inner.Grants.{served_in};
+ghost use Rattle.dcc_state.specs.inner.Judged.{own_in, is_open_in, begun_in, reported_in};
+
+use crate::facts::Facts;
+use crate::granting::answers;
+use crate::grants::charges;
+use crate::held::Held;
+use crate::limits::FARTHEST;
+use crate::open_session::OpenSession;
+use dcc_act::{
+    Answer, MAX_SESSIONS, Outcome, RequestKey, RequestType, ResultCode, Service, ServiceAnswers,
+    SessionId,
+};
+use dcc_model::{CEILING, bare, command_result, is_under};
+use std::alloc::{AllocError, Global};
+
+/// The session of this name among these.
+pub(crate) fn session<'a>(sessions: &'a [OpenSession], sid: &SessionId) -> Option<&'a OpenSession>
+    ensures { option_map (λ session. session.now) result ≡ session_in sessions.now sid.now }
+{
+    sessions.iter().find(|session| session.sid == *sid)
+}
+
+/// Whether the session of this name is open.
+pub(crate) fn is_open(sessions: &[OpenSession], sid: &SessionId) -> bool
+    ensures { result ≡ is_open_in sessions.now sid.now }
+{
+    session(sessions, sid).is_some()
+}
+
+/// The grants of the session of this name.
+pub(crate) fn own<'a>(sessions: &'a [OpenSession], sid: &SessionId) -> &'a [Held]
+    ensures { result.now ≡ own_in sessions.now sid.now }
+{
+    match session(sessions, sid) {
+        Some(session) => &session.grants,
+        None => &[],
+    }
+}
+
+/// What an initial request comes to: a session opens once, and no more than 64 are open at a time.
+pub(crate) fn begun(
+    alloc: Global,
+    facts: &Facts,
+    sessions: &[OpenSession],
+    key: &RequestKey,
+    services: &[Service],
+) -> Result<Outcome, AllocError>
+    requires few { length services.now ≤ MAX_SERVICES }
+    requires few_ids { sum_by (λ (service : ServiceView). length service.ids) services.now ≤ MAX_IDS }
+    requires free_low { neg_ℤ FARTHEST ≤ℤ facts.now.standing.free }
+    requires free_high { facts.now.standing.free ≤ℤ CEILING }
+    ensures { IfOk result (λ outcome. outcome ≡ begun_in facts.now sessions.now key.now services.now) }
+{
+    if facts.was_opened {
+        bare(alloc, RequestType::Initial, key, ResultCode::UnableToComply)
+    } else if sessions.len() >= MAX_SESSIONS {
+        bare(
+            alloc,
+            RequestType::Initial,
+            key,
+            ResultCode::ResourcesExceeded,
+        )
+    } else {
+        let own = own(sessions, &key.sid);
+        let free = facts.standing.free;
+        served(alloc, free, own, RequestType::Initial, key, services)
+    }
+}
+
+/// What an update or a termination comes to: its session has to be open, and the floor has to bear its charges.
+pub(crate) fn reported(
+    alloc: Global,
+    facts: &Facts,
+    sessions: &[OpenSession],
+    request: RequestType,
+    key: &RequestKey,
+    services: &[Service],
+) -> Result<Outcome, AllocError>
+    requires few { length services.now ≤ MAX_SERVICES }
+    requires few_ids { sum_by (λ (service : ServiceView). length service.ids) services.now ≤ MAX_IDS }
+    requires free_low { neg_ℤ FARTHEST ≤ℤ facts.now.standing.free }
+    requires free_high { facts.now.standing.free ≤ℤ CEILING }
+    ensures { IfOk result (λ outcome. outcome ≡ reported_in facts.now sessions.now request key.now services.now) }
+{
+    if !is_open(sessions, &key.sid) {
+        return bare(alloc, request, key, ResultCode::UnknownSession);
+    }
+    let own = own(sessions, &key.sid);
+    let charged = charges(own, services);
+    if is_under(facts.standing.funds, charged) {
+        bare(alloc, request, key, ResultCode::UnableToComply)
+    } else {
+        let free = facts.standing.free;
+        served(alloc, free, own, request, key, services)
+    }
+}
+
+/// The answer to a request whose services are served at so much free money.
+fn served(
+    alloc: Global,
+    free: i128,
+    own: &[Held],
+    request: RequestType,
+    key: &RequestKey,
+    services: &[Service],
+) -> Result<Outcome, AllocError>
+    requires few { length services.now ≤ MAX_SERVICES }
+    requires few_ids { sum_by (λ (service : ServiceView). length service.ids) services.now ≤ MAX_IDS }
+    requires free_low { neg_ℤ FARTHEST ≤ℤ free }
+    requires free_high { free ≤ℤ CEILING }
+    ensures { IfOk result (λ outcome. outcome ≡ served_in free own.now request key.now services.now) }
+{
+    let answers = answers(alloc, free, own, services)?;
+    let code = command_result(&answers);
+    Ok(Outcome::Answered(Answer {
+        request,
+        key: key.copy()?,
+        result: code,
+        services: ServiceAnswers::from_vec(answers).unwrap(),
+        cost: None,
+        balance: None,
+    }))
+}

@@ -1,0 +1,74 @@
+//! One act after another, by what is kept alone.
+
+use crate::{Change, Facts, OpenSession, judge};
+use dcc_act::{
+    Act, Form, Kind, Moment, Outcome, RequestKey, Service, ServiceIds, Services, SessionId,
+    SessionRequest,
+};
+use dcc_model::Standing;
+use dcc_tariff::{Tariff, Terms, UnitKind};
+use std::alloc::Global;
+use std::test::Fail;
+
+const TERMS: Terms = Terms {
+    validity: 600,
+    hold: 1200,
+    currency: 978,
+    exponent: -2,
+};
+
+/// One top-up of a thousand minor units was made.
+const FACTS: Facts = Facts {
+    count: 1,
+    has_account: true,
+    was_opened: false,
+    place: None,
+    standing: Standing {
+        funds: 1000,
+        free: 1000,
+        overrun: 0,
+    },
+};
+
+/// A request that asks for 100,000 octets of group 10, which cost 5 for each 1,000.
+fn opening(alloc: Global) -> Result<SessionRequest, Fail> {
+    let sid = SessionId::from_vec([b's'].to_vec(alloc)?).ok_or("a name")?;
+    let service = Service {
+        group: Some(10),
+        ids: ServiceIds::new(alloc),
+        form: Form::Multi,
+        asked: Some(100_000),
+        used: None,
+        unit: Some(UnitKind::Octets),
+        tariff: Some(Tariff {
+            price: 5,
+            block: 1000,
+        }),
+    };
+    Ok(SessionRequest {
+        key: RequestKey { sid, number: 0 },
+        services: Services::from_vec(vec![in alloc; service]?).ok_or("services")?,
+    })
+}
+
+/// A session opens with a reservation of 500.
+#[test]
+fn session_opens(rt: HostRuntime) -> Result<(), Fail> {
+    let alloc = rt.alloc();
+    let mut sessions: Vec<OpenSession> = Vec::with_capacity(alloc, 1)?;
+    let act = Act {
+        moment: Moment::new(1_748_736_000).ok_or("a moment")?,
+        kind: Kind::Initial(opening(alloc)?),
+    };
+    let opened = judge(alloc, &TERMS, &FACTS, None, &sessions, &act)?;
+    assert!(rt; opened.is_new && matches!(opened.outcome, Outcome::Answered(_)));
+    let money = opened.standing;
+    assert_eq!(rt;
+        (opened.place, money.funds, money.free, money.overrun),
+        (Some(2), 1000, 500, 0)
+    );
+    assert!(rt; matches!(opened.change, Change::Open(_)) && opened.entries.is_empty());
+    opened.change.apply(&mut sessions);
+    assert_eq!(rt; sessions.len(), 1);
+    Ok(())
+}
