@@ -1,0 +1,18 @@
+//! The ledger: one page that says what an account was charged, when and why, and that adds up.
+//!
+//! Stands on `dcc_act`, for entries in the books and whose they are, and on `dcc_octets` for what is visible. Moments are
+//! put into words of the calendar by `jiff`, and octets into digits by `hex`.
+//!
+//! The contract that it gives: [`ledger_text`] is the ledger of `specs/Ledger.antt`, octet for octet, and [`account_line`] its
+//! last line. Each entry has a line, in which the funds are the sum of all amounts up to its own; the date and the time are
+//! those of UTC by the Gregorian calendar, as `specs/Moments.antt` has them; and a column that is too narrow cuts nothing off.
+#![tactic(auto)]
+
+mod ledger;
+mod line;
+mod moment;
+
+pub use ledger::{account_line, ledger_text};
+
+#[cfg(test)]
+mod tests;
