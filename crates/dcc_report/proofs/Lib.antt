@@ -1,3 +1,4 @@
 pub mod Dates
 pub mod Lines
+pub mod Names
 pub mod Padding

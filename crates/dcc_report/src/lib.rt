@@ -5,13 +5,16 @@
 //!
 //! The contract that it gives: [`ledger_text`] is the ledger of `specs/Ledger.antt`, octet for octet, and [`account_line`] its
 //! last line. Each entry has a line, in which the funds are the sum of all amounts up to its own; the date and the time are
-//! those of UTC by the Gregorian calendar, as `specs/Moments.antt` has them; and a column that is too narrow cuts nothing off.
+//! those of UTC by the Gregorian calendar, as `specs/Moments.antt` has them; a column that is too narrow cuts nothing off;
+//! and by [`names_are_apart`] no two tickets or sessions look alike.
 #![tactic(auto)]
 
+mod laws;
 mod ledger;
 mod line;
 mod moment;
 
+pub use laws::names_are_apart;
 pub use ledger::{account_line, ledger_text};
 
 #[cfg(test)]
