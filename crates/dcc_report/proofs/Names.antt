@@ -1,11 +1,10 @@
 -- Names that look alike are one.
-use Rattle.std.proofs.Common.{◌≡◌, ◌⊎◌, inl, inr, ℕ, Bool, true, false, not, ◌&&◌, if◌then◌else◌, List, ◌++◌, codes, get_or, arith, refl, sym, ap, ◌∙◌, Ok}
+use Rattle.std.proofs.Common.{◌≡◌, ◌⊎◌, inl, inr, ℕ, Bool, true, false, ◌&&◌, if◌then◌else◌, List, ◌++◌, codes, get_or, arith, refl, sym, ap, ◌∙◌}
 use Rattle.std.proofs.lemmas.Fmt.{decimal_injective}
 use Rattle.std.specs.Fmt.{decimal}
 use Rattle.hex.specs.Hex.{IsBytes, encode_lower, decode_of}
 use Rattle.hex.proofs.HexLemmas.{decode_of-encode_lower}
 use Rattle.dcc_octets.specs.Names.{are_visible}
-use Rattle.dcc_act.specs.declared.entry.EntryName.{EntryName}
 use Rattle.dcc_act.specs.declared.entry.EntryName.TheVariants.{Ticket, Session}
 use Rattle.dcc_report.specs.Laws.{NamesAreApart}
 use Rattle.dcc_report.specs.Ledger.{is_shown, session_text}
