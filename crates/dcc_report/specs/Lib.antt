@@ -1,0 +1,4 @@
+pub mod Columns
+pub mod Moments
+pub mod Ledger
+pub mod Laws
