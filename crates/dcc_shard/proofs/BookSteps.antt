@@ -1,14 +1,17 @@
 -- The books after one act of one subscriber.
-use Rattle.std.proofs.Common.{◌≡◌, ◌≢◌, ℕ, Bool, true, false, if◌then◌else◌, List, [], ◌∷◌, ◌++◌, get_or, set, Some, sym, ap, ◌∙◌, inl, inr}
+use Rattle.std.proofs.Common.{◌≡◌, ◌≢◌, ℕ, Bool, true, false, if◌then◌else◌, List, [], ◌∷◌, ◌++◌, get_or, set, Some, sym, ap, subst, ◌∙◌, inl, inr}
 use Rattle.dcc_tariff.specs.Terms.{TermsView}
 use Rattle.dcc_act.specs.declared.act.Act.{Act}
 use Rattle.dcc_act.specs.declared.sub.Sub.{Sub}
 use Rattle.dcc_act.specs.Subs.{SameAreEqual}
 use Rattle.dcc_account.specs.declared.account.Account.{Account}
-use Rattle.dcc_model.specs.Outcomes.{acts, is_new}
+use Rattle.dcc_account.specs.Prepared.{StepView, IsPrepared}
+use Rattle.dcc_model.specs.Outcomes.{acts, after, place, is_new}
 use Rattle.dcc_model.specs.Laws.{ActsAreActs, OneMoreAct}
 use Rattle.dcc_shard.specs.Shards.{account_in, held_in}
 use Rattle.dcc_shard.specs.inner.Books.{BooksView, are_once, IsAt, IsAbsent, IsAdded, AreBooks, IsStepOfBooks}
+use Rattle.dcc_shard.specs.inner.Pending.{IsPending}
+use Rattle.dcc_shard.specs.declared.pending.Pending.TheVariants.{Known}
 use Rattle.dcc_shard.specs.declared.row.Row.{Row}
 use Rattle.dcc_shard.proofs.Subs.{one_or_other}
 use Rattle.dcc_shard.proofs.BookRows.{acts_held, Moves, held_own, held_others, books_moved}
@@ -105,3 +108,23 @@ step_from old now new sub asked act rows terms act_is step = record {
   others = λ other apart. step.others other apart ∙ ap (λ (rs : List Row). held_in rs other) rows;
   terms = step.terms ∙ terms;
 }
+
+-- a step that the account in a row prepared is the pending one of its subscriber
+pub pending_known : (books : BooksView) (sub : Sub) (i : ℕ) (row : Row) (act : Act) (step : StepView) → AreBooks books.rows books.terms → IsAt books.rows sub i → row ≡ get_or books.rows i row
+    → step.act ≡ act → IsPrepared row.account step → IsPending books sub act (Known i step)
+pending_known books sub i row act step are at is act_is prepared =
+    let account = row.account in
+    let found = found_at books.rows books.terms sub i row are at is in
+    let here : account_in books.rows sub ≡ Some account = at.here row ∙ ap (λ (r : Row). Some r.account) (sym is) in
+    let in_row : (none : Row) → IsPrepared (get_or books.rows i none).account step =
+    λ none.
+    let both : Some (get_or books.rows i none).account ≡ Some account = sym (at.here none) ∙ here in
+    let same : (get_or books.rows i none).account ≡ account = cc in
+    subst (λ (a : Account). IsPrepared a step) (sym same) prepared in
+    record {
+      stands = (at, in_row);
+      act_is = act_is;
+      outcome_is = prepared.outcome_is ∙ next_found (λ terms xs. after terms xs step.act) books.rows books.terms sub account found ∙ ap (after books.terms (held_in books.rows sub)) act_is;
+      place_is = prepared.place_is ∙ next_found (λ terms xs. place terms xs step.act) books.rows books.terms sub account found ∙ ap (place books.terms (held_in books.rows sub)) act_is;
+      new_is = prepared.new_is ∙ next_found (λ terms xs. is_new terms xs step.act) books.rows books.terms sub account found ∙ ap (is_new books.terms (held_in books.rows sub)) act_is;
+    }
