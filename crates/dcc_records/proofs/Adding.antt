@@ -41,10 +41,10 @@ pub written : (rows new : List (Sub × RowView)) (sub : Sub) (act : Act) (more :
     → kept_of (Some row) ≡ with_one act more (content_in rows sub)
     → (other : Sub) → content_in new other ≡ cond (same_sub sub other) (with_one act more (content_in rows other)) (content_in rows other)
 written rows new sub act more row same updates own other =
-    let found : lookup (same_sub other) new ≡ cond (same_sub sub other) (Some row) (lookup (same_sub other) rows) =
+    let found : lookup (λ key. same_sub key other) new ≡ cond (same_sub sub other) (Some row) (lookup (λ key. same_sub key other) rows) =
     same_found new other ∙ updates other ∙ ap (λ (b : Bool). cond b (Some row) (lookup (λ key. is_eq (sub_order other key)) rows)) (sym (same_where_equal sub other))
     ∙ ap (λ (o : Option RowView). cond (same_sub sub other) (Some row) o) (sym (same_found rows other)) in
-    let new_is : content_in new other ≡ kept_of (cond (same_sub sub other) (Some row) (lookup (same_sub other) rows)) = ap kept_of found in
+    let new_is : content_in new other ≡ kept_of (cond (same_sub sub other) (Some row) (lookup (λ key. same_sub key other) rows)) = ap kept_of found in
     elim (cases_Bool (same_sub sub other)) [
       | inl one ↦
           let e : sub ≡ other = (same sub other).0 one in

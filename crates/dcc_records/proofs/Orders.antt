@@ -1,7 +1,7 @@
 -- Pages in the order of their subscribers, and subscribers that compare equal.
 use Rattle.std.proofs.Common.{◌≡◌, ℕ, suc, ◌+◌, ◌<◌, List, [], ◌∷◌, length, map, get_or, ◌-◌, ◌≤◌, true, false, refl, sym, subst, ap, ◌∙◌, arith, rules}
 use Rattle.std.specs.Map.{lookup, keys_of}
-use Rattle.std.specs.Cmp.{IsTotalOrder}
+use Rattle.std.specs.Cmp.{IsTotalOrder, eq_by_cmp_equiv}
 use Rattle.std.specs.Cmp.Rules.{comparing}
 use Rattle.std.specs.declared.cmp.Ordering.{Ordering}
 use Rattle.std.specs.declared.cmp.Ordering.TheVariants.{Less}
@@ -23,9 +23,13 @@ is_total = search (comparing, rules)
 pub same_where_equal : (a b : Sub) → same_sub a b ≡ is_eq (sub_order a b)
 same_where_equal = search (comparing, rules)
 
-pub same_found : (rows : List (Sub × RowView)) (sub : Sub) → lookup (same_sub sub) rows ≡ lookup (λ key. is_eq (sub_order sub key)) rows
+-- and compare equal either way
+turned : (a b : Sub) → is_eq (sub_order a b) ≡ is_eq (sub_order b a)
+turned a b = (eq_by_cmp_equiv is_total).symm a b
+
+pub same_found : (rows : List (Sub × RowView)) (sub : Sub) → lookup (λ key. same_sub key sub) rows ≡ lookup (λ key. is_eq (sub_order sub key)) rows
 same_found [] sub = refl
-same_found (row ∷ rows) sub = rw (same_where_equal sub row.0, same_found rows sub) refl
+same_found (row ∷ rows) sub = rw (same_where_equal row.0 sub, turned row.0 sub, same_found rows sub) refl
 
 no_page : PageView
 no_page = record { sub = record { kind = 0; name = [] }; acts = [] }

@@ -18,7 +18,7 @@ use Rattle.dcc_records.proofs.Sums.{kept_with}
 -- the pages of rows hold the acts that these keep
 pub held_pages : (rows : List (Sub × RowView)) (sub : Sub) → acts_in (pages_of rows) sub ≡ (content_in rows sub).acts
 held_pages [] sub = refl
-held_pages (row ∷ rows) sub = elim (cases_Bool (same_sub sub row.0)) [ inl here ↦ rw here refl | inr gone ↦ rw gone (held_pages rows sub) ]
+held_pages (row ∷ rows) sub = elim (cases_Bool (same_sub row.0 sub)) [ inl here ↦ rw here refl | inr gone ↦ rw gone (held_pages rows sub) ]
 
 shape : (found : Option RowView) → kept_of found ≡ record {
   acts = (kept_of found).acts;
@@ -32,7 +32,7 @@ shape (Some row) = refl
 pub whole : (terms : TermsView) (rows : List (Sub × RowView)) → EntriesAddUp → AreRows rows terms → (sub : Sub) → content_in rows sub ≡ kept_by terms (content_in rows sub).acts
 whole terms rows add_up are sub =
     let kept = content_in rows sub in
-    shape (lookup (same_sub sub) rows)
+    shape (lookup (λ key. same_sub key sub) rows)
     ∙ ap (λ (es : List Entry). kept_with kept.acts es (length kept.acts) (sum_of es)) (are.entries_are sub)
     ∙ ap (λ (n : ℤ). kept_with kept.acts (entries terms kept.acts) (length kept.acts) n) (add_up terms kept.acts)
 

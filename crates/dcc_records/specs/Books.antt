@@ -34,7 +34,7 @@ pub record PageView : Type 0 where
 -- what pages hold of a subscriber: the acts of its page, and none where it has no page
 abbrev pub acts_in : List PageView → Held
 acts_in [] sub = []
-acts_in (page ∷ pages) sub = if same_sub sub page.sub then page.acts else acts_in pages sub
+acts_in (page ∷ pages) sub = if same_sub page.sub sub then page.acts else acts_in pages sub
 
 -- how subscribers compare: by type, and then by the data, octet by octet
 abbrev pub sub_order : Sub → Sub → Ordering

@@ -17,10 +17,11 @@ use std::alloc::Global;
 use std::collections::BTreeMap;
 use std::marker::Model;
 
-/// Records in memory, which never fail: a stop at this moment would leave just what they keep.
+/// Records in memory, which never fail. They end with their process: what contracts say that a stop leaves is what they keep at
+/// that moment, as of a store that stays.
 ///
-/// Subscribers are found in the order in which a book has them, so that a book is read off, and no hash has to be chosen
-/// against names that are sent.
+/// They keep the entries too, as a store does. Subscribers are found in the order in which a book has them, so that a book is
+/// read off, and no hash has to be chosen against names that are sent.
 #[derive(Drop)]
 pub struct MemoryRecords {
     alloc: Global,

@@ -132,6 +132,32 @@ fn the_second_append_fails(rt: HostRuntime) -> Result<(), Fail> {
     Ok(())
 }
 
+/// How many acts are held. A load that memory refuses is tried once more.
+fn count<R: Records>(records: &mut R) -> Result<usize, Fail> {
+    let book = match records.load() {
+        Err(StoreFault::Memory) => records.load()?,
+        loaded => loaded?,
+    };
+    let mut count = 0_usize;
+    for page in book.as_slice() {
+        count = count.saturating_add(page.acts().len());
+    }
+    Ok(count)
+}
+
+/// Where one growth is refused, just what was appended before it is held.
+#[test]
+fn a_refused_growth_leaves_what_was_held(rt: HostRuntime) -> Result<(), Fail> {
+    let later = subscriber(b"491700000002")?;
+    let earlier = subscriber(b"491700000001")?;
+    assert!(rt; later != earlier && earlier != later);
+    let mut records = MemoryRecords::new(rt.alloc(), &TERMS);
+    let appended = fill(&mut records, later, earlier)?;
+    assert_eq!(rt; count(&mut records)?, usize::from(appended));
+    assert!(rt; !records.is_stopped());
+    Ok(())
+}
+
 #[test]
 fn none_of_the_appends_fails(rt: HostRuntime) -> Result<(), Fail> {
     let later = subscriber(b"491700000002")?;
