@@ -19,19 +19,20 @@ pub record Kept : Type 0 where
   pub entries : List Entry
   pub account : KeptAccount
 
--- what it has to keep of a subscriber of these acts
+-- what it has to keep of a subscriber who has these acts
 abbrev pub kept_by : TermsView → List Act → Kept
 kept_by terms all = record { acts = all; entries = entries terms all; account = record { acts = length all; funds = funds terms all } }
 
--- what a store keeps of each subscriber, whether it is what it has to keep or not
+-- a content: what a store keeps of each subscriber, be it what it has to keep or not
 abbrev pub Content : Type 0
 Content = Sub → Kept
 
--- It is what a store has to keep of this book.
+-- The content is what a store has to keep of this book.
 abbrev pub IsContentOf : TermsView → Held → Content → Type 0
 IsContentOf terms held content = (sub : Sub) → content sub ≡ kept_by terms (held sub)
 
--- With this act and these entries behind a subscriber's acts, what is kept of it is what has to be again.
+-- An act may come next after a subscriber's acts, and adds these entries: with it the list makes just its own acts again, so that
+-- what is kept with both is what has to be kept.
 pub record IsNext (terms : TermsView) (before : List Act) (act : Act) (more : List Entry) : Type 0 where
   pub own : acts terms (before ++ act ∷ []) ≡ before ++ act ∷ []
   pub entries_are : entries terms (before ++ act ∷ []) ≡ entries terms before ++ more

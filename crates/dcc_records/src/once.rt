@@ -1,11 +1,10 @@
 //! Records that fail once.
 
 ghost use Rattle.std.specs.Prelude.{◌≡◌, ◌≢◌, ◌-◌, true, false, Err, OnOk, OnErr};
-ghost use Rattle.dcc_act.specs.declared.sub.Sub.{Sub};
 ghost use Rattle.dcc_records.specs.Books.{Held, with_act};
 ghost use Rattle.dcc_records.specs.Contents.{Content, IsNext};
 ghost use Rattle.dcc_records.specs.Stops.{LeavesOnly, LeavesEither};
-ghost use Rattle.dcc_records.specs.Memory.{content_of, leaves_of};
+ghost use Rattle.dcc_records.specs.Memory.{leaves_of};
 
 use crate::book::Book;
 use crate::fault::StoreFault;
