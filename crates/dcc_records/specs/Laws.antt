@@ -14,6 +14,11 @@ abbrev pub ContentHasOneBook : Type 0
 ContentHasOneBook = (terms : TermsView) (one other : Held) (content : Content) → IsContentOf terms one content → IsContentOf terms other content
     → (sub : Sub) → one sub ≡ other sub
 
+-- books that hold the same of each subscriber have the same contents
+abbrev pub AlikeBooksHaveOneContent : Type 0
+AlikeBooksHaveOneContent = (terms : TermsView) (one other : Held) (content : Content) → ((sub : Sub) → one sub ≡ other sub)
+    → IsContentOf terms one content → IsContentOf terms other content
+
 -- one act more stands behind the others of its subscriber
 abbrev pub OwnGrows : Type 0
 OwnGrows = (sub : Sub) (act : Act) (held : Held) → with_act sub act held sub ≡ held sub ++ act ∷ []
@@ -31,6 +36,11 @@ BooksGrow = (terms : TermsView) (sub : Sub) (act : Act) (more : List Entry) (hel
 abbrev pub NewIsNext : Type 0
 NewIsNext = (terms : TermsView) (before : List Act) (act : Act) (more : List Entry) → acts terms before ≡ before → is_new terms before act ≡ true
     → entries terms (before ++ act ∷ []) ≡ entries terms before ++ more → IsNext terms before act more
+
+-- what may come next in a book may come next in its content
+abbrev pub NextIsFound : Type 0
+NextIsFound = (terms : TermsView) (sub : Sub) (act : Act) (more : List Entry) (held : Held) (content : Content) → IsContentOf terms held content
+    → IsNext terms (held sub) act more → IsNext terms (content sub).acts act more
 
 -- the account counts one act more, and what the entries add up to
 abbrev pub AccountsGrow : Type 0

@@ -31,15 +31,15 @@ pub trait Records {
     /// How often a call has failed so.
     ghost faults: { Self → ℕ };
 
-    /// The terms by which the content is judged.
+    /// The terms by which the content is judged. It takes no memory.
     fn terms(&self) -> &Terms
         ensures { result.now ≡ terms self.now };
 
-    /// How often a call has failed for another reason than memory.
+    /// How often a call has failed for another reason than memory. It takes no memory.
     fn faults(&self) -> u64
         ensures { result ≡ faults self.now };
 
-    /// Whether a call has failed so, and nothing is done any more.
+    /// Whether a call has failed so, and nothing is done any more. It takes no memory.
     fn is_stopped(&self) -> bool
         ensures { result ≡ is_stopped self.now };
 
