@@ -34,8 +34,8 @@ BooksGrow = (terms : TermsView) (sub : Sub) (act : Act) (more : List Entry) (hel
 
 -- an act that is new after acts which are their own may come next, with the entries that it adds
 abbrev pub NewIsNext : Type 0
-NewIsNext = (terms : TermsView) (before : List Act) (act : Act) (more : List Entry) → acts terms before ≡ before → is_new terms before act ≡ true
-    → entries terms (before ++ act ∷ []) ≡ entries terms before ++ more → IsNext terms before act more
+NewIsNext = (terms : TermsView) (before : List Act) (act : Act) (more : List Entry) → acts terms before ≡ before
+    → is_new terms before act ≡ true → entries terms (before ++ act ∷ []) ≡ entries terms before ++ more → IsNext terms before act more
 
 -- what may come next in a book may come next in its content
 abbrev pub NextIsFound : Type 0
