@@ -1,0 +1,122 @@
+//! Records that fail once.
+
+ghost use Rattle.std.specs.Prelude.{◌≡◌, ◌≢◌, ◌-◌, true, false, Err, OnOk, OnErr};
+ghost use Rattle.dcc_records.specs.Books.{Held, with_act};
+ghost use Rattle.dcc_records.specs.Contents.{Content, IsNext};
+ghost use Rattle.dcc_records.specs.Stops.{LeavesOnly, LeavesEither};
+ghost use Rattle.dcc_records.specs.Memory.{leaves_of};
+
+use crate::book::Book;
+use crate::fault::StoreFault;
+use crate::memory::MemoryRecords;
+use crate::records::Records;
+use dcc_act::{Act, Entry, Sub};
+use dcc_tariff::Terms;
+use std::marker::Model;
+
+/// Records in memory of which one append fails, as a store does: for tests of what stands above records.
+#[derive(Drop)]
+pub struct OnceRecords {
+    inner: MemoryRecords,
+    to_go: u64,
+    stopped: bool,
+}
+
+impl Model for OnceRecords {
+    ghost use Rattle.dcc_records.specs.Memory.{OnceView};
+
+    ghost Value = { OnceView };
+
+    ghost view = { λ r. record { inner = r.inner; to_go = r.to_go; stopped = r.stopped } };
+}
+
+impl OnceRecords {
+    /// These records, whose `n`-th append from now on, counted from 1, fails and stops them; with 0 none does.
+    pub fn new(inner: MemoryRecords, n: u64) -> OnceRecords
+        ensures inner { result.inner ≡ inner }
+        ensures to_go { result.to_go ≡ n }
+        ensures going { result.stopped ≡ false }
+    {
+        OnceRecords {
+            inner,
+            to_go: n,
+            stopped: false,
+        }
+    }
+
+    /// The records as a restart finds them: with all that was appended, and usable.
+    pub fn healed(self) -> MemoryRecords
+        ensures { result ≡ self.inner }
+    {
+        let OnceRecords {
+            inner,
+            to_go: _,
+            stopped: _,
+        } = self;
+        inner
+    }
+}
+
+impl Records for OnceRecords {
+    ghost use Rattle.std.specs.Prelude.{if◌then◌else◌};
+
+    ghost terms = { λ r. r.inner.terms };
+
+    ghost may_leave = { λ r. leaves_of r.inner };
+
+    ghost is_honest = { λ _. Unit {0} };
+
+    ghost is_stopped = { λ r. r.stopped };
+
+    ghost faults = { λ r. if r.stopped then 1 else 0 };
+
+    fn terms(&self) -> &Terms {
+        self.inner.terms()
+    }
+
+    fn faults(&self) -> u64 {
+        u64::from(self.stopped)
+    }
+
+    fn is_stopped(&self) -> bool {
+        self.stopped
+    }
+
+    fn append(&mut self, sub: Sub, act: &Act, entries: &[Entry]) -> Result<(), StoreFault>
+        requires { self.old.stopped ≡ false
+            → (found : Content) → leaves_of self.old.inner found → IsNext self.old.inner.terms (found sub).acts act.now entries.now }
+        ensures fails { self.old.stopped ≡ false → self.old.to_go ≡ 1 → result ≡ Err StoreFault.Device }
+        ensures once { result ≡ Err StoreFault.Device → self.old.to_go ≡ 1 }
+        ensures to_go { self.old.stopped ≡ false → self.new.to_go ≡ self.old.to_go - 1 }
+        ensures terms { self.new.inner.terms ≡ self.old.inner.terms }
+        ensures stored { (held : Held) → LeavesOnly self.old.inner.terms held (leaves_of self.old.inner)
+            → OnOk result (LeavesOnly self.old.inner.terms (with_act sub act.now held) (leaves_of self.new.inner)) }
+        ensures refused { (held : Held) → LeavesOnly self.old.inner.terms held (leaves_of self.old.inner)
+            → OnErr result (self.new.stopped ≡ false → LeavesOnly self.old.inner.terms held (leaves_of self.new.inner)) }
+        ensures crash { (held : Held) → LeavesOnly self.old.inner.terms held (leaves_of self.old.inner)
+            → LeavesEither self.old.inner.terms held (with_act sub act.now held) (leaves_of self.new.inner) }
+        ensures kept { result ≡ Err StoreFault.Device → self.new.inner ≡ self.old.inner }
+        ensures device { result ≡ Err StoreFault.Device → (self.old.stopped ≡ false) × (self.new.stopped ≡ true) }
+        ensures going { result ≢ Err StoreFault.Device → self.new.stopped ≡ self.old.stopped }
+        ensures stopped { result ≡ Err StoreFault.Stopped → self.old.stopped ≡ true }
+        ensures frozen { self.old.stopped ≡ true → (result ≡ Err StoreFault.Stopped) × (self.new ≡ self.old) }
+    {
+        if self.stopped {
+            return Err(StoreFault::Stopped);
+        }
+        if self.to_go == 1 {
+            self.to_go = 0;
+            self.stopped = true;
+            return Err(StoreFault::Device);
+        }
+        self.to_go = self.to_go.saturating_sub(1);
+        self.inner.append(sub, act, entries)
+    }
+
+    fn load(&mut self) -> Result<Book, StoreFault> {
+        if self.is_stopped() {
+            return Err(StoreFault::Stopped);
+        }
+        self.inner.load()
+    }
+}
