@@ -10,7 +10,7 @@ use dcc_act::{Moment, SessionId};
 pub enum Change {
     /// All stay as they are.
     Nothing,
-    /// This session is open, in the place of the one of its name where there is one.
+    /// The session is open, in the place of the one of its name where there is one.
     Open(OpenSession),
     /// The session of this name ends.
     End(SessionId),
