@@ -12,7 +12,7 @@ use Rattle.std.specs.Borrow.{Bor}
 use Rattle.clap.specs.declared.parser.matches.Found.{Found}
 use Rattle.clap.proofs.OnLiterals.{clap_on_literals}
 use Rattle.clap.proofs.WalkLemmas.{first_value-rows}
-use Rattle.dcc_program.specs.CommandLines.{dcc_command, wish_of, Asks, IsUse, IsSomeUse, IsHelpCommand, IsTaskFailure}
+use Rattle.dcc_program.specs.CommandLines.{dcc_command, wish_of, Asks, IsUse, IsSomeUse, IsDecodeCommand, IsHelpCommand, IsTaskFailure}
 use Rattle.dcc_program.specs.declared.failure.Failure.{Failure}
 use Rattle.dcc_program.specs.declared.command_line.Task.{Task}
 
@@ -61,13 +61,15 @@ named_other words app m name found is matches other named =
     (matches (ap is_simple is ∙ is_simple_command)).1 ∙ ap (λ (a : App). subcommand_of a words) is in
     other (name_of_rows m ∙ ap (option_map (λ p. p.0)) (rows ∙ named))
 
--- a parse that entered neither `replay` nor `help` was of no use
+-- a parse that entered no command was of no use
 pub other_words : (words : List Text) (app : App) (m : ArgMatches) → app ≡ dcc_command
     → (is_simple app ≡ true → (rows_of (found_of m) ≡ matches_of app words) × (subcommand_rows_of m ≡ subcommand_of app words))
-    → (subcommand_name_of m ≡ Some (codes "replay") → ⊥) → (subcommand_name_of m ≡ Some (codes "help") → ⊥)
-    → (IsSomeUse words → ⊥) × (IsHelpCommand words → ⊥)
-other_words words app m is matches other none = (
+    → (subcommand_name_of m ≡ Some (codes "replay") → ⊥) → (subcommand_name_of m ≡ Some (codes "decode") → ⊥)
+    → (subcommand_name_of m ≡ Some (codes "help") → ⊥)
+    → (IsSomeUse words → ⊥) × (IsDecodeCommand words → ⊥) × (IsHelpCommand words → ⊥)
+other_words words app m is matches other another none = (
   λ given. named_other words app m (codes "replay") given.1.found is matches other given.1.named,
+  λ given. named_other words app m (codes "decode") given.found is matches another given.named,
   λ given. named_other words app m (codes "help") given.found is matches none given.named,
 )
 
@@ -110,16 +112,22 @@ first_same {A} {B} a c b d same =
     let pair : ◌≡◌ {A = A × B} (a, b) (c, d) = cc in
     ap (λ (p : A × B). p.0) pair
 
-not_replay : codes "help" ≡ codes "replay" → ⊥
-not_replay same =
+help_not_replay : codes "help" ≡ codes "replay" → ⊥
+help_not_replay same =
     let first : ◌≡◌ {A = ℕ} (slice_index (codes "help") 0) (slice_index (codes "replay") 0) = ap (λ (t : List ℕ). slice_index t 0) same in
     let bad : ◌≡◌ {A = ℕ} 104 114 = first in
+    absurd (omega arith)
+
+decode_not_replay : codes "decode" ≡ codes "replay" → ⊥
+decode_not_replay same =
+    let first : ◌≡◌ {A = ℕ} (slice_index (codes "decode") 0) (slice_index (codes "replay") 0) = ap (λ (t : List ℕ). slice_index t 0) same in
+    let bad : ◌≡◌ {A = ℕ} 100 114 = first in
     absurd (omega arith)
 
 -- without one there is no use
 pub no_path : (words : List Text) (f : Found) (r : Option (Bor Text))
     → subcommand_of dcc_command words ≡ Some (codes "replay", rows_of f) → option_map (λ s. s.now) r ≡ first_value f (codes "PLAN")
-    → r ≡ None → (IsSomeUse words → ⊥) × (IsHelpCommand words → ⊥)
+    → r ≡ None → (IsSomeUse words → ⊥) × (IsDecodeCommand words → ⊥) × (IsHelpCommand words → ⊥)
 no_path words f r named value is = (
   λ given.
       (let same : given.1.found ≡ rows_of f = same_second (codes "replay") given.1.found (rows_of f) (sym given.1.named ∙ named) in
@@ -127,7 +135,11 @@ no_path words f r named value is = (
       let some : first_of (codes "PLAN") (rows_of f) ≡ Some given.0 = ap (first_of (codes "PLAN")) (sym same) ∙ given.1.path_is in
       cc),
   λ given.
+      (let same : ◌≡◌ {A = Option (Text × List Row)} (Some (codes "decode", given.found)) (Some (codes "replay", rows_of f)) = sym given.named ∙ named in
+      let name : codes "decode" ≡ codes "replay" = first_same _ _ _ _ same in
+      absurd (decode_not_replay name)),
+  λ given.
       (let same : ◌≡◌ {A = Option (Text × List Row)} (Some (codes "help", given.found)) (Some (codes "replay", rows_of f)) = sym given.named ∙ named in
       let name : codes "help" ≡ codes "replay" = first_same _ _ _ _ same in
-      absurd (not_replay name)),
+      absurd (help_not_replay name)),
 )

@@ -1,5 +1,5 @@
 -- How the program ends.
-use Rattle.std.specs.Prelude.{ℕ, [], ◌∷◌, ◌++◌, List, codes, Option, Some, None, Result, Ok, Err}
+use Rattle.std.specs.Prelude.{⊤, ℕ, [], ◌∷◌, ◌++◌, List, codes, Option, Some, None, Result, Ok, Err}
 use Rattle.std.specs.Fmt.{decimal}
 use Rattle.dcc_tariff.specs.declared.fault.PlanFault.{PlanFault}
 use Rattle.dcc_tariff.specs.Faults.{fault_number}
@@ -9,6 +9,8 @@ use Rattle.dcc_streams.specs.declared.reading.ReadFault.{ReadFault}
 use Rattle.dcc_streams.specs.declared.reading.ReadFault.TheVariants as read
 use Rattle.dcc_replay.specs.declared.fault.ReplayFault.{ReplayFault}
 use Rattle.dcc_replay.specs.declared.fault.ReplayFault.TheVariants as replay
+use Rattle.dcc_decode.specs.declared.fault.DecodeFault.{DecodeFault}
+use Rattle.dcc_decode.specs.declared.fault.DecodeFault.TheVariants as decode
 use Rattle.dcc_program.specs.declared.failure.Failure.{Failure}
 use Rattle.dcc_program.specs.declared.failure.Failure.TheVariants.{Usage, Memory, Io, Plan, Script}
 
@@ -24,7 +26,7 @@ status_of (Script line) = 5
 abbrev pub line_of : Failure → List ℕ
 line_of Memory = codes "dcc: memory"
 line_of Io = codes "dcc: io"
-line_of Usage = codes "dcc: usage: dcc replay PLAN"
+line_of Usage = codes "dcc: usage: dcc replay PLAN, or dcc decode"
 line_of (Plan number) = codes "dcc: plan fault " ++ decimal number
 line_of (Script line) = codes "dcc: script line " ++ decimal line
 
@@ -60,3 +62,16 @@ of_replay (replay.Line line) = Script line
 of_replay replay.Memory = Memory
 of_replay replay.Input = Io
 of_replay replay.Output = Io
+
+abbrev pub of_decode : DecodeFault → Failure
+of_decode decode.Memory = Memory
+of_decode decode.Input = Io
+of_decode decode.Output = Io
+
+-- the failures that showing messages comes to: of no input
+abbrev pub IsDecodeFailure : Failure → Type 0
+IsDecodeFailure Usage = ⊥
+IsDecodeFailure Memory = ⊤
+IsDecodeFailure Io = ⊤
+IsDecodeFailure (Plan number) = ⊥
+IsDecodeFailure (Script line) = ⊥

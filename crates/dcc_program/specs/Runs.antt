@@ -5,23 +5,26 @@ use Rattle.clap.specs.Words.{Text}
 use Rattle.dcc_tariff.specs.Plans.{PlanView}
 use Rattle.dcc_replay.specs.Scripts.{script_of}
 use Rattle.dcc_replay.specs.Replays as replay
+use Rattle.dcc_decode.specs.Decodings as decode
 use Rattle.dcc_program.specs.declared.command_line.Task.{Task}
-use Rattle.dcc_program.specs.declared.command_line.Task.TheVariants.{Replay, Help, Version}
+use Rattle.dcc_program.specs.declared.command_line.Task.TheVariants.{Replay, Decode, Help, Version}
 use Rattle.dcc_program.specs.declared.help.TheConstants.{HELP, VERSION}
 use Rattle.dcc_program.specs.declared.failure.Failure.{Failure}
 use Rattle.dcc_program.specs.declared.failure.Failure.TheVariants.{Usage, Memory, Io, Plan, Script}
 use Rattle.dcc_program.specs.CommandLines.{Asks, IsSomeUse, IsNoUse}
 use Rattle.dcc_program.specs.Plans.{IsPlanFailure}
 
--- a task is done: the script before and after, and the writer. A text is printed without a look at the script
+-- a task is done: the input before and after, and the writer. A text is printed without a look at the input
 abbrev pub IsDone : Task → (unread left old new : Option (List ℕ)) → Type 0
 IsDone (Replay path) unread left old new = (plan : PlanView) × replay.IsWritten plan unread old new
+IsDone Decode unread left old new = decode.IsWritten unread old new
 IsDone Help unread left old new = Keeps unread left × Appends old new HELP.now
 IsDone Version unread left old new = Keeps unread left × Appends old new VERSION.now
 
 -- of what a task writes, the first octets are written
 abbrev pub IsBegun : Task → (unread old new : Option (List ℕ)) → Type 0
 IsBegun (Replay path) unread old new = (plan : PlanView) × replay.IsBegun plan unread old new
+IsBegun Decode unread old new = decode.IsBegun unread old new
 IsBegun Help unread old new = (n : ℕ) × Appends old new (take n HELP.now)
 IsBegun Version unread old new = (n : ℕ) × Appends old new (take n VERSION.now)
 

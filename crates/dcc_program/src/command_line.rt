@@ -18,6 +18,8 @@ use std::{env, io};
 pub enum Task<'a> {
     /// To replay a script under the plan of the file at this path.
     Replay(&'a str),
+    /// To show the messages of a text.
+    Decode,
     /// To print what the command lines are.
     Help,
     /// To print the version.
@@ -50,6 +52,9 @@ pub fn task_of<'a>(alloc: Global, words: &'a [String]) -> Result<Task<'a>, Failu
             None => Err(Failure::Usage),
         };
     }
+    if let Some(_) = matches.subcommand_matches("decode") {
+        return Ok(Task::Decode);
+    }
     match matches.subcommand_matches("help") {
         Some(_) => Ok(Task::Help),
         None => Err(Failure::Usage),
@@ -68,7 +73,7 @@ fn wish_of<'a>(kind: ErrorKind) -> Result<Task<'a>, Failure>
     }
 }
 
-/// The program with its commands and their arguments. `help` is a command of its own, without arguments.
+/// The program with its commands and their arguments. `decode` has none, nor has `help`, which is a command of its own.
 fn command<'a>(alloc: Global) -> Result<Command<'a>, AllocError>
     ensures { IfOk result (λ command. app_of command ≡ dcc_command) }
 {
@@ -76,11 +81,13 @@ fn command<'a>(alloc: Global) -> Result<Command<'a>, AllocError>
         .required(true)
         .action(ArgAction::Set);
     let replay = Command::new(alloc, "replay").arg(plan)?;
+    let decode = Command::new(alloc, "decode");
     let help = Command::new(alloc, "help");
     Command::new(alloc, "dcc")
         .version(VERSION)
         .subcommand_required(true)
         .disable_help_subcommand(true)
         .subcommand(replay)?
+        .subcommand(decode)?
         .subcommand(help)
 }

@@ -2,9 +2,10 @@
 
 ghost use Rattle.std.specs.Prelude.{◌≡◌, Some};
 ghost use Rattle.std.specs.IoError.{error_kind};
-ghost use Rattle.dcc_program.specs.Failures.{status_of, line_of, of_plan, of_read, of_replay, of_io_kind};
+ghost use Rattle.dcc_program.specs.Failures.{status_of, line_of, of_plan, of_read, of_replay, of_decode, of_io_kind};
 ghost use Rattle.dcc_program.specs.declared.failure.Failure.TheVariants as failure;
 
+use dcc_decode::DecodeFault;
 use dcc_replay::ReplayFault;
 use dcc_streams::{ReadFault, WriteFault};
 use dcc_tariff::PlanFault;
@@ -47,7 +48,7 @@ impl fmt::Display for Failure {
 
     fn fmt<W: fmt::Write>(&self, f: &mut fmt::Formatter<W>) -> fmt::Result {
         match self {
-            Failure::Usage => write!(f, "dcc: usage: dcc replay PLAN"),
+            Failure::Usage => write!(f, "dcc: usage: dcc replay PLAN, or dcc decode"),
             Failure::Memory => write!(f, "dcc: memory"),
             Failure::Io => write!(f, "dcc: io"),
             Failure::Plan(number) => write!(f, "dcc: plan fault {number}"),
@@ -121,6 +122,17 @@ impl From<ReplayFault> for Failure {
             ReplayFault::Line(line) => Failure::Script(line),
             ReplayFault::Memory => Failure::Memory,
             ReplayFault::Input | ReplayFault::Output => Failure::Io,
+        }
+    }
+}
+
+impl From<DecodeFault> for Failure {
+    ghost from_gives = { λ fault given. given ≡ of_decode fault };
+
+    fn from(fault: DecodeFault) -> Failure {
+        match fault {
+            DecodeFault::Memory => Failure::Memory,
+            DecodeFault::Input | DecodeFault::Output => Failure::Io,
         }
     }
 }

@@ -5,10 +5,13 @@ pub const HELP: &str = "\
 dcc is a Diameter credit-control server (RFC 8506) on prepaid balances.
 
 usage: dcc replay PLAN
+       dcc decode
        dcc help
 
 dcc replay PLAN   reads a script of events from standard input, and prints what each event is answered under the
                   plan of the file PLAN. A path that begins with a hyphen stands behind --
+dcc decode        reads what a replay printed, a script, or messages in hex from standard input, and prints each message
+                  as a tree of names and values, and each line without one as it is
 dcc help          prints this text, as dcc --help and dcc -h do
 dcc --version     prints the version, as dcc -V does
 

@@ -1,12 +1,14 @@
 //! The program `dcc`: its command line, its plan file, how it ends, and its work over any files, reader and writers.
 //!
-//! Stands on `dcc_replay` for scripts, and on `dcc_tariff` for plans. The contract that it gives: [`replay`] is `dcc replay PLAN`
-//! over the plan's reader, the script's reader and a writer; [`task_of`] is what the words of a command line ask for; [`run`]
-//! judges the words, opens the plan's file and replays, or prints a text; [`end`] is the line on standard error and the status.
-//! [`execute`] is all of it, for a `main` of one line.
+//! Stands on `dcc_replay` for scripts, on `dcc_decode` for messages as a person reads them, and on `dcc_tariff` for plans. The
+//! contract that it gives: [`replay`] is `dcc replay PLAN` over the plan's reader, the script's reader and a writer, and
+//! [`decode`] is `dcc decode`; [`task_of`] is what the words of a command line ask for; [`run`] judges the words, opens the
+//! plan's file and replays, or decodes, or prints a text; [`end`] is the line on standard error and the status. [`execute`] is
+//! all of it, for a `main` of one line.
 #![tactic(auto)]
 
 mod command_line;
+mod decoding;
 mod ending;
 mod failure;
 mod help;
@@ -16,6 +18,7 @@ mod program;
 mod replaying;
 
 pub use command_line::{Task, given_words, task_of};
+pub use decoding::decode;
 pub use ending::{Ending, end};
 pub use failure::Failure;
 pub use help::{HELP, VERSION};

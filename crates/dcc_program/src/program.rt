@@ -8,6 +8,7 @@ ghost use Rattle.dcc_program.specs.declared.command_line.Task.{Task};
 ghost use Rattle.dcc_program.specs.declared.failure.Failure.TheVariants.{Io};
 
 use crate::command_line::{Task, task_of};
+use crate::decoding::decode;
 use crate::failure::Failure;
 use crate::help::{HELP, VERSION};
 use crate::replaying::replay;
@@ -16,7 +17,8 @@ use std::fs;
 use std::io::{Read, Write};
 use std::rt::Files;
 
-/// Does what the words of a command line ask for: replays the script of the input under the plan of the file, or prints a text.
+/// Does what the words of a command line ask for: replays the script of the input under the plan of the file, shows the messages
+/// of the input, or prints a text.
 ///
 /// The words are judged first, then the plan, then the script. A text is printed before anything is opened or read.
 pub fn run<F: Files + AllocGlobal, R: Read, W: Write>(
@@ -41,5 +43,6 @@ pub fn run<F: Files + AllocGlobal, R: Read, W: Write>(
             let mut file = fs::open(rt, path)?;
             replay(rt.alloc(), &mut file, input, output)
         }
+        Task::Decode => decode(rt.alloc(), input, output),
     }
 }

@@ -1,4 +1,4 @@
-//! The program `dcc`: `dcc replay PLAN` replays the script of its input under the plan of a file.
+//! The program `dcc`: `dcc replay PLAN` replays the script of its input under the plan of a file, and `dcc decode` shows messages.
 //!
 //! What it does stands in `dcc_program`, with its contracts; here it is given the process.
 #![tactic(auto)]

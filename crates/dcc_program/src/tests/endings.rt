@@ -26,7 +26,11 @@ fn each_end_has_its_status_and_its_line(rt: HostRuntime) -> Result<(), Fail> {
         (Ok(()), 0, ""),
         (Err(Failure::Memory), 1, "dcc: memory\n"),
         (Err(Failure::Io), 1, "dcc: io\n"),
-        (Err(Failure::Usage), 2, "dcc: usage: dcc replay PLAN\n"),
+        (
+            Err(Failure::Usage),
+            2,
+            "dcc: usage: dcc replay PLAN, or dcc decode\n",
+        ),
         (Err(Failure::Plan(22)), 3, "dcc: plan fault 22\n"),
         (Err(Failure::Script(10)), 5, "dcc: script line 10\n"),
     ] {

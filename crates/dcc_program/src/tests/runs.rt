@@ -19,10 +19,12 @@ fn command_lines_ask_for_a_task_or_are_no_use(rt: HostRuntime) -> Result<(), Fai
     for (line, task) in [
         ("dcc replay plan.toml", Ok(Task::Replay("plan.toml"))),
         ("dcc replay -- -plan", Ok(Task::Replay("-plan"))),
+        ("dcc decode", Ok(Task::Decode)),
         ("dcc help", Ok(Task::Help)),
         ("dcc --help", Ok(Task::Help)),
         ("dcc -h", Ok(Task::Help)),
         ("dcc replay --help", Ok(Task::Help)),
+        ("dcc decode -h", Ok(Task::Help)),
         ("dcc --version", Ok(Task::Version)),
         ("dcc -V", Ok(Task::Version)),
         ("dcc", Err(Failure::Usage)),
@@ -30,6 +32,8 @@ fn command_lines_ask_for_a_task_or_are_no_use(rt: HostRuntime) -> Result<(), Fai
         ("dcc replay a b", Err(Failure::Usage)),
         ("dcc replay a --version", Err(Failure::Usage)),
         ("dcc help replay", Err(Failure::Usage)),
+        ("dcc decode a", Err(Failure::Usage)),
+        ("dcc decode replay a", Err(Failure::Usage)),
         ("dcc serve a", Err(Failure::Usage)),
         ("dcc --replay a", Err(Failure::Usage)),
         ("dcc replay --a", Err(Failure::Usage)),
@@ -61,6 +65,18 @@ fn the_words_are_judged_before_the_plan_and_the_plan_before_the_script(
         assert_eq!(&rt; output.as_slice(), printed.as_bytes(), "{line}");
         assert_eq!(&rt; script, b"open".as_slice(), "{line}");
     }
+    Ok(())
+}
+
+#[test]
+fn messages_are_shown(rt: HostRuntime) -> Result<(), Fail> {
+    let given = words(rt.alloc(), "dcc decode")?;
+    let mut input = b"1 -\n2 answer 1 05000014\n".as_slice();
+    let mut output = Vec::new(rt.alloc());
+    run(&rt, given.as_slice(), &mut input, &mut output)?;
+    let printed =
+        b"1 -\n2 answer 1\nMessage, 4 octets\n  fault 10 at octet 0: the version is 5, not 1\n  octets left: 0x05000014\n\n";
+    assert_eq!(&rt; output.as_slice(), printed.as_slice());
     Ok(())
 }
 

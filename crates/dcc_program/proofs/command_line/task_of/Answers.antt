@@ -36,7 +36,7 @@ returns-in-Some-clause-failure c =
       | in-Some-get_str w ↦ rw w.result-is tt
       | in-None w ↦
           let none = no_path words (found_of c.in-Some.replay.now) c.get_str.result named c.get_str.ensures w.in-None.is in
-          rw w.result-is (inr (accepted, none.0, none.1))
+          rw w.result-is (inr (accepted, none.0, none.1, none.2))
     ]
 
 pub returns-in-Some-subcommand_matches-clause-task : goal.returns-in-Some-subcommand_matches-clause-task
@@ -44,6 +44,17 @@ returns-in-Some-subcommand_matches-clause-task c =
     let words = map string_bytes c.args.words.now in
     let named = found_rows words _ c.in-Ok.matches c.in-Some-subcommand_matches.field-0.now _ c.in_ok-command.ensures c.in-Ok.ensures.matches
     (c.in-Some-subcommand_matches.ensures.found.0 refl) c.in-Some-subcommand_matches.ensures.rows in
+    record {
+      accepted = accepted_words words _ c.in_ok-command.ensures c.in-Ok.ensures.kinds;
+      found = _;
+      named = named;
+    }
+
+pub returns-in-Some-subcommand_matches-2-clause-task : goal.returns-in-Some-subcommand_matches-2-clause-task
+returns-in-Some-subcommand_matches-2-clause-task c =
+    let words = map string_bytes c.args.words.now in
+    let named = found_rows words _ c.in-Ok.matches c.in-Some-subcommand_matches-2.field-0.now _ c.in_ok-command.ensures c.in-Ok.ensures.matches
+    (c.in-Some-subcommand_matches-2.ensures.found.0 refl) c.in-Some-subcommand_matches-2.ensures.rows in
     inr (record {
       accepted = accepted_words words _ c.in_ok-command.ensures c.in-Ok.ensures.kinds;
       found = _;
@@ -55,5 +66,6 @@ returns-clause-failure c =
     let words = map string_bytes c.args.words.now in
     let none = other_words words _ c.in-Ok.matches c.in_ok-command.ensures c.in-Ok.ensures.matches
     (λ name. (let some = c.in_default.ensures.found.1 name in cc))
+    (λ name. (let some = c.in_default-subcommand_matches.ensures.found.1 name in cc))
     (λ name. (let some = c.in-None-subcommand_matches.ensures.found.1 name in cc)) in
-    inr (accepted_words words _ c.in_ok-command.ensures c.in-Ok.ensures.kinds, none.0, none.1)
+    inr (accepted_words words _ c.in_ok-command.ensures c.in-Ok.ensures.kinds, none.0, none.1, none.2)

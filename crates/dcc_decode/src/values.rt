@@ -1,0 +1,133 @@
+//! The names of the values that AVPs have (RFC 6733, and RFC 8506, section 8), by the AVP's code.
+
+use dcc_avp::codes;
+
+/// A value with its name.
+type Row = (u32, &'static str);
+
+/// Result-Code (RFC 6733, section 7.1, and RFC 8506, section 9).
+const RESULT_CODES: [Row; 38] = [
+    (1001, "DIAMETER_MULTI_ROUND_AUTH"),
+    (2001, "DIAMETER_SUCCESS"),
+    (2002, "DIAMETER_LIMITED_SUCCESS"),
+    (3001, "DIAMETER_COMMAND_UNSUPPORTED"),
+    (3002, "DIAMETER_UNABLE_TO_DELIVER"),
+    (3003, "DIAMETER_REALM_NOT_SERVED"),
+    (3004, "DIAMETER_TOO_BUSY"),
+    (3005, "DIAMETER_LOOP_DETECTED"),
+    (3006, "DIAMETER_REDIRECT_INDICATION"),
+    (3007, "DIAMETER_APPLICATION_UNSUPPORTED"),
+    (3008, "DIAMETER_INVALID_HDR_BITS"),
+    (3009, "DIAMETER_INVALID_AVP_BITS"),
+    (3010, "DIAMETER_UNKNOWN_PEER"),
+    (4001, "DIAMETER_AUTHENTICATION_REJECTED"),
+    (4002, "DIAMETER_OUT_OF_SPACE"),
+    (4003, "ELECTION_LOST"),
+    (4010, "DIAMETER_END_USER_SERVICE_DENIED"),
+    (4011, "DIAMETER_CREDIT_CONTROL_NOT_APPLICABLE"),
+    (4012, "DIAMETER_CREDIT_LIMIT_REACHED"),
+    (5001, "DIAMETER_AVP_UNSUPPORTED"),
+    (5002, "DIAMETER_UNKNOWN_SESSION_ID"),
+    (5003, "DIAMETER_AUTHORIZATION_REJECTED"),
+    (5004, "DIAMETER_INVALID_AVP_VALUE"),
+    (5005, "DIAMETER_MISSING_AVP"),
+    (5006, "DIAMETER_RESOURCES_EXCEEDED"),
+    (5007, "DIAMETER_CONTRADICTING_AVPS"),
+    (5008, "DIAMETER_AVP_NOT_ALLOWED"),
+    (5009, "DIAMETER_AVP_OCCURS_TOO_MANY_TIMES"),
+    (5010, "DIAMETER_NO_COMMON_APPLICATION"),
+    (5011, "DIAMETER_UNSUPPORTED_VERSION"),
+    (5012, "DIAMETER_UNABLE_TO_COMPLY"),
+    (5013, "DIAMETER_INVALID_BIT_IN_HEADER"),
+    (5014, "DIAMETER_INVALID_AVP_LENGTH"),
+    (5015, "DIAMETER_INVALID_MESSAGE_LENGTH"),
+    (5016, "DIAMETER_INVALID_AVP_BIT_COMBO"),
+    (5017, "DIAMETER_NO_COMMON_SECURITY"),
+    (5030, "DIAMETER_USER_UNKNOWN"),
+    (5031, "DIAMETER_RATING_FAILED"),
+];
+
+const DISCONNECT_CAUSES: [Row; 3] = [
+    (0, "REBOOTING"),
+    (1, "BUSY"),
+    (2, "DO_NOT_WANT_TO_TALK_TO_YOU"),
+];
+
+const TERMINATION_CAUSES: [Row; 8] = [
+    (1, "DIAMETER_LOGOUT"),
+    (2, "DIAMETER_SERVICE_NOT_PROVIDED"),
+    (3, "DIAMETER_BAD_ANSWER"),
+    (4, "DIAMETER_ADMINISTRATIVE"),
+    (5, "DIAMETER_LINK_BROKEN"),
+    (6, "DIAMETER_AUTH_EXPIRED"),
+    (7, "DIAMETER_USER_MOVED"),
+    (8, "DIAMETER_SESSION_TIMEOUT"),
+];
+
+const INBAND_SECURITY: [Row; 2] = [(0, "NO_INBAND_SECURITY"), (1, "TLS")];
+
+const REQUEST_TYPES: [Row; 4] = [
+    (1, "INITIAL_REQUEST"),
+    (2, "UPDATE_REQUEST"),
+    (3, "TERMINATION_REQUEST"),
+    (4, "EVENT_REQUEST"),
+];
+
+const SESSION_FAILOVER: [Row; 2] = [(0, "FAILOVER_NOT_SUPPORTED"), (1, "FAILOVER_SUPPORTED")];
+
+const BALANCE_RESULTS: [Row; 2] = [(0, "ENOUGH_CREDIT"), (1, "NO_CREDIT")];
+
+const REQUESTED_ACTIONS: [Row; 4] = [
+    (0, "DIRECT_DEBITING"),
+    (1, "REFUND_ACCOUNT"),
+    (2, "CHECK_BALANCE"),
+    (3, "PRICE_ENQUIRY"),
+];
+
+const FINAL_ACTIONS: [Row; 3] = [(0, "TERMINATE"), (1, "REDIRECT"), (2, "RESTRICT_ACCESS")];
+
+const SUBSCRIPTION_TYPES: [Row; 5] = [
+    (0, "END_USER_E164"),
+    (1, "END_USER_IMSI"),
+    (2, "END_USER_SIP_URI"),
+    (3, "END_USER_NAI"),
+    (4, "END_USER_PRIVATE"),
+];
+
+const TARIFF_CHANGES: [Row; 3] = [
+    (0, "UNIT_BEFORE_TARIFF_CHANGE"),
+    (1, "UNIT_AFTER_TARIFF_CHANGE"),
+    (2, "UNIT_INDETERMINATE"),
+];
+
+const MULTIPLE_SERVICES: [Row; 2] = [
+    (0, "MULTIPLE_SERVICES_NOT_SUPPORTED"),
+    (1, "MULTIPLE_SERVICES_SUPPORTED"),
+];
+
+/// The values that have names, of the AVP with this code and no vendor.
+fn rows_of(code: u32) -> &'static [Row] {
+    match code {
+        codes::RESULT_CODE => &RESULT_CODES,
+        codes::DISCONNECT_CAUSE => &DISCONNECT_CAUSES,
+        codes::TERMINATION_CAUSE => &TERMINATION_CAUSES,
+        codes::INBAND_SECURITY_ID => &INBAND_SECURITY,
+        codes::CC_REQUEST_TYPE => &REQUEST_TYPES,
+        codes::CC_SESSION_FAILOVER => &SESSION_FAILOVER,
+        codes::CHECK_BALANCE_RESULT => &BALANCE_RESULTS,
+        codes::REQUESTED_ACTION => &REQUESTED_ACTIONS,
+        codes::FINAL_UNIT_ACTION => &FINAL_ACTIONS,
+        codes::SUBSCRIPTION_ID_TYPE => &SUBSCRIPTION_TYPES,
+        codes::TARIFF_CHANGE_USAGE => &TARIFF_CHANGES,
+        codes::MULTIPLE_SERVICES_INDICATOR => &MULTIPLE_SERVICES,
+        _ => &[],
+    }
+}
+
+/// The name of a value of the AVP with this code and no vendor, if its RFC gives it one.
+pub(crate) fn value_name(code: u32, value: u32) -> Option<&'static str> {
+    rows_of(code)
+        .iter()
+        .find(|row| row.0 == value)
+        .map(|row| row.1)
+}
