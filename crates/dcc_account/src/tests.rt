@@ -1,12 +1,13 @@
 //! Accounts beside the plain program.
 
-ghost use Rattle.std.specs.Prelude.{◌≤◌};
+ghost use Rattle.std.specs.Prelude.{◌≤◌, IfOk};
 ghost use Rattle.std.specs.Option.{ForSome};
 ghost use Rattle.dcc_tariff.specs.declared.limits.TheConstants.{MAX_UNITS};
+ghost use Rattle.dcc_account.specs.Prepared.{IsPrepared};
 
 mod thrown;
 
-use crate::Account;
+use crate::{Account, Step};
 use dcc_act::{
     Act, Form, Kind, Moment, Outcome, RequestKey, Service, ServiceIds, Services, SessionId,
     SessionRequest, TopUp,
@@ -189,5 +190,63 @@ fn discarded_step(rt: HostRuntime) -> Result<(), Fail> {
     assert_eq!(rt; step.entries().len(), 1);
     Account::discard(step);
     assert_eq!(rt; account.funds(), 0);
+    Ok(())
+}
+
+/// What an account holds, and its money.
+fn held(account: &Account) -> (usize, usize, i128, i128, i128) {
+    (
+        account.acts().len(),
+        account.entries().len(),
+        account.funds(),
+        account.free(),
+        account.overrun(),
+    )
+}
+
+/// The step of an act, prepared anew where memory refused it, which has to leave the account as it was.
+fn prepared(
+    rt: &impl Abort,
+    alloc: Global,
+    account: &Account,
+    after: u32,
+    ask: Ask,
+    was_refused: &mut bool,
+) -> Result<Step, Fail>
+    ensures { IfOk result (λ step. IsPrepared account.now step) }
+{
+    let before = held(account);
+    if let Ok(step) = account.prepare(act(alloc, after, ask)?) {
+        return Ok(step);
+    }
+    *was_refused = true;
+    assert_eq!(rt; held(account), before);
+    Ok(account.prepare(act(alloc, after, ask)?)?)
+}
+
+/// For allocations that are refused one after another: a step that memory refuses leaves the account as it was, and the same
+/// act prepared again comes to what it would have.
+#[test]
+fn a_refusal_leaves_the_account(rt: HostRuntime) -> Result<(), Fail> {
+    let alloc = rt.alloc();
+    let mut account = Account::new(alloc, &TERMS);
+    let mut was_refused = false;
+    let lines = [
+        (0, Ask::TopUp(1000)),
+        (0, Ask::Initial(1, 0, 100_000)),
+        (0, Ask::Initial(2, 0, 200_000)),
+        (0, Ask::Update(1, 1, 40_001, 100_000)),
+        (0, Ask::Update(2, 1, 100_500, 0)),
+        (2000, Ask::Expiry),
+        (2000, Ask::Update(1, 1, 40_001, 100_000)),
+    ];
+    for (after, ask) in lines {
+        let step = prepared(&rt, alloc, &account, after, ask, &mut was_refused)?;
+        account.install(step);
+    }
+    assert_eq!(rt; held(&account), (6, 3, 290, 290, 5));
+    if was_refused {
+        return Err("memory was refused".into());
+    }
     Ok(())
 }
