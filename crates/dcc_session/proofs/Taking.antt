@@ -1,0 +1,128 @@
+-- A grant is taken out of a list of grants, where no service has two.
+use Rattle.std.proofs.Common.{◌≡◌, ℕ, zero, suc, ◌+◌, ◌<◌, ◌≤◌, Bool, true, false, List, [], ◌∷◌, length, get_or, refl, sym, ap, ◌∙◌, inl, inr, arith, map, Some, None}
+use Rattle.std.specs.Prelude.{position, remove, nat_lt}
+use Rattle.std.specs.List.{list_any, position_or_len}
+use Rattle.std.proofs.lemmas.Bool.{cases_Bool, or_parts}
+use Rattle.std.proofs.lemmas.Bool.Decides.{nat_tests}
+use Rattle.dcc_act.specs.ServiceKeys.{same_service, are_apart}
+use Rattle.dcc_act.specs.declared.service_key.ServiceKey.{ServiceKey}
+use Rattle.dcc_session.specs.declared.held.Held.{Held}
+use Rattle.std.proofs.lemmas.List.Sums.{sum_by-cons}
+use Rattle.dcc_session.specs.Grants.{key_of_held, find_held, without, held_price, prices}
+use Rattle.dcc_session.proofs.Keys.{same_service-true, same_both_ways, apart_parts}
+
+-- whether a grant is the service's
+abbrev pub is_for : ServiceKey → Held → Bool
+is_for key held = same_service held.key key
+
+-- where no other grant is of its service, all are left
+none_of : (key : ServiceKey) (grants : List Held) → list_any (same_service key) (map key_of_held grants) ≡ false → without grants key ≡ grants
+none_of key [] h = refl
+none_of key (held ∷ grants) h =
+    let parts = or_parts (same_service key held.key) (list_any (same_service key) (map key_of_held grants)) h in
+    rw (same_both_ways key held.key parts.0, none_of key grants parts.1) refl
+
+-- what is taken out at the first place of a service is its grant, and the others are left
+pub taken_at : (grants : List Held) (key : ServiceKey) (i : ℕ) (d : Held) → i < length grants
+    → is_for key (get_or grants i d) ≡ true → ((k : ℕ) → k < i → is_for key (get_or grants k d) ≡ false)
+    → are_apart (map key_of_held grants) ≡ true
+    → (find_held grants key ≡ Some (get_or grants i d)) × (remove grants i ≡ without grants key)
+taken_at [] key i d within here before apart = absurd (omega arith)
+taken_at (held ∷ grants) key zero d within here before apart =
+    let parts = apart_parts held.key (map key_of_held grants) apart in
+    let same = same_service-true held.key key here in
+    let others : list_any (same_service key) (map key_of_held grants) ≡ false
+    = ap (λ (k : ServiceKey). list_any (same_service k) (map key_of_held grants)) (sym same) ∙ parts.0 in
+    let found : find_held (held ∷ grants) key ≡ Some held = rw here refl in
+    let left : grants ≡ without (held ∷ grants) key = rw here (sym (none_of key grants others)) in
+    (found, left)
+taken_at (held ∷ grants) key (suc i) d within here before apart =
+    let parts = apart_parts held.key (map key_of_held grants) apart in
+    let first : same_service held.key key ≡ false = before zero (omega arith) in
+    let rest = taken_at grants key i d (omega arith) here (λ k lt. before (suc k) (omega arith)) parts.1 in
+    let found : find_held (held ∷ grants) key ≡ Some (get_or grants i d) = rw first rest.0 in
+    let left : (held ∷ remove grants i) ≡ without (held ∷ grants) key = rw (first, rest.1) refl in
+    (found, left)
+
+-- where the walk comes to the end, the service has none, and all are left
+walked : (grants : List Held) (key : ServiceKey) → length grants ≤ position_or_len (is_for key) grants
+    → (find_held grants key ≡ None) × (without grants key ≡ grants)
+walked [] key h = (refl, refl)
+walked (held ∷ grants) key h =
+    elim (cases_Bool (same_service held.key key)) [
+      | inl t ↦ let short : length (held ∷ grants) ≤ 0 = rw t at h in absurd (omega arith)
+      | inr f ↦
+          let short : length (held ∷ grants) ≤ 1 + position_or_len (is_for key) grants = rw f at h in
+          let rest = walked grants key (omega arith) in
+          let none : find_held (held ∷ grants) key ≡ None = rw f rest.0 in
+          let left : without (held ∷ grants) key ≡ held ∷ grants = rw (f, rest.1) refl in
+          (none, left)
+    ]
+
+pub not_there : (grants : List Held) (key : ServiceKey) → position (is_for key) grants ≡ None
+    → (find_held grants key ≡ None) × (without grants key ≡ grants)
+not_there grants key h =
+    elim (cases_Bool (nat_lt (position_or_len (is_for key) grants) (length grants))) [
+      | inl t ↦
+          let some : Some (position_or_len (is_for key) grants) ≡ None = rw t at h in
+          absurd cc
+      | inr f ↦ walked grants key (grind (arith, nat_tests, f))
+    ]
+
+pub remove-map : {X Y : Type 0} (f : X → Y) (xs : List X) (i : ℕ) → remove (map f xs) i ≡ map f (remove xs i)
+remove-map f [] zero = refl
+remove-map f [] (suc i) = refl
+remove-map f (x ∷ xs) zero = refl
+remove-map f (x ∷ xs) (suc i) = ap (λ ys. f x ∷ ys) (remove-map f xs i)
+
+-- a service's grant costs no more than all
+pub price-le : (grants : List Held) (key : ServiceKey) (held : Held) → find_held grants key ≡ Some held → held_price held ≤ prices grants
+price-le [] key held h = absurd cc
+price-le (first ∷ grants) key held h =
+    let all = sum_by-cons held_price first grants in
+    elim (cases_Bool (same_service first.key key)) [
+      | inl t ↦
+          let found : Some first ≡ Some held = rw t at h in
+          let same : first ≡ held = cc in
+          let cost = ap held_price same in
+          omega arith
+      | inr f ↦
+          let later : find_held grants key ≡ Some held = rw f at h in
+          let rest = price-le grants key held later in
+          omega arith
+    ]
+
+-- one that is left stays apart from others
+still_apart : (key own : ServiceKey) (grants : List Held) → list_any (same_service own) (map key_of_held grants) ≡ false
+    → list_any (same_service own) (map key_of_held (without grants key)) ≡ false
+still_apart key own [] h = refl
+still_apart key own (held ∷ grants) h =
+    let parts = or_parts (same_service own held.key) (list_any (same_service own) (map key_of_held grants)) h in
+    let rest = still_apart key own grants parts.1 in
+    elim (cases_Bool (same_service held.key key)) [ inl t ↦ rw t rest | inr f ↦ rw (f, parts.0) rest ]
+
+pub apart_without : (grants : List Held) (key : ServiceKey) → are_apart (map key_of_held grants) ≡ true
+    → are_apart (map key_of_held (without grants key)) ≡ true
+apart_without [] key h = refl
+apart_without (held ∷ grants) key h =
+    let parts = apart_parts held.key (map key_of_held grants) h in
+    let rest = apart_without grants key parts.1 in
+    elim (cases_Bool (same_service held.key key)) [
+      | inl t ↦ rw t rest
+      | inr f ↦ rw (f, still_apart key held.key grants parts.0) rest
+    ]
+
+-- a service that has no grant is apart from those that have
+fresh : (grants : List Held) (key : ServiceKey) → find_held grants key ≡ None → list_any (same_service key) (map key_of_held grants) ≡ false
+fresh [] key h = refl
+fresh (held ∷ grants) key h =
+    elim (cases_Bool (same_service held.key key)) [
+      | inl t ↦ let found : Some held ≡ None = rw t at h in absurd cc
+      | inr f ↦
+          let later : find_held grants key ≡ None = rw f at h in
+          rw (same_both_ways held.key key f) (fresh grants key later)
+    ]
+
+pub apart_with : (grants : List Held) (held : Held) → find_held grants held.key ≡ None → are_apart (map key_of_held grants) ≡ true
+    → are_apart (map key_of_held (held ∷ grants)) ≡ true
+apart_with grants held none apart = rw (fresh grants held.key none) apart

@@ -1,0 +1,3 @@
+pub mod Grants
+pub mod Sessions
+pub mod inner

@@ -1,0 +1,164 @@
+//! Open sessions.
+
+ghost use Rattle.std.specs.Prelude.{◌≡◌, ◌+◌, ◌-◌, ◌≤◌, ◌∷◌, ◌++◌, pos, ◌-ℤ◌, true, length, map, Err, OnOk, OnErr};
+ghost use Rattle.dcc_escrow.specs.Pools.{IsCovered, IsAboveFloor};
+ghost use Rattle.dcc_act.specs.ServiceKeys.{are_apart};
+ghost use Rattle.dcc_act.specs.Services.{service_key};
+ghost use Rattle.dcc_session.specs.Grants.{key_of_held, find_held, held_price, prices, without, live_price_in, charge_in, cost_in, overrun_in};
+ghost use Rattle.dcc_session.specs.Sessions.{IsHeldOn};
+
+use crate::charged::Charged;
+use crate::charging::settle;
+use crate::fault::GrantFault;
+use crate::granted::Granted;
+use crate::held::{Held, price_held};
+use crate::holds::{release_all, take_all, take_out};
+use crate::idle::Closed;
+use crate::parked::ParkedSession;
+use dcc_act::Service;
+use dcc_escrow::{Parked, Pool};
+use std::marker::Model;
+
+/// A session that is open: until when it is held, in seconds, and its live grants, each with a hold on the pool of just its
+/// price. It can't be let go: the only ways out are [`Open::end`] and [`Open::park`], and the compiler refuses a program in
+/// which one is lost.
+#[derive(Debug)]
+pub struct Open {
+    pub(crate) pool: u64,
+    pub(crate) deadline: u64,
+    pub(crate) grants: Vec<Held>,
+    pub(crate) holds: Vec<Parked>,
+}
+
+impl Model for Open {
+    ghost use Rattle.dcc_session.specs.Sessions.{OpenView};
+    ghost use Rattle.dcc_session.specs.inner.Holds.{AreHeld};
+
+    ghost Value = { OpenView };
+
+    ghost view = { λ s. record { pool = s.pool; deadline = s.deadline; grants = s.grants.items } };
+
+    ghost invariant = { λ s. AreHeld s.pool s.grants.items s.holds.items };
+}
+
+impl Open {
+    /// Until when the session is held, in seconds.
+    pub fn deadline(&self) -> u64
+        ensures { result ≡ self.now.deadline }
+    {
+        self.deadline
+    }
+
+    /// Its live grants, those of the latest request first.
+    pub fn grants(&self) -> &[Held]
+        ensures { result.now ≡ self.now.grants }
+    {
+        &self.grants
+    }
+
+    /// Gives back what the service holds, and charges what it reports, in minor units: at the tariff of its live grant, or
+    /// without one at its own. The charge may pass the hold, and the part beyond it is told. It takes no memory.
+    pub fn report(&mut self, pool: &mut Pool, service: &Service) -> Charged
+        requires held { IsHeldOn pool.old self.old }
+        requires floor { IsAboveFloor (pool.old.committed -ℤ pos (cost_in self.old.grants service.now)) }
+        ensures charge { result.charge ≡ charge_in self.old.grants service.now }
+        ensures overrun { result.overrun ≡ overrun_in self.old.grants service.now }
+        ensures session { self.new ≡ record self.old { grants = without self.old.grants (service_key service.now) } }
+        ensures pool { pool.new ≡ record {
+          id = pool.old.id;
+          committed = pool.old.committed -ℤ pos (cost_in self.old.grants service.now);
+          reserved = pool.old.reserved - live_price_in self.old.grants (service_key service.now);
+        } }
+    {
+        let taken = take_out(&mut self.grants, &mut self.holds, service.key());
+        settle(pool, taken, service)
+    }
+
+    /// Makes a grant to a service that has none, with a hold of the pool for its price. [`GrantFault::Short`] where what is
+    /// free doesn't reach; [`GrantFault::Memory`] where it does and memory is refused. A refusal gives the hold back and
+    /// leaves all as it was.
+    pub fn grant(&mut self, pool: &mut Pool, held: Held) -> Result<(), GrantFault>
+        requires pool { self.old.pool ≡ pool.old.id }
+        requires free { find_held self.old.grants held.key ≡ None }
+        ensures covered { OnOk result (IsCovered pool.old (held_price held)) }
+        ensures memory { result ≡ Err GrantFault.Memory → IsCovered pool.old (held_price held) }
+        ensures short { result ≡ Err GrantFault.Short → ¬ IsCovered pool.old (held_price held) }
+        ensures session { OnOk result (self.new ≡ record self.old { grants = held ∷ self.old.grants }) }
+        ensures reserved { OnOk result (pool.new ≡ record pool.old { reserved = pool.old.reserved + held_price held }) }
+        ensures same_session { OnErr result (self.new ≡ self.old) }
+        ensures same_pool { OnErr result (pool.new ≡ pool.old) }
+    {
+        let Ok(hold) = pool.take(price_held(&held)) else {
+            return Err(GrantFault::Short);
+        };
+        if self.grants.reserve(1).is_err() || self.holds.reserve(1).is_err() {
+            pool.release(hold);
+            return Err(GrantFault::Memory);
+        }
+        self.grants.insert(0, held).unwrap();
+        self.holds.insert(0, hold.park()).unwrap();
+        Ok(())
+    }
+
+    /// Makes all grants of a request, for which memory was taken before, each with a hold of the pool for its price. It takes
+    /// no memory.
+    pub fn grant_all(&mut self, pool: &mut Pool, granted: Granted)
+        requires pool { self.old.pool ≡ pool.old.id }
+        requires apart { are_apart (map key_of_held (granted.grants ++ self.old.grants)) ≡ true }
+        requires room { length self.old.grants ≤ granted.room }
+        requires covered { IsCovered pool.old (prices granted.grants) }
+        ensures session { self.new ≡ record self.old { grants = granted.grants ++ self.old.grants } }
+        ensures pool { pool.new ≡ record pool.old { reserved = pool.old.reserved + prices granted.grants } }
+    {
+        let Granted {
+            mut grants,
+            mut holds,
+            room: _,
+        } = granted;
+        take_all(pool, &grants, &mut holds);
+        grants.append(&mut self.grants).unwrap();
+        holds.append(&mut self.holds).unwrap();
+        self.grants = grants;
+        self.holds = holds;
+    }
+
+    /// Holds the session until this moment, in seconds, which may be earlier or later than before.
+    pub fn touch(&mut self, deadline: u64)
+        ensures { self.new ≡ record self.old { deadline = deadline } }
+    {
+        self.deadline = deadline;
+    }
+
+    /// Ends the session, and gives back all that it holds. It takes no memory.
+    pub fn end(self, pool: &mut Pool) -> Closed
+        requires { IsHeldOn pool.old self }
+        ensures { pool.new ≡ record pool.old { reserved = pool.old.reserved - prices self.grants } }
+    {
+        let Open {
+            pool: _,
+            deadline: _,
+            grants: _,
+            holds,
+        } = self;
+        release_all(pool, holds);
+        Closed
+    }
+
+    /// Puts the session away as data. What it holds stays reserved.
+    pub fn park(self) -> ParkedSession
+        ensures { result ≡ self }
+    {
+        let Open {
+            pool,
+            deadline,
+            grants,
+            holds,
+        } = self;
+        ParkedSession {
+            pool,
+            deadline,
+            grants,
+            holds,
+        }
+    }
+}

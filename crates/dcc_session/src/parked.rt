@@ -1,0 +1,63 @@
+//! Sessions that are put away between requests.
+
+ghost use Rattle.std.specs.Prelude.{◌≡◌};
+
+use crate::held::Held;
+use crate::open::Open;
+use dcc_escrow::Parked;
+use std::marker::Model;
+
+/// An open session that is put away as data, with its holds. What it holds stays reserved; it can't be copied, so that no hold
+/// is parked twice.
+#[derive(Debug, Drop)]
+pub struct ParkedSession {
+    pub(crate) pool: u64,
+    pub(crate) deadline: u64,
+    pub(crate) grants: Vec<Held>,
+    pub(crate) holds: Vec<Parked>,
+}
+
+impl Model for ParkedSession {
+    ghost use Rattle.dcc_session.specs.Sessions.{OpenView};
+    ghost use Rattle.dcc_session.specs.inner.Holds.{AreHeld};
+
+    ghost Value = { OpenView };
+
+    ghost view = { λ s. record { pool = s.pool; deadline = s.deadline; grants = s.grants.items } };
+
+    ghost invariant = { λ s. AreHeld s.pool s.grants.items s.holds.items };
+}
+
+impl ParkedSession {
+    /// Until when the session is held, in seconds.
+    pub fn deadline(&self) -> u64
+        ensures { result ≡ self.now.deadline }
+    {
+        self.deadline
+    }
+
+    /// Its live grants, those of the latest request first.
+    pub fn grants(&self) -> &[Held]
+        ensures { result.now ≡ self.now.grants }
+    {
+        &self.grants
+    }
+
+    /// Takes the session up again.
+    pub fn resume(self) -> Open
+        ensures { result ≡ self }
+    {
+        let ParkedSession {
+            pool,
+            deadline,
+            grants,
+            holds,
+        } = self;
+        Open {
+            pool,
+            deadline,
+            grants,
+            holds,
+        }
+    }
+}
