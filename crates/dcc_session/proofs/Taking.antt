@@ -5,10 +5,11 @@ use Rattle.std.specs.List.{list_any, position_or_len}
 use Rattle.std.proofs.lemmas.Bool.{cases_Bool, or_parts}
 use Rattle.std.proofs.lemmas.Bool.Decides.{nat_tests}
 use Rattle.dcc_act.specs.ServiceKeys.{same_service, are_apart}
+use Rattle.dcc_act.specs.declared.grant.Grant.{Grant}
 use Rattle.dcc_act.specs.declared.service_key.ServiceKey.{ServiceKey}
 use Rattle.dcc_session.specs.declared.held.Held.{Held}
 use Rattle.std.proofs.lemmas.List.Sums.{sum_by-cons}
-use Rattle.dcc_session.specs.Grants.{key_of_held, find_held, without, held_price, prices}
+use Rattle.dcc_session.specs.Grants.{key_of_held, live_in, without, price_of_grant, held_price, prices}
 use Rattle.dcc_session.proofs.Keys.{same_service-true, same_both_ways, apart_parts}
 
 -- whether a grant is the service's
@@ -26,27 +27,27 @@ none_of key (held ∷ grants) h =
 pub taken_at : (grants : List Held) (key : ServiceKey) (i : ℕ) (d : Held) → i < length grants
     → is_for key (get_or grants i d) ≡ true → ((k : ℕ) → k < i → is_for key (get_or grants k d) ≡ false)
     → are_apart (map key_of_held grants) ≡ true
-    → (find_held grants key ≡ Some (get_or grants i d)) × (remove grants i ≡ without grants key)
+    → (live_in grants key ≡ Some (get_or grants i d).grant) × (remove grants i ≡ without grants key)
 taken_at [] key i d within here before apart = absurd (omega arith)
 taken_at (held ∷ grants) key zero d within here before apart =
     let parts = apart_parts held.key (map key_of_held grants) apart in
     let same = same_service-true held.key key here in
     let others : list_any (same_service key) (map key_of_held grants) ≡ false
     = ap (λ (k : ServiceKey). list_any (same_service k) (map key_of_held grants)) (sym same) ∙ parts.0 in
-    let found : find_held (held ∷ grants) key ≡ Some held = rw here refl in
+    let found : live_in (held ∷ grants) key ≡ Some held.grant = rw here refl in
     let left : grants ≡ without (held ∷ grants) key = rw here (sym (none_of key grants others)) in
     (found, left)
 taken_at (held ∷ grants) key (suc i) d within here before apart =
     let parts = apart_parts held.key (map key_of_held grants) apart in
     let first : same_service held.key key ≡ false = before zero (omega arith) in
     let rest = taken_at grants key i d (omega arith) here (λ k lt. before (suc k) (omega arith)) parts.1 in
-    let found : find_held (held ∷ grants) key ≡ Some (get_or grants i d) = rw first rest.0 in
+    let found : live_in (held ∷ grants) key ≡ Some (get_or grants i d).grant = rw first rest.0 in
     let left : (held ∷ remove grants i) ≡ without (held ∷ grants) key = rw (first, rest.1) refl in
     (found, left)
 
 -- where the walk comes to the end, the service has none, and all are left
 walked : (grants : List Held) (key : ServiceKey) → length grants ≤ position_or_len (is_for key) grants
-    → (find_held grants key ≡ None) × (without grants key ≡ grants)
+    → (live_in grants key ≡ None) × (without grants key ≡ grants)
 walked [] key h = (refl, refl)
 walked (held ∷ grants) key h =
     elim (cases_Bool (same_service held.key key)) [
@@ -54,13 +55,13 @@ walked (held ∷ grants) key h =
       | inr f ↦
           let short : length (held ∷ grants) ≤ 1 + position_or_len (is_for key) grants = rw f at h in
           let rest = walked grants key (omega arith) in
-          let none : find_held (held ∷ grants) key ≡ None = rw f rest.0 in
+          let none : live_in (held ∷ grants) key ≡ None = rw f rest.0 in
           let left : without (held ∷ grants) key ≡ held ∷ grants = rw (f, rest.1) refl in
           (none, left)
     ]
 
 pub not_there : (grants : List Held) (key : ServiceKey) → position (is_for key) grants ≡ None
-    → (find_held grants key ≡ None) × (without grants key ≡ grants)
+    → (live_in grants key ≡ None) × (without grants key ≡ grants)
 not_there grants key h =
     elim (cases_Bool (nat_lt (position_or_len (is_for key) grants) (length grants))) [
       | inl t ↦
@@ -76,19 +77,19 @@ remove-map f (x ∷ xs) zero = refl
 remove-map f (x ∷ xs) (suc i) = ap (λ ys. f x ∷ ys) (remove-map f xs i)
 
 -- a service's grant costs no more than all
-pub price-le : (grants : List Held) (key : ServiceKey) (held : Held) → find_held grants key ≡ Some held → held_price held ≤ prices grants
-price-le [] key held h = absurd cc
-price-le (first ∷ grants) key held h =
+pub price-le : (grants : List Held) (key : ServiceKey) (grant : Grant) → live_in grants key ≡ Some grant → price_of_grant grant ≤ prices grants
+price-le [] key grant h = absurd cc
+price-le (first ∷ grants) key grant h =
     let all = sum_by-cons held_price first grants in
     elim (cases_Bool (same_service first.key key)) [
       | inl t ↦
-          let found : Some first ≡ Some held = rw t at h in
-          let same : first ≡ held = cc in
-          let cost = ap held_price same in
+          let found : Some first.grant ≡ Some grant = rw t at h in
+          let same : first.grant ≡ grant = cc in
+          let cost = ap price_of_grant same in
           omega arith
       | inr f ↦
-          let later : find_held grants key ≡ Some held = rw f at h in
-          let rest = price-le grants key held later in
+          let later : live_in grants key ≡ Some grant = rw f at h in
+          let rest = price-le grants key grant later in
           omega arith
     ]
 
@@ -113,16 +114,16 @@ apart_without (held ∷ grants) key h =
     ]
 
 -- a service that has no grant is apart from those that have
-fresh : (grants : List Held) (key : ServiceKey) → find_held grants key ≡ None → list_any (same_service key) (map key_of_held grants) ≡ false
+fresh : (grants : List Held) (key : ServiceKey) → live_in grants key ≡ None → list_any (same_service key) (map key_of_held grants) ≡ false
 fresh [] key h = refl
 fresh (held ∷ grants) key h =
     elim (cases_Bool (same_service held.key key)) [
-      | inl t ↦ let found : Some held ≡ None = rw t at h in absurd cc
+      | inl t ↦ let found : Some held.grant ≡ None = rw t at h in absurd cc
       | inr f ↦
-          let later : find_held grants key ≡ None = rw f at h in
+          let later : live_in grants key ≡ None = rw f at h in
           rw (same_both_ways held.key key f) (fresh grants key later)
     ]
 
-pub apart_with : (grants : List Held) (held : Held) → find_held grants held.key ≡ None → are_apart (map key_of_held grants) ≡ true
+pub apart_with : (grants : List Held) (held : Held) → live_in grants held.key ≡ None → are_apart (map key_of_held grants) ≡ true
     → are_apart (map key_of_held (held ∷ grants)) ≡ true
 apart_with grants held none apart = rw (fresh grants held.key none) apart

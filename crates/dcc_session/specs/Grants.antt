@@ -1,16 +1,20 @@
 -- The live grants of one session: what they cost, which one a service has, and what its report comes to.
-use Rattle.std.specs.Prelude.{ℕ, ◌-◌, not, List, filter, find, sum_by, Option, option_map, unwrap_or}
+use Rattle.std.specs.Prelude.{ℕ, ◌-◌, not, List, filter, find, sum_by, Option, Some, None, option_map, unwrap_or}
 use Rattle.std.specs.Option.{option_and_then, option_or, option_map_or}
 use Rattle.dcc_tariff.specs.Prices.{price}
 use Rattle.dcc_tariff.specs.Terms.{TariffView}
 use Rattle.dcc_act.specs.ServiceKeys.{same_service}
 use Rattle.dcc_act.specs.Services.{ServiceView, service_key}
+use Rattle.dcc_act.specs.declared.grant.Grant.{Grant}
 use Rattle.dcc_act.specs.declared.service_key.ServiceKey.{ServiceKey}
 use Rattle.dcc_session.specs.declared.held.Held.{Held}
 
 -- what the units of a grant cost at its tariff, in minor units
+abbrev pub price_of_grant : Grant → ℕ
+price_of_grant grant = price grant.tariff grant.units
+
 abbrev pub held_price : Held → ℕ
-held_price held = price held.grant.tariff held.grant.units
+held_price held = price_of_grant held.grant
 
 abbrev pub prices : List Held → ℕ
 prices grants = sum_by held_price grants
@@ -19,38 +23,36 @@ prices grants = sum_by held_price grants
 abbrev pub key_of_held : Held → ServiceKey
 key_of_held held = held.key
 
--- the grant of a service among these
-abbrev pub find_held : List Held → ServiceKey → Option Held
-find_held grants key = find (λ held. same_service held.key key) grants
+-- the grant that a service has among these
+abbrev pub live_in : List Held → ServiceKey → Option Grant
+live_in own key = option_map (λ (held : Held). held.grant) (find (λ (held : Held). same_service held.key key) own)
 
 -- those that the service doesn't have
 abbrev pub without : List Held → ServiceKey → List Held
-without grants key = filter (λ held. not (same_service held.key key)) grants
+without own key = filter (λ (held : Held). not (same_service held.key key)) own
+
+-- the price of what the service has, or nothing
+abbrev pub live_price_in : List Held → ServiceKey → ℕ
+live_price_in own key = option_map_or price_of_grant (live_in own key) 0
 
 -- the price of the units that a service reports, where it reports some and there is a tariff
 abbrev pub charge_at : Option TariffView → ServiceView → Option ℕ
 charge_at tariff service = option_and_then (λ units. option_map (λ at. price at units) tariff) service.used
 
 -- the charge for a service's report: at the tariff of its live grant, or without one at its own
-abbrev pub charge_by : Option Held → ServiceView → Option ℕ
-charge_by live service = charge_at (option_or (option_map (λ (held : Held). held.grant.tariff) live) service.tariff) service
+abbrev pub charge_by : Option Grant → ServiceView → Option ℕ
+charge_by live service = charge_at (option_or (option_map (λ (grant : Grant). grant.tariff) live) service.tariff) service
 
--- what the charge exceeds the price of the live grant by
-abbrev pub overrun_by : Option Held → ServiceView → ℕ
-overrun_by live service = unwrap_or (charge_by live service) 0 - option_map_or held_price live 0
-
--- the price of what the service has, or nothing
-abbrev pub live_price_in : List Held → ServiceKey → ℕ
-live_price_in grants key = option_map_or held_price (find_held grants key) 0
-
--- the charge for a service's report, where there is one and a tariff for it
 abbrev pub charge_in : List Held → ServiceView → Option ℕ
-charge_in grants service = charge_by (find_held grants (service_key service)) service
+charge_in own service = charge_by (live_in own (service_key service)) service
 
 -- the same, or nothing
 abbrev pub cost_in : List Held → ServiceView → ℕ
-cost_in grants service = unwrap_or (charge_in grants service) 0
+cost_in own service = unwrap_or (charge_in own service) 0
 
--- by how much the charge exceeds what the service has
+-- what the charge exceeds the price of the live grant by
+abbrev pub overrun_by : Option Grant → ServiceView → ℕ
+overrun_by live service = unwrap_or (charge_by live service) 0 - option_map_or price_of_grant live 0
+
 abbrev pub overrun_in : List Held → ServiceView → ℕ
-overrun_in grants service = overrun_by (find_held grants (service_key service)) service
+overrun_in own service = overrun_by (live_in own (service_key service)) service

@@ -3,7 +3,7 @@
 ghost use Rattle.std.specs.Prelude.{◌≡◌, ◌-◌, ◌≤◌, pos, ◌-ℤ◌, option_map, unwrap_or};
 ghost use Rattle.std.specs.Option.{ForSome, option_map_or};
 ghost use Rattle.dcc_escrow.specs.Pools.{IsOf, IsAboveFloor};
-ghost use Rattle.dcc_session.specs.Grants.{held_price, charge_at, charge_by, overrun_by};
+ghost use Rattle.dcc_session.specs.Grants.{price_of_grant, held_price, charge_at, charge_by, overrun_by};
 
 use crate::charged::Charged;
 use crate::held::Held;
@@ -25,13 +25,13 @@ fn charge_at(service: &Service, tariff: Option<Tariff>) -> Option<u64>
 pub(crate) fn settle(pool: &mut Pool, taken: Option<(Held, Parked)>, service: &Service) -> Charged
     requires hold { ForSome taken (λ taken. IsOf pool.old taken.1) }
     requires amount { ForSome taken (λ taken. taken.1.amount ≡ held_price taken.0) }
-    requires floor { IsAboveFloor (pool.old.committed -ℤ pos (unwrap_or (charge_by (option_map (λ taken. taken.0) taken) service.now) 0)) }
-    ensures charge { result.charge ≡ charge_by (option_map (λ taken. taken.0) taken) service.now }
-    ensures overrun { result.overrun ≡ overrun_by (option_map (λ taken. taken.0) taken) service.now }
+    requires floor { IsAboveFloor (pool.old.committed -ℤ pos (unwrap_or (charge_by (option_map (λ taken. taken.0.grant) taken) service.now) 0)) }
+    ensures charge { result.charge ≡ charge_by (option_map (λ taken. taken.0.grant) taken) service.now }
+    ensures overrun { result.overrun ≡ overrun_by (option_map (λ taken. taken.0.grant) taken) service.now }
     ensures pool { pool.new ≡ record {
       id = pool.old.id;
-      committed = pool.old.committed -ℤ pos (unwrap_or (charge_by (option_map (λ taken. taken.0) taken) service.now) 0);
-      reserved = pool.old.reserved - option_map_or (λ taken. held_price taken.0) taken 0;
+      committed = pool.old.committed -ℤ pos (unwrap_or (charge_by (option_map (λ taken. taken.0.grant) taken) service.now) 0);
+      reserved = pool.old.reserved - option_map_or price_of_grant (option_map (λ taken. taken.0.grant) taken) 0;
     } }
 {
     match taken {

@@ -4,7 +4,7 @@ ghost use Rattle.std.specs.Prelude.{◌≡◌, ◌≤◌, ◌-◌, ◌+◌, ◌+
 ghost use Rattle.std.specs.List.{All};
 ghost use Rattle.dcc_escrow.specs.Pools.{HoldView, IsCovered};
 ghost use Rattle.dcc_act.specs.ServiceKeys.{same_service, are_apart};
-ghost use Rattle.dcc_session.specs.Grants.{key_of_held, find_held, without, prices};
+ghost use Rattle.dcc_session.specs.Grants.{key_of_held, live_in, without, prices};
 ghost use Rattle.dcc_session.specs.inner.Holds.{hold_of, amount_of};
 
 use crate::held::{Held, price_held};
@@ -26,7 +26,7 @@ pub(crate) fn take_out(
 ) -> Option<(Held, Parked)>
     requires len { length holds.old.items ≡ length grants.old.items }
     requires apart { are_apart (map key_of_held grants.old.items) ≡ true }
-    ensures taken { option_map (λ taken. taken.0) result ≡ find_held grants.old.items key }
+    ensures taken { option_map (λ taken. taken.0.grant) result ≡ live_in grants.old.items key }
     ensures hold { (pool : ℕ) → holds.old.items ≡ map (hold_of pool) grants.old.items → IfSome result (λ taken. taken.1 ≡ hold_of pool taken.0) }
     ensures grants { grants.new.items ≡ without grants.old.items key }
     ensures holds { (pool : ℕ) → holds.old.items ≡ map (hold_of pool) grants.old.items → holds.new.items ≡ map (hold_of pool) grants.new.items }

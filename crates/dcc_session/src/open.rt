@@ -4,7 +4,7 @@ ghost use Rattle.std.specs.Prelude.{◌≡◌, ◌+◌, ◌-◌, ◌≤◌, ◌�
 ghost use Rattle.dcc_escrow.specs.Pools.{IsCovered, IsAboveFloor};
 ghost use Rattle.dcc_act.specs.ServiceKeys.{are_apart};
 ghost use Rattle.dcc_act.specs.Services.{service_key};
-ghost use Rattle.dcc_session.specs.Grants.{key_of_held, find_held, held_price, prices, without, live_price_in, charge_in, cost_in, overrun_in};
+ghost use Rattle.dcc_session.specs.Grants.{key_of_held, live_in, held_price, prices, without, live_price_in, charge_in, cost_in, overrun_in};
 ghost use Rattle.dcc_session.specs.Sessions.{IsHeldOn};
 
 use crate::charged::Charged;
@@ -79,7 +79,7 @@ impl Open {
     /// leaves all as it was.
     pub fn grant(&mut self, pool: &mut Pool, held: Held) -> Result<(), GrantFault>
         requires pool { self.old.pool ≡ pool.old.id }
-        requires free { find_held self.old.grants held.key ≡ None }
+        requires free { live_in self.old.grants held.key ≡ None }
         ensures covered { OnOk result (IsCovered pool.old (held_price held)) }
         ensures memory { result ≡ Err GrantFault.Memory → IsCovered pool.old (held_price held) }
         ensures short { result ≡ Err GrantFault.Short → ¬ IsCovered pool.old (held_price held) }

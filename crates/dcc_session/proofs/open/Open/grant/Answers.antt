@@ -3,7 +3,7 @@ use Rattle.std.specs.List.{insert}
 use Rattle.dcc_escrow.specs.Pools.{HoldView}
 use Rattle.dcc_session.specs.declared.held.Held.{Held}
 use Rattle.dcc_session.specs.Sessions.{OpenView}
-use Rattle.dcc_session.specs.Grants.{find_held}
+use Rattle.dcc_session.specs.Grants.{live_in}
 use Rattle.dcc_session.specs.inner.Holds.{hold_of}
 use Rattle.dcc_session.proofs.Taking.{apart_with}
 use Rattle.dcc_session.proofs.Covering.{insert_first}
@@ -21,7 +21,7 @@ invariant_of-self-2 c =
     let with_amount : ℕ → HoldView = λ n. record { pool = before.pool; amount = n } in
     let hold : c.park.result ≡ hold_of before.pool c.args.held
     = c.park.ensures ∙ c.in-Ok.ensures.hold ∙ ap with_pool pool ∙ ap with_amount c.price_held.ensures.value in
-    let none = ap (λ (s : OpenView). find_held s.grants c.args.held.key) c.self.view_is ∙ c.requires.free in
+    let none = ap (λ (s : OpenView). live_in s.grants c.args.held.key) c.self.view_is ∙ c.requires.free in
     record {
       held = holds ∙ ap (λ (h : HoldView). h ∷ before.holds.items) hold ∙ ap (λ (hs : List HoldView). hold_of before.pool c.args.held ∷ hs) c.self.invariant.held
           ∙ ap (map (hold_of before.pool)) (sym grants);
