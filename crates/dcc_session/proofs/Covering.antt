@@ -1,5 +1,5 @@
 -- Holds of one pool, and what covers them.
-use Rattle.std.proofs.Common.{◌≡◌, ℕ, ◌+◌, ◌<◌, List, [], ◌∷◌, length, get_or, take, refl, ap, inl, inr, arith, map}
+use Rattle.std.proofs.Common.{ℤ, ◌∙◌, ◌≡◌, ℕ, ◌+◌, ◌<◌, List, [], ◌∷◌, length, get_or, take, refl, ap, inl, inr, arith, map}
 use Rattle.std.specs.List.{All, insert}
 use Rattle.std.proofs.lemmas.Int.{ints}
 use Rattle.std.proofs.lemmas.List.Elements.{All-map}
@@ -26,3 +26,12 @@ covered_part pool grants i held within is covered =
 pub insert_first : {X : Type 0} (xs : List X) (x : X) → insert xs 0 x ≡ x ∷ xs
 insert_first [] x = refl
 insert_first (y ∷ xs) x = refl
+
+-- a pool is known by its parts
+pub pool_is : (pool : PoolView) (id : ℕ) (committed : ℤ) (reserved : ℕ) → pool.id ≡ id → pool.committed ≡ committed → pool.reserved ≡ reserved
+    → pool ≡ record { id = id; committed = committed; reserved = reserved }
+pool_is pool id committed reserved i c r =
+    let with_id : ℕ → PoolView = λ n. record { id = n; committed = pool.committed; reserved = pool.reserved } in
+    let with_committed : ℤ → PoolView = λ z. record { id = id; committed = z; reserved = pool.reserved } in
+    let with_reserved : ℕ → PoolView = λ n. record { id = id; committed = committed; reserved = n } in
+    ap with_id i ∙ ap with_committed c ∙ ap with_reserved r

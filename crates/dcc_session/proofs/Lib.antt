@@ -1,3 +1,4 @@
 pub mod Keys
 pub mod Taking
 pub mod Covering
+pub mod Reporting

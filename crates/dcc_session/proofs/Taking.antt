@@ -1,5 +1,7 @@
 -- A grant is taken out of a list of grants, where no service has two.
-use Rattle.std.proofs.Common.{◌≡◌, ℕ, zero, suc, ◌+◌, ◌<◌, ◌≤◌, Bool, true, false, List, [], ◌∷◌, length, get_or, refl, sym, ap, ◌∙◌, inl, inr, arith, map, Some, None}
+use Rattle.std.proofs.Common.{All}
+use Rattle.std.proofs.lemmas.List.{map-append}
+use Rattle.std.proofs.Common.{◌≡◌, ℕ, zero, suc, ◌+◌, ◌<◌, ◌≤◌, Bool, true, false, List, [], ◌∷◌, ◌++◌, length, get_or, refl, sym, ap, ◌∙◌, inl, inr, arith, map, Some, None}
 use Rattle.std.specs.Prelude.{position, remove, nat_lt}
 use Rattle.std.specs.List.{list_any, position_or_len}
 use Rattle.std.proofs.lemmas.Bool.{cases_Bool, or_parts}
@@ -9,7 +11,7 @@ use Rattle.dcc_act.specs.declared.grant.Grant.{Grant}
 use Rattle.dcc_act.specs.declared.service_key.ServiceKey.{ServiceKey}
 use Rattle.dcc_session.specs.declared.held.Held.{Held}
 use Rattle.std.proofs.lemmas.List.Sums.{sum_by-cons}
-use Rattle.dcc_session.specs.Grants.{key_of_held, live_in, without, price_of_grant, held_price, prices}
+use Rattle.dcc_session.specs.Grants.{key_of_held, live_in, without, price_of_grant, held_price, prices, live_price_in}
 use Rattle.dcc_session.proofs.Keys.{same_service-true, same_both_ways, apart_parts}
 
 -- whether a grant is the service's
@@ -127,3 +129,42 @@ fresh (held ∷ grants) key h =
 pub apart_with : (grants : List Held) (held : Held) → live_in grants held.key ≡ None → are_apart (map key_of_held grants) ≡ true
     → are_apart (map key_of_held (held ∷ grants)) ≡ true
 apart_with grants held none apart = rw (fresh grants held.key none) apart
+
+-- what is left and what the service had are all
+pub price-without : (grants : List Held) (key : ServiceKey) → are_apart (map key_of_held grants) ≡ true
+    → prices (without grants key) + live_price_in grants key ≡ prices grants
+price-without [] key apart = refl
+price-without (held ∷ grants) key apart =
+    let parts = apart_parts held.key (map key_of_held grants) apart in
+    let all = sum_by-cons held_price held grants in
+    elim (cases_Bool (same_service held.key key)) [
+      | inl t ↦
+          let same = same_service-true held.key key t in
+          let others : list_any (same_service key) (map key_of_held grants) ≡ false
+          = ap (λ (k : ServiceKey). list_any (same_service k) (map key_of_held grants)) (sym same) ∙ parts.0 in
+          let left = none_of key grants others in
+          rw (t, left) (omega arith)
+      | inr f ↦
+          let rest = price-without grants key parts.1 in
+          let kept = sum_by-cons held_price held (without grants key) in
+          rw f (omega arith)
+    ]
+
+apart_both : (key : ServiceKey) (xs ys : List ServiceKey) → list_any (same_service key) xs ≡ false → list_any (same_service key) ys ≡ false
+    → list_any (same_service key) (xs ++ ys) ≡ false
+apart_both key [] ys h k = k
+apart_both key (x ∷ xs) ys h k =
+    let parts = or_parts (same_service key x) (list_any (same_service key) xs) h in
+    rw (parts.0, apart_both key xs ys parts.1 k) refl
+
+-- grants that are made to services which have none
+pub apart_append : (made grants : List Held) → are_apart (map key_of_held made) ≡ true → All (λ (held : Held). live_in grants held.key ≡ None) made
+    → are_apart (map key_of_held grants) ≡ true → are_apart (map key_of_held (made ++ grants)) ≡ true
+apart_append [] grants apart free own = own
+apart_append (held ∷ made) grants apart free own =
+    let parts = apart_parts held.key (map key_of_held made) apart in
+    let rest = apart_append made grants parts.1 (λ k d lt. free (suc k) d (omega arith)) own in
+    let none = fresh grants held.key (free zero held (omega arith)) in
+    let first : list_any (same_service held.key) (map key_of_held (made ++ grants)) ≡ false
+    = rw (map-append key_of_held made grants) (apart_both held.key (map key_of_held made) (map key_of_held grants) parts.0 none) in
+    rw (first, rest) refl

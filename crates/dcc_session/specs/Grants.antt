@@ -1,5 +1,6 @@
 -- The live grants of one session: what they cost, which one a service has, and what its report comes to.
-use Rattle.std.specs.Prelude.{ℕ, ◌-◌, not, List, filter, find, sum_by, Option, Some, None, option_map, unwrap_or}
+use Rattle.std.specs.Prelude.{ℕ, ◌-◌, Bool, not, ◌||◌, List, map, filter, find, sum_by, is_some, Option, option_map, unwrap_or}
+use Rattle.std.specs.List.{list_any}
 use Rattle.std.specs.Option.{option_and_then, option_or, option_map_or}
 use Rattle.dcc_tariff.specs.Prices.{price}
 use Rattle.dcc_tariff.specs.Terms.{TariffView}
@@ -39,9 +40,16 @@ live_price_in own key = option_map_or price_of_grant (live_in own key) 0
 abbrev pub charge_at : Option TariffView → ServiceView → Option ℕ
 charge_at tariff service = option_and_then (λ units. option_map (λ at. price at units) tariff) service.used
 
--- the charge for a service's report: at the tariff of its live grant, or without one at its own
+-- the tariff of a service's live grant, or without one its own
+abbrev pub tariff_by : Option Grant → ServiceView → Option TariffView
+tariff_by live service = option_or (option_map (λ (grant : Grant). grant.tariff) live) service.tariff
+
+abbrev pub charge_tariff_in : List Held → ServiceView → Option TariffView
+charge_tariff_in own service = tariff_by (live_in own (service_key service)) service
+
+-- the charge for its report at that tariff
 abbrev pub charge_by : Option Grant → ServiceView → Option ℕ
-charge_by live service = charge_at (option_or (option_map (λ (grant : Grant). grant.tariff) live) service.tariff) service
+charge_by live service = charge_at (tariff_by live service) service
 
 abbrev pub charge_in : List Held → ServiceView → Option ℕ
 charge_in own service = charge_by (live_in own (service_key service)) service
@@ -56,3 +64,21 @@ overrun_by live service = unwrap_or (charge_by live service) 0 - option_map_or p
 
 abbrev pub overrun_in : List Held → ServiceView → ℕ
 overrun_in own service = overrun_by (live_in own (service_key service)) service
+
+-- a service that reports units or asks for some gives back the grant that it has
+abbrev pub is_named : ServiceView → Bool
+is_named service = is_some service.asked || is_some service.used
+
+abbrev pub is_given_back : List ServiceView → Held → Bool
+is_given_back services held = list_any (same_service held.key) (map service_key (filter is_named services))
+
+-- the prices of what a request's services give back, and the grants that are left
+abbrev pub given_back : List Held → List ServiceView → ℕ
+given_back own services = prices (filter (is_given_back services) own)
+
+abbrev pub left_of : List Held → List ServiceView → List Held
+left_of own services = filter (λ (held : Held). not (is_given_back services held)) own
+
+-- the charges of a request's reports together
+abbrev pub charges_in : List Held → List ServiceView → ℕ
+charges_in own services = sum_by (λ service. unwrap_or (charge_in own service) 0) services

@@ -1,11 +1,13 @@
 //! Open sessions.
 
 ghost use Rattle.std.specs.Prelude.{◌≡◌, ◌+◌, ◌-◌, ◌≤◌, ◌∷◌, ◌++◌, pos, ◌-ℤ◌, true, length, map, Err, OnOk, OnErr};
+ghost use Rattle.std.specs.List.{All};
 ghost use Rattle.dcc_escrow.specs.Pools.{IsCovered, IsAboveFloor};
 ghost use Rattle.dcc_act.specs.ServiceKeys.{are_apart};
 ghost use Rattle.dcc_act.specs.Services.{service_key};
-ghost use Rattle.dcc_session.specs.Grants.{key_of_held, live_in, held_price, prices, without, live_price_in, charge_in, cost_in, overrun_in};
+ghost use Rattle.dcc_session.specs.Grants.{key_of_held, live_in, held_price, prices, without, live_price_in, charge_in, cost_in, overrun_in, charges_in, given_back, left_of};
 ghost use Rattle.dcc_session.specs.Sessions.{IsHeldOn};
+ghost use Rattle.dcc_session.specs.inner.Holds.{left_one};
 
 use crate::charged::Charged;
 use crate::charging::settle;
@@ -51,7 +53,8 @@ impl Open {
 
     /// Its live grants, those of the latest request first.
     pub fn grants(&self) -> &[Held]
-        ensures { result.now ≡ self.now.grants }
+        ensures value { result.now ≡ self.now.grants }
+        ensures apart { are_apart (map key_of_held result.now) ≡ true }
     {
         &self.grants
     }
@@ -64,6 +67,7 @@ impl Open {
         ensures charge { result.charge ≡ charge_in self.old.grants service.now }
         ensures overrun { result.overrun ≡ overrun_in self.old.grants service.now }
         ensures session { self.new ≡ record self.old { grants = without self.old.grants (service_key service.now) } }
+        ensures held { prices self.new.grants + live_price_in self.old.grants (service_key service.now) ≡ prices self.old.grants }
         ensures pool { pool.new ≡ record {
           id = pool.old.id;
           committed = pool.old.committed -ℤ pos (cost_in self.old.grants service.now);
@@ -72,6 +76,38 @@ impl Open {
     {
         let taken = take_out(&mut self.grants, &mut self.holds, service.key());
         settle(pool, taken, service)
+    }
+
+    /// Gives back what the services of a request hold that report or ask for some, and charges what they report, each as
+    /// [`Open::report`] does. It takes no memory.
+    pub fn report_all(&mut self, pool: &mut Pool, services: &[Service])
+        requires held { IsHeldOn pool.old self.old }
+        requires apart { are_apart (map service_key services.now) ≡ true }
+        requires floor { IsAboveFloor (pool.old.committed -ℤ pos (charges_in self.old.grants services.now)) }
+        ensures session { self.new ≡ record self.old { grants = left_of self.old.grants services.now } }
+        ensures pool { pool.new ≡ record {
+          id = pool.old.id;
+          committed = pool.old.committed -ℤ pos (charges_in self.old.grants services.now);
+          reserved = pool.old.reserved - given_back self.old.grants services.now;
+        } }
+    {
+        for service in services {
+            self.report_named(pool, service);
+        }
+    }
+
+    /// Gives back what a service holds that reports or asks for some, and charges what it reports.
+    fn report_named(&mut self, pool: &mut Pool, service: &Service)
+        requires held { IsHeldOn pool.old self.old }
+        requires floor { IsAboveFloor (pool.old.committed -ℤ pos (cost_in self.old.grants service.now)) }
+        ensures session { self.new ≡ record self.old { grants = left_one self.old.grants service.now } }
+        ensures id { pool.new.id ≡ pool.old.id }
+        ensures committed { pool.new.committed ≡ pool.old.committed -ℤ pos (cost_in self.old.grants service.now) }
+        ensures reserved { pool.new.reserved + prices self.old.grants ≡ pool.old.reserved + prices self.new.grants }
+    {
+        if service.asked.is_some() || service.used.is_some() {
+            self.report(pool, service);
+        }
     }
 
     /// Makes a grant to a service that has none, with a hold of the pool for its price. [`GrantFault::Short`] where what is
@@ -104,7 +140,8 @@ impl Open {
     /// no memory.
     pub fn grant_all(&mut self, pool: &mut Pool, granted: Granted)
         requires pool { self.old.pool ≡ pool.old.id }
-        requires apart { are_apart (map key_of_held (granted.grants ++ self.old.grants)) ≡ true }
+        requires apart { are_apart (map key_of_held granted.grants) ≡ true }
+        requires free { All (λ (held : Held). live_in self.old.grants held.key ≡ None) granted.grants }
         requires room { length self.old.grants ≤ granted.room }
         requires covered { IsCovered pool.old (prices granted.grants) }
         ensures session { self.new ≡ record self.old { grants = granted.grants ++ self.old.grants } }

@@ -1,6 +1,8 @@
 //! Sessions that are put away between requests.
 
-ghost use Rattle.std.specs.Prelude.{◌≡◌};
+ghost use Rattle.std.specs.Prelude.{◌≡◌, true, map};
+ghost use Rattle.dcc_act.specs.ServiceKeys.{are_apart};
+ghost use Rattle.dcc_session.specs.Grants.{key_of_held};
 
 use crate::held::Held;
 use crate::open::Open;
@@ -38,7 +40,8 @@ impl ParkedSession {
 
     /// Its live grants, those of the latest request first.
     pub fn grants(&self) -> &[Held]
-        ensures { result.now ≡ self.now.grants }
+        ensures value { result.now ≡ self.now.grants }
+        ensures apart { are_apart (map key_of_held result.now) ≡ true }
     {
         &self.grants
     }

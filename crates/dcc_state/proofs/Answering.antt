@@ -6,7 +6,7 @@ use Rattle.std.proofs.lemmas.List.Sums.{sum_by_push}
 use Rattle.std.proofs.Math.Seq.{drop-cons}
 use Rattle.dcc_act.specs.Services.{ServiceView}
 use Rattle.dcc_act.specs.declared.outcome.ServiceAnswer.{ServiceAnswer}
-use Rattle.dcc_state.specs.declared.held.Held.{Held}
+use Rattle.dcc_session.specs.declared.held.Held.{Held}
 use Rattle.dcc_state.specs.inner.Grants.{room_in, answer_to_in, answers_in}
 
 -- one more service is answered in the room that those before leave

@@ -1,5 +1,5 @@
 -- What an act comes to by what is known is what it comes to by the definitions.
-use Rattle.std.proofs.Common.{◌≡◌, ℕ, ◌+◌, ◌-◌, ℤ, pos, ◌+ℤ◌, ◌-ℤ◌, Bool, true, false, not, ◌&&◌, ◌||◌, cond, List, [], ◌∷◌, ◌++◌, map, length, refl, sym, ap, ◌∙◌, Option, Some, None, arith}
+use Rattle.std.proofs.Common.{◌≡◌, ℕ, ℤ, Bool, not, ◌&&◌, ◌||◌, cond, List, [], length, refl, sym, ap, ◌∙◌, Option, Some, None}
 use Rattle.std.specs.Prelude.{option_map, unwrap_or, is_none, nat_le, nat_lt}
 use Rattle.std.specs.Option.{option_map_or}
 use Rattle.dcc_tariff.specs.Terms.{TermsView}
@@ -7,7 +7,6 @@ use Rattle.dcc_act.specs.Services.{ServiceView}
 use Rattle.dcc_act.specs.declared.act.Act.{Act}
 use Rattle.dcc_act.specs.declared.act.Kind.{Kind}
 use Rattle.dcc_act.specs.declared.act.Kind.TheVariants as kind
-use Rattle.dcc_act.specs.declared.entry.Entry.{Entry}
 use Rattle.dcc_act.specs.declared.limits.TheConstants.{MAX_SESSIONS}
 use Rattle.dcc_act.specs.declared.outcome.Outcome.{Outcome}
 use Rattle.dcc_act.specs.declared.outcome.Outcome.TheVariants.{Expired}
@@ -21,15 +20,16 @@ use Rattle.dcc_model.specs.declared.judgement.Standing.{Standing}
 use Rattle.dcc_model.specs.Entries.{charge_entries, entries_of_kind}
 use Rattle.dcc_model.specs.Keys.{request_key, is_expiry}
 use Rattle.dcc_model.specs.Laws.{IsOpenedOnce}
-use Rattle.dcc_model.specs.Money.{charges, overruns, charged, overran, funds_of, free_of, overrun_of}
-use Rattle.dcc_model.specs.Outcomes.{bare, is_under, served, begun, reported, expired, answered, top_up_outcome, event_outcome, decided, has_account, counts, first_of, outcome_of, settled, judged, unknown_of, is_made, standing_of}
+use Rattle.dcc_model.specs.Money.{charges, charged, overran, funds_of, free_of}
+use Rattle.dcc_model.specs.Outcomes.{bare, is_under, served, begun, reported, expired, answered, top_up_outcome, event_outcome, decided, has_account, first_of, outcome_of, settled, judged, unknown_of, is_made, standing_of}
 use Rattle.dcc_model.specs.Sessions.{Sid, looked_at, accepted_by, is_open, was_opened, open_sessions}
+use Rattle.dcc_session.specs.Grants.{charges_in}
 use Rattle.dcc_state.specs.declared.facts.Facts.{Facts}
-use Rattle.dcc_state.specs.declared.held.Held.{Held}
+use Rattle.dcc_session.specs.declared.held.Held.{Held}
 use Rattle.dcc_state.specs.Known.{was_opened_by}
 use Rattle.dcc_state.specs.OpenSessions.{SessionView, AreOpen, grants_of}
-use Rattle.dcc_state.specs.inner.Grants.{charges_in, overruns_in, answers_in, served_in, charge_entries_in}
-use Rattle.dcc_state.specs.inner.Judged.{own_in, is_open_in, expired_in, begun_in, reported_in, decided_in, settled_in, judged_in, is_made_in, charged_in, overran_in, entries_in, entries_by_in}
+use Rattle.dcc_state.specs.inner.Grants.{overruns_in, served_in, charge_entries_in}
+use Rattle.dcc_state.specs.inner.Judged.{own_in, begun_in, reported_in, decided_in, settled_in, judged_in, is_made_in, charged_in, overran_in, entries_by_in}
 use Rattle.dcc_state.proofs.OpenOnes.{own_is, open_is, many_are, expired_are}
 use Rattle.dcc_state.proofs.OwnGrants.{IsSound, charges_are, overruns_are, answers_are, charge_entries_are}
 

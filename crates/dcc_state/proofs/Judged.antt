@@ -1,5 +1,5 @@
 -- What an act comes to and does, by what is known, is what it comes to and does by the definitions.
-use Rattle.std.proofs.Common.{◌≡◌, ℕ, ◌+◌, ℤ, pos, ◌+ℤ◌, ◌-ℤ◌, Bool, true, false, cond, List, [], ◌∷◌, ◌++◌, map, length, reverse, refl, sym, ap, subst, ◌∙◌, inl, inr, sum_by, Option, Some, None, arith}
+use Rattle.std.proofs.Common.{◌≡◌, ℕ, ◌+◌, pos, Bool, true, false, cond, List, [], ◌∷◌, ◌++◌, length, reverse, refl, sym, ap, subst, ◌∙◌, inl, inr, Option, Some, arith}
 use Rattle.std.specs.List.{AllByRecursion}
 use Rattle.std.specs.Prelude.{Result, Ok, Err, IfOk}
 use Rattle.std.proofs.lemmas.Bool.{cases_Bool}
@@ -7,22 +7,21 @@ use Rattle.std.proofs.lemmas.Int.{ints}
 use Rattle.std.proofs.lemmas.List.{reverse-append}
 use Rattle.dcc_tariff.specs.Terms.{TermsView}
 use Rattle.dcc_act.specs.declared.act.Act.{Act}
-use Rattle.dcc_act.specs.declared.act.Kind.{Kind}
 use Rattle.dcc_act.specs.declared.entry.Entry.{Entry}
 use Rattle.dcc_act.specs.declared.outcome.Outcome.{Outcome}
 use Rattle.dcc_model.specs.declared.done.Done.{Done}
 use Rattle.dcc_model.specs.declared.judgement.Standing.{Standing}
-use Rattle.dcc_model.specs.Entries.{entries_of_kind, entries_by, entries_with}
+use Rattle.dcc_model.specs.Entries.{entries_of_kind, entries_with}
 use Rattle.dcc_model.specs.Laws.{NewAreDecided, SessionsOpenOnce, LiveAreOpen, LiveIsFound}
-use Rattle.dcc_model.specs.Money.{credit, debit, charged, overran, funds_of, free_of, reserved_of, overrun_of}
-use Rattle.dcc_model.specs.Outcomes.{judged, decided, is_made, place_of, place_of_key, with_act, history, act_made, standing_of}
+use Rattle.dcc_model.specs.Money.{funds_of, free_of, overrun_of}
+use Rattle.dcc_model.specs.Outcomes.{judged, is_made, place_of, with_act, history, standing_of}
 use Rattle.dcc_model.specs.Sessions.{Live, is_open, lives}
 use Rattle.dcc_state.specs.declared.change.Change.{Change}
 use Rattle.dcc_state.specs.declared.change.Change.TheVariants.{Nothing}
 use Rattle.dcc_state.specs.declared.facts.Facts.{Facts}
-use Rattle.dcc_state.specs.Known.{changed, prices_of, IsKnown}
+use Rattle.dcc_state.specs.Known.{changed, IsKnown}
 use Rattle.dcc_state.specs.OpenSessions.{SessionView, AreOpen}
-use Rattle.dcc_state.specs.inner.Judged.{judged_in, is_made_in, place_in, entries_by_in, entries_after, change_of, change_after, moved_in, charged_in, overran_in, released, taken, standing_after, money_after}
+use Rattle.dcc_state.specs.inner.Judged.{judged_in, is_made_in, place_in, entries_by_in, entries_after, change_of, change_after, standing_after, money_after}
 use Rattle.dcc_state.proofs.Decided.{Knows, judged_is, made_is, charged_is, overran_is, entries_is}
 use Rattle.dcc_state.proofs.NewSessions.{change_is}
 use Rattle.dcc_state.proofs.Sums.{money_is}

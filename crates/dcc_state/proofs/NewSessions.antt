@@ -1,6 +1,6 @@
 -- The change that an act is judged to make leads to the sessions that are open after it.
-use Rattle.std.proofs.Common.{◌≡◌, ℕ, ◌+◌, Bool, true, false, not, ◌&&◌, ◌||◌, cond, List, [], ◌∷◌, ◌++◌, refl, sym, ap, subst, ◌∙◌, inl, inr, filter, bytes_eq, Option, Some, None}
-use Rattle.std.specs.Prelude.{find, is_some, nat_le}
+use Rattle.std.proofs.Common.{◌≡◌, ℕ, ◌+◌, Bool, true, false, not, ◌||◌, cond, List, [], ◌∷◌, ◌++◌, refl, sym, ap, ◌∙◌, inl, inr, filter, bytes_eq, Option, Some, None}
+use Rattle.std.specs.Prelude.{find, nat_le}
 use Rattle.std.specs.List.{list_any, AllByRecursion}
 use Rattle.std.specs.Option.{option_or}
 use Rattle.std.proofs.lemmas.Bool.{cases_Bool, or_parts}
@@ -19,15 +19,14 @@ use Rattle.dcc_model.specs.declared.judgement.Standing.{Standing}
 use Rattle.dcc_model.specs.Outcomes.{reported, decided}
 use Rattle.dcc_model.specs.Results.{succeeded, refused, answers_of}
 use Rattle.dcc_model.specs.Sessions.{Sid, is_sid, session_of, opens, updates, ends, deadline, is_open, looked_at}
-use Rattle.dcc_state.specs.declared.change.Change.{Change}
-use Rattle.dcc_state.specs.declared.change.Change.TheVariants.{Nothing, Open, End, Expire}
-use Rattle.dcc_state.specs.declared.held.Held.{Held}
+use Rattle.dcc_state.specs.declared.change.Change.TheVariants.{Open, End, Expire}
+use Rattle.dcc_session.specs.declared.held.Held.{Held}
 use Rattle.dcc_state.specs.Known.{changed}
-use Rattle.dcc_state.specs.OpenSessions.{SessionView, grants_of, session_at, is_session, session_in, AreApart, AreOpen, is_over_at}
+use Rattle.dcc_state.specs.OpenSessions.{SessionView, session_at, is_session, session_in, AreApart, AreOpen, is_over_at}
 use Rattle.dcc_state.specs.inner.Grants.{grants_after}
-use Rattle.dcc_state.specs.inner.Judged.{own_in, session_after, change_of}
+use Rattle.dcc_state.specs.inner.Judged.{session_after, change_of}
 use Rattle.dcc_state.proofs.Decided.{Knows}
-use Rattle.dcc_state.proofs.Finds.{find_kept, find_dropped, find_kept_all, find_dropped_all, find_nowhere}
+use Rattle.dcc_state.proofs.Finds.{find_kept, find_dropped, find_kept_all, find_dropped_all}
 use Rattle.dcc_state.proofs.Names.{same_sid, sid_is_own, flipped}
 use Rattle.dcc_state.proofs.NextSessions.{quiet, expiring, going, ending, made_to_other, made_to_none}
 use Rattle.dcc_state.proofs.OpenOnes.{IsAsDefined, each_is, own_is}

@@ -1,22 +1,22 @@
 -- The sessions that are open after one more act, as the definitions look back for them.
 use Rattle.std.proofs.Common.{◌≡◌, ℕ, ◌+◌, Bool, true, false, not, ◌&&◌, ◌||◌, cond, List, [], ◌∷◌, ◌++◌, map, refl, sym, ap, ◌∙◌, inl, inr, filter, bytes_eq, Option, Some, None}
 use Rattle.std.specs.Prelude.{filter_map, option_map, nat_le, unwrap_or}
-use Rattle.std.specs.List.{list_any, cons_option}
+use Rattle.std.specs.List.{cons_option}
 use Rattle.std.proofs.lemmas.Bool.{cases_Bool}
 use Rattle.std.proofs.lemmas.List.{map-append}
 use Rattle.std.proofs.lemmas.List.Elements.{filter-append}
 use Rattle.dcc_tariff.specs.Terms.{TermsView}
 use Rattle.dcc_act.specs.Answers.{answer_key}
-use Rattle.dcc_act.specs.ServiceKeys.{same_service}
 use Rattle.dcc_act.specs.declared.grant.Grant.{Grant}
 use Rattle.dcc_act.specs.declared.outcome.ServiceAnswer.{ServiceAnswer}
 use Rattle.dcc_model.specs.declared.done.Done.{Done}
 use Rattle.dcc_model.specs.Keys.{is_expiry}
-use Rattle.dcc_model.specs.Results.{succeeded, answers_of}
-use Rattle.dcc_model.specs.Sessions.{Sid, Live, is_sid, opens, updates, terminates, deadline, ends, is_open, session_of, names, named, looked_at, live_of, made_by, goes_on, lives}
-use Rattle.dcc_state.specs.declared.held.Held.{Held}
+use Rattle.dcc_model.specs.Results.{answers_of}
+use Rattle.dcc_model.specs.Sessions.{Sid, Live, is_sid, opens, updates, terminates, deadline, ends, is_open, session_of, looked_at, live_of, made_by, goes_on, lives}
+use Rattle.dcc_session.specs.declared.held.Held.{Held}
+use Rattle.dcc_session.specs.Grants.{is_given_back}
 use Rattle.dcc_state.specs.OpenSessions.{SessionView, held_of, is_of, grants_of, session_at}
-use Rattle.dcc_state.specs.inner.Grants.{held_by, is_given_back, grants_after}
+use Rattle.dcc_state.specs.inner.Grants.{held_by, grants_after}
 use Rattle.dcc_state.proofs.Finds.{filter_turned, filter_true}
 use Rattle.dcc_state.proofs.Names.{same_sid, sid_is_own, flipped}
 

@@ -1,6 +1,6 @@
 -- The sessions that are open, as they are kept and as the definitions look back for them.
-use Rattle.std.proofs.Common.{◌≡◌, ℕ, ◌+◌, Bool, true, false, not, ◌&&◌, ◌||◌, cond, List, [], ◌∷◌, map, length, refl, sym, ap, ◌∙◌, inl, inr, filter, count_by, sum_by, bytes_eq, Option, Some, None, arith}
-use Rattle.std.specs.Prelude.{find, is_some, nat_le, option_map}
+use Rattle.std.proofs.Common.{◌≡◌, ℕ, Bool, true, false, not, ◌&&◌, ◌||◌, cond, List, [], ◌∷◌, map, length, refl, sym, ap, ◌∙◌, inl, inr, filter, count_by, bytes_eq, Option, Some, None, arith}
+use Rattle.std.specs.Prelude.{is_some, nat_le}
 use Rattle.std.specs.List.{list_any, cons_option, AllByRecursion}
 use Rattle.std.specs.Option.{option_map_or}
 use Rattle.std.proofs.lemmas.Bool.{cases_Bool, or_parts, and_parts}
@@ -10,14 +10,10 @@ use Rattle.std.proofs.lemmas.Map.Views.{any-filter_same}
 use Rattle.dcc_tariff.specs.Terms.{TermsView}
 use Rattle.dcc_model.specs.declared.done.Done.{Done}
 use Rattle.dcc_model.specs.Laws.{IsOpenedOnce}
-use Rattle.dcc_model.specs.Money.{held_price, reserved_of}
 use Rattle.dcc_model.specs.Outcomes.{expired}
 use Rattle.dcc_model.specs.Sessions.{Sid, Live, opens_by, is_sid, opens, ends, deadline, is_open, was_opened, opened, open_sessions, lives}
-use Rattle.dcc_state.specs.declared.held.Held.{Held}
-use Rattle.dcc_state.specs.Known.{prices, prices_of}
-use Rattle.dcc_state.specs.OpenSessions.{SessionView, held_of, is_of, grants_of, session_at, is_session, session_in, AreApart, AreOpen, is_over_at}
+use Rattle.dcc_state.specs.OpenSessions.{SessionView, is_of, grants_of, session_at, is_session, session_in, AreApart, AreOpen, is_over_at}
 use Rattle.dcc_state.specs.inner.Judged.{own_in, is_open_in, expired_in}
-use Rattle.dcc_state.proofs.Finds.{sums_alike}
 use Rattle.dcc_state.proofs.Names.{same_sid, sid_is_own, flipped, is_among, AreDifferent, weight, same_counts, different_still, all_counted}
 use Rattle.dcc_state.proofs.OwnGrants.{IsSound}
 

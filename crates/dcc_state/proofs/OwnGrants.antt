@@ -1,5 +1,5 @@
 -- The grants that a session holds, among all that are live.
-use Rattle.std.proofs.Common.{◌≡◌, ℕ, ◌+◌, ◌-◌, ℤ, pos, ◌+ℤ◌, ◌-ℤ◌, Bool, true, false, not, ◌&&◌, List, [], ◌∷◌, ◌++◌, map, refl, sym, ap, ◌∙◌, inl, inr, filter, sum_by, bytes_eq, Option, Some, None, arith}
+use Rattle.std.proofs.Common.{◌≡◌, ℕ, ◌+◌, ◌-◌, ℤ, true, not, ◌&&◌, List, [], ◌∷◌, ◌++◌, map, refl, ap, ◌∙◌, inl, inr, filter, sum_by, bytes_eq, Option, arith}
 use Rattle.std.specs.Prelude.{find, option_map, unwrap_or, is_some, is_none}
 use Rattle.std.specs.List.{list_any, AllByRecursion}
 use Rattle.std.specs.Option.{option_and_then, option_or, option_map_or}
@@ -7,25 +7,23 @@ use Rattle.std.proofs.lemmas.Bool.{cases_Bool}
 use Rattle.std.proofs.lemmas.Int.{ints}
 use Rattle.std.proofs.lemmas.List.Filters.{sum_by-filter_both}
 use Rattle.std.proofs.lemmas.List.Sums.{sum_by-cons}
-use Rattle.std.proofs.lemmas.Slice.Eq.{bytes_eq-Decides}
 use Rattle.dcc_tariff.specs.Prices.{price}
-use Rattle.dcc_tariff.specs.Terms.{TermsView, TariffView}
+use Rattle.dcc_tariff.specs.Terms.{TermsView}
 use Rattle.dcc_act.specs.ServiceKeys.{same_service}
 use Rattle.dcc_act.specs.Services.{ServiceView, service_key}
 use Rattle.dcc_act.specs.declared.grant.Grant.{Grant}
-use Rattle.dcc_act.specs.declared.outcome.ResultCode.TheVariants.{RatingFailed}
 use Rattle.dcc_act.specs.declared.outcome.ServiceAnswer.{ServiceAnswer}
 use Rattle.dcc_act.specs.declared.service_key.ServiceKey.{ServiceKey}
 use Rattle.dcc_model.specs.declared.done.Done.{Done}
 use Rattle.dcc_model.specs.Laws.{is_at}
-use Rattle.dcc_model.specs.Money.{grant_price, live_price, charge_tariff, charge, is_unrated, charges, overruns, held_price, reserved_of, free_of, funds_of, is_replaced, reserved_beside, made_price, room}
-use Rattle.dcc_model.specs.Outcomes.{answer_with, asked_answer, answer_to, answers}
+use Rattle.dcc_model.specs.Money.{grant_price, live_price, charge, is_unrated, charges, overruns, held_price, reserved_of, free_of, is_replaced, reserved_beside, room}
+use Rattle.dcc_model.specs.Outcomes.{answer_to, answers}
 use Rattle.dcc_model.specs.Entries.{charge_entry, charge_entries}
 use Rattle.dcc_model.specs.Sessions.{Sid, Live, is_open, live, lives, named}
-use Rattle.dcc_state.specs.declared.held.Held.{Held}
-use Rattle.dcc_state.specs.Known.{prices}
+use Rattle.dcc_session.specs.declared.held.Held.{Held}
+use Rattle.dcc_session.specs.Grants.{live_in, charge_in, charges_in, is_given_back, given_back}
 use Rattle.dcc_state.specs.OpenSessions.{held_of, is_of, grants_of}
-use Rattle.dcc_state.specs.inner.Grants.{live_in, charge_tariff_in, charge_in, is_unrated_in, charges_in, live_price_in, overruns_in, is_given_back, given_back, room_in, answer_to_in, answers_in, charge_entries_in}
+use Rattle.dcc_state.specs.inner.Grants.{is_unrated_in, overruns_in, room_in, answer_to_in, answers_in, charge_entries_in}
 use Rattle.dcc_state.proofs.Finds.{sums_alike, maps_alike}
 
 -- what is known of acts that were made: each service's live grant is the one that all live grants have for it, and each of

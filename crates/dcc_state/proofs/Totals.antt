@@ -1,6 +1,5 @@
 -- What sessions hold together is what is reserved.
-use Rattle.std.proofs.Common.{◌≡◌, ℕ, ◌+◌, Bool, true, false, not, cond, List, [], ◌∷◌, ◌++◌, map, refl, sym, ap, ◌∙◌, inl, inr, filter, sum_by, bytes_eq, arith}
-use Rattle.std.specs.Prelude.{is_some}
+use Rattle.std.proofs.Common.{◌≡◌, ℕ, ◌+◌, true, false, not, cond, List, [], ◌∷◌, map, refl, sym, ap, ◌∙◌, inl, inr, filter, sum_by, bytes_eq, arith}
 use Rattle.std.specs.List.{list_any, AllByRecursion}
 use Rattle.std.proofs.lemmas.Bool.{cases_Bool, or_parts}
 use Rattle.std.proofs.lemmas.List.Sums.{sum_by-cons, sum_by_push}
@@ -10,9 +9,10 @@ use Rattle.dcc_model.specs.Money.{grant_price, held_price, reserved_of}
 use Rattle.dcc_model.specs.Sessions.{Sid, Live, is_open, lives}
 use Rattle.dcc_state.specs.declared.change.Change.{Change}
 use Rattle.dcc_state.specs.declared.change.Change.TheVariants.{Nothing, Open, End, Expire}
-use Rattle.dcc_state.specs.declared.held.Held.{Held}
-use Rattle.dcc_state.specs.Known.{changed, prices, prices_of}
-use Rattle.dcc_state.specs.OpenSessions.{SessionView, held_of, is_of, grants_of, is_session, session_in, AreApart, AreOpen, is_over_at}
+use Rattle.dcc_session.specs.declared.held.Held.{Held}
+use Rattle.dcc_session.specs.Grants.{prices}
+use Rattle.dcc_state.specs.Known.{changed, prices_of}
+use Rattle.dcc_state.specs.OpenSessions.{SessionView, held_of, is_of, is_session, AreApart, AreOpen, is_over_at}
 use Rattle.dcc_state.specs.inner.Judged.{own_in, prices_over, expired_prices, released, taken}
 use Rattle.dcc_state.proofs.Finds.{sums_alike}
 use Rattle.dcc_state.proofs.Names.{same_sid}

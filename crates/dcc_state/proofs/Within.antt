@@ -1,15 +1,10 @@
 -- Money that can be reckoned with.
-use Rattle.std.proofs.Common.{◌≡◌, pos, ◌+ℤ◌, ◌≤ℤ◌, List, reverse, ap, arith, sum_by}
+use Rattle.std.proofs.Common.{reverse, ap, arith}
 use Rattle.std.proofs.lemmas.Int.{ints}
-use Rattle.dcc_tariff.specs.Terms.{TermsView}
-use Rattle.dcc_act.specs.declared.act.Act.{Act}
-use Rattle.dcc_model.specs.declared.decide.TheConstants.{CEILING}
 use Rattle.dcc_model.specs.declared.judgement.Standing.{Standing}
-use Rattle.dcc_model.specs.Laws.{AreKeyed, FundsAreLimited, FreeIsCovered, LiveAreOpen}
-use Rattle.dcc_model.specs.Outcomes.{history, standing_of, funds, free, overrun}
-use Rattle.dcc_state.specs.declared.limits.TheConstants.{FARTHEST}
-use Rattle.dcc_state.specs.Known.{prices_of, IsWithin, MoneyIsWithin}
-use Rattle.dcc_state.specs.OpenSessions.{SessionView, AreOpen}
+use Rattle.dcc_model.specs.Laws.{FundsAreLimited, FreeIsCovered, LiveAreOpen}
+use Rattle.dcc_model.specs.Outcomes.{history, funds, free, overrun}
+use Rattle.dcc_state.specs.Known.{MoneyIsWithin}
 use Rattle.dcc_state.proofs.Totals.{held_is}
 
 pub within : FundsAreLimited → FreeIsCovered → LiveAreOpen → MoneyIsWithin

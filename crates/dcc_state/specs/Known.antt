@@ -9,13 +9,12 @@ use Rattle.dcc_model.specs.declared.done.Done.{Done}
 use Rattle.dcc_model.specs.declared.judgement.Standing.{Standing}
 use Rattle.dcc_model.specs.Keys.{request_key}
 use Rattle.dcc_model.specs.Laws.{AreKeyed}
-use Rattle.dcc_model.specs.Money.{grant_price}
 use Rattle.dcc_model.specs.Outcomes.{history, has_account, first_of, outcome_of, act_made, place_of_key, standing_of}
 use Rattle.dcc_model.specs.Sessions.{was_opened}
+use Rattle.dcc_session.specs.Grants.{prices}
 use Rattle.dcc_state.specs.declared.change.Change.{Change}
 use Rattle.dcc_state.specs.declared.change.Change.TheVariants.{Nothing, Open, End, Expire}
 use Rattle.dcc_state.specs.declared.facts.Facts.{Facts}
-use Rattle.dcc_state.specs.declared.held.Held.{Held}
 use Rattle.dcc_state.specs.declared.limits.TheConstants.{FARTHEST}
 use Rattle.dcc_state.specs.OpenSessions.{SessionView, is_session, is_over_at, AreOpen}
 
@@ -27,9 +26,6 @@ changed (End sid) sessions = filter (λ other. not (is_session sid other)) sessi
 changed (Expire moment) sessions = filter (λ other. not (is_over_at moment other)) sessions
 
 -- the prices of the grants of a session
-abbrev pub prices : List Held → ℕ
-prices grants = sum_by (λ held. grant_price held.grant) grants
-
 abbrev pub prices_of : SessionView → ℕ
 prices_of session = prices session.grants
 

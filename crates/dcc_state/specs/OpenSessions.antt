@@ -4,7 +4,7 @@ use Rattle.std.specs.List.{list_any}
 use Rattle.dcc_tariff.specs.Terms.{TermsView}
 use Rattle.dcc_model.specs.declared.done.Done.{Done}
 use Rattle.dcc_model.specs.Sessions.{Sid, Live, deadline, is_open, lives}
-use Rattle.dcc_state.specs.declared.held.Held.{Held}
+use Rattle.dcc_session.specs.declared.held.Held.{Held}
 
 -- an open session: its name, until when it is held, and its live grants
 pub record SessionView : Type 0 where

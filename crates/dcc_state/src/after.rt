@@ -4,13 +4,13 @@ ghost use Rattle.std.specs.Prelude.{◌≡◌, ◌≤◌, ◌*◌, ◌+◌, ◌^
 ghost use Rattle.dcc_act.specs.declared.limits.TheConstants.{MAX_SERVICES};
 ghost use Rattle.dcc_model.specs.Money.{credit, debit};
 ghost use Rattle.dcc_model.specs.Sessions.{accepted_by, looked_at};
+ghost use Rattle.dcc_session.specs.Grants.{is_given_back};
 ghost use Rattle.dcc_state.specs.Known.{prices_of, IsWithin};
-ghost use Rattle.dcc_state.specs.inner.Grants.{is_given_back, held_by, grants_after, charge_entries_in};
+ghost use Rattle.dcc_state.specs.inner.Grants.{held_by, grants_after, charge_entries_in};
 ghost use Rattle.dcc_state.specs.inner.Judged.{charged_in, overran_in, entries_by_in, session_after, change_of, prices_over, expired_prices, released, taken, moved_in, standing_after};
 
 use crate::change::Change;
 use crate::grants::{charge, charges, is_given_back, overruns, prices};
-use crate::held::Held;
 use crate::limits::FARTHEST;
 use crate::open_session::{OpenSession, is_over};
 use crate::requests::own;
@@ -19,6 +19,7 @@ use dcc_model::{
     Standing, answers_of, charge_entry, credited, debited, event_entries, has_succeeded,
     is_refused, top_up_entries,
 };
+use dcc_session::Held;
 use dcc_tariff::{MAX_PRICE, Terms};
 use std::alloc::{AllocError, Global};
 

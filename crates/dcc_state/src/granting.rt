@@ -8,10 +8,10 @@ ghost use Rattle.dcc_model.specs.Money.{made_price};
 ghost use Rattle.dcc_state.specs.inner.Grants.{room_in, answer_to_in, answers_in};
 
 use crate::grants::{charges, given_back, is_unrated};
-use crate::held::Held;
 use crate::limits::FARTHEST;
 use dcc_act::{MAX_SERVICES, ResultCode, Service, ServiceAnswer};
 use dcc_model::{CEILING, answer_with, asked_answer, price};
+use dcc_session::Held;
 use dcc_tariff::MAX_PRICE;
 use std::alloc::{AllocError, Global};
 

@@ -4,12 +4,12 @@ ghost use Rattle.std.specs.Prelude.{◌≡◌, ◌≤◌, ◌*◌, ◌^◌, pos,
 ghost use Rattle.std.specs.Option.{ForSome, option_copied};
 ghost use Rattle.dcc_act.specs.ServiceKeys.{same_service};
 ghost use Rattle.dcc_act.specs.declared.limits.TheConstants.{MAX_SERVICES};
-ghost use Rattle.dcc_state.specs.Known.{prices};
-ghost use Rattle.dcc_state.specs.inner.Grants.{live_in, charge_tariff_in, charge_in, is_unrated_in, charges_in, live_price_in, overruns_in, is_given_back, given_back};
+ghost use Rattle.dcc_session.specs.Grants.{prices, live_in, charge_tariff_in, charge_in, live_price_in, charges_in, is_given_back, given_back};
+ghost use Rattle.dcc_state.specs.inner.Grants.{is_unrated_in, overruns_in};
 
-use crate::held::Held;
 use dcc_act::{Grant, MAX_SERVICES, Service, ServiceKey};
 use dcc_model::{names_any, price};
+use dcc_session::Held;
 use dcc_tariff::{MAX_PRICE, Tariff, price_of};
 
 /// The grant that a service holds.

@@ -1,6 +1,6 @@
 //! What one more act comes to, by what an account keeps of those before it.
 //!
-//! Stands on `dcc_model`, `dcc_act` and `dcc_tariff`. An account keeps its money, the sessions that are open with their live
+//! Stands on `dcc_model`, `dcc_session`, `dcc_act` and `dcc_tariff`. An account keeps its money, the sessions that are open with their live
 //! grants, and a few facts; `judge` looks at these alone, and never back over the acts. The contract that it gives: where
 //! these are what the acts before say, the outcome, the place, the entries and the money are those of the definitions, and
 //! the change that it tells leads to the sessions that are open after the act.
@@ -11,7 +11,6 @@ mod change;
 mod facts;
 mod granting;
 mod grants;
-mod held;
 mod judgement;
 mod judging;
 mod laws;
@@ -21,7 +20,6 @@ mod requests;
 
 pub use change::Change;
 pub use facts::Facts;
-pub use held::Held;
 pub use judgement::Judgement;
 pub use judging::judge;
 pub use laws::money_is_within;

@@ -3,8 +3,8 @@
 ghost use Rattle.std.specs.Prelude.{◌≡◌, ◌≤◌, filter, not, vec_len, vec_capacity};
 ghost use Rattle.dcc_state.specs.OpenSessions.{is_session, is_over_at};
 
-use crate::held::Held;
 use dcc_act::{Moment, SessionId};
+use dcc_session::Held;
 use std::marker::Model;
 
 /// An open session: its name, until when it is held, in seconds, and its live grants.

@@ -10,7 +10,6 @@ ghost use Rattle.dcc_state.specs.inner.Judged.{own_in, is_open_in, begun_in, rep
 use crate::facts::Facts;
 use crate::granting::answers;
 use crate::grants::charges;
-use crate::held::Held;
 use crate::limits::FARTHEST;
 use crate::open_session::OpenSession;
 use dcc_act::{
@@ -18,6 +17,7 @@ use dcc_act::{
     SessionId,
 };
 use dcc_model::{CEILING, bare, command_result, is_under};
+use dcc_session::Held;
 use std::alloc::{AllocError, Global};
 
 /// The session of this name among these.

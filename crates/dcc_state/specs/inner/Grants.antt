@@ -1,56 +1,25 @@
 -- What a request of a session comes to, by the grants that its session holds and the money that is free.
-use Rattle.std.specs.Prelude.{ℕ, ◌+◌, ◌-◌, ℤ, pos, ◌+ℤ◌, ◌-ℤ◌, Bool, false, not, ◌&&◌, if◌then◌else◌, List, [], ◌∷◌, ◌++◌, filter, filter_map, find, sum_by, Option, Some, None, is_some, is_none, option_map, unwrap_or}
-use Rattle.std.specs.List.{list_any}
-use Rattle.std.specs.Option.{option_and_then, option_or, option_map_or}
-use Rattle.dcc_tariff.specs.Prices.{price}
-use Rattle.dcc_tariff.specs.Terms.{TariffView}
+use Rattle.std.specs.Prelude.{ℕ, ◌+◌, ◌-◌, ℤ, pos, ◌+ℤ◌, ◌-ℤ◌, Bool, false, not, ◌&&◌, if◌then◌else◌, List, [], ◌∷◌, ◌++◌, filter, filter_map, sum_by, Option, None, is_some, is_none, option_map, unwrap_or}
 use Rattle.dcc_act.specs.Answers.{answer_key}
-use Rattle.dcc_act.specs.ServiceKeys.{same_service}
 use Rattle.dcc_act.specs.Services.{ServiceView, service_key}
 use Rattle.dcc_act.specs.declared.entry.Entry.{Entry}
-use Rattle.dcc_act.specs.declared.grant.Grant.{Grant}
 use Rattle.dcc_act.specs.declared.outcome.Outcome.{Outcome}
 use Rattle.dcc_act.specs.declared.outcome.RequestType.{RequestType}
 use Rattle.dcc_act.specs.declared.outcome.ResultCode.TheVariants.{RatingFailed}
 use Rattle.dcc_act.specs.declared.outcome.ServiceAnswer.{ServiceAnswer}
 use Rattle.dcc_act.specs.declared.request_key.RequestKey.{RequestKey}
-use Rattle.dcc_act.specs.declared.service_key.ServiceKey.{ServiceKey}
 use Rattle.dcc_model.specs.Entries.{charge_entry}
-use Rattle.dcc_model.specs.Money.{grant_price, made_price}
+use Rattle.dcc_model.specs.Money.{made_price}
 use Rattle.dcc_model.specs.Outcomes.{answer_with, asked_answer, answered}
-use Rattle.dcc_model.specs.Results.{answers_of}
-use Rattle.dcc_model.specs.Sessions.{Sid, named}
-use Rattle.dcc_state.specs.declared.held.Held.{Held}
-use Rattle.dcc_state.specs.Known.{prices}
-
--- the grant that a service holds
-abbrev pub live_in : List Held → ServiceKey → Option Grant
-live_in own key = option_map (λ (held : Held). held.grant) (find (λ (held : Held). same_service held.key key) own)
-
-abbrev pub charge_tariff_in : List Held → ServiceView → Option TariffView
-charge_tariff_in own service = option_or (option_map (λ (grant : Grant). grant.tariff) (live_in own (service_key service))) service.tariff
-
-abbrev pub charge_in : List Held → ServiceView → Option ℕ
-charge_in own service = option_and_then (λ units. option_map (λ tariff. price tariff units) (charge_tariff_in own service)) service.used
+use Rattle.dcc_model.specs.Sessions.{Sid}
+use Rattle.dcc_session.specs.declared.held.Held.{Held}
+use Rattle.dcc_session.specs.Grants.{charge_in, live_price_in, charges_in, is_given_back, given_back}
 
 abbrev pub is_unrated_in : List Held → ServiceView → Bool
 is_unrated_in own service = is_some service.used && is_none (charge_in own service)
 
-abbrev pub charges_in : List Held → List ServiceView → ℕ
-charges_in own services = sum_by (λ service. unwrap_or (charge_in own service) 0) services
-
-abbrev pub live_price_in : List Held → ServiceKey → ℕ
-live_price_in own key = option_map_or grant_price (live_in own key) 0
-
 abbrev pub overruns_in : List Held → List ServiceView → ℕ
 overruns_in own services = sum_by (λ service. unwrap_or (charge_in own service) 0 - live_price_in own (service_key service)) services
-
--- a request gives back the grants of the services that it names
-abbrev pub is_given_back : List ServiceView → Held → Bool
-is_given_back services held = list_any (same_service held.key) (named services)
-
-abbrev pub given_back : List Held → List ServiceView → ℕ
-given_back own services = prices (filter (is_given_back services) own)
 
 -- the money for the next service's grant: what is free and given back, less the charges and the grants before
 abbrev pub room_in : ℤ → List Held → List ServiceView → List ServiceAnswer → ℤ

@@ -1,5 +1,5 @@
 -- What one more act comes to, and what it does, by what is known of the acts before it.
-use Rattle.std.specs.Prelude.{ℕ, ◌+◌, ℤ, pos, ◌+ℤ◌, ◌-ℤ◌, Bool, false, not, ◌&&◌, ◌||◌, nat_le, nat_lt, if◌then◌else◌, List, [], ◌∷◌, ◌++◌, length, count_by, sum_by, Option, Some, None, is_some, is_none, option_map, unwrap_or}
+use Rattle.std.specs.Prelude.{ℕ, ◌+◌, ℤ, pos, ◌+ℤ◌, ◌-ℤ◌, Bool, not, ◌&&◌, ◌||◌, nat_le, nat_lt, if◌then◌else◌, List, [], ◌∷◌, ◌++◌, length, count_by, sum_by, Option, Some, is_some, is_none, option_map, unwrap_or}
 use Rattle.std.specs.Option.{option_to_list, option_map_or}
 use Rattle.dcc_tariff.specs.Terms.{TermsView}
 use Rattle.dcc_act.specs.Services.{ServiceView}
@@ -24,10 +24,11 @@ use Rattle.dcc_model.specs.Sessions.{Sid, looked_at, accepted_by}
 use Rattle.dcc_state.specs.declared.change.Change.{Change}
 use Rattle.dcc_state.specs.declared.change.Change.TheVariants.{Nothing, Open, End, Expire}
 use Rattle.dcc_state.specs.declared.facts.Facts.{Facts}
-use Rattle.dcc_state.specs.declared.held.Held.{Held}
-use Rattle.dcc_state.specs.Known.{prices, prices_of}
+use Rattle.dcc_session.specs.declared.held.Held.{Held}
+use Rattle.dcc_session.specs.Grants.{prices, charges_in}
+use Rattle.dcc_state.specs.Known.{prices_of}
 use Rattle.dcc_state.specs.OpenSessions.{SessionView, session_in, is_over_at}
-use Rattle.dcc_state.specs.inner.Grants.{charges_in, overruns_in, served_in, grants_after, charge_entries_in}
+use Rattle.dcc_state.specs.inner.Grants.{overruns_in, served_in, grants_after, charge_entries_in}
 
 -- the grants of a session
 abbrev pub own_in : List SessionView → Sid → List Held

@@ -1,9 +1,10 @@
 use Rattle.std.proofs.Common.{◌<◌, List, [], ◌∷◌, ◌++◌, length, take, arith, Vec, Global, Option, Some, None, sym, ap, ◌∙◌, append-nil}
-use Rattle.std.specs.Prelude.{filter_map, option_map}
+use Rattle.std.specs.Prelude.{option_map}
 use Rattle.dcc_act.specs.Services.{ServiceView}
 use Rattle.dcc_act.specs.declared.entry.Entry.{Entry}
 use Rattle.dcc_model.specs.Entries.{charge_entry}
-use Rattle.dcc_state.specs.inner.Grants.{charge_in, charge_entries_in}
+use Rattle.dcc_session.specs.Grants.{charge_in}
+use Rattle.dcc_state.specs.inner.Grants.{charge_entries_in}
 use Rattle.dcc_state.proofs.Walks.{filter_map_more}
 use Rattle.dcc_state.proofs.after.charge_entries.Goals as goal
 use Rattle.dcc_state.proofs.after.charge_entries.Goals.{in-Some+in_ok-push, in_default}

@@ -1,8 +1,8 @@
-use Rattle.std.proofs.Common.{◌<◌, List, ◌++◌, length, take, arith, Option, Some, None, refl, sym, ap, ◌∙◌, append-nil, Vec, Global}
+use Rattle.std.proofs.Common.{◌<◌, length, take, arith, Option, Some, None, ap, append-nil}
 use Rattle.std.specs.Prelude.{filter_map, option_map}
 use Rattle.dcc_act.specs.Answers.{answer_key}
 use Rattle.dcc_act.specs.declared.grant.Grant.{Grant}
-use Rattle.dcc_state.specs.declared.held.Held.{Held}
+use Rattle.dcc_session.specs.declared.held.Held.{Held}
 use Rattle.dcc_state.specs.inner.Grants.{held_by}
 use Rattle.dcc_state.proofs.Walks.{filter_map_more}
 use Rattle.dcc_state.proofs.after.granted.Goals as goal

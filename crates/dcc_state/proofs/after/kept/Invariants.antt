@@ -1,6 +1,6 @@
 use Rattle.std.proofs.Common.{◌≡◌, take, filter, not}
-use Rattle.dcc_state.specs.declared.held.Held.{Held}
-use Rattle.dcc_state.specs.inner.Grants.{is_given_back}
+use Rattle.dcc_session.specs.declared.held.Held.{Held}
+use Rattle.dcc_session.specs.Grants.{is_given_back}
 use Rattle.dcc_state.proofs.after.kept.Given as goal
 
 abbrev pub invariant-loop-held : goal.invariant-loop-held

@@ -1,4 +1,4 @@
-use Rattle.std.proofs.Common.{◌≡◌, ℕ, to_z, of_z, ◌+◌, List, ◌++◌, ◌∷◌, [], drop, length, sum_by, sym, ap, ◌∙◌, arith}
+use Rattle.std.proofs.Common.{◌≡◌, ℕ, to_z, of_z, ◌+◌, List, ◌++◌, drop, length, sum_by, sym, ap, ◌∙◌, arith}
 use Rattle.std.proofs.lemmas.Int.{ints}
 use Rattle.std.proofs.lemmas.List.{length_push}
 use mir.Syntax.{w128}

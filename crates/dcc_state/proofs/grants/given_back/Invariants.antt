@@ -1,5 +1,5 @@
 use Rattle.std.proofs.Common.{◌≡◌, ◌*◌, take, pos, ◌≤ℤ◌}
-use Rattle.dcc_state.specs.inner.Grants.{given_back}
+use Rattle.dcc_session.specs.Grants.{given_back}
 use Rattle.dcc_state.proofs.grants.given_back.Given as goal
 
 abbrev pub invariant-loop-held : goal.invariant-loop-held

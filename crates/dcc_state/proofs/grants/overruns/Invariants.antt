@@ -1,7 +1,7 @@
 use Rattle.std.proofs.Common.{◌≡◌, ◌≤◌, ◌*◌, ◌-◌, take, sum_by}
 use Rattle.std.specs.Prelude.{unwrap_or}
 use Rattle.dcc_act.specs.Services.{ServiceView, service_key}
-use Rattle.dcc_state.specs.inner.Grants.{charge_in, live_price_in}
+use Rattle.dcc_session.specs.Grants.{charge_in, live_price_in}
 use Rattle.dcc_state.proofs.grants.overruns.Given as goal
 
 abbrev pub invariant-loop-service : goal.invariant-loop-service

@@ -1,5 +1,5 @@
 use Rattle.std.proofs.Common.{◌≡◌, ◌*◌, take, pos, ◌≤ℤ◌}
-use Rattle.dcc_state.specs.Known.{prices}
+use Rattle.dcc_session.specs.Grants.{prices}
 use Rattle.dcc_state.proofs.grants.prices.Given as goal
 
 abbrev pub invariant-loop-held : goal.invariant-loop-held

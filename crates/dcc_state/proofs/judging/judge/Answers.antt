@@ -1,7 +1,5 @@
-use Rattle.std.proofs.Common.{List, reverse}
 use Rattle.std.specs.Option.{option_copied}
 use Rattle.std.proofs.lemmas.Result.{IfOk-weaker}
-use Rattle.dcc_model.specs.Outcomes.{history}
 use Rattle.dcc_state.proofs.Judged.{knows, outcome_at, new_at, place_at, entries_at, sessions_at, standing_at, both}
 use Rattle.dcc_state.proofs.judging.judge.Goals as goal
 

@@ -2,9 +2,9 @@ use Rattle.std.proofs.Common.{◌≡◌, ap, sym, ◌∙◌, arith, Option, Some
 use Rattle.dcc_escrow.specs.Pools.{HoldView}
 use Rattle.dcc_act.specs.declared.grant.Grant.{Grant}
 use Rattle.dcc_session.specs.Sessions.{OpenView}
-use Rattle.dcc_session.specs.Grants.{live_in, charge_by, prices}
+use Rattle.dcc_session.specs.Grants.{live_in, live_price_in, charge_by, prices}
 use Rattle.dcc_session.specs.inner.Holds.{hold_of}
-use Rattle.dcc_session.proofs.Taking.{apart_without, price-le}
+use Rattle.dcc_session.proofs.Taking.{apart_without, price-le, price-without}
 use Rattle.dcc_session.proofs.open.Open.report.Goals as goal
 
 pub settle-requires-clause-hold : goal.settle-requires-clause-hold
@@ -31,3 +31,12 @@ invariant_of-self c = record {
   held = c.take_out-taken.ensures.holds c.self.inside.pool c.self.invariant.held;
   apart = rw c.take_out-taken.ensures.grants (apart_without c.self.inside.grants.items c.key.result c.self.invariant.apart);
 }
+
+pub returns-clause-held : goal.returns-clause-held
+returns-clause-held c =
+    let all = price-without c.self.inside.grants.items c.key.result c.self.invariant.apart in
+    let left = ap prices c.take_out-taken.ensures.grants in
+    let before = ap (λ (s : OpenView). prices s.grants) c.self.view_is in
+    let had = ap (λ (s : OpenView). live_price_in s.grants c.key.result) c.self.view_is in
+    let own = ap (live_price_in c.args.self.now.grants) c.key.ensures in
+    omega arith

@@ -1,5 +1,4 @@
 use Rattle.std.proofs.Common.{List, [], ◌∷◌, ◌++◌, not, filter, sym, ap, ◌∙◌}
-use Rattle.dcc_model.specs.Sessions.{Sid}
 use Rattle.dcc_state.specs.declared.change.Change.{Change}
 use Rattle.dcc_state.specs.Known.{changed}
 use Rattle.dcc_state.specs.OpenSessions.{SessionView, is_session}
