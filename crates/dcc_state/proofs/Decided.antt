@@ -27,9 +27,9 @@ use Rattle.dcc_session.specs.Grants.{charges_in}
 use Rattle.dcc_state.specs.declared.facts.Facts.{Facts}
 use Rattle.dcc_session.specs.declared.held.Held.{Held}
 use Rattle.dcc_state.specs.Known.{was_opened_by}
-use Rattle.dcc_state.specs.OpenSessions.{SessionView, AreOpen, grants_of}
+use Rattle.dcc_state.specs.OpenSessions.{SessionView, AreOpen, grants_of, own_in}
 use Rattle.dcc_state.specs.inner.Grants.{overruns_in, served_in, charge_entries_in}
-use Rattle.dcc_state.specs.inner.Judged.{own_in, begun_in, reported_in, decided_in, settled_in, judged_in, is_made_in, charged_in, overran_in, entries_by_in}
+use Rattle.dcc_state.specs.inner.Judged.{begun_in, reported_in, decided_in, settled_in, judged_in, is_made_in, charged_in, overran_in, entries_by_in}
 use Rattle.dcc_state.proofs.OpenOnes.{own_is, open_is, many_are, expired_are}
 use Rattle.dcc_state.proofs.OwnGrants.{IsSound, charges_are, overruns_are, answers_are, charge_entries_are}
 

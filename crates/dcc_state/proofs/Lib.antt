@@ -11,3 +11,5 @@ mod NextSessions
 mod NewSessions
 mod Judged
 mod Within
+pub mod Backing
+pub mod Backs

@@ -15,8 +15,9 @@ use Rattle.dcc_model.specs.Results.{answers_of}
 use Rattle.dcc_model.specs.Sessions.{Sid, Live, is_sid, opens, updates, terminates, deadline, ends, is_open, session_of, looked_at, live_of, made_by, goes_on, lives}
 use Rattle.dcc_session.specs.declared.held.Held.{Held}
 use Rattle.dcc_session.specs.Grants.{is_given_back}
+use Rattle.dcc_state.specs.Backed.{held_by}
 use Rattle.dcc_state.specs.OpenSessions.{SessionView, held_of, is_of, grants_of, session_at}
-use Rattle.dcc_state.specs.inner.Grants.{held_by, grants_after}
+use Rattle.dcc_state.specs.inner.Grants.{grants_after}
 use Rattle.dcc_state.proofs.Finds.{filter_turned, filter_true}
 use Rattle.dcc_state.proofs.Names.{same_sid, sid_is_own, flipped}
 

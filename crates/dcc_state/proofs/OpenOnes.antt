@@ -12,8 +12,8 @@ use Rattle.dcc_model.specs.declared.done.Done.{Done}
 use Rattle.dcc_model.specs.Laws.{IsOpenedOnce}
 use Rattle.dcc_model.specs.Outcomes.{expired}
 use Rattle.dcc_model.specs.Sessions.{Sid, Live, opens_by, is_sid, opens, ends, deadline, is_open, was_opened, opened, open_sessions, lives}
-use Rattle.dcc_state.specs.OpenSessions.{SessionView, is_of, grants_of, session_at, is_session, session_in, AreApart, AreOpen, is_over_at}
-use Rattle.dcc_state.specs.inner.Judged.{own_in, is_open_in, expired_in}
+use Rattle.dcc_state.specs.OpenSessions.{SessionView, is_of, grants_of, session_at, is_session, session_in, AreApart, AreOpen, is_over_at, own_in}
+use Rattle.dcc_state.specs.inner.Judged.{is_open_in, expired_in}
 use Rattle.dcc_state.proofs.Names.{same_sid, sid_is_own, flipped, is_among, AreDifferent, weight, same_counts, different_still, all_counted}
 use Rattle.dcc_state.proofs.OwnGrants.{IsSound}
 

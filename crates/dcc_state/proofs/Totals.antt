@@ -12,8 +12,8 @@ use Rattle.dcc_state.specs.declared.change.Change.TheVariants.{Nothing, Open, En
 use Rattle.dcc_session.specs.declared.held.Held.{Held}
 use Rattle.dcc_session.specs.Grants.{prices}
 use Rattle.dcc_state.specs.Known.{changed, prices_of}
-use Rattle.dcc_state.specs.OpenSessions.{SessionView, held_of, is_of, is_session, AreApart, AreOpen, is_over_at}
-use Rattle.dcc_state.specs.inner.Judged.{own_in, prices_over, expired_prices, released, taken}
+use Rattle.dcc_state.specs.OpenSessions.{SessionView, held_of, is_of, is_session, AreApart, AreOpen, is_over_at, own_in}
+use Rattle.dcc_state.specs.inner.Judged.{prices_over, expired_prices, released, taken}
 use Rattle.dcc_state.proofs.Finds.{sums_alike}
 use Rattle.dcc_state.proofs.Names.{same_sid}
 use Rattle.dcc_state.proofs.OpenOnes.{IsAsDefined, each_is, open_is, found_any}

@@ -1,3 +1,4 @@
 pub mod OpenSessions
 pub mod Known
+pub mod Backed
 pub mod inner

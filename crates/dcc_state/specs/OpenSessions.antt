@@ -1,6 +1,7 @@
 -- The sessions that are open, each with its live grants.
 use Rattle.std.specs.Prelude.{◌≡◌, ℕ, Bool, false, nat_le, if◌then◌else◌, List, [], ◌∷◌, map, filter, find, bytes_eq, Option, Some, None}
 use Rattle.std.specs.List.{list_any}
+use Rattle.std.specs.Option.{option_map_or}
 use Rattle.dcc_tariff.specs.Terms.{TermsView}
 use Rattle.dcc_model.specs.declared.done.Done.{Done}
 use Rattle.dcc_model.specs.Sessions.{Sid, Live, deadline, is_open, lives}
@@ -33,6 +34,10 @@ is_session sid session = bytes_eq session.sid sid
 -- the session of this name among these
 abbrev pub session_in : List SessionView → Sid → Option SessionView
 session_in sessions sid = find (is_session sid) sessions
+
+-- the grants of a session among these
+abbrev pub own_in : List SessionView → Sid → List Held
+own_in sessions sid = option_map_or (λ (session : SessionView). session.grants) (session_in sessions sid) []
 
 -- no two of them have one name
 abbrev pub AreApart : List SessionView → Type 0

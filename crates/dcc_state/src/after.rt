@@ -5,8 +5,9 @@ ghost use Rattle.dcc_act.specs.declared.limits.TheConstants.{MAX_SERVICES};
 ghost use Rattle.dcc_model.specs.Money.{credit, debit};
 ghost use Rattle.dcc_model.specs.Sessions.{accepted_by, looked_at};
 ghost use Rattle.dcc_session.specs.Grants.{is_given_back};
+ghost use Rattle.dcc_state.specs.Backed.{held_by};
 ghost use Rattle.dcc_state.specs.Known.{prices_of, IsWithin};
-ghost use Rattle.dcc_state.specs.inner.Grants.{held_by, grants_after, charge_entries_in};
+ghost use Rattle.dcc_state.specs.inner.Grants.{grants_after, charge_entries_in};
 ghost use Rattle.dcc_state.specs.inner.Judged.{charged_in, overran_in, entries_by_in, session_after, change_of, prices_over, expired_prices, released, taken, moved_in, standing_after};
 
 use crate::change::Change;

@@ -8,6 +8,7 @@ ghost use Rattle.dcc_act.specs.declared.act.Act.{Act};
 ghost use Rattle.dcc_model.specs.Entries.{entries_with};
 ghost use Rattle.dcc_model.specs.Outcomes.{judged, is_made, place_of, with_act, history, standing_of};
 ghost use Rattle.dcc_model.specs.Sessions.{looked_at};
+ghost use Rattle.dcc_state.specs.Backed.{made_in, IsBacked};
 ghost use Rattle.dcc_state.specs.Known.{changed, IsWithin, IsKnown};
 ghost use Rattle.dcc_state.specs.OpenSessions.{is_over_at, AreOpen};
 ghost use Rattle.dcc_state.specs.inner.Judged.{expired_in, decided_in, settled_in, judged_in, is_made_in, place_in, entries_by_in, change_of, standing_after, entries_after, change_after, money_after};
@@ -21,8 +22,8 @@ use crate::open_session::{OpenSession, is_over};
 use crate::requests::{begun, reported};
 use dcc_act::{Act, Kind, MAX_SERVICES, Moment, Outcome, RequestType, Service};
 use dcc_model::{
-    CEILING, acts_come_to_their_own, decide_event, decide_top_up, is_expiry, request_key,
-    services_looked_at, sessions_open_once, unknown,
+    CEILING, acts_come_to_their_own, decide_event, decide_top_up, is_expiry, keys_are_apart,
+    request_key, services_looked_at, sessions_open_once, unknown,
 };
 use dcc_tariff::{MAX_PRICE, Terms};
 use std::alloc::{AllocError, Global};
@@ -53,6 +54,7 @@ pub fn judge(
     ensures sessions { (xs : List Act) → IsKnown terms.now xs act.now facts.now (option_copied first.entry) sessions.now
         → IfOk result (λ judgement. AreOpen terms.now (with_act terms.now (history terms.now (reverse xs)) act.now) (changed judgement.change sessions.now)) }
     ensures overrun { IfOk result (λ judgement. judgement.standing.overrun ≤ℤ (facts.now.standing.overrun +ℤ pos (MAX_SERVICES * MAX_PRICE))) }
+    ensures backed { IfOk result (λ judgement. IsBacked facts.now.standing sessions.now (looked_at act.now.kind) (made_in judgement.outcome) judgement.change) }
 {
     acts_come_to_their_own();
     sessions_open_once();
@@ -77,7 +79,9 @@ fn judge_known(
     ensures change { IfOk result (λ judgement. judgement.change ≡ change_after terms.now sessions.now act.now judgement.is_new judgement.outcome) }
     ensures standing { IfOk result (λ judgement. judgement.standing ≡ money_after facts.now sessions.now act.now judgement.is_new judgement.outcome judgement.change) }
     ensures overrun { IfOk result (λ judgement. judgement.standing.overrun ≤ℤ (facts.now.standing.overrun +ℤ pos (MAX_SERVICES * MAX_PRICE))) }
+    ensures backed { IfOk result (λ judgement. IsBacked facts.now.standing sessions.now (looked_at act.now.kind) (made_in judgement.outcome) judgement.change) }
 {
+    keys_are_apart(act);
     let services = services_looked_at(alloc, &act.kind)?;
     let outcome = outcome(alloc, facts, first, sessions, act, &services)?;
     let is_new = is_made(facts, first, sessions, act);

@@ -3,9 +3,9 @@
 ghost use Rattle.std.specs.Prelude.{◌≡◌, ◌≤◌, neg_ℤ, ◌≤ℤ◌, length, find, sum_by, option_map, IfOk};
 ghost use Rattle.dcc_act.specs.Services.{ServiceView};
 ghost use Rattle.dcc_act.specs.declared.limits.TheConstants.{MAX_SERVICES, MAX_IDS};
-ghost use Rattle.dcc_state.specs.OpenSessions.{session_in};
+ghost use Rattle.dcc_state.specs.OpenSessions.{session_in, own_in};
 ghost use Rattle.dcc_state.specs.inner.Grants.{served_in};
-ghost use Rattle.dcc_state.specs.inner.Judged.{own_in, is_open_in, begun_in, reported_in};
+ghost use Rattle.dcc_state.specs.inner.Judged.{is_open_in, begun_in, reported_in};
 
 use crate::facts::Facts;
 use crate::granting::answers;

@@ -1,6 +1,5 @@
 -- What a request of a session comes to, by the grants that its session holds and the money that is free.
-use Rattle.std.specs.Prelude.{ℕ, ◌+◌, ◌-◌, ℤ, pos, ◌+ℤ◌, ◌-ℤ◌, Bool, false, not, ◌&&◌, if◌then◌else◌, List, [], ◌∷◌, ◌++◌, filter, filter_map, sum_by, Option, None, is_some, is_none, option_map, unwrap_or}
-use Rattle.dcc_act.specs.Answers.{answer_key}
+use Rattle.std.specs.Prelude.{ℕ, ◌+◌, ◌-◌, ℤ, pos, ◌+ℤ◌, ◌-ℤ◌, Bool, false, not, ◌&&◌, if◌then◌else◌, List, [], ◌∷◌, ◌++◌, filter, filter_map, sum_by, None, is_some, is_none, option_map, unwrap_or}
 use Rattle.dcc_act.specs.Services.{ServiceView, service_key}
 use Rattle.dcc_act.specs.declared.entry.Entry.{Entry}
 use Rattle.dcc_act.specs.declared.outcome.Outcome.{Outcome}
@@ -14,6 +13,7 @@ use Rattle.dcc_model.specs.Outcomes.{answer_with, asked_answer, answered}
 use Rattle.dcc_model.specs.Sessions.{Sid}
 use Rattle.dcc_session.specs.declared.held.Held.{Held}
 use Rattle.dcc_session.specs.Grants.{charge_in, live_price_in, charges_in, is_given_back, given_back}
+use Rattle.dcc_state.specs.Backed.{held_by}
 
 abbrev pub is_unrated_in : List Held → ServiceView → Bool
 is_unrated_in own service = is_some service.used && is_none (charge_in own service)
@@ -36,10 +36,6 @@ answers_in free own services before (service ∷ rest) =
 
 abbrev pub served_in : ℤ → List Held → RequestType → RequestKey → List ServiceView → Outcome
 served_in free own type key services = answered type key (answers_in free own services [] services)
-
--- the grants that an answer made
-abbrev pub held_by : ServiceAnswer → Option Held
-held_by answer = option_map (λ grant. record { key = answer_key answer; grant = grant }) answer.grant
 
 -- what the session holds after its request: what that granted, and what it did not give back
 abbrev pub grants_after : List Held → List ServiceView → List ServiceAnswer → List Held

@@ -24,15 +24,10 @@ use Rattle.dcc_model.specs.Sessions.{Sid, looked_at, accepted_by}
 use Rattle.dcc_state.specs.declared.change.Change.{Change}
 use Rattle.dcc_state.specs.declared.change.Change.TheVariants.{Nothing, Open, End, Expire}
 use Rattle.dcc_state.specs.declared.facts.Facts.{Facts}
-use Rattle.dcc_session.specs.declared.held.Held.{Held}
 use Rattle.dcc_session.specs.Grants.{prices, charges_in}
 use Rattle.dcc_state.specs.Known.{prices_of}
-use Rattle.dcc_state.specs.OpenSessions.{SessionView, session_in, is_over_at}
+use Rattle.dcc_state.specs.OpenSessions.{SessionView, session_in, is_over_at, own_in}
 use Rattle.dcc_state.specs.inner.Grants.{overruns_in, served_in, grants_after, charge_entries_in}
-
--- the grants of a session
-abbrev pub own_in : List SessionView → Sid → List Held
-own_in sessions sid = option_map_or (λ (session : SessionView). session.grants) (session_in sessions sid) []
 
 abbrev pub is_open_in : List SessionView → Sid → Bool
 is_open_in sessions sid = is_some (session_in sessions sid)

@@ -3,7 +3,7 @@ use Rattle.std.specs.Prelude.{filter_map, option_map}
 use Rattle.dcc_act.specs.Answers.{answer_key}
 use Rattle.dcc_act.specs.declared.grant.Grant.{Grant}
 use Rattle.dcc_session.specs.declared.held.Held.{Held}
-use Rattle.dcc_state.specs.inner.Grants.{held_by}
+use Rattle.dcc_state.specs.Backed.{held_by}
 use Rattle.dcc_state.proofs.Walks.{filter_map_more}
 use Rattle.dcc_state.proofs.after.granted.Goals as goal
 use Rattle.dcc_state.proofs.after.granted.Goals.{in-Some+in_ok-push, in_default}
