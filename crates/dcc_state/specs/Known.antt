@@ -9,6 +9,7 @@ use Rattle.dcc_model.specs.declared.done.Done.{Done}
 use Rattle.dcc_model.specs.declared.judgement.Standing.{Standing}
 use Rattle.dcc_model.specs.Keys.{request_key}
 use Rattle.dcc_model.specs.Laws.{AreKeyed}
+use Rattle.dcc_model.specs.Money.{reserved_of}
 use Rattle.dcc_model.specs.Outcomes.{history, has_account, first_of, outcome_of, act_made, place_of_key, standing_of}
 use Rattle.dcc_model.specs.Sessions.{was_opened}
 use Rattle.dcc_session.specs.Grants.{prices}
@@ -60,3 +61,8 @@ abbrev pub MoneyIsWithin : Type 0
 MoneyIsWithin = (terms : TermsView) (xs : List Act) (standing : Standing) (sessions : List SessionView) → AreKeyed xs
     → standing ≡ standing_of terms (history terms (reverse xs)) → AreOpen terms (history terms (reverse xs)) sessions
     → (standing.overrun +ℤ CEILING) ≤ℤ FARTHEST → IsWithin standing sessions
+
+-- what is reserved is what the open sessions hold together
+abbrev pub SessionsHoldWhatIsReserved : Type 0
+SessionsHoldWhatIsReserved = (terms : TermsView) (xs : List Act) (sessions : List SessionView) → AreOpen terms (history terms (reverse xs)) sessions
+    → sum_by prices_of sessions ≡ reserved_of terms (history terms (reverse xs))

@@ -1,6 +1,6 @@
-//! Laws of what an account keeps. The function does nothing: it has a law as its contract.
+//! Laws of what an account keeps. The functions do nothing: each has a law as its contract.
 
-ghost use Rattle.dcc_state.specs.Known.{MoneyIsWithin};
+ghost use Rattle.dcc_state.specs.Known.{MoneyIsWithin, SessionsHoldWhatIsReserved};
 
 use dcc_model::{funds_are_accounted_for, sessions_open_once};
 
@@ -9,5 +9,12 @@ pub fn money_is_within()
     ensures { MoneyIsWithin }
 {
     funds_are_accounted_for();
+    sessions_open_once();
+}
+
+/// What is reserved of the funds is what the open sessions hold together.
+pub fn sessions_hold_what_is_reserved()
+    ensures { SessionsHoldWhatIsReserved }
+{
     sessions_open_once();
 }

@@ -22,7 +22,7 @@ pub use change::Change;
 pub use facts::Facts;
 pub use judgement::Judgement;
 pub use judging::judge;
-pub use laws::money_is_within;
+pub use laws::{money_is_within, sessions_hold_what_is_reserved};
 pub use limits::FARTHEST;
 pub use open_session::OpenSession;
 
