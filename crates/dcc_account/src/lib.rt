@@ -7,7 +7,9 @@
 
 mod account;
 mod growth;
+mod indexes;
 mod kept;
+mod new_keys;
 mod step;
 
 pub use account::Account;
