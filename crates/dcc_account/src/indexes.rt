@@ -9,7 +9,7 @@ ghost use Rattle.dcc_model.specs.Keys.{request_key, same_request, same_ticket};
 ghost use Rattle.dcc_model.specs.Outcomes.{act_made, place_of_key};
 ghost use Rattle.dcc_model.specs.Sessions.{Sid, is_sid};
 ghost use Rattle.dcc_state.specs.Known.{was_opened_by};
-ghost use Rattle.dcc_account.specs.inner.Indexed.{place_by, is_request, same_name, IsIndexed, AreKeysOf, HasRoom, AreEmpty, CanGrow};
+ghost use Rattle.dcc_account.specs.inner.Indexed.{place_by, is_request, is_top_up_of, same_name, IsIndexed, AreKeysOf, HasRoom, AreEmpty, CanGrow};
 
 use crate::growth::{grow_map, grow_set, larger_map, larger_set};
 use crate::new_keys::NewKeys;
@@ -63,13 +63,20 @@ impl Indexes {
         ensures { (past : List Done) → IsIndexed past self.now → result ≡ place_of_key (map act_made past) kind.now }
     {
         match kind {
-            Kind::TopUp(top_up) => self.tickets.get(&top_up.ticket).copied(),
+            Kind::TopUp(top_up) => self.place_of_top_up(top_up.ticket),
             Kind::Initial(request) | Kind::Update(request) | Kind::Termination(request) => {
                 self.place_of_request(&request.key)
             }
             Kind::Event(event) => self.place_of_request(&event.key),
             Kind::Expiry => None,
         }
+    }
+
+    /// The place of the top-up of this ticket.
+    fn place_of_top_up(&self, ticket: u64) -> Option<u64>
+        ensures { (past : List Done) → IsIndexed past self.now → result ≡ place_by (is_top_up_of ticket) past }
+    {
+        self.tickets.get(&ticket).copied()
     }
 
     /// The place of the request of this key.

@@ -10,8 +10,7 @@ use Rattle.dcc_account.proofs.indexes.Indexes.place.Goals as goal
 pub returns-in-TopUp : goal.returns-in-TopUp
 returns-in-TopUp c past is =
     let number = ap (λ (t : TopUpView). t.ticket) c.top_up.view_is in
-    c.copied.ensures ∙ c.get.ensures.value ∙ is.tickets_are c.top_up.inside.ticket ∙ ap (λ (n : ℕ). place_by (is_top_up_of n) past) number
-    ∙ place_of_ticket past c.args.kind.now c.in-TopUp.top_up c.in-TopUp.is
+    c.place_of_top_up.ensures past is ∙ ap (λ (n : ℕ). place_by (is_top_up_of n) past) number ∙ place_of_ticket past c.args.kind.now c.in-TopUp.top_up c.in-TopUp.is
 
 pub returns-in-Event : goal.returns-in-Event
 returns-in-Event c past is =
