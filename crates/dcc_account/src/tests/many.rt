@@ -35,10 +35,13 @@ fn live(alloc: Global, account: &mut Account, session: u8) -> Result<(), Fail> {
     make(account, act(alloc, begun + 1200, Ask::Expiry)?)
 }
 
-/// Whether a session can't be opened any more.
-fn is_spent(alloc: Global, account: &Account, session: u8) -> Result<bool, Fail> {
+/// Whether the top-up and the beginning of a session are still found, and the session can't be opened any more.
+fn is_remembered(alloc: Global, account: &Account, session: u8) -> Result<bool, Fail> {
+    let place = place_again(account, top_up(session).ok_or("a top-up")?)?;
+    let is_kept = account.kept(&key(alloc, session, 0)?).is_some();
     let step = account.prepare(act(alloc, 200_000, Ask::Initial(session, 1, 0))?)?;
-    Ok(step.is_new() && is_refused(step.outcome()))
+    let is_spent = step.is_new() && is_refused(step.outcome());
+    Ok(place == Some(u64::from(session) * 3 + 1) && is_kept && is_spent)
 }
 
 /// Three acts for each of a hundred sessions: a top-up, the session's beginning, and its end.
@@ -54,16 +57,11 @@ fn account(alloc: Global, hasher: RandomState) -> Result<Account, Fail> {
 /// After 300 acts each repeat is still found at the place of its first, and no session that ended opens again.
 #[test]
 fn repeats_after_300_acts(rt: HostRuntime) -> Result<(), Fail> {
-    let account = account(rt.alloc(), RandomState::new(&rt)?)?;
-    assert_eq!(rt; account.acts().len(), 300);
+    let alloc = rt.alloc();
+    let account = account(alloc, RandomState::new(&rt)?)?;
+    assert!(rt; account.acts().len() == 300);
     for session in 0..100 {
-        let again = top_up(session).ok_or("a top-up")?;
-        assert_eq!(rt;
-            place_again(&account, again)?,
-            Some(u64::from(session) * 3 + 1)
-        );
-        assert!(rt; account.kept(&key(rt.alloc(), session, 0)?).is_some());
-        assert!(rt; is_spent(rt.alloc(), &account, session)?);
+        assert!(rt; is_remembered(alloc, &account, session)?);
     }
     Ok(())
 }
