@@ -81,6 +81,7 @@ pub(crate) fn grow_map<K: Eq + Hash + Drop, V: Drop>(
     ensures room { 1 ≤ map.spare entries.new }
 {
     if let Some(mut larger) = larger {
+        // `len` says that no two keys are equal, so that each moves with its own value.
         let _count = entries.len();
         larger.append(entries).unwrap();
         *entries = larger;
