@@ -19,8 +19,10 @@ use Rattle.dcc_state.specs.declared.facts.Facts.{Facts}
 use Rattle.dcc_state.specs.Known.{was_opened_by, IsKnown, IsWithin, MoneyIsWithin}
 use Rattle.dcc_state.specs.OpenSessions.{SessionView, AreOpen}
 use Rattle.dcc_account.specs.Accounts.{AccountView}
+use Rattle.dcc_account.specs.declared.indexes.Indexes.{Indexes}
+use Rattle.dcc_account.specs.inner.Indexed.{IsIndexed}
 use Rattle.dcc_account.specs.inner.Kept.{IsKept, IsRunning, MAX_OVERRUN}
-use Rattle.dcc_account.specs.inner.Fits.{HasMemory}
+use Rattle.dcc_account.specs.inner.Fits.{HasMemory, HasPlace}
 use Rattle.dcc_account.specs.Prepared.{StepView, IsPrepared}
 
 map_reverse : (past : List Done) → map act_made (reverse past) ≡ reverse (map act_made past)
@@ -109,6 +111,12 @@ pub fits_of : {X : Type 0} (size : X → ℕ) (larger : Option X) (held more cap
 fits_of size None held more capacity count wanted c w h = omega arith
 fits_of size (Some v) held more capacity count wanted c w h = omega arith
 
+-- and where an index has room, or the larger one is made for its keys
+pub room_of : {X : Type 0} (size : X → ℕ) (larger : Option X) (more count room : ℕ) → 1 ≡ more → MatchOption larger (more ≤ room) (λ v. count + more ≤ size v)
+    → HasPlace (record { count = count; room = room }) (option_map size larger)
+room_of size None more count room one h = omega (arith, one, h)
+room_of size (Some v) more count room one h = omega (arith, one, h)
+
 -- what is free of the money of a list of acts
 pub free_is : (terms : TermsView) (all : List Act) → (standing terms all).free ≡ free terms all
 unfolding standing free
@@ -119,12 +127,12 @@ unfolding standing funds
 funds_is terms all = refl
 
 -- what is known of the acts that were made
-pub known_at : (terms : TermsView) (made : List Done) (posted : List Entry) (money : Standing) (sessions given : List SessionView) (act : Act) (facts : Facts) (first : Option Outcome) → IsRunning terms made posted money sessions
+pub known_at : (terms : TermsView) (made : List Done) (posted : List Entry) (money : Standing) (sessions given : List SessionView) (indexes : Indexes) (act : Act) (facts : Facts) (first : Option Outcome) → IsRunning terms made posted money sessions indexes
     → given ≡ sessions → facts.count ≡ length made → facts.has_account ≡ has_account (reverse made) → facts.was_opened ≡ was_opened_by (reverse made) (request_key act.kind)
     → facts.place ≡ place_of_key (map act_made (reverse made)) act.kind → first ≡ option_map outcome_of (first_of (reverse made) act.kind) → facts.standing ≡ money
     → IsKnown terms (map act_made made) act facts first given
 unfolding standing
-known_at terms made posted money sessions given act facts first is same count account opened place first_is standing_is =
+known_at terms made posted money sessions given indexes act facts first is same count account opened place first_is standing_is =
     let past = history terms (reverse (map act_made made)) in
     let own = is.kept.own in
     record {
@@ -139,27 +147,28 @@ known_at terms made posted money sessions given act facts first is same count ac
     }
 
 -- the money of an account can be reckoned with
-pub within_at : MoneyIsWithin → (terms : TermsView) (made : List Done) (posted : List Entry) (money : Standing) (sessions given : List SessionView) → IsRunning terms made posted money sessions
+pub within_at : MoneyIsWithin → (terms : TermsView) (made : List Done) (posted : List Entry) (money : Standing) (sessions given : List SessionView) (indexes : Indexes) → IsRunning terms made posted money sessions indexes
     → given ≡ sessions → length made < 9_223_372_036_854_775_808 → IsWithin money given
 unfolding standing
-within_at law terms made posted money sessions given is same few =
+within_at law terms made posted money sessions given indexes is same few =
     let past = history terms (reverse (map act_made made)) in
     let over = is.overrun_is in
     law terms (map act_made made) money given is.kept.keyed is.kept.standing_is (subst (AreOpen terms past) (sym same) is.sessions_are) (omega (arith, ints))
 
 -- the sessions after one more act, and what is overrun then
-pub running_with : (terms : TermsView) (made : List Done) (posted : List Entry) (money : Standing) (sessions : List SessionView) (done : Done)
+pub running_with : (terms : TermsView) (made : List Done) (posted : List Entry) (money : Standing) (sessions : List SessionView) (indexes : Indexes) (done : Done)
     → IsKept terms (made ++ done ∷ []) posted money → AreOpen terms (with_act terms (history terms (reverse (map act_made made))) done.act) sessions
-    → money.overrun ≤ℤ pos (MAX_OVERRUN * (length made + 1)) → IsRunning terms (made ++ done ∷ []) posted money sessions
-running_with terms made posted money sessions done kept are over =
+    → money.overrun ≤ℤ pos (MAX_OVERRUN * (length made + 1)) → IsIndexed (done ∷ reverse made) indexes → IsRunning terms (made ++ done ∷ []) posted money sessions indexes
+running_with terms made posted money sessions indexes done kept are over indexed =
     let pushed : map act_made (made ++ done ∷ []) ≡ map act_made made ++ done.act ∷ [] = map-append act_made made (done ∷ []) in
     let more = length_push made done in
     record {
       kept = kept;
       sessions_are = subst (λ (past : List Done). AreOpen terms past sessions) (sym (ap (λ (xs : List Act). history terms (reverse xs)) pushed ∙ history_push terms (map act_made made) done.act)) are;
       overrun_is = subst (λ (n : ℕ). money.overrun ≤ℤ pos (MAX_OVERRUN * n)) (sym more) over;
+      indexed = subst (λ (past : List Done). IsIndexed past indexes) (sym (reverse-append made (done ∷ []))) indexed;
     }
 
-pub running_at : (terms : TermsView) (made made' : List Done) (posted posted' : List Entry) (money : Standing) (sessions sessions' : List SessionView) → IsRunning terms made posted money sessions
-    → made' ≡ made → posted' ≡ posted → sessions' ≡ sessions → IsRunning terms made' posted' money sessions'
-running_at terms made made' posted posted' money sessions sessions' is m p s = rw (m, p, s) is
+pub running_at : (terms : TermsView) (made made' : List Done) (posted posted' : List Entry) (money : Standing) (sessions sessions' : List SessionView) (indexes : Indexes) → IsRunning terms made posted money sessions indexes
+    → made' ≡ made → posted' ≡ posted → sessions' ≡ sessions → IsRunning terms made' posted' money sessions' indexes
+running_at terms made made' posted posted' money sessions sessions' indexes is m p s = rw (m, p, s) is

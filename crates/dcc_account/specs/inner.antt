@@ -1,3 +1,4 @@
 pub mod Fits
+pub mod Indexed
 pub mod Kept
 pub mod Memory

@@ -7,16 +7,16 @@ ghost use Rattle.dcc_model.specs.Entries.{entries};
 ghost use Rattle.dcc_model.specs.declared.decide.TheConstants.{CEILING};
 
 use crate::growth::{append, grow, larger};
-use crate::kept::{outcome_of_first, outcome_of_request, was_opened_before};
+use crate::indexes::Indexes;
+use crate::kept::outcome_at;
+use crate::new_keys::NewKeys;
 use crate::step::Step;
 use dcc_act::{Act, Entry, Outcome, RequestKey};
-use dcc_model::{
-    Done, Standing, funds_are_accounted_for, has_account, keys_are_apart, one_more_act,
-    place_of_key,
-};
+use dcc_model::{Done, Standing, funds_are_accounted_for, keys_are_apart, one_more_act};
 use dcc_state::{Facts, Judgement, OpenSession, judge, money_is_within};
 use dcc_tariff::Terms;
 use std::alloc::{AllocError, Global};
+use std::hash::RandomState;
 use std::marker::Model;
 
 /// The account of one subscriber.
@@ -27,10 +27,13 @@ pub struct Account {
     entries: Vec<Entry>,
     standing: Standing,
     sessions: Vec<OpenSession>,
+    indexes: Indexes,
 }
 
 impl Model for Account {
     ghost use Rattle.std.specs.Prelude.{◌-◌, map, vec_len, vec_capacity};
+    ghost use Rattle.indexmap.specs.IndexMap as map;
+    ghost use Rattle.indexmap.specs.IndexSet as set;
     ghost use Rattle.dcc_model.specs.Outcomes.{act_made};
     ghost use Rattle.dcc_account.specs.Accounts.{AccountView};
     ghost use Rattle.dcc_account.specs.inner.Kept.{IsRunning};
@@ -45,17 +48,20 @@ impl Model for Account {
         acts = vec_capacity a.acts - vec_len a.acts;
         entries = vec_capacity a.entries - vec_len a.entries;
         sessions = vec_capacity a.sessions - vec_len a.sessions;
+        requests = record { count = map.index_map_len a.indexes.requests; room = map.spare a.indexes.requests };
+        tickets = record { count = map.index_map_len a.indexes.tickets; room = map.spare a.indexes.tickets };
+        opened = record { count = set.index_set_len a.indexes.opened; room = set.spare a.indexes.opened };
       };
     } };
 
-    ghost invariant = { λ a. IsRunning a.terms a.acts.items a.entries.items a.standing a.sessions.items };
+    ghost invariant = { λ a. IsRunning a.terms a.acts.items a.entries.items a.standing a.sessions.items a.indexes };
 }
 
 impl Account {
     ghost use Rattle.dcc_account.specs.Prepared.{IsPrepared};
 
-    /// An account without acts. It takes no memory.
-    pub fn new(alloc: Global, terms: &Terms) -> Account
+    /// An account without acts, whose indexes hash by `hasher`. It takes no memory.
+    pub fn new(alloc: Global, terms: &Terms, hasher: RandomState) -> Account
         ensures terms { result.terms ≡ terms.now }
         ensures acts { result.acts ≡ [] }
     {
@@ -69,6 +75,7 @@ impl Account {
                 overrun: 0,
             },
             sessions: Vec::new(alloc),
+            indexes: Indexes::new(alloc, hasher),
         }
     }
 
@@ -125,7 +132,7 @@ impl Account {
     pub fn kept(&self, key: &RequestKey) -> Option<&Outcome>
         ensures { option_copied result ≡ kept self.now.terms self.now.acts key.now }
     {
-        outcome_of_request(&self.acts, key)
+        outcome_at(&self.acts, self.indexes.place_of_request(key))
     }
 
     /// The step of the act: what it comes to after those that were made, whether it is made, its place and its entries,
@@ -139,14 +146,15 @@ impl Account {
         one_more_act();
         money_is_within();
         let alloc = *self.acts.allocator();
+        let of_its_key = self.indexes.place(&act.kind);
         let facts = Facts {
             count: self.acts.len() as u64,
-            has_account: has_account(&self.acts),
-            was_opened: was_opened_before(&self.acts, &act.kind),
-            place: place_of_key(&self.acts, &act.kind),
+            has_account: !self.acts.is_empty(),
+            was_opened: self.indexes.was_opened(&act.kind),
+            place: of_its_key,
             standing: self.standing,
         };
-        let first = outcome_of_first(&self.acts, &act.kind);
+        let first = outcome_at(&self.acts, of_its_key);
         let Judgement {
             outcome,
             is_new,
@@ -160,6 +168,8 @@ impl Account {
             larger_acts: larger(alloc, &self.acts, more)?,
             larger_entries: larger(alloc, &self.entries, entries.len())?,
             larger_sessions: larger(alloc, &self.sessions, 1)?,
+            larger_indexes: self.indexes.larger(alloc, more)?,
+            keys: NewKeys::of(&act.kind, &outcome)?,
             act,
             outcome,
             is_new,
@@ -182,6 +192,8 @@ impl Account {
             grow(&mut self.acts, step.larger_acts);
             grow(&mut self.entries, step.larger_entries);
             grow(&mut self.sessions, step.larger_sessions);
+            self.indexes.grow(step.larger_indexes);
+            self.indexes.add(step.keys, self.acts.len() as u64 + 1);
             self.acts.push_reserved(Done {
                 act: step.act,
                 outcome: step.outcome,

@@ -2,8 +2,12 @@
 
 ghost use Rattle.std.specs.Prelude.{◌≡◌, ◌+◌, ◌-◌, ◌≤◌, ◌<◌, ◌^◌, ◌++◌, [], length, IfOk, vec_len, vec_capacity, MatchOption, option_map};
 ghost use Rattle.std.specs.Option.{ForSome};
+ghost use Rattle.indexmap.specs.IndexMap as map;
+ghost use Rattle.indexmap.specs.IndexSet as set;
 
+use indexmap::{IndexMap, IndexSet};
 use std::alloc::{AllocError, Global};
+use std::hash::{Hash, RandomState};
 
 /// A larger vector, with no items yet, where these have no room for more.
 pub(crate) fn larger<T: Drop>(
@@ -44,4 +48,78 @@ pub(crate) fn append<T: Drop>(items: &mut Vec<T>, mut more: Vec<T>)
     ensures { items.new.items ≡ items.old.items ++ more.items }
 {
     items.append(&mut more).unwrap();
+}
+
+/// A larger map, with no entries yet, where this one has no room for so many more, one at most.
+pub(crate) fn larger_map<K: Eq + Hash + Drop, V: Drop>(
+    alloc: Global,
+    entries: &IndexMap<K, V, RandomState>,
+    more: usize,
+) -> Result<Option<IndexMap<K, V, RandomState>>, AllocError>
+    requires { more ≤ 1 }
+    ensures empty { IfOk result (λ larger. ForSome larger map.IsEmpty) }
+    ensures room { IfOk result (λ larger. MatchOption larger (more ≤ map.spare entries.now)
+        (λ larger. map.index_map_len entries.now + more ≤ map.spare larger)) }
+{
+    let count = entries.len();
+    if count + more <= entries.capacity() {
+        return Ok(None);
+    }
+    let wanted = (count + more).max(count + count);
+    let hasher = *entries.hasher();
+    Ok(Some(IndexMap::with_capacity_and_hasher(alloc, wanted, hasher)?))
+}
+
+/// Moves the entries into the larger map, where there is one.
+pub(crate) fn grow_map<K: Eq + Hash + Drop, V: Drop>(
+    entries: &mut IndexMap<K, V, RandomState>,
+    larger: Option<IndexMap<K, V, RandomState>>,
+)
+    requires empty { ForSome larger map.IsEmpty }
+    requires room { MatchOption larger (1 ≤ map.spare entries.old) (λ larger. map.index_map_len entries.old + 1 ≤ map.spare larger) }
+    ensures entries { (k : K) → map.get K.eq entries.new k ≡ map.get K.eq entries.old k }
+    ensures room { 1 ≤ map.spare entries.new }
+{
+    if let Some(mut larger) = larger {
+        // `len` says that no two keys are equal, so that each moves with its own value.
+        let _count = entries.len();
+        larger.append(entries).unwrap();
+        *entries = larger;
+    }
+}
+
+/// A larger set, with no keys yet, where this one has no room for so many more, one at most.
+pub(crate) fn larger_set<T: Eq + Hash + Drop>(
+    alloc: Global,
+    keys: &IndexSet<T, RandomState>,
+    more: usize,
+) -> Result<Option<IndexSet<T, RandomState>>, AllocError>
+    requires { more ≤ 1 }
+    ensures empty { IfOk result (λ larger. ForSome larger set.IsEmpty) }
+    ensures room { IfOk result (λ larger. MatchOption larger (more ≤ set.spare keys.now)
+        (λ larger. set.index_set_len keys.now + more ≤ set.spare larger)) }
+{
+    let count = keys.len();
+    if count + more <= keys.capacity() {
+        return Ok(None);
+    }
+    let wanted = (count + more).max(count + count);
+    let hasher = *keys.hasher();
+    Ok(Some(IndexSet::with_capacity_and_hasher(alloc, wanted, hasher)?))
+}
+
+/// Moves the keys into the larger set, where there is one.
+pub(crate) fn grow_set<T: Eq + Hash + Drop>(
+    keys: &mut IndexSet<T, RandomState>,
+    larger: Option<IndexSet<T, RandomState>>,
+)
+    requires empty { ForSome larger set.IsEmpty }
+    requires room { MatchOption larger (1 ≤ set.spare keys.old) (λ larger. set.index_set_len keys.old + 1 ≤ set.spare larger) }
+    ensures keys { (k : T) → set.contains T.eq keys.new k ≡ set.contains T.eq keys.old k }
+    ensures room { 1 ≤ set.spare keys.new }
+{
+    if let Some(mut larger) = larger {
+        larger.append(keys).unwrap();
+        *keys = larger;
+    }
 }

@@ -2,13 +2,16 @@
 
 ghost use Rattle.std.specs.Prelude.{◌≡◌};
 
+use crate::indexes::LargerIndexes;
+use crate::new_keys::NewKeys;
 use dcc_act::{Act, Entry, Outcome};
 use dcc_model::{Done, Standing};
 use dcc_state::{Change, OpenSession};
 use std::marker::Model;
 
 /// A step of an account that is prepared and not yet installed: an act, what it comes to, the entries that it adds, the
-/// money after it, what it does to the sessions that are open, and all the memory that it takes to install it.
+/// money after it, what it does to the sessions that are open, the keys that it adds, and all the memory that it takes to
+/// install it.
 #[derive(Drop)]
 pub struct Step {
     pub(crate) act: Act,
@@ -18,15 +21,20 @@ pub struct Step {
     pub(crate) entries: Vec<Entry>,
     pub(crate) standing: Standing,
     pub(crate) change: Change,
+    pub(crate) keys: NewKeys,
     pub(crate) larger_acts: Option<Vec<Done>>,
     pub(crate) larger_entries: Option<Vec<Entry>>,
     pub(crate) larger_sessions: Option<Vec<OpenSession>>,
+    pub(crate) larger_indexes: LargerIndexes,
 }
 
 impl Model for Step {
     ghost use Rattle.std.specs.Prelude.{◌≡◌, [], option_map, vec_capacity};
     ghost use Rattle.std.specs.Option.{ForSome};
+    ghost use Rattle.indexmap.specs.IndexMap as map;
+    ghost use Rattle.indexmap.specs.IndexSet as set;
     ghost use Rattle.dcc_account.specs.Prepared.{StepView};
+    ghost use Rattle.dcc_account.specs.inner.Indexed.{AreKeysOf, AreEmpty};
 
     ghost Value = { StepView };
 
@@ -42,11 +50,14 @@ impl Model for Step {
         acts = option_map (λ v. vec_capacity v) s.larger_acts;
         entries = option_map (λ v. vec_capacity v) s.larger_entries;
         sessions = option_map (λ v. vec_capacity v) s.larger_sessions;
+        requests = option_map (λ m. map.spare m) s.larger_indexes.requests;
+        tickets = option_map (λ m. map.spare m) s.larger_indexes.tickets;
+        opened = option_map (λ m. set.spare m) s.larger_indexes.opened;
       };
     } };
 
     ghost invariant = { λ s. ForSome s.larger_acts (λ v. v.items ≡ []) × ForSome s.larger_entries (λ v. v.items ≡ [])
-        × ForSome s.larger_sessions (λ v. v.items ≡ []) };
+        × ForSome s.larger_sessions (λ v. v.items ≡ []) × AreEmpty s.larger_indexes × AreKeysOf s.act.kind s.outcome s.keys };
 }
 
 impl Step {

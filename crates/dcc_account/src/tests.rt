@@ -5,6 +5,7 @@ ghost use Rattle.std.specs.Option.{ForSome};
 ghost use Rattle.dcc_tariff.specs.declared.limits.TheConstants.{MAX_UNITS};
 ghost use Rattle.dcc_account.specs.Prepared.{IsPrepared};
 
+mod many;
 mod thrown;
 
 use crate::{Account, Step};
@@ -15,6 +16,7 @@ use dcc_act::{
 use dcc_model::plain_answer;
 use dcc_tariff::{MAX_UNITS, Tariff, Terms, UnitKind};
 use std::alloc::Global;
+use std::hash::RandomState;
 use std::process::Abort;
 use std::test::Fail;
 
@@ -119,9 +121,14 @@ impl Beside {
 }
 
 /// The account of these acts.
-fn account(rt: &impl Abort, alloc: Global, lines: &[(u32, Ask)]) -> Result<Account, Fail> {
+fn account(
+    rt: &impl Abort,
+    alloc: Global,
+    hasher: RandomState,
+    lines: &[(u32, Ask)],
+) -> Result<Account, Fail> {
     let mut beside = Beside {
-        account: Account::new(alloc, &TERMS),
+        account: Account::new(alloc, &TERMS, hasher),
         all: Vec::new(alloc),
     };
     for (after, ask) in lines {
@@ -136,6 +143,7 @@ fn shared_balance(rt: HostRuntime) -> Result<(), Fail> {
     let account = account(
         &rt,
         rt.alloc(),
+        RandomState::new(&rt)?,
         &[
             (0, Ask::TopUp(1000)),
             (0, Ask::Initial(1, 0, 100_000)),
@@ -162,6 +170,7 @@ fn expiry_at_the_deadline(rt: HostRuntime) -> Result<(), Fail> {
     let account = account(
         &rt,
         rt.alloc(),
+        RandomState::new(&rt)?,
         &[
             (0, Ask::Update(1, 1, 0, 1000)),
             (0, Ask::TopUp(1000)),
@@ -182,7 +191,7 @@ fn expiry_at_the_deadline(rt: HostRuntime) -> Result<(), Fail> {
 
 #[test]
 fn discarded_step(rt: HostRuntime) -> Result<(), Fail> {
-    let account = Account::new(rt.alloc(), &TERMS);
+    let account = Account::new(rt.alloc(), &TERMS, RandomState::new(&rt)?);
     let step = account.prepare(act(rt.alloc(), 0, Ask::TopUp(1000))?)?;
     assert!(rt; step.is_new() && step.place() == Some(1));
     assert!(rt; matches!(step.act().kind, Kind::TopUp(_)));
@@ -229,7 +238,7 @@ fn prepared(
 #[test]
 fn a_refusal_leaves_the_account(rt: HostRuntime) -> Result<(), Fail> {
     let alloc = rt.alloc();
-    let mut account = Account::new(alloc, &TERMS);
+    let mut account = Account::new(alloc, &TERMS, RandomState::new(&rt)?);
     let mut was_refused = false;
     let lines = [
         (0, Ask::TopUp(1000)),

@@ -6,7 +6,7 @@ use crate::session_id::SessionId;
 use std::alloc::AllocError;
 
 /// What tells a request from the others of its subscriber: its session and its CC-Request-Number (RFC 8506, section 8.2).
-#[derive(Debug, PartialEq, Eq, Drop)]
+#[derive(Debug, PartialEq, Eq, Hash, Drop)]
 pub struct RequestKey {
     pub sid: SessionId,
     pub number: u32,

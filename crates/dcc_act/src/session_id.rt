@@ -3,10 +3,14 @@
 ghost use Rattle.std.specs.Prelude.{◌≡◌, ◌↔◌, true, IsSome, IfSome, IfOk, nat_eq};
 ghost use Rattle.std.specs.Cmp.{on_equiv, on_per, partial_equiv_from_equiv};
 ghost use Rattle.std.specs.Cmp.Lexicographic.{pointwise, nat_list_eq_equiv};
+ghost use Rattle.std.specs.Cmp.Rules.{hashing};
+ghost use Rattle.std.specs.Hash as fed;
+ghost use Rattle.std.proofs.Common.{rules};
 ghost use Rattle.dcc_octets.specs.Names.{is_short};
 
 use dcc_octets::is_short;
 use std::alloc::AllocError;
+use std::hash::{Hash, Hasher};
 use std::marker::Model;
 
 /// The name of a session: 1 to 255 octets of any value (Session-Id, RFC 6733, section 8.8).
@@ -76,4 +80,14 @@ impl PartialEq for SessionId {
 
 impl Eq for SessionId {
     ghost laws = { on_equiv (λ s. s) nat_list_eq_equiv };
+}
+
+impl Hash for SessionId {
+    ghost hash_input = { λ s. fed.slice fed.u8 s };
+
+    ghost respects_eq = { Prim.search (hashing, rules) };
+
+    fn hash<H: Hasher>(&self, state: &mut H) {
+        self.as_slice().hash(state);
+    }
 }

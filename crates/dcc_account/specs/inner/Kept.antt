@@ -10,6 +10,8 @@ use Rattle.dcc_model.specs.Outcomes.{act_made, history, standing}
 use Rattle.dcc_model.specs.Entries.{entries}
 use Rattle.dcc_model.specs.Laws.{AreKeyed}
 use Rattle.dcc_state.specs.OpenSessions.{SessionView, AreOpen}
+use Rattle.dcc_account.specs.declared.indexes.Indexes.{Indexes}
+use Rattle.dcc_account.specs.inner.Indexed.{IsIndexed}
 
 -- the acts, each with what it came to, are those that their own list makes, and their services have keys of their own; entries and
 -- money are those of the definitions
@@ -23,8 +25,10 @@ pub record IsKept (terms : TermsView) (made : List Done) (posted : List Entry) (
 abbrev pub MAX_OVERRUN : ℕ
 MAX_OVERRUN = MAX_SERVICES * MAX_PRICE
 
--- and the sessions that are kept are those that are open; what is overrun can be reckoned with
-pub record IsRunning (terms : TermsView) (made : List Done) (posted : List Entry) (money : Standing) (sessions : List SessionView) : Type 0 where
+-- and the sessions that are kept are those that are open; what is overrun can be reckoned with; the indexes find what a look
+-- back over the acts does
+pub record IsRunning (terms : TermsView) (made : List Done) (posted : List Entry) (money : Standing) (sessions : List SessionView) (indexes : Indexes) : Type 0 where
   pub kept : IsKept terms made posted money
   pub sessions_are : AreOpen terms (history terms (reverse (map act_made made))) sessions
   pub overrun_is : money.overrun ≤ℤ pos (MAX_OVERRUN * length made)
+  pub indexed : IsIndexed (reverse made) indexes

@@ -13,6 +13,7 @@ use dcc_act::{
 use dcc_model::judge;
 use dcc_tariff::{MAX_UNITS, Tariff, UnitKind};
 use std::alloc::Global;
+use std::hash::RandomState;
 use std::process::Abort;
 use std::test::Fail;
 
@@ -186,9 +187,10 @@ fn make(rt: &impl Abort, alloc: Global, account: &mut Account, act: Act) -> Resu
 #[test]
 fn thrown_lists(rt: HostRuntime) -> Result<(), Fail> {
     let alloc = rt.alloc();
+    let hasher = RandomState::new(&rt)?;
     for seed in 0..40 {
         let mut dice = Dice { state: seed };
-        let mut account = Account::new(alloc, &TERMS);
+        let mut account = Account::new(alloc, &TERMS, hasher);
         let first = Act {
             moment: Moment::new(1_748_736_000).ok_or("a moment")?,
             kind: Kind::TopUp(TopUp::new(100, 5000).ok_or("an amount")?),

@@ -1,5 +1,5 @@
-use Rattle.std.proofs.Common.{◌≡◌, ℕ, ◌+◌, ◌*◌, pos, ◌≤ℤ◌, length, subst, Bool, List, [], ◌∷◌, ◌++◌, map, cond, sym, ap, ◌∙◌}
-use Rattle.std.proofs.lemmas.List.{map-append, length-map}
+use Rattle.std.proofs.Common.{◌≡◌, ℕ, ◌+◌, ◌*◌, pos, ◌≤ℤ◌, length, subst, Bool, List, [], ◌∷◌, ◌++◌, map, reverse, cond, sym, ap, ◌∙◌, arith}
+use Rattle.std.proofs.lemmas.List.{map-append, length-map, length-reverse}
 use Rattle.dcc_act.specs.declared.entry.Entry.{Entry}
 use Rattle.dcc_model.specs.declared.done.Done.{Done}
 use Rattle.dcc_model.specs.Outcomes.{act_made, acts}
@@ -21,7 +21,11 @@ invariant_of-self c =
     kept_with own.terms made own.entries.items step.entries.items own.standing step.standing step.act step.outcome c.self.invariant.kept is.outcome_is (sym is.new_is ∙ c.if-step.true) is.entries_are is.standing_is c.keys_are_apart.ensures in
     let many : length (map act_made made) ≡ length made = length-map made act_made in
     let over = subst (λ (n : ℕ). step.standing.overrun ≤ℤ pos (MAX_OVERRUN * (n + 1))) many is.overrun_is in
-    running_at own.terms _ _ _ _ step.standing _ _ (running_with own.terms made (own.entries.items ++ step.entries.items) step.standing (changed step.change own.sessions.items) done kept is.sessions_are over)
+    let grown = c.grow-then-step-3.ensures.indexed (reverse made) c.self.invariant.indexed in
+    let held = length-reverse made in
+    let stay = ap (λ (made : List Done). length made) c.grow.ensures.items in
+    let indexed = c.add.ensures (reverse made) done grown c.step.invariant.4 (omega (arith, held, stay)) in
+    running_at own.terms _ _ _ _ step.standing _ _ _ (running_with own.terms made (own.entries.items ++ step.entries.items) step.standing (changed step.change own.sessions.items) _ done kept is.sessions_are over indexed)
     (c.push_reserved.ensures.items ∙ ap (λ (made : List Done). made ++ done ∷ []) c.grow.ensures.items)
     (c.append.ensures ∙ ap (λ (es : List Entry). es ++ step.entries.items) c.grow-then-step.ensures.items)
     (c.apply.ensures ∙ ap (changed step.change) c.grow-then-step-2.ensures.items)

@@ -1,7 +1,12 @@
+use Rattle.std.proofs.Common.{reverse, refl}
+use Rattle.dcc_account.proofs.Lookbacks.{kept_at_place}
 use Rattle.dcc_account.proofs.Steps.{kept_in}
 use Rattle.dcc_account.proofs.account.Account.kept.Goals as goal
 
 pub returns : goal.returns
 returns c =
     let own = c.self.inside in
-    rw (← c.self.view_is) (kept_in own.terms own.acts.items _ own.entries.items own.standing c.args.key.now _ c.self.invariant.kept c.deref.ensures.value c.outcome_of_request.ensures)
+    let made = own.acts.items in
+    let found =
+    kept_at_place made c.deref.result.now c.args.key.now c.place_of_request.result _ c.deref.ensures.value (c.place_of_request.ensures (reverse made) c.self.invariant.indexed) c.outcome_at.ensures in
+    rw (← c.self.view_is) (kept_in own.terms made made own.entries.items own.standing c.args.key.now _ c.self.invariant.kept refl found)

@@ -1,4 +1,4 @@
-use Rattle.std.proofs.Common.{◌≡◌, ℕ, Bool, true, false, List, ◌∷◌, [], ◌++◌, refl, length, map, reverse, option_map, cond, sym, ap, subst, ◌∙◌, arith}
+use Rattle.std.proofs.Common.{◌≡◌, ℕ, Bool, true, false, not, List, ◌∷◌, [], ◌++◌, refl, length, map, reverse, option_map, cond, sym, ap, subst, ◌∙◌, arith}
 use Rattle.std.specs.Prelude.{vec_capacity}
 use Rattle.std.specs.Option.{option_copied}
 use Rattle.std.proofs.lemmas.Int.{ints}
@@ -12,7 +12,10 @@ use Rattle.dcc_state.specs.Known.{was_opened_by, changed}
 use Rattle.dcc_state.specs.OpenSessions.{SessionView, AreOpen}
 use Rattle.dcc_model.specs.Entries.{entries}
 use Rattle.dcc_account.specs.Accounts.{AccountView}
-use Rattle.dcc_account.proofs.Steps.{entries_at, standing_at, known_at, within_at, acts_with, fits_of}
+use Rattle.dcc_account.proofs.Lookbacks.{has_some, first_at}
+use Rattle.dcc_account.proofs.Steps.{entries_at, standing_at, known_at, within_at, acts_with, fits_of, room_of}
+use Rattle.indexmap.specs.IndexMap.{spare as map_spare}
+use Rattle.indexmap.specs.IndexSet.{spare as set_spare}
 use mir.Val.{bool_byte}
 use Rattle.dcc_account.proofs.account.Account.prepare.Goals as goal
 
@@ -24,7 +27,7 @@ one_more false n h is = absurd cc
 pub judge-requires-clause-within : goal.judge-requires-clause-within
 judge-requires-clause-within c =
     let own = c.self.inside in
-    within_at c.money_is_within.ensures own.terms own.acts.items own.entries.items own.standing own.sessions.items c.deref-5.result.now c.self.invariant c.deref-5.ensures.value (omega arith)
+    within_at c.money_is_within.ensures own.terms own.acts.items own.entries.items own.standing own.sessions.items c.deref-2.result.now own.indexes c.self.invariant c.deref-2.ensures.value (omega arith)
 
 pub returns-clause-prepared : goal.returns-clause-prepared
 unfolding after is_new place
@@ -36,17 +39,17 @@ returns-clause-prepared c =
     let found = c.in_ok-outcome.field-0 in
     let facts : Facts = record {
       count = c.len.result;
-      has_account = c.has_account.result;
-      was_opened = c.was_opened_before.result;
-      place = c.place_of_key.result;
+      has_account = not c.is_empty.result;
+      was_opened = c.was_opened.result;
+      place = c.place-of_its_key.result;
       standing = own.standing;
     } in
     let known =
-    known_at own.terms made posted own.standing own.sessions.items c.deref-5.result.now c.args.act facts (option_copied c.outcome_of_first-first.result) c.self.invariant c.deref-5.ensures.value (omega arith)
-    (c.has_account.ensures ∙ ap (λ (all : List Done). has_account (reverse all)) c.deref.ensures.value)
-    (c.was_opened_before.ensures ∙ ap (λ (all : List Done). was_opened_by (reverse all) (request_key c.args.act.kind)) c.deref-2.ensures.value)
-    (c.place_of_key.ensures ∙ ap (λ (all : List Done). place_of_key (map act_made (reverse all)) c.args.act.kind) c.deref-3.ensures.value)
-    (c.outcome_of_first-first.ensures ∙ ap (λ (all : List Done). option_map outcome_of (first_of (reverse all) c.args.act.kind)) c.deref-4.ensures.value) refl in
+    known_at own.terms made posted own.standing own.sessions.items c.deref-2.result.now own.indexes c.args.act facts (option_copied c.outcome_at-first.result) c.self.invariant c.deref-2.ensures.value (omega arith)
+    (ap not c.is_empty.ensures ∙ has_some own.terms made own.acts.len c.self.invariant.kept.own (omega arith))
+    (c.was_opened.ensures (reverse made) c.self.invariant.indexed)
+    (c.place-of_its_key.ensures (reverse made) c.self.invariant.indexed)
+    (first_at made c.deref.result.now c.args.act.kind c.place-of_its_key.result _ c.deref.ensures.value (c.place-of_its_key.ensures (reverse made) c.self.invariant.indexed) c.outcome_at-first.ensures) refl in
     let judged = c.in_ok-outcome.ensures in
     let many = length-map made act_made in
     let held : own.acts.len ≡ length xs = omega (arith, many) in
@@ -64,7 +67,7 @@ returns-clause-prepared c =
       standing_is = standing_at own.terms xs found.standing c.args.act (judged.standing xs known);
       overrun_is = omega (arith, ints);
       sessions_are =
-          subst (λ (sessions : List SessionView). AreOpen own.terms (with_act own.terms (history own.terms (reverse xs)) c.args.act) (changed found.change sessions)) c.deref-5.ensures.value (judged.sessions xs known);
+          subst (λ (sessions : List SessionView). AreOpen own.terms (with_act own.terms (history own.terms (reverse xs)) c.args.act) (changed found.change sessions)) c.deref-2.ensures.value (judged.sessions xs known);
       fits =
           λ new.
           let one = one_more found.is_new c.from-more.result new c.from-more.ensures in
@@ -74,6 +77,9 @@ returns-clause-prepared c =
                 fits_of (λ v. vec_capacity v) c.in_ok-larger-2.field-0 own.entries.len c.len-2.result own.entries.cap (length (entries own.terms xs)) (length found.entries.items)
                 (sym (written ∙ ap (λ (es : List Entry). length es) c.self.invariant.kept.entries_are)) (sym more) c.in_ok-larger-2.ensures.room;
             sessions = fits_of (λ v. vec_capacity v) c.in_ok-larger-3.field-0 own.sessions.len 1 own.sessions.cap (length own.sessions.items) 1 (sym open_ones) refl c.in_ok-larger-3.ensures.room;
+            requests = room_of (λ m. map_spare m) c.in_ok-larger-4.field-0.requests c.from-more.result _ _ one c.in_ok-larger-4.ensures.room.requests;
+            tickets = room_of (λ m. map_spare m) c.in_ok-larger-4.field-0.tickets c.from-more.result _ _ one c.in_ok-larger-4.ensures.room.tickets;
+            opened = room_of (λ s. set_spare s) c.in_ok-larger-4.field-0.opened c.from-more.result _ _ one c.in_ok-larger-4.ensures.room.opened;
           };
     })
 
@@ -87,17 +93,17 @@ returns-clause-acts c =
     let found = c.in_ok-outcome.field-0 in
     let facts : Facts = record {
       count = c.len.result;
-      has_account = c.has_account.result;
-      was_opened = c.was_opened_before.result;
-      place = c.place_of_key.result;
+      has_account = not c.is_empty.result;
+      was_opened = c.was_opened.result;
+      place = c.place-of_its_key.result;
       standing = own.standing;
     } in
     let known =
-    known_at own.terms made posted own.standing own.sessions.items c.deref-5.result.now c.args.act facts (option_copied c.outcome_of_first-first.result) c.self.invariant c.deref-5.ensures.value (omega arith)
-    (c.has_account.ensures ∙ ap (λ (all : List Done). has_account (reverse all)) c.deref.ensures.value)
-    (c.was_opened_before.ensures ∙ ap (λ (all : List Done). was_opened_by (reverse all) (request_key c.args.act.kind)) c.deref-2.ensures.value)
-    (c.place_of_key.ensures ∙ ap (λ (all : List Done). place_of_key (map act_made (reverse all)) c.args.act.kind) c.deref-3.ensures.value)
-    (c.outcome_of_first-first.ensures ∙ ap (λ (all : List Done). option_map outcome_of (first_of (reverse all) c.args.act.kind)) c.deref-4.ensures.value) refl in
+    known_at own.terms made posted own.standing own.sessions.items c.deref-2.result.now own.indexes c.args.act facts (option_copied c.outcome_at-first.result) c.self.invariant c.deref-2.ensures.value (omega arith)
+    (ap not c.is_empty.ensures ∙ has_some own.terms made own.acts.len c.self.invariant.kept.own (omega arith))
+    (c.was_opened.ensures (reverse made) c.self.invariant.indexed)
+    (c.place-of_its_key.ensures (reverse made) c.self.invariant.indexed)
+    (first_at made c.deref.result.now c.args.act.kind c.place-of_its_key.result _ c.deref.ensures.value (c.place-of_its_key.ensures (reverse made) c.self.invariant.indexed) c.outcome_at-first.ensures) refl in
     sym (ap (λ (a : AccountView). acts a.terms (a.acts ++ c.args.act ∷ [])) c.self.view_is)
     ∙ acts_with c.one_more_act.ensures own.terms made posted own.standing c.args.act found.is_new c.self.invariant.kept (c.in_ok-outcome.ensures.is_new xs known)
     ∙ ap (λ (a : AccountView). cond found.is_new (a.acts ++ c.args.act ∷ []) a.acts) c.self.view_is
