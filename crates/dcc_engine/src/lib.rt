@@ -27,3 +27,5 @@ pub use laws::{isolation, runs_in_turn};
 pub use peers::PeerRow;
 pub use subs::Subs;
 
+#[cfg(test)]
+mod tests;

@@ -6,3 +6,4 @@ pub mod Ordered
 pub mod Pages
 pub mod Routing
 pub mod RoutedSubs
+pub mod Beginnings

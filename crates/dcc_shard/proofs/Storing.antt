@@ -1,6 +1,7 @@
 -- What an append does to the records, and what a stop then leaves.
 use Rattle.std.proofs.Common.{◌≡◌, ◌≢◌, ◌⊎◌, ℕ, ◌+◌, Bool, true, false, List, [], ◌∷◌, ◌++◌, Result, Ok, Err, refl, sym, ap, subst, ◌∙◌, arith, inl, inr}
-use Rattle.std.proofs.Math.Logic.{∥∥₁_map}
+use Rattle.std.proofs.Math.Logic.{∥∥₁_map, ∥∥₁_elim}
+use Rattle.std.proofs.Props.{props}
 use Rattle.dcc_tariff.specs.Terms.{TermsView}
 use Rattle.dcc_act.specs.declared.act.Act.{Act}
 use Rattle.dcc_act.specs.declared.entry.Entry.{Entry}
@@ -9,10 +10,10 @@ use Rattle.dcc_act.specs.Subs.{SameAreEqual}
 use Rattle.dcc_model.specs.Outcomes.{acts, is_new}
 use Rattle.dcc_model.specs.Entries.{entries}
 use Rattle.dcc_model.specs.Laws.{OneMoreAct}
-use Rattle.dcc_records.specs.Books.{Held, with_act}
+use Rattle.dcc_records.specs.Books.{Held, no_acts, with_act}
 use Rattle.dcc_records.specs.Contents.{Content, IsContentOf, IsNext}
 use Rattle.dcc_records.specs.Stops.{LeavesOnly, LeavesEither}
-use Rattle.dcc_records.specs.Laws.{AlikeBooksHaveOneContent, NewIsNext, NextIsFound, OwnGrows, OthersStay}
+use Rattle.dcc_records.specs.Laws.{ContentHasOneBook, AlikeBooksHaveOneContent, NewIsNext, NextIsFound, OwnGrows, OthersStay}
 use Rattle.dcc_records.specs.declared.fault.StoreFault.{StoreFault}
 use Rattle.dcc_records.specs.declared.fault.StoreFault.TheVariants.{Memory, Device, Stopped}
 use Rattle.dcc_shard.specs.Shards.{held_in}
@@ -147,3 +148,9 @@ alike_left law given terms one other leaves same_terms same left =
     let P : TermsView → Type 0 = λ t. IsContentOf t one found.0 in
     let r : (content : Content) × IsContentOf terms other content × leaves content = (found.0, law terms one other found.0 same (subst P same_terms found.1), found.2) in
     r)
+
+-- where no content but that of no acts is left, nothing is held
+pub empty_left : ContentHasOneBook → (terms : TermsView) (held : Held) (content : Content) (leaves : Content → Type 0) → IsContentOf terms no_acts content
+    → ((found : Content) → leaves found → (sub : Sub) → found sub ≡ content sub) → IsLeft terms held leaves → (sub : Sub) → held sub ≡ []
+empty_left law terms held content leaves empty same left sub =
+    ∥∥₁_elim left (hlevel props) (λ found. law terms held no_acts found.0 found.1 (λ s. same found.0 found.2 s ∙ empty s) sub)

@@ -10,6 +10,7 @@
 mod answers;
 mod books;
 mod kept;
+mod memory;
 mod pending;
 mod route;
 mod serve;
@@ -17,7 +18,10 @@ mod shard;
 mod shards;
 
 pub use answers::{ExpiryAnswer, RequestAnswer, TopUpAnswer};
+pub use memory::shards_in_memory;
 pub use route::shard_of;
 pub use shard::Shard;
 pub use shards::Shards;
 
+#[cfg(test)]
+mod tests;

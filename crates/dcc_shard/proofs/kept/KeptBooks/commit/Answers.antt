@@ -26,8 +26,7 @@ invariant_of-self g c =
     let appended =
     appended_of books.terms _ (held_in books.rows) c.args.sub step.act c.act.result.now c.append.result _ _ _ _ _ _ c.self.invariant.0 act_is c.append.ensures.crash c.append.ensures.device c.append.ensures.going
     c.append.ensures.frozen in
-    let only_under = λ (t : TermsView). LeavesOnly t (held_in books.rows) (g.R.Records.may_leave c.append.new.self) in
-    (
+    let only_under = λ (t : TermsView). LeavesOnly t (held_in books.rows) (g.R.Records.may_leave c.append.new.self) in (
       c.in_err-append.ensures.terms ∙ c.self.invariant.0,
       λ going.
           let before = c.self.invariant.1 (was_going books.terms (held_in books.rows) c.args.sub step.act c.append.result _ _ _ _ _ _ appended going) in
@@ -64,8 +63,8 @@ invariant_of-self-2 g c =
           rw (records_are, done.terms) (
             w.append.ensures.terms ∙ c.self.invariant.0,
             λ going. stored_only c.content_has_one_book.ensures.alike books.terms _ (held_in books.rows) (held_in c.install.new.self.rows) c.args.sub step.act w.act.result.now _ _ c.self.invariant.0 act_is
-            w.in_ok-append.ensures.stored alike
-            (c.self.invariant.1 (was_going books.terms (held_in books.rows) c.args.sub step.act w.append.result _ _ _ _ _ _ appended going)),
+                w.in_ok-append.ensures.stored alike
+                (c.self.invariant.1 (was_going books.terms (held_in books.rows) c.args.sub step.act w.append.result _ _ _ _ _ _ appended going)),
           )
       | else-is_new w ↦
           let old : step.is_new ≡ false = sym (ap (λ s. s.is_new) c.step-step.ensures) ∙ sym c.is_new.ensures ∙ w.if-is_new.false in

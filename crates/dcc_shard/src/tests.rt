@@ -1,0 +1,264 @@
+//! Each call once on its happy path: money, a debit, the same again, a subscriber without an account, and a session that
+//! expires.
+
+ghost use Rattle.std.specs.Prelude.{◌≡◌, true, is_some};
+
+use super::*;
+use dcc_act::{
+    Act, Action, Form, Kind, Moment, OneTimeEvent, RequestKey, Service, ServiceIds, Services,
+    SessionId, SessionRequest, Sub,
+};
+use dcc_answer::Proxies;
+use dcc_message::{DiameterIdentity, Header, Identity, read_header};
+use dcc_records::{MemoryRecords, OnceRecords, Records};
+use dcc_samples::{ANSWER, BUSY, DEBIT, PLAN};
+use dcc_tariff::{Plan, Tariff, UnitKind};
+use std::alloc::Global;
+use std::hash::RandomState;
+use std::process::Abort;
+use std::random::RandomSource;
+use std::test::Fail;
+
+fn identity(alloc: Global) -> Result<Identity, Fail> {
+    Ok(Identity {
+        host: DiameterIdentity::from_vec(b"ocs.example".to_vec(alloc)?).ok_or("a host")?,
+        realm: DiameterIdentity::from_vec(b"example".to_vec(alloc)?).ok_or("a realm")?,
+        address: [127, 0, 0, 1],
+    })
+}
+
+/// A shard of what these records hold.
+fn shard_over<R: RandomSource + AllocGlobal, S: Records + Drop>(
+    rt: &R,
+    records: S,
+) -> Result<Shard<S>, Fail> {
+    let alloc = rt.alloc();
+    let hasher = RandomState::new(rt)?;
+    let identity = identity(alloc)?;
+    Shard::new(alloc, &identity, records, hasher).map_err(|_| Fail::from("a shard"))
+}
+
+fn shard<R: RandomSource + AllocGlobal>(rt: &R, plan: &Plan) -> Result<Shard<MemoryRecords>, Fail> {
+    shard_over(rt, MemoryRecords::new(rt.alloc(), plan.terms()))
+}
+
+/// The header of the sample's request.
+fn header(alloc: Global) -> Result<Header, Fail> {
+    let octets = hex::decode(alloc, DEBIT)?;
+    let Ok(header) = read_header(&octets) else {
+        return Err("a header".into());
+    };
+    Ok(header)
+}
+
+/// The first request of the sample's session.
+fn first_key(alloc: Global) -> Result<RequestKey, Fail> {
+    let sid = SessionId::from_vec(b"gw1.example;1;1".to_vec(alloc)?).ok_or("a name")?;
+    Ok(RequestKey { sid, number: 0 })
+}
+
+/// The service of the sample's request: 1,001 octets at 5 minor units per 1,000.
+fn service(alloc: Global) -> Service
+    ensures { is_some result.asked ≡ true }
+{
+    Service {
+        group: None,
+        ids: ServiceIds::new(alloc),
+        form: Form::Single,
+        asked: Some(1001),
+        used: None,
+        unit: Some(UnitKind::Octets),
+        tariff: Some(Tariff {
+            price: 5,
+            block: 1000,
+        }),
+    }
+}
+
+/// What the sample's request asks for: a direct debit.
+fn debit(alloc: Global) -> Result<Act, Fail> {
+    Ok(Act {
+        moment: Moment::new(1_751_328_000).ok_or("a moment")?,
+        kind: Kind::Event(OneTimeEvent {
+            key: first_key(alloc)?,
+            action: Action::DirectDebiting,
+            service: service(alloc),
+        }),
+    })
+}
+
+/// What the answer says: its octets in hex, its place, and whether it is fresh.
+fn parts_of(alloc: Global, answer: &RequestAnswer) -> Result<(String, u64, bool), Fail> {
+    let (octets, place, fresh) = match answer {
+        RequestAnswer::Done {
+            octets,
+            place,
+            fresh,
+        } => (octets.as_slice(), *place, *fresh),
+        RequestAnswer::Unknown { octets } => (octets.as_slice(), 0, false),
+        RequestAnswer::Busy { octets } => (octets.as_slice(), 0, false),
+        RequestAnswer::Silent => return Err("no memory".into()),
+    };
+    Ok((hex::encode(alloc, octets)?, place, fresh))
+}
+
+/// The debit of a subscriber, answered.
+fn step<R: Records>(
+    alloc: Global,
+    shard: &mut Shard<R>,
+    sub: Sub,
+) -> Result<(String, u64, bool), Fail> {
+    let header = header(alloc)?;
+    let act = debit(alloc)?;
+    if !matches!(act.kind, Kind::Event(_)) {
+        return Err("a request".into());
+    }
+    let answer = shard.step(alloc, sub, act, &header, &Proxies::none(alloc));
+    parts_of(alloc, &answer)
+}
+
+#[test]
+fn a_debit_is_made_once(rt: HostRuntime) -> Result<(), Fail> {
+    let alloc = rt.alloc();
+    let plan = Plan::read(alloc, PLAN)?;
+    let mut shard = shard(&rt, &plan)?;
+    let sub = Sub::new(0, b"491700000001").ok_or("a subscriber")?;
+    let moment = Moment::new(1_751_328_000).ok_or("a moment")?;
+    let (unknown, place, _) = step(alloc, &mut shard, sub)?;
+    assert!(rt; unknown.as_str().contains("000013a6"));
+    assert_eq!(rt; place, 0);
+    let added = shard.top_up(alloc, sub, moment, 1, 1000);
+    assert_eq!(rt;
+        added,
+        TopUpAnswer::Done {
+            place: 1,
+            fresh: true
+        }
+    );
+    for fresh in [true, false] {
+        let (octets, place, is_fresh) = step(alloc, &mut shard, sub)?;
+        assert_eq!(rt; octets.as_str(), ANSWER);
+        assert_eq!(rt; (place, is_fresh), (2, fresh));
+    }
+    let again = shard.top_up(alloc, sub, moment, 1, 5);
+    assert_eq!(rt;
+        again,
+        TopUpAnswer::Done {
+            place: 1,
+            fresh: false
+        }
+    );
+    assert_eq!(rt;
+        shard.top_up(alloc, sub, moment, 2, 0),
+        TopUpAnswer::BadAmount
+    );
+    let account = shard.account(sub).ok_or("an account")?;
+    assert_eq!(rt; account.funds(), 990);
+    Ok(())
+}
+
+/// What opens the sample's session.
+fn opening(alloc: Global) -> Result<Act, Fail> {
+    let services = Services::from_vec(vec![in alloc; service(alloc)]?).ok_or("services")?;
+    Ok(Act {
+        moment: Moment::new(1_751_328_000).ok_or("a moment")?,
+        kind: Kind::Initial(SessionRequest {
+            key: first_key(alloc)?,
+            services,
+        }),
+    })
+}
+
+/// The plan holds a session for 1,200 seconds. The moment after which it does no more ends it, once.
+#[test]
+fn a_session_expires_once(rt: HostRuntime) -> Result<(), Fail> {
+    let alloc = rt.alloc();
+    let plan = Plan::read(alloc, PLAN)?;
+    let mut shard = shard(&rt, &plan)?;
+    let sub = Sub::new(0, b"491700000001").ok_or("a subscriber")?;
+    let moment = Moment::new(1_751_328_000).ok_or("a moment")?;
+    assert!(rt; shard.subs(alloc)?.is_empty());
+    shard.top_up(alloc, sub, moment, 1, 1000);
+    let (header, act) = (header(alloc)?, opening(alloc)?);
+    if !matches!(act.kind, Kind::Initial(_)) {
+        return Err("a request".into());
+    }
+    let answer = shard.step(alloc, sub, act, &header, &Proxies::none(alloc));
+    assert!(rt;
+        matches!(
+            answer,
+            RequestAnswer::Done {
+                place: 2,
+                fresh: true,
+                ..
+            }
+        )
+    );
+    assert_eq!(rt; shard.subs(alloc)?.as_slice(), [sub].as_slice());
+    let closed = ExpiryAnswer::Closed {
+        sessions: 1,
+        place: 3,
+    };
+    let nothing = ExpiryAnswer::Nothing;
+    for (seconds, wanted) in [(1199, nothing), (1200, closed), (1200, nothing)] {
+        let later = Moment::new(1_751_328_000 + seconds).ok_or("a moment")?;
+        assert_eq!(rt; shard.expire(alloc, sub, later), wanted);
+    }
+    Ok(())
+}
+
+/// The second append fails: its debit is answered busy, and so is all else but a bad amount. What is opened again has the money,
+/// and makes the debit.
+#[test]
+fn a_store_that_fails_stops_its_shard(rt: HostRuntime) -> Result<(), Fail> {
+    let alloc = rt.alloc();
+    let plan = Plan::read(alloc, PLAN)?;
+    let records = MemoryRecords::new(alloc, plan.terms());
+    let mut shard = shard_over(&rt, OnceRecords::new(records, 2))?;
+    let sub = Sub::new(0, b"491700000001").ok_or("a subscriber")?;
+    let moment = Moment::new(1_751_328_000).ok_or("a moment")?;
+    let added = TopUpAnswer::Done {
+        place: 1,
+        fresh: true,
+    };
+    assert_eq!(rt; shard.top_up(alloc, sub, moment, 1, 1000), added);
+    for _ in 0..2 {
+        let (octets, _, _) = step(alloc, &mut shard, sub)?;
+        assert_eq!(rt; octets.as_str(), BUSY);
+    }
+    assert_eq!(rt;
+        shard.top_up(alloc, sub, moment, 1, 1000),
+        TopUpAnswer::Refused
+    );
+    assert_eq!(rt;
+        shard.top_up(alloc, sub, moment, 2, 0),
+        TopUpAnswer::BadAmount
+    );
+    assert_eq!(rt; shard.expire(alloc, sub, moment), ExpiryAnswer::Refused);
+    assert!(rt; shard.records().is_stopped() && shard.records().faults() == 1);
+    let mut again = shard_over(&rt, shard.into_records().healed())?;
+    let (octets, place, fresh) = step(alloc, &mut again, sub)?;
+    assert_eq!(rt; octets.as_str(), ANSWER);
+    assert_eq!(rt; (place, fresh), (2, true));
+    Ok(())
+}
+
+#[test]
+fn subscribers_are_told_by_shard(rt: HostRuntime) -> Result<(), Fail> {
+    let alloc = rt.alloc();
+    let plan = Plan::read(alloc, PLAN)?;
+    let identity = identity(alloc)?;
+    let hasher = RandomState::new(&rt)?;
+    let mut shards = shards_in_memory(alloc, plan.terms(), identity, 2, hasher)?;
+    let moment = Moment::new(1_751_328_000).ok_or("a moment")?;
+    let one = Sub::new(0, b"491700000001").ok_or("a subscriber")?;
+    let two = Sub::new(0, b"491700000002").ok_or("a subscriber")?;
+    let three = Sub::new(0, b"491700000003").ok_or("a subscriber")?;
+    for sub in [three, two, one] {
+        shards.top_up(alloc, sub, moment, 1, 1000);
+    }
+    assert_eq!(rt; (shard_of(&one, 2), shard_of(&two, 2)), (0, 1));
+    let subs = shards.subs(alloc)?;
+    assert_eq!(rt; subs.as_slice(), [one, three, two].as_slice());
+    Ok(())
+}
