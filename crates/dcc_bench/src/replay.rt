@@ -10,9 +10,13 @@ use dcc_base::Host;
 use dcc_engine::{Engine, Event, Out};
 use dcc_message::{DiameterIdentity, Identity};
 use dcc_octets::OctetString;
+use dcc_records::MemoryRecords;
 use dcc_replay::replay_run;
+use dcc_shard::shards_in_memory;
 use dcc_tariff::Plan;
 use std::alloc::Global;
+use std::hash::RandomState;
+use std::random::RandomSource;
 use std::time::CpuClock;
 
 /// When everything happens, in seconds since 1970.
@@ -23,20 +27,21 @@ const MONEY: u64 = 1_000_000_000;
 
 /// Measures a run of one peer, each subscriber's money, and debits of the subscribers in turn; and the replay of a script that
 /// says the same.
-pub fn measure<R: AllocGlobal + Print + Eprint + CpuClock>(
+pub fn measure<R: AllocGlobal + RandomSource + Print + Eprint + CpuClock>(
     rt: &R,
     subscribers: u32,
     requests: u32,
 ) -> Result<()> {
     let alloc = rt.alloc();
     let items = u64::from(requests);
-    let sum = measure_run(rt, subscribers, requests)?;
+    let hasher = RandomState::new(rt)?;
+    let sum = measure_run(rt, subscribers, requests, hasher)?;
     let script = script_of(alloc, subscribers, requests)?;
     let script = script.as_bytes();
     let length = timed(rt, "replay whole", items, || {
-        Ok(replay_all(alloc, script)?.len() as u64)
+        Ok(replay_all(alloc, script, hasher)?.len() as u64)
     })?;
-    let printed = summed(START, replay_all(alloc, script)?.as_slice());
+    let printed = summed(START, replay_all(alloc, script, hasher)?.as_slice());
     println!(rt;
         "replay {subscribers} {requests} answers {sum:016x} printed {length} {printed:016x}"
     )?;
@@ -48,29 +53,31 @@ fn measure_run<R: AllocGlobal + Eprint + CpuClock>(
     rt: &R,
     subscribers: u32,
     requests: u32,
+    hasher: RandomState,
 ) -> Result<u64> {
     let alloc = rt.alloc();
     let events = events_of(alloc, subscribers, requests)?;
     let events = events.as_slice();
     let _ = timed(rt, "replay run", u64::from(requests), || {
-        Ok(mark_of(run_all(alloc, events)?.as_slice()))
+        Ok(mark_of(run_all(alloc, events, hasher)?.as_slice()))
     })?;
-    Ok(sum_of(run_all(alloc, events)?.as_slice()))
+    Ok(sum_of(run_all(alloc, events, hasher)?.as_slice()))
 }
 
 /// Replays a script. It stands alone in a profile.
 #[inline(never)]
-fn replay_all(alloc: Global, script: &[u8]) -> Result<Vec<u8>> {
+fn replay_all(alloc: Global, script: &[u8], hasher: RandomState) -> Result<Vec<u8>> {
     let mut input = script;
     let mut output = Vec::new(alloc);
-    replay_run(alloc, &make_plan(alloc)?, &mut input, &mut output)?;
+    let plan = make_plan(alloc)?;
+    replay_run(alloc, &plan, &mut input, &mut output, hasher)?;
     Ok(output)
 }
 
 /// Runs events on an engine just opened. It stands alone in a profile.
 #[inline(never)]
-fn run_all(alloc: Global, events: &[Event]) -> Result<Vec<Out>> {
-    let mut engine = make_engine(alloc)?;
+fn run_all(alloc: Global, events: &[Event], hasher: RandomState) -> Result<Vec<Out>> {
+    let mut engine = make_engine(alloc, hasher)?;
     Ok(engine.run(alloc, events)?)
 }
 
@@ -142,16 +149,16 @@ fn script_of(alloc: Global, subscribers: u32, requests: u32) -> Result<String> {
     Ok(text)
 }
 
-/// An engine under a plan of one tariff.
-fn make_engine(alloc: Global) -> Result<Engine> {
+/// An engine under a plan of one tariff, over shards in memory.
+fn make_engine(alloc: Global, hasher: RandomState) -> Result<Engine<MemoryRecords>> {
     let plan = make_plan(alloc)?;
     let identity = Identity {
         host: DiameterIdentity::from_vec(plan.host().to_vec(alloc)?).context("a host")?,
         realm: DiameterIdentity::from_vec(plan.realm().to_vec(alloc)?).context("a realm")?,
         address: plan.address(),
     };
-    let shards = plan.shards();
-    Ok(Engine::open(alloc, plan, identity, shards)?)
+    let shards = shards_in_memory(alloc, plan.terms(), identity, plan.shards(), hasher)?;
+    Ok(Engine::open(alloc, plan, shards)?)
 }
 
 fn make_plan(alloc: Global) -> Result<Plan> {

@@ -4,6 +4,7 @@ ghost use Rattle.std.specs.Prelude.{◌≡◌, ◌≢◌, ◌+◌, ◌<◌, ◌�
 ghost use Rattle.std.specs.Prelude.{IfOk, IfSome, IfNone, OnErr};
 ghost use Rattle.dcc_act.specs.declared.sub.Sub.{Sub};
 ghost use Rattle.dcc_model.specs.Outcomes.{acts, funds, free, overrun};
+ghost use Rattle.dcc_shard.specs.Shards.{held, AreOwn};
 ghost use Rattle.dcc_engine.specs.Engines.{held_of, peer_of, IsUnchanged};
 ghost use Rattle.dcc_engine.specs.Asks.{connected};
 ghost use Rattle.dcc_engine.specs.inner.Hosts.{host_of as host_in};
@@ -23,54 +24,65 @@ use dcc_model::{
     acts_come_to_their_own, later_acts_change_no_outcome, leaving_out_changes_nothing,
 };
 use dcc_octets::OctetString;
-use dcc_shard::Shard;
+use dcc_records::Records;
+use dcc_shard::Shards;
 use dcc_tariff::Plan;
 use std::alloc::{AllocError, Global};
 use std::marker::Model;
 
 /// The peers and the accounts, under one plan.
 #[derive(Drop)]
-pub struct Engine {
+pub struct Engine<R: Records> {
     pub(crate) plan: Plan,
     pub(crate) identity: Identity,
     peers: Peers,
-    pub(crate) shard: Shard,
+    pub(crate) shards: Shards<R>,
 }
 
-impl Model for Engine {
+impl<R: Records> Model for Engine<R> {
     ghost use Rattle.std.specs.Prelude.{◌≡◌};
     ghost use Rattle.dcc_shard.specs.Shards.{AreOwn};
     ghost use Rattle.dcc_engine.specs.Engines.{EngineView};
 
     ghost Value = { EngineView };
 
-    ghost view = { λ e. record { setting = record { plan = e.plan; identity = e.identity }; peers = e.peers; shard = e.shard } };
+    ghost view = { λ e. record { setting = record { plan = e.plan; identity = e.identity }; peers = e.peers; shard = e.shards.shard } };
 
-    ghost invariant = { λ e. (e.shard.terms ≡ e.plan.terms) × (e.shard.identity ≡ e.identity) × AreOwn e.shard };
+    ghost invariant = { λ e. (e.shards.shard.terms ≡ e.plan.terms) × (e.shards.shard.identity ≡ e.identity) × AreOwn e.shards.shard };
 }
 
-impl Engine {
-    /// An engine without peers and accounts. How many shards it keeps its accounts in, 1 to 8, changes no answer; today
-    /// there is one.
-    pub fn open(
-        alloc: Global,
-        plan: Plan,
-        identity: Identity,
-        shards: u8,
-    ) -> Result<Engine, AllocError>
-        requires some { 1 ≤ shards }
-        requires most { shards ≤ 8 }
-        ensures setting { IfOk result (λ engine. engine.setting ≡ record { plan = plan; identity = identity }) }
+impl<R: Records> Engine<R> {
+    /// An engine without peers over these shards, whose accounts are judged by the plan's terms. It answers as they do. How
+    /// many they are changes no answer. The only error is want of memory.
+    pub fn open(alloc: Global, plan: Plan, shards: Shards<R>) -> Result<Engine<R>, AllocError>
+    where
+        R: Drop,
+        requires terms { shards.shard.terms ≡ plan.terms }
+        requires own { AreOwn shards.shard }
+        ensures setting { IfOk result (λ engine. engine.setting ≡ record { plan = plan; identity = shards.shard.identity }) }
         ensures peers { IfOk result (λ engine. (id : ℕ) → peer_of engine id ≡ None) }
-        ensures accounts { IfOk result (λ engine. (sub : Sub) → held_of engine sub ≡ []) }
+        ensures accounts { IfOk result (λ engine. (sub : Sub) → held_of engine sub ≡ held shards.shard sub) }
     {
-        let shard = Shard::new(alloc, plan.terms(), &identity)?;
+        let identity = shards.identity().copy()?;
         Ok(Engine {
             plan,
             identity,
             peers: Peers::new(alloc),
-            shard,
+            shards,
         })
+    }
+
+    /// The shards, moved out, with all that they hold.
+    pub fn into_shards(self) -> Shards<R>
+        ensures { result.shard ≡ self.shard }
+    {
+        let Engine {
+            plan: _,
+            identity: _,
+            peers: _,
+            shards,
+        } = self;
+        shards
     }
 
     /// The account of a subscriber, where there is one.
@@ -80,7 +92,7 @@ impl Engine {
         ensures some { IfSome result (λ account. account.now.acts ≢ []) }
         ensures none { IfNone result (held_of self.now sub ≡ []) }
     {
-        self.shard.account(sub)
+        self.shards.account(sub)
     }
 
     /// Answers events in order, each with one out.
@@ -145,7 +157,7 @@ impl Engine {
                 ticket,
                 amount,
             } => {
-                let answer = self.shard.top_up(alloc, *sub, *moment, *ticket, *amount);
+                let answer = self.shards.top_up(alloc, *sub, *moment, *ticket, *amount);
                 telling(alloc, answer)
             }
             Event::Sweep { moment } => self.sweep(alloc, *moment),

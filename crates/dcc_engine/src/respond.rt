@@ -12,10 +12,11 @@ use crate::verdict::Verdict;
 use dcc_act::Moment;
 use dcc_message::Header;
 use dcc_octets::OctetString;
+use dcc_records::Records;
 use dcc_shard::RequestAnswer;
 use std::alloc::Global;
 
-impl Engine {
+impl<R: Records> Engine<R> {
     /// The octets that answer a credit-control request, of all its octets; none where there is no memory to read its list, or
     /// for the busy answer either.
     pub(crate) fn respond(
@@ -38,8 +39,8 @@ impl Engine {
         };
         match verdict {
             Verdict::Asks { sub, act } => {
-                let shard = &mut self.shard;
-                let answer = shard.step(alloc, sub, act, &message.header, &message.proxies);
+                let shards = &mut self.shards;
+                let answer = shards.step(alloc, sub, act, &message.header, &message.proxies);
                 octets_of(alloc, answer)
             }
             Verdict::Refused(octets) => octets,

@@ -9,19 +9,26 @@ use dcc_octets::OctetString;
 use dcc_samples::{
     ANSWER, BUSY, CAPABILITIES, CAPABILITIES_ANSWER, DEBIT, PLAN, WATCHDOG, WATCHDOG_ANSWER,
 };
-use dcc_shard::TopUpAnswer;
+use dcc_records::MemoryRecords;
+use dcc_shard::{TopUpAnswer, shards_in_memory};
 use dcc_tariff::Plan;
 use std::alloc::Global;
+use std::hash::RandomState;
 use std::process::Abort;
+use std::random::RandomSource;
 use std::test::Fail;
 
-fn engine(alloc: Global) -> Result<Engine, Fail> {
+fn engine<R: RandomSource + AllocGlobal>(rt: &R) -> Result<Engine<MemoryRecords>, Fail> {
+    let alloc = rt.alloc();
     let identity = Identity {
         host: DiameterIdentity::from_vec(b"ocs.example".to_vec(alloc)?).ok_or("a host")?,
         realm: DiameterIdentity::from_vec(b"example".to_vec(alloc)?).ok_or("a realm")?,
         address: [127, 0, 0, 1],
     };
-    Ok(Engine::open(alloc, Plan::read(alloc, PLAN)?, identity, 2)?)
+    let plan = Plan::read(alloc, PLAN)?;
+    let hasher = RandomState::new(rt)?;
+    let shards = shards_in_memory(alloc, plan.terms(), identity, 2, hasher)?;
+    Ok(Engine::open(alloc, plan, shards)?)
 }
 
 fn subscriber() -> Result<Sub, Fail> {
@@ -89,7 +96,7 @@ fn wanted(added: bool, answer: &str) -> i128 {
 #[test]
 fn a_refusal_changes_no_answer(rt: HostRuntime) -> Result<(), Fail> {
     let alloc = rt.alloc();
-    let mut engine = engine(alloc)?;
+    let mut engine = engine(&rt)?;
     let outs = engine.run(alloc, &events(alloc)?)?;
     let (added, answer) = answers_of(alloc, &outs)?;
     assert_eq!(rt; funds(&engine)?, wanted(added, answer.as_str()));
@@ -124,7 +131,7 @@ fn is_answer(alloc: Global, out: &Out, answer: &str) -> Result<bool, Fail> {
 #[test]
 fn a_refusal_opens_no_peer(rt: HostRuntime) -> Result<(), Fail> {
     let alloc = rt.alloc();
-    let mut engine = engine(alloc)?;
+    let mut engine = engine(&rt)?;
     let connect = Event::Connect {
         peer: 1,
         host: None,

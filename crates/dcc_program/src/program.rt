@@ -14,14 +14,16 @@ use crate::help::{HELP, VERSION};
 use crate::replaying::replay;
 use dcc_streams::write_all;
 use std::fs;
+use std::hash::RandomState;
 use std::io::{Read, Write};
+use std::random::RandomSource;
 use std::rt::Files;
 
 /// Does what the words of a command line ask for: replays the script of the input under the plan of the file, shows the messages
 /// of the input, or prints a text.
 ///
 /// The words are judged first, then the plan, then the script. A text is printed before anything is opened or read.
-pub fn run<F: Files + AllocGlobal, R: Read, W: Write>(
+pub fn run<F: Files + RandomSource + AllocGlobal, R: Read, W: Write>(
     rt: &F,
     words: &[String],
     input: &mut R,
@@ -40,8 +42,9 @@ pub fn run<F: Files + AllocGlobal, R: Read, W: Write>(
         Task::Help => Ok(write_all(output, HELP.as_bytes())?),
         Task::Version => Ok(write_all(output, VERSION.as_bytes())?),
         Task::Replay(path) => {
+            let hasher = RandomState::new(rt)?;
             let mut file = fs::open(rt, path)?;
-            replay(rt.alloc(), &mut file, input, output)
+            replay(rt.alloc(), &mut file, input, output, hasher)
         }
         Task::Decode => decode(rt.alloc(), input, output),
     }

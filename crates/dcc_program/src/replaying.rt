@@ -10,6 +10,7 @@ use crate::failure::Failure;
 use crate::plan_file::plan_from;
 use dcc_replay::replay_run;
 use std::alloc::Global;
+use std::hash::RandomState;
 use std::io::{Read, Write};
 
 /// Replays the script of the input under the plan that the file gives, and writes what is printed of it.
@@ -20,6 +21,7 @@ pub fn replay<P: Read, R: Read, W: Write>(
     file: &mut P,
     input: &mut R,
     output: &mut W,
+    hasher: RandomState,
 ) -> Result<(), Failure>
     ensures whole { OnOk result (IsReplay (P.remaining file.old) (R.remaining input.old) (W.contents output.old) (W.contents output.new)) }
     ensures failure { IfErr result (IsReplayFailure (P.remaining file.old) (R.remaining input.old)) }
@@ -29,6 +31,6 @@ pub fn replay<P: Read, R: Read, W: Write>(
         ⊎ IsReplayBegun (P.remaining file.old) (R.remaining input.old) (W.contents output.old) (W.contents output.new)) }
 {
     let plan = plan_from(alloc, file)?;
-    replay_run(alloc, &plan, input, output)?;
+    replay_run(alloc, &plan, input, output, hasher)?;
     Ok(())
 }

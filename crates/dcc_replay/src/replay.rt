@@ -12,12 +12,14 @@ use crate::names::identity_of;
 use crate::printing::printed;
 use crate::script::read_script;
 use dcc_engine::{Engine, Event, Out};
+use dcc_shard::shards_in_memory;
 use dcc_streams::{MOST_READS, read_all, write_all};
 use dcc_tariff::Plan;
 use std::alloc::{AllocError, Global};
+use std::hash::RandomState;
 use std::io::{Read, Write};
 
-/// Reads a script, runs its events on an engine just opened under the plan, and writes what is printed of the outs.
+/// Reads a script, runs its events on an engine just opened under the plan, over shards in memory, and writes what is printed of the outs.
 ///
 /// The whole script is judged before anything is written: at a fault of the script, and where memory is short, nothing is; where the
 /// writer fails, a beginning is. A script that has not ended after 4,294,967,295 reads is a failure of input.
@@ -26,6 +28,7 @@ pub fn replay_run<R: Read, W: Write>(
     plan: &Plan,
     input: &mut R,
     output: &mut W,
+    hasher: RandomState,
 ) -> Result<(), ReplayFault>
     ensures whole { OnOk result (IsWritten plan.now (R.remaining input.old) (W.contents output.old) (W.contents output.new)) }
     ensures fault { IfErr result (IsReplayFault (R.remaining input.old)) }
@@ -35,18 +38,24 @@ pub fn replay_run<R: Read, W: Write>(
 {
     let text = read_all(alloc, input, MOST_READS)?;
     let events = read_script(alloc, text.as_slice())?;
-    let outs = outs_of(alloc, plan, events.as_slice())?;
+    let outs = outs_of(alloc, plan, events.as_slice(), hasher)?;
     let written = printed(alloc, outs.as_slice())?;
     write_all(output, written.as_bytes())?;
     Ok(())
 }
 
 /// The outs of a run of an engine just opened under the plan.
-fn outs_of(alloc: Global, plan: &Plan, events: &[Event]) -> Result<Vec<Out>, AllocError>
+fn outs_of(
+    alloc: Global,
+    plan: &Plan,
+    events: &[Event],
+    hasher: RandomState,
+) -> Result<Vec<Out>, AllocError>
     ensures { IfOk result (λ outs.
         (engine : EngineView) × IsNew plan.now engine × (length outs.items ≡ length events.now) × IsRun engine (turns events.now outs.items)) }
 {
     let identity = identity_of(alloc, plan)?;
-    let mut engine = Engine::open(alloc, plan.copy()?, identity, plan.shards())?;
+    let shards = shards_in_memory(alloc, plan.terms(), identity, plan.shards(), hasher)?;
+    let mut engine = Engine::open(alloc, plan.copy()?, shards)?;
     engine.run(alloc, events)
 }

@@ -11,22 +11,29 @@ mod streams;
 use crate::{ReplayFault, replay_run};
 use dcc_samples::PLAN;
 use dcc_tariff::Plan;
-use std::alloc::Global;
+use std::hash::RandomState;
 use std::process::Abort;
+use std::random::RandomSource;
 use std::test::Fail;
 
 /// What is written of a script.
-fn replayed(alloc: Global, plan: Plan, script: &[u8]) -> Result<String, ReplayFault> {
+fn replayed<R: RandomSource + AllocGlobal>(
+    rt: &R,
+    plan: Plan,
+    script: &[u8],
+) -> Result<String, ReplayFault> {
+    let alloc = rt.alloc();
+    let hasher = RandomState::new(rt).map_err(|_| ReplayFault::Input)?;
     let mut input = script;
     let mut output = Vec::new(alloc);
-    replay_run(alloc, &plan, &mut input, &mut output)?;
+    replay_run(alloc, &plan, &mut input, &mut output, hasher)?;
     String::from_utf8(output).map_err(|_| ReplayFault::Output)
 }
 
 /// Whether this is printed of a script under the plan of the worked examples: line by line, so that a failure shows one.
-fn prints<R: Abort + AllocGlobal>(rt: &R, script: &str, printed: &str) -> Result<(), Fail> {
+fn prints<R: Abort + RandomSource + AllocGlobal>(rt: &R, script: &str, printed: &str) -> Result<(), Fail> {
     let alloc = rt.alloc();
-    let text = replayed(alloc, Plan::read(alloc, PLAN)?, script.as_bytes())?;
+    let text = replayed(rt, Plan::read(alloc, PLAN)?, script.as_bytes())?;
     let mut expected = printed.lines();
     for line in text.as_str().lines() {
         assert_eq!(rt; Some(line), expected.next());

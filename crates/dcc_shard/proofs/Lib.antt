@@ -1,4 +1,9 @@
 pub mod Subs
 pub mod BookRows
 pub mod BookSteps
-pub mod BookSubs
+pub mod Storing
+pub mod Ordered
+pub mod Pages
+pub mod Routing
+pub mod RoutedSubs
+pub mod Beginnings

@@ -1,3 +1,5 @@
 pub mod Shards
 pub mod Answers
+pub mod Stored
+pub mod Routes
 pub mod inner

@@ -1,6 +1,8 @@
 -- What a shard holds, and for whom.
-use Rattle.std.specs.Prelude.{◌≡◌, ◌≢◌, Bool, true, not, ◌&&◌, if◌then◌else◌, List, [], ◌∷◌, ◌++◌, map, Option, Some, None}
+use Rattle.std.specs.Prelude.{◌≡◌, ◌≢◌, Bool, true, not, ◌&&◌, if◌then◌else◌, List, [], ◌∷◌, ◌++◌, Option}
 use Rattle.std.specs.List.{list_any}
+use Rattle.std.specs.List.Sorted.{IsStrictlySortedBy}
+use Rattle.std.specs.Map.{lookup}
 use Rattle.std.specs.Option.{option_map_or}
 use Rattle.dcc_tariff.specs.Terms.{TermsView}
 use Rattle.dcc_message.specs.declared.identity.Identity.{Identity}
@@ -9,21 +11,19 @@ use Rattle.dcc_act.specs.declared.sub.Sub.{Sub}
 use Rattle.dcc_act.specs.Subs.{same_sub}
 use Rattle.dcc_account.specs.declared.account.Account.{Account}
 use Rattle.dcc_model.specs.Outcomes.{acts}
-use Rattle.dcc_shard.specs.declared.row.Row.{Row}
 
 -- by what terms accounts are judged, who answers, and the accounts
 pub record ShardView : Type 0 where
   pub terms : TermsView
   pub identity : Identity
-  pub rows : List Row
+  pub rows : List (Sub × Account)
 
 -- the account of a subscriber, where there is one
-abbrev pub account_in : List Row → Sub → Option Account
-account_in [] sub = None
-account_in (row ∷ rows) sub = if same_sub row.sub sub then Some row.account else account_in rows sub
+abbrev pub account_in : List (Sub × Account) → Sub → Option Account
+account_in rows sub = lookup (same_sub sub) rows
 
 -- the acts that are held for a subscriber, in order
-abbrev pub held_in : List Row → Sub → List Act
+abbrev pub held_in : List (Sub × Account) → Sub → List Act
 held_in rows sub = option_map_or (λ (account : Account). account.acts) (account_in rows sub) []
 
 abbrev pub held : ShardView → Sub → List Act
@@ -48,10 +48,6 @@ is_among sub subs = list_any (λ one. same_sub one sub) subs
 abbrev pub are_apart : List Sub → Bool
 are_apart [] = true
 are_apart (sub ∷ subs) = not (is_among sub subs) && are_apart subs
-
--- the subscribers of the accounts, in the order in which these came
-abbrev pub subs_of : List Row → List Sub
-subs_of rows = map (λ row. row.sub) rows
 
 -- what is held for each subscriber is what its own list makes
 abbrev pub AreOwn : ShardView → Type 0

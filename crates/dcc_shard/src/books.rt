@@ -1,52 +1,93 @@
 //! The accounts of a shard's subscribers, and one more act of one of them: it is prepared, and then installed. What is
 //! refused comes with the preparing, which changes nothing that is held; the others stay as they were.
 
-ghost use Rattle.std.specs.Prelude.{◌≡◌, ◌≢◌, ◌<◌, [], true, false, vec_len, vec_capacity, IfOk, IfSome, IfNone};
+ghost use Rattle.std.specs.Prelude.{◌≡◌, ◌≢◌, [], true, false, IfOk, IfSome, IfNone};
+ghost use Rattle.std.specs.List.Sorted.{IsStrictlySortedBy};
 ghost use Rattle.dcc_act.specs.declared.sub.Sub.{Sub};
 ghost use Rattle.dcc_model.specs.Outcomes.{acts};
-ghost use Rattle.dcc_account.specs.Prepared.{IsPrepared};
-ghost use Rattle.dcc_shard.specs.Shards.{held_in, is_among, are_apart, subs_of};
-ghost use Rattle.dcc_shard.specs.inner.Books.{IsAbsent, IsAdded, IsStepOfBooks};
+ghost use Rattle.dcc_records.specs.Books.{sub_order, acts_in, IsBook};
+ghost use Rattle.dcc_shard.specs.Shards.{held_in, is_among};
+ghost use Rattle.dcc_shard.specs.inner.Books.{IsStepOfBooks};
 ghost use Rattle.dcc_shard.specs.inner.Pending.{step_of, Stands, IsPending};
 
 use crate::pending::Pending;
-use crate::row::{Row, find};
-use dcc_account::{Account, Step};
+use dcc_account::Account;
 use dcc_act::{Act, Sub, same_subscribers_are_equal};
 use dcc_model::{leaving_out_changes_nothing, one_more_act};
+use dcc_records::Book;
 use dcc_tariff::Terms;
+use indexmap::IndexMap;
 use std::alloc::{AllocError, Global};
+use std::hash::RandomState;
 use std::marker::Model;
 
-/// The accounts of the subscribers, each with an act at least, and the terms that all of them are judged by.
+/// The accounts of the subscribers, each with an act at least, and the terms that all of them are judged by. A subscriber is
+/// found by a hash that nobody outside can know beforehand.
 #[derive(Drop)]
 pub(crate) struct Books {
     terms: Terms,
-    rows: Vec<Row>,
+    accounts: IndexMap<Sub, Account, RandomState>,
 }
 
 impl Model for Books {
-    ghost use Rattle.std.specs.Prelude.{◌-◌, vec_len, vec_capacity};
+    ghost use Rattle.indexmap.specs.IndexMap.{spare};
     ghost use Rattle.dcc_shard.specs.inner.Books.{BooksView, AreBooks};
 
     ghost Value = { BooksView };
 
-    ghost view = { λ b. record { terms = b.terms; rows = b.rows.items; room = vec_capacity b.rows - vec_len b.rows } };
+    ghost view = { λ b. record { terms = b.terms; rows = b.accounts.entries; room = spare b.accounts } };
 
-    ghost invariant = { λ b. AreBooks b.rows.items b.terms };
+    ghost invariant = { λ b. AreBooks b.accounts.entries b.terms };
 }
 
 impl Books {
     /// Books without accounts. It takes no memory.
-    pub(crate) fn new(alloc: Global, terms: &Terms) -> Books
+    pub(crate) fn new(alloc: Global, terms: &Terms, hasher: RandomState) -> Books
         ensures terms { result.terms ≡ terms.now }
         ensures rows { result.rows ≡ [] }
     {
         leaving_out_changes_nothing();
         Books {
             terms: *terms,
-            rows: Vec::new(alloc),
+            accounts: IndexMap::with_hasher(alloc, hasher),
         }
+    }
+
+    /// The books of what records hold: each account is made anew from its acts. The only error is want of memory.
+    pub(crate) fn of_book(
+        alloc: Global,
+        terms: &Terms,
+        hasher: RandomState,
+        book: Book,
+    ) -> Result<Books, AllocError>
+        requires { IsBook terms.now (acts_in book) }
+        ensures terms { IfOk result (λ books. books.terms ≡ terms.now) }
+        ensures held { IfOk result (λ books. (sub : Sub) → held_in books.rows sub ≡ acts_in book sub) }
+    {
+        leaving_out_changes_nothing();
+        same_subscribers_are_equal();
+        let mut books = Books::new(alloc, terms, hasher);
+        let mut pages = book.into_vec();
+        for _ in 0..pages.len() {
+            let (sub, acts) = pages.pop().unwrap().into_parts();
+            let account = replayed(alloc, terms, acts, hasher)?;
+            books.accounts.insert(sub, account)?;
+        }
+        Ok(books)
+    }
+
+    /// The subscribers of the accounts, each once, in their order.
+    pub(crate) fn subs(&self, alloc: Global) -> Result<Vec<Sub>, AllocError>
+        ensures order { IfOk result (λ subs. IsStrictlySortedBy sub_order subs.items) }
+        ensures some { IfOk result (λ subs. (sub : Sub) → is_among sub subs.items ≡ true → held_in self.now.rows sub ≢ []) }
+        ensures none { IfOk result (λ subs. (sub : Sub) → is_among sub subs.items ≡ false → held_in self.now.rows sub ≡ []) }
+    {
+        let mut subs = Vec::with_capacity(alloc, self.accounts.len())?;
+        for sub in self.accounts.keys() {
+            subs.push_reserved(*sub);
+        }
+        subs.sort()?;
+        Ok(subs)
     }
 
     /// The terms by which the accounts are judged.
@@ -60,7 +101,7 @@ impl Books {
     pub(crate) fn acts_are_own(&self)
         ensures { (sub : Sub) → acts self.now.terms (held_in self.now.rows sub) ≡ held_in self.now.rows sub }
     {
-        let _rows = &self.rows;
+        let _accounts = &self.accounts;
     }
 
     /// The account of a subscriber, where there is one: where an act of it was made.
@@ -70,20 +111,7 @@ impl Books {
         ensures some { IfSome result (λ account. account.now.acts ≢ []) }
         ensures none { IfNone result (held_in self.now.rows sub.now ≡ []) }
     {
-        let i = find(&self.rows, sub)?;
-        Some(&self.rows[i].account)
-    }
-
-    /// The subscribers of the accounts.
-    #[tactic(auto, using(crate::proofs::BookSubs::none_held, crate::proofs::BookSubs::apart_of))]
-    pub(crate) fn subs(&self, alloc: Global) -> Result<Vec<Sub>, AllocError>
-        ensures order { IfOk result (λ subs. subs.items ≡ subs_of self.now.rows) }
-        ensures some { IfOk result (λ subs. (sub : Sub) → is_among sub subs.items ≡ true → held_in self.now.rows sub ≢ []) }
-        ensures none { IfOk result (λ subs. (sub : Sub) → is_among sub subs.items ≡ false → held_in self.now.rows sub ≡ []) }
-        ensures once { IfOk result (λ subs. are_apart subs.items ≡ true) }
-    {
-        let subs = subs_in(alloc, &self.rows)?;
-        Ok(subs)
+        self.accounts.get(sub)
     }
 
     /// Prepares an act of a subscriber, who has an account or none.
@@ -97,19 +125,14 @@ impl Books {
         ensures terms { self.new.terms ≡ self.old.terms }
         ensures rows { self.new.rows ≡ self.old.rows }
     {
-        match find(&self.rows, sub) {
-            Some(i) => {
-                let row = &self.rows[i];
-                let step = row.account.prepare(act)?;
-                Ok(Pending::Known { i, step })
-            }
-            None => {
-                self.rows.reserve(1)?;
-                let account = Account::new(alloc, &self.terms);
-                let step = account.prepare(act)?;
-                Ok(Pending::First { account, step })
-            }
+        if let Some(account) = self.accounts.get(sub) {
+            let step = account.prepare(act)?;
+            return Ok(Pending::Known { step });
         }
+        self.accounts.reserve(1)?;
+        let account = Account::new(alloc, &self.terms, *self.accounts.hasher());
+        let step = account.prepare(act)?;
+        Ok(Pending::First { account, step })
     }
 
     /// Installs a step that was prepared. It takes no memory.
@@ -121,37 +144,45 @@ impl Books {
         one_more_act();
         same_subscribers_are_equal();
         match pending {
-            Pending::Known { i, step } => {
-                let row = &mut self.rows[i];
-                row.account.install(step);
+            Pending::Known { step } => {
+                let account = self.accounts.get_mut(&sub).unwrap();
+                account.install(step);
             }
-            Pending::First { account, step } => add(&mut self.rows, sub, account, step),
+            Pending::First { account, step } => {
+                let mut account = account;
+                account.install(step);
+                if has_acts(&account) {
+                    self.accounts.insert(sub, account).unwrap();
+                }
+            }
         }
     }
 }
 
-/// The subscribers of rows.
-fn subs_in(alloc: Global, rows: &[Row]) -> Result<Vec<Sub>, AllocError>
-    ensures { IfOk result (λ subs. subs.items ≡ subs_of rows.now) }
+/// Whether an act of the account was made.
+fn has_acts(account: &Account) -> bool
+    ensures some { result ≡ true → account.now.acts ≢ [] }
+    ensures none { result ≡ false → account.now.acts ≡ [] }
 {
-    let mut subs = Vec::with_capacity(alloc, rows.len())?;
-    for row in rows {
-        subs.push_reserved(row.sub);
-    }
-    Ok(subs)
+    !account.acts().is_empty()
 }
 
-/// Adds an account after its first step, where that has made anything.
-fn add(rows: &mut Vec<Row>, sub: Sub, account: Account, step: Step)
-    requires room { vec_len rows.old < vec_capacity rows.old }
-    requires fresh { account.acts ≡ [] }
-    requires prepared { IsPrepared account step }
-    requires absent { IsAbsent rows.old.items sub }
-    ensures { IsAdded rows.old.items rows.new.items sub account step.act }
+/// The account of these acts, each its own, made anew.
+fn replayed(
+    alloc: Global,
+    terms: &Terms,
+    all: Vec<Act>,
+    hasher: RandomState,
+) -> Result<Account, AllocError>
+    requires { acts terms.now all.items ≡ all.items }
+    ensures terms { IfOk result (λ account. account.terms ≡ terms.now) }
+    ensures acts { IfOk result (λ account. account.acts ≡ all.items) }
 {
-    let mut account = account;
-    account.install(step);
-    if !account.acts().is_empty() {
-        rows.push_reserved(Row { sub, account });
+    leaving_out_changes_nothing();
+    let mut account = Account::new(alloc, terms, hasher);
+    for act in all {
+        let step = account.prepare(act)?;
+        account.install(step);
     }
+    Ok(account)
 }

@@ -9,14 +9,19 @@
 
 mod answers;
 mod books;
+mod kept;
+mod memory;
 mod pending;
-mod row;
+mod route;
 mod serve;
 mod shard;
+mod shards;
 
 pub use answers::{ExpiryAnswer, RequestAnswer, TopUpAnswer};
-pub use row::Row;
+pub use memory::shards_in_memory;
+pub use route::shard_of;
 pub use shard::Shard;
+pub use shards::Shards;
 
 #[cfg(test)]
 mod tests;

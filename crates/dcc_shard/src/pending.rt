@@ -8,9 +8,9 @@ use dcc_account::{Account, Step};
 /// A step that is prepared and not yet installed.
 #[derive(Drop)]
 pub(crate) enum Pending {
-    /// In the row at this index.
-    Known { i: usize, step: Step },
-    /// In an account that is added with it, and for which there is room.
+    /// Of the subscriber's account.
+    Known { step: Step },
+    /// Of an account that is added with it, and for which there is room.
     First { account: Account, step: Step },
 }
 
@@ -20,7 +20,7 @@ impl Pending {
         ensures { result.now ≡ step_of self.now }
     {
         match self {
-            Pending::Known { step, .. } => step,
+            Pending::Known { step } => step,
             Pending::First { step, .. } => step,
         }
     }

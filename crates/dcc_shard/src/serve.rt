@@ -7,10 +7,11 @@ ghost use Rattle.dcc_model.specs.Keys.{ticket, is_expiry};
 ghost use Rattle.dcc_shard.specs.Shards.{held_in};
 ghost use Rattle.dcc_shard.specs.Answers.{answer_at, answer_after, session_of_act, IsRefusedBy, IsToldApart, is_judged};
 ghost use Rattle.dcc_shard.specs.Answers.{told, told_after, is_judged_top_up, ended, ended_after, is_judged_expiry};
+ghost use Rattle.dcc_shard.specs.Stored.{IsKept};
 ghost use Rattle.dcc_shard.specs.inner.Books.{IsStepOfBooks};
 
 use crate::answers::{ExpiryAnswer, RequestAnswer, TopUpAnswer};
-use crate::books::Books;
+use crate::kept::KeptBooks;
 use dcc_account::Step;
 use dcc_act::{Act, Kind, Outcome, SessionId, Sub};
 use dcc_answer::{Proxies, write_busy};
@@ -18,6 +19,7 @@ use dcc_credit::{lend_session, write_cca};
 use dcc_message::{Header, Identity};
 use dcc_model::{acts_come_to_their_own, places_hold};
 use dcc_octets::OctetString;
+use dcc_records::{Records, StoreFault};
 use std::alloc::{AllocError, Global};
 
 /// What an answer to a request takes beside its outcome and the terms: who answers, the header that it is answered under,
@@ -53,32 +55,37 @@ pub(crate) fn copied(session: Option<&SessionId>) -> Result<Option<SessionId>, A
 }
 
 /// Answers a request by what its act comes to, and makes the act.
-pub(crate) fn answer(
-    books: &mut Books,
+pub(crate) fn answer<R: Records>(
+    kept: &mut KeptBooks<R>,
     alloc: Global,
     envelope: &Envelope<'_>,
     sub: Sub,
     act: Act,
-) -> Result<RequestAnswer, AllocError>
-    ensures answer { IfOk result (λ answer. answer ≡ answer_after envelope.now.identity.now books.old.terms envelope.now.header.now
-        envelope.now.proxies.now (held_in books.old.rows sub) act) }
+) -> Result<RequestAnswer, StoreFault>
+    ensures answer { IfOk result (λ answer. answer ≡ answer_after envelope.now.identity.now kept.old.books.terms envelope.now.header.now
+        envelope.now.proxies.now (held_in kept.old.books.rows sub) act) }
     ensures judged { IfOk result (λ answer. is_judged answer ≡ true) }
     ensures apart { IfOk result IsToldApart }
-    ensures step { OnOk result (IsStepOfBooks books.old books.new sub act) }
-    ensures err { OnErr result (books.new.rows ≡ books.old.rows) }
-    ensures terms { books.new.terms ≡ books.old.terms }
+    ensures step { OnOk result (IsStepOfBooks kept.old.books kept.new.books sub act) }
+    ensures going { OnOk result ((R.is_stopped kept.old.records ≡ false) × (R.is_stopped kept.new.records ≡ false)) }
+    ensures kept { IsKept kept.old.books.terms (held_in kept.old.books.rows) sub act
+        (R.may_leave kept.old.records) (R.may_leave kept.new.records) (R.is_stopped kept.old.records) (R.is_stopped kept.new.records)
+        (R.faults kept.old.records) (R.faults kept.new.records) }
+    ensures err { OnErr result (kept.new.books.rows ≡ kept.old.books.rows) }
+    ensures terms { kept.new.books.terms ≡ kept.old.books.terms }
 {
-    let pending = books.prepare(alloc, &sub, act)?;
+    kept.acts_are_kept();
+    let pending = kept.prepare(alloc, &sub, act)?;
     let octets = write_cca(
         alloc,
         envelope.identity,
-        books.terms(),
+        kept.books().terms(),
         envelope.header,
         envelope.proxies,
         pending.step().outcome(),
     )?;
     let answer = answer_with(pending.step(), OctetString::from_vec(octets));
-    books.install(sub, pending);
+    kept.commit(sub, pending)?;
     Ok(answer)
 }
 
@@ -125,24 +132,29 @@ pub(crate) fn busy(
 }
 
 /// Tells a top-up what it comes to, and makes it.
-pub(crate) fn tell(
-    books: &mut Books,
+pub(crate) fn tell<R: Records>(
+    kept: &mut KeptBooks<R>,
     alloc: Global,
     sub: Sub,
     act: Act,
-) -> Result<TopUpAnswer, AllocError>
+) -> Result<TopUpAnswer, StoreFault>
     requires top_up { is_some (ticket act.kind) ≡ true }
-    ensures answer { IfOk result (λ answer. Some answer ≡ told_after books.old.terms (held_in books.old.rows sub) act) }
+    ensures answer { IfOk result (λ answer. Some answer ≡ told_after kept.old.books.terms (held_in kept.old.books.rows sub) act) }
     ensures judged { IfOk result (λ answer. is_judged_top_up answer ≡ true) }
-    ensures step { OnOk result (IsStepOfBooks books.old books.new sub act) }
-    ensures err { OnErr result (books.new.rows ≡ books.old.rows) }
-    ensures terms { books.new.terms ≡ books.old.terms }
+    ensures step { OnOk result (IsStepOfBooks kept.old.books kept.new.books sub act) }
+    ensures going { OnOk result ((R.is_stopped kept.old.records ≡ false) × (R.is_stopped kept.new.records ≡ false)) }
+    ensures kept { IsKept kept.old.books.terms (held_in kept.old.books.rows) sub act
+        (R.may_leave kept.old.records) (R.may_leave kept.new.records) (R.is_stopped kept.old.records) (R.is_stopped kept.new.records)
+        (R.faults kept.old.records) (R.faults kept.new.records) }
+    ensures err { OnErr result (kept.new.books.rows ≡ kept.old.books.rows) }
+    ensures terms { kept.new.books.terms ≡ kept.old.books.terms }
 {
-    let pending = books.prepare(alloc, &sub, act)?;
+    kept.acts_are_kept();
+    let pending = kept.prepare(alloc, &sub, act)?;
     acts_come_to_their_own();
     places_hold();
     let answer = told_by(pending.step()).unwrap();
-    books.install(sub, pending);
+    kept.commit(sub, pending)?;
     Ok(answer)
 }
 
@@ -160,23 +172,28 @@ fn told_by(step: &Step) -> Option<TopUpAnswer>
 }
 
 /// Tells an expiry what it comes to, and makes it where it ends a session.
-pub(crate) fn end(
-    books: &mut Books,
+pub(crate) fn end<R: Records>(
+    kept: &mut KeptBooks<R>,
     alloc: Global,
     sub: Sub,
     act: Act,
-) -> Result<ExpiryAnswer, AllocError>
+) -> Result<ExpiryAnswer, StoreFault>
     requires expiry { is_expiry act.kind ≡ true }
-    ensures answer { IfOk result (λ answer. Some answer ≡ ended_after books.old.terms (held_in books.old.rows sub) act) }
+    ensures answer { IfOk result (λ answer. Some answer ≡ ended_after kept.old.books.terms (held_in kept.old.books.rows sub) act) }
     ensures judged { IfOk result (λ answer. is_judged_expiry answer ≡ true) }
-    ensures step { OnOk result (IsStepOfBooks books.old books.new sub act) }
-    ensures err { OnErr result (books.new.rows ≡ books.old.rows) }
-    ensures terms { books.new.terms ≡ books.old.terms }
+    ensures step { OnOk result (IsStepOfBooks kept.old.books kept.new.books sub act) }
+    ensures going { OnOk result ((R.is_stopped kept.old.records ≡ false) × (R.is_stopped kept.new.records ≡ false)) }
+    ensures kept { IsKept kept.old.books.terms (held_in kept.old.books.rows) sub act
+        (R.may_leave kept.old.records) (R.may_leave kept.new.records) (R.is_stopped kept.old.records) (R.is_stopped kept.new.records)
+        (R.faults kept.old.records) (R.faults kept.new.records) }
+    ensures err { OnErr result (kept.new.books.rows ≡ kept.old.books.rows) }
+    ensures terms { kept.new.books.terms ≡ kept.old.books.terms }
 {
-    let pending = books.prepare(alloc, &sub, act)?;
+    kept.acts_are_kept();
+    let pending = kept.prepare(alloc, &sub, act)?;
     acts_come_to_their_own();
     let answer = ended_by(pending.step()).unwrap();
-    books.install(sub, pending);
+    kept.commit(sub, pending)?;
     Ok(answer)
 }
 

@@ -1,72 +1,124 @@
 //! The shard.
 
-ghost use Rattle.std.specs.Prelude.{◌≡◌, ◌≢◌, [], true, false, IfOk, IfSome, IfNone, is_some};
+ghost use Rattle.std.specs.Prelude.{◌≡◌, ◌≢◌, [], true, false, IfOk, IfErr, IfSome, IfNone, OnOk, is_some};
+ghost use Rattle.std.specs.List.Sorted.{IsStrictlySortedBy};
 ghost use Rattle.dcc_act.specs.declared.sub.Sub.{Sub};
 ghost use Rattle.dcc_model.specs.Keys.{request_key};
-ghost use Rattle.dcc_shard.specs.Shards.{held, AreOwn, IsStep, is_among, are_apart, subs_of};
+ghost use Rattle.dcc_records.specs.Books.{sub_order};
+ghost use Rattle.dcc_records.specs.Contents.{Content};
+ghost use Rattle.dcc_records.specs.Stops.{LeavesOnly};
+ghost use Rattle.dcc_shard.specs.Shards.{held, held_in, AreOwn, IsStep, is_among};
+ghost use Rattle.dcc_shard.specs.Stored.{IsKept, IsLeft};
 ghost use Rattle.dcc_shard.specs.Answers.{IsAnswer, IsToldApart, IsTold, is_judged, is_judged_top_up, top_up_act};
 ghost use Rattle.dcc_shard.specs.Answers.{IsExpired, is_judged_expiry, expiry_act};
 
 use crate::answers::{ExpiryAnswer, RequestAnswer, TopUpAnswer};
 use crate::books::Books;
+use crate::kept::KeptBooks;
 use crate::serve::{Envelope, answer, busy, copied, end, session_of_act, tell};
 use dcc_account::Account;
 use dcc_act::{Act, Kind, Moment, Sub, TopUp};
 use dcc_answer::Proxies;
 use dcc_message::{Header, Identity};
-use dcc_tariff::Terms;
+use dcc_records::{Records, StoreFault, content_has_one_book};
 use std::alloc::{AllocError, Global};
+use std::hash::RandomState;
 use std::marker::Model;
 
-/// The accounts of the subscribers that are kept here, under one plan's terms, and who answers for them.
+/// The accounts of the subscribers that are kept here, under one plan's terms, who answers for them, and the records that keep
+/// their acts.
 #[derive(Drop)]
-pub struct Shard {
+pub struct Shard<R: Records> {
     identity: Identity,
-    books: Books,
+    kept: KeptBooks<R>,
 }
 
-impl Model for Shard {
-    ghost use Rattle.dcc_shard.specs.Shards.{ShardView};
+impl<R: Records> Model for Shard<R> {
+    ghost use Rattle.dcc_shard.specs.Stored.{StoredView};
 
-    ghost Value = { ShardView };
+    ghost Value = { StoredView R };
 
-    ghost view = { λ s. record { terms = s.books.terms; identity = s.identity; rows = s.books.rows } };
+    ghost view = { λ s. record {
+      shard = record { terms = s.kept.books.terms; identity = s.identity; rows = s.kept.books.rows };
+      records = s.kept.records;
+    } };
 }
 
-impl Shard {
-    /// A shard without accounts, under these terms, that answers as this server.
-    pub fn new(alloc: Global, terms: &Terms, identity: &Identity) -> Result<Shard, AllocError>
-        ensures terms { IfOk result (λ shard. shard.terms ≡ terms.now) }
-        ensures identity { IfOk result (λ shard. shard.identity ≡ identity.now) }
-        ensures nothing { IfOk result (λ shard. (sub : Sub) → held shard sub ≡ []) }
-        ensures own { IfOk result AreOwn }
+impl<R: Records> Shard<R> {
+    /// A shard of what the records hold, under their terms, that answers as this server. Each account is made anew from its acts.
+    /// Subscribers and what their accounts remember are found by hashes under this state.
+    ///
+    /// Errors, with the records handed back: [`StoreFault::Memory`], the records may be used; [`StoreFault::Device`], they failed;
+    /// [`StoreFault::Stopped`], they were stopped before.
+    pub fn new(
+        alloc: Global,
+        identity: &Identity,
+        records: R,
+        hasher: RandomState,
+    ) -> Result<Shard<R>, (StoreFault, R)>
+        ensures terms { IfOk result (λ shard. shard.shard.terms ≡ R.terms records) }
+        ensures identity { IfOk result (λ shard. shard.shard.identity ≡ identity.now) }
+        ensures own { IfOk result (λ shard. AreOwn shard.shard) }
+        // What it holds is what a stop leaves, and was so before.
+        ensures found { IfOk result (λ shard. LeavesOnly shard.shard.terms (held shard.shard) (R.may_leave shard.records)) }
+        ensures there { IfOk result (λ shard. R.is_honest shard.records → IsLeft shard.shard.terms (held shard.shard) (R.may_leave shard.records)) }
+        ensures same { IfOk result (λ shard. (found : Content) → R.may_leave shard.records found → R.may_leave records found) }
+        ensures going { IfOk result (λ shard. R.is_stopped shard.records ≡ R.is_stopped records) }
+        ensures left { IfErr result (λ refused. (found : Content) → R.may_leave refused.1 found → R.may_leave records found) }
+        ensures faults { IfErr result (λ refused. R.faults refused.1 ≡ R.faults records → R.is_stopped refused.1 ≡ R.is_stopped records) }
     {
-        let books = Books::new(alloc, terms);
-        books.acts_are_own();
-        Ok(Shard {
-            identity: identity.copy()?,
-            books,
-        })
+        let mut records = records;
+        match read(alloc, identity, &mut records, hasher) {
+            Ok((identity, books)) => Ok(Shard {
+                identity,
+                kept: KeptBooks::of(books, records),
+            }),
+            Err(fault) => Err((fault, records)),
+        }
+    }
+
+    /// Does nothing: the acts that are held for each subscriber are those that they themselves make.
+    pub(crate) fn acts_are_own(&self)
+        ensures { AreOwn self.now.shard }
+    {
+        self.kept.acts_are_kept();
+    }
+
+    /// The records that keep the acts. Where they are not stopped, a stop leaves just what is held.
+    pub fn records(&self) -> &R
+        ensures value { result.now ≡ self.now.records }
+        ensures kept { R.is_stopped result.now ≡ false → LeavesOnly self.now.shard.terms (held self.now.shard) (R.may_leave result.now) }
+    {
+        self.kept.acts_are_kept();
+        self.kept.records()
+    }
+
+    /// The records, moved out.
+    pub fn into_records(self) -> R
+        ensures value { result ≡ self.records }
+        ensures kept { R.is_stopped result ≡ false → LeavesOnly self.shard.terms (held self.shard) (R.may_leave result) }
+    {
+        self.kept.acts_are_kept();
+        self.kept.into_records()
     }
 
     /// The account of a subscriber, where there is one: where an act of it was made.
     pub fn account(&self, sub: Sub) -> Option<&Account>
-        ensures terms { IfSome result (λ account. account.now.terms ≡ self.now.terms) }
-        ensures acts { IfSome result (λ account. account.now.acts ≡ held self.now sub) }
+        ensures terms { IfSome result (λ account. account.now.terms ≡ self.now.shard.terms) }
+        ensures acts { IfSome result (λ account. account.now.acts ≡ held self.now.shard sub) }
         ensures some { IfSome result (λ account. account.now.acts ≢ []) }
-        ensures none { IfNone result (held self.now sub ≡ []) }
+        ensures none { IfNone result (held self.now.shard sub ≡ []) }
     {
-        self.books.account(&sub)
+        self.kept.books().account(&sub)
     }
 
-    /// The subscribers that have acts, each once, in the order in which their accounts came.
+    /// The subscribers that have acts, each once, in their order: by type, and then by the data, octet by octet.
     pub fn subs(&self, alloc: Global) -> Result<Vec<Sub>, AllocError>
-        ensures order { IfOk result (λ subs. subs.items ≡ subs_of self.now.rows) }
-        ensures some { IfOk result (λ subs. (sub : Sub) → is_among sub subs.items ≡ true → held self.now sub ≢ []) }
-        ensures none { IfOk result (λ subs. (sub : Sub) → is_among sub subs.items ≡ false → held self.now sub ≡ []) }
-        ensures once { IfOk result (λ subs. are_apart subs.items ≡ true) }
+        ensures order { IfOk result (λ subs. IsStrictlySortedBy sub_order subs.items) }
+        ensures some { IfOk result (λ subs. (sub : Sub) → is_among sub subs.items ≡ true → held self.now.shard sub ≢ []) }
+        ensures none { IfOk result (λ subs. (sub : Sub) → is_among sub subs.items ≡ false → held self.now.shard sub ≡ []) }
     {
-        self.books.subs(alloc)
+        self.kept.books().subs(alloc)
     }
 
     /// Makes a request's act, and answers it under the request's header and with its proxies: with what the act comes to, or
@@ -80,12 +132,17 @@ impl Shard {
         proxies: &Proxies,
     ) -> RequestAnswer
         requires { is_some (request_key act.kind) ≡ true }
-        ensures answer { IsAnswer self.old sub act header.now proxies.now result }
-        ensures step { IsStep self.old self.new (is_judged result) sub act }
-        ensures own { AreOwn self.new }
+        ensures answer { IsAnswer self.old.shard sub act header.now proxies.now result }
+        ensures step { IsStep self.old.shard self.new.shard (is_judged result) sub act }
+        ensures own { AreOwn self.new.shard }
+        ensures kept { IsKept self.old.shard.terms (held self.old.shard) sub act (R.may_leave self.old.records) (R.may_leave self.new.records)
+            (R.is_stopped self.old.records) (R.is_stopped self.new.records) (R.faults self.old.records) (R.faults self.new.records) }
+        // What was judged is in what a stop leaves, and a shard whose records are stopped judges nothing.
+        ensures stored { is_judged result ≡ true → LeavesOnly self.new.shard.terms (held self.new.shard) (R.may_leave self.new.records) }
+        ensures stopped { R.is_stopped self.old.records ≡ true → is_judged result ≡ false }
         ensures apart { IsToldApart result }
     {
-        self.books.acts_are_own();
+        self.kept.acts_are_kept();
         let envelope = Envelope {
             identity: &self.identity,
             header,
@@ -95,8 +152,8 @@ impl Shard {
         let Ok(session) = copied(session_of_act(&act)) else {
             return busy(alloc, &envelope, session_of_act(&act));
         };
-        let answered = answer(&mut self.books, alloc, &envelope, sub, act);
-        self.books.acts_are_own();
+        let answered = answer(&mut self.kept, alloc, &envelope, sub, act);
+        self.kept.acts_are_kept();
         match answered {
             Ok(answer) => answer,
             Err(_) => busy(alloc, &envelope, session.as_ref()),
@@ -113,11 +170,16 @@ impl Shard {
         ticket: u64,
         amount: u64,
     ) -> TopUpAnswer
-        ensures answer { IsTold self.old sub moment ticket amount result }
-        ensures step { IsStep self.old self.new (is_judged_top_up result) sub (top_up_act moment ticket amount) }
-        ensures own { AreOwn self.new }
+        ensures answer { IsTold self.old.shard sub moment ticket amount result }
+        ensures step { IsStep self.old.shard self.new.shard (is_judged_top_up result) sub (top_up_act moment ticket amount) }
+        ensures own { AreOwn self.new.shard }
+        ensures kept { IsKept self.old.shard.terms (held self.old.shard) sub (top_up_act moment ticket amount) (R.may_leave self.old.records) (R.may_leave self.new.records)
+            (R.is_stopped self.old.records) (R.is_stopped self.new.records) (R.faults self.old.records) (R.faults self.new.records) }
+        // What was judged is in what a stop leaves, and a shard whose records are stopped judges nothing.
+        ensures stored { is_judged_top_up result ≡ true → LeavesOnly self.new.shard.terms (held self.new.shard) (R.may_leave self.new.records) }
+        ensures stopped { R.is_stopped self.old.records ≡ true → is_judged_top_up result ≡ false }
     {
-        self.books.acts_are_own();
+        self.kept.acts_are_kept();
         let Some(top_up) = TopUp::new(ticket, amount) else {
             return TopUpAnswer::BadAmount;
         };
@@ -125,8 +187,8 @@ impl Shard {
             moment,
             kind: Kind::TopUp(top_up),
         };
-        let told = tell(&mut self.books, alloc, sub, act);
-        self.books.acts_are_own();
+        let told = tell(&mut self.kept, alloc, sub, act);
+        self.kept.acts_are_kept();
         match told {
             Ok(answer) => answer,
             Err(_) => TopUpAnswer::Refused,
@@ -135,20 +197,48 @@ impl Shard {
 
     /// Ends the subscriber's sessions that are held until this moment or an earlier one.
     pub fn expire(&mut self, alloc: Global, sub: Sub, moment: Moment) -> ExpiryAnswer
-        ensures answer { IsExpired self.old sub moment result }
-        ensures step { IsStep self.old self.new (is_judged_expiry result) sub (expiry_act moment) }
-        ensures own { AreOwn self.new }
+        ensures answer { IsExpired self.old.shard sub moment result }
+        ensures step { IsStep self.old.shard self.new.shard (is_judged_expiry result) sub (expiry_act moment) }
+        ensures own { AreOwn self.new.shard }
+        ensures kept { IsKept self.old.shard.terms (held self.old.shard) sub (expiry_act moment) (R.may_leave self.old.records) (R.may_leave self.new.records)
+            (R.is_stopped self.old.records) (R.is_stopped self.new.records) (R.faults self.old.records) (R.faults self.new.records) }
+        // What was judged is in what a stop leaves, and a shard whose records are stopped judges nothing.
+        ensures stored { is_judged_expiry result ≡ true → LeavesOnly self.new.shard.terms (held self.new.shard) (R.may_leave self.new.records) }
+        ensures stopped { R.is_stopped self.old.records ≡ true → is_judged_expiry result ≡ false }
     {
-        self.books.acts_are_own();
+        self.kept.acts_are_kept();
         let act = Act {
             moment,
             kind: Kind::Expiry,
         };
-        let ended = end(&mut self.books, alloc, sub, act);
-        self.books.acts_are_own();
+        let ended = end(&mut self.kept, alloc, sub, act);
+        self.kept.acts_are_kept();
         match ended {
             Ok(answer) => answer,
             Err(_) => ExpiryAnswer::Refused,
         }
     }
+}
+
+/// The books of what the records hold.
+fn read<R: Records>(
+    alloc: Global,
+    identity: &Identity,
+    records: &mut R,
+    hasher: RandomState,
+) -> Result<(Identity, Books), StoreFault>
+    ensures identity { IfOk result (λ read. read.0 ≡ identity.now) }
+    ensures terms { IfOk result (λ read. read.1.terms ≡ R.terms records.old) }
+    ensures stays { R.terms records.new ≡ R.terms records.old }
+    ensures found { IfOk result (λ read. LeavesOnly read.1.terms (held_in read.1.rows) (R.may_leave records.new)) }
+    ensures there { IfOk result (λ read. R.is_honest records.new → IsLeft read.1.terms (held_in read.1.rows) (R.may_leave records.new)) }
+    ensures same { (found : Content) → R.may_leave records.new found → R.may_leave records.old found }
+    ensures going { OnOk result (R.is_stopped records.new ≡ R.is_stopped records.old) }
+    ensures faults { R.faults records.new ≡ R.faults records.old → R.is_stopped records.new ≡ R.is_stopped records.old }
+{
+    let identity = identity.copy()?;
+    let book = records.load()?;
+    content_has_one_book();
+    let books = Books::of_book(alloc, records.terms(), hasher, book)?;
+    Ok((identity, books))
 }

@@ -10,19 +10,36 @@ use dcc_act::{
 };
 use dcc_answer::Proxies;
 use dcc_message::{DiameterIdentity, Header, Identity, read_header};
-use dcc_samples::{ANSWER, DEBIT, PLAN};
+use dcc_records::{MemoryRecords, OnceRecords, Records};
+use dcc_samples::{ANSWER, BUSY, DEBIT, PLAN};
 use dcc_tariff::{Plan, Tariff, UnitKind};
 use std::alloc::Global;
+use std::hash::RandomState;
 use std::process::Abort;
+use std::random::RandomSource;
 use std::test::Fail;
 
-fn shard(alloc: Global, plan: &Plan) -> Result<Shard, Fail> {
-    let identity = Identity {
+fn identity(alloc: Global) -> Result<Identity, Fail> {
+    Ok(Identity {
         host: DiameterIdentity::from_vec(b"ocs.example".to_vec(alloc)?).ok_or("a host")?,
         realm: DiameterIdentity::from_vec(b"example".to_vec(alloc)?).ok_or("a realm")?,
         address: [127, 0, 0, 1],
-    };
-    Ok(Shard::new(alloc, plan.terms(), &identity)?)
+    })
+}
+
+/// A shard of what these records hold.
+fn shard_over<R: RandomSource + AllocGlobal, S: Records + Drop>(
+    rt: &R,
+    records: S,
+) -> Result<Shard<S>, Fail> {
+    let alloc = rt.alloc();
+    let hasher = RandomState::new(rt)?;
+    let identity = identity(alloc)?;
+    Shard::new(alloc, &identity, records, hasher).map_err(|_| Fail::from("a shard"))
+}
+
+fn shard<R: RandomSource + AllocGlobal>(rt: &R, plan: &Plan) -> Result<Shard<MemoryRecords>, Fail> {
+    shard_over(rt, MemoryRecords::new(rt.alloc(), plan.terms()))
 }
 
 /// The header of the sample's request.
@@ -79,13 +96,18 @@ fn parts_of(alloc: Global, answer: &RequestAnswer) -> Result<(String, u64, bool)
             fresh,
         } => (octets.as_slice(), *place, *fresh),
         RequestAnswer::Unknown { octets } => (octets.as_slice(), 0, false),
-        RequestAnswer::Busy { .. } | RequestAnswer::Silent => return Err("a refusal".into()),
+        RequestAnswer::Busy { octets } => (octets.as_slice(), 0, false),
+        RequestAnswer::Silent => return Err("no memory".into()),
     };
     Ok((hex::encode(alloc, octets)?, place, fresh))
 }
 
 /// The debit of a subscriber, answered.
-fn step(alloc: Global, shard: &mut Shard, sub: Sub) -> Result<(String, u64, bool), Fail> {
+fn step<R: Records>(
+    alloc: Global,
+    shard: &mut Shard<R>,
+    sub: Sub,
+) -> Result<(String, u64, bool), Fail> {
     let header = header(alloc)?;
     let act = debit(alloc)?;
     if !matches!(act.kind, Kind::Event(_)) {
@@ -99,13 +121,12 @@ fn step(alloc: Global, shard: &mut Shard, sub: Sub) -> Result<(String, u64, bool
 fn a_debit_is_made_once(rt: HostRuntime) -> Result<(), Fail> {
     let alloc = rt.alloc();
     let plan = Plan::read(alloc, PLAN)?;
-    let mut shard = shard(alloc, &plan)?;
+    let mut shard = shard(&rt, &plan)?;
     let sub = Sub::new(0, b"491700000001").ok_or("a subscriber")?;
-    let moment = Moment::new(1_751_328_000).ok_or("a moment")?;
     let (unknown, place, _) = step(alloc, &mut shard, sub)?;
     assert!(rt; unknown.as_str().contains("000013a6"));
     assert_eq!(rt; place, 0);
-    let added = shard.top_up(alloc, sub, moment, 1, 1000);
+    let added = told(alloc, &mut shard, 1, 1000)?;
     assert_eq!(rt;
         added,
         TopUpAnswer::Done {
@@ -118,7 +139,7 @@ fn a_debit_is_made_once(rt: HostRuntime) -> Result<(), Fail> {
         assert_eq!(rt; octets.as_str(), ANSWER);
         assert_eq!(rt; (place, is_fresh), (2, fresh));
     }
-    let again = shard.top_up(alloc, sub, moment, 1, 5);
+    let again = told(alloc, &mut shard, 1, 5)?;
     assert_eq!(rt;
         again,
         TopUpAnswer::Done {
@@ -126,10 +147,7 @@ fn a_debit_is_made_once(rt: HostRuntime) -> Result<(), Fail> {
             fresh: false
         }
     );
-    assert_eq!(rt;
-        shard.top_up(alloc, sub, moment, 2, 0),
-        TopUpAnswer::BadAmount
-    );
+    assert_eq!(rt; told(alloc, &mut shard, 2, 0)?, TopUpAnswer::BadAmount);
     let account = shard.account(sub).ok_or("an account")?;
     assert_eq!(rt; account.funds(), 990);
     Ok(())
@@ -147,40 +165,128 @@ fn opening(alloc: Global) -> Result<Act, Fail> {
     })
 }
 
-/// The plan holds a session for 1,200 seconds. The moment after which it does no more ends it, once.
-#[test]
-fn a_session_expires_once(rt: HostRuntime) -> Result<(), Fail> {
-    let alloc = rt.alloc();
-    let plan = Plan::read(alloc, PLAN)?;
-    let mut shard = shard(alloc, &plan)?;
+/// What the opening of the sample's session is answered.
+fn opened<R: Records>(alloc: Global, shard: &mut Shard<R>) -> Result<(u64, bool), Fail> {
     let sub = Sub::new(0, b"491700000001").ok_or("a subscriber")?;
-    let moment = Moment::new(1_751_328_000).ok_or("a moment")?;
-    assert!(rt; shard.subs(alloc)?.is_empty());
-    shard.top_up(alloc, sub, moment, 1, 1000);
     let (header, act) = (header(alloc)?, opening(alloc)?);
     if !matches!(act.kind, Kind::Initial(_)) {
         return Err("a request".into());
     }
     let answer = shard.step(alloc, sub, act, &header, &Proxies::none(alloc));
-    assert!(rt;
-        matches!(
-            answer,
-            RequestAnswer::Done {
-                place: 2,
-                fresh: true,
-                ..
-            }
-        )
-    );
-    assert_eq!(rt; shard.subs(alloc)?.as_slice(), [sub].as_slice());
+    let (_, place, fresh) = parts_of(alloc, &answer)?;
+    Ok((place, fresh))
+}
+
+/// What an expiry comes to that is made so many seconds after the opening.
+fn expired<R: Records>(
+    alloc: Global,
+    shard: &mut Shard<R>,
+    seconds: u32,
+) -> Result<ExpiryAnswer, Fail> {
+    let sub = Sub::new(0, b"491700000001").ok_or("a subscriber")?;
+    let later = Moment::new(1_751_328_000 + u64::from(seconds)).ok_or("a moment")?;
+    Ok(shard.expire(alloc, sub, later))
+}
+
+/// The plan holds a session for 1,200 seconds. The moment after which it does no more ends it, once.
+#[test]
+fn a_session_expires_once(rt: HostRuntime) -> Result<(), Fail> {
+    let alloc = rt.alloc();
+    let plan = Plan::read(alloc, PLAN)?;
+    let mut shard = shard(&rt, &plan)?;
+    assert!(rt; shard.subs(alloc)?.is_empty());
+    told(alloc, &mut shard, 1, 1000)?;
+    assert_eq!(rt; opened(alloc, &mut shard)?, (2, true));
+    assert_eq!(rt; shard.subs(alloc)?.len(), 1);
     let closed = ExpiryAnswer::Closed {
         sessions: 1,
         place: 3,
     };
     let nothing = ExpiryAnswer::Nothing;
     for (seconds, wanted) in [(1199, nothing), (1200, closed), (1200, nothing)] {
-        let later = Moment::new(1_751_328_000 + seconds).ok_or("a moment")?;
-        assert_eq!(rt; shard.expire(alloc, sub, later), wanted);
+        assert_eq!(rt; expired(alloc, &mut shard, seconds)?, wanted);
     }
+    Ok(())
+}
+
+/// What a top-up of the sample's subscriber is told.
+fn told<R: Records>(
+    alloc: Global,
+    shard: &mut Shard<R>,
+    ticket: u64,
+    amount: u64,
+) -> Result<TopUpAnswer, Fail> {
+    let sub = Sub::new(0, b"491700000001").ok_or("a subscriber")?;
+    let moment = Moment::new(1_751_328_000).ok_or("a moment")?;
+    Ok(shard.top_up(alloc, sub, moment, ticket, amount))
+}
+
+/// What the sample's request is answered, in hex.
+fn answered<R: Records>(alloc: Global, shard: &mut Shard<R>) -> Result<String, Fail> {
+    let sub = Sub::new(0, b"491700000001").ok_or("a subscriber")?;
+    let (octets, _, _) = step(alloc, shard, sub)?;
+    Ok(octets)
+}
+
+/// What is opened again of records that failed, once the act that they refused is asked for again.
+fn reopened(rt: &HostRuntime, shard: Shard<OnceRecords>) -> Result<String, Fail> {
+    let mut again = shard_over(rt, shard.into_records().healed())?;
+    answered(rt.alloc(), &mut again)
+}
+
+/// The second append fails: its debit is answered busy, and so is all else but a bad amount. What is opened again has the money,
+/// and makes the debit.
+#[test]
+fn a_store_that_fails_stops_its_shard(rt: HostRuntime) -> Result<(), Fail> {
+    let alloc = rt.alloc();
+    let plan = Plan::read(alloc, PLAN)?;
+    let records = OnceRecords::new(MemoryRecords::new(alloc, plan.terms()), 2);
+    let mut shard = shard_over(&rt, records)?;
+    let added = TopUpAnswer::Done {
+        place: 1,
+        fresh: true,
+    };
+    assert_eq!(rt; told(alloc, &mut shard, 1, 1000)?, added);
+    for _ in 0..2 {
+        assert_eq!(rt; answered(alloc, &mut shard)?.as_str(), BUSY);
+    }
+    assert_eq!(rt; told(alloc, &mut shard, 1, 1000)?, TopUpAnswer::Refused);
+    assert_eq!(rt; told(alloc, &mut shard, 2, 0)?, TopUpAnswer::BadAmount);
+    assert_eq!(rt; reopened(&rt, shard)?.as_str(), ANSWER);
+    Ok(())
+}
+
+/// A subscriber of these data.
+fn named(name: &[u8]) -> Result<Sub, Fail> {
+    Ok(Sub::new(0, name).ok_or("a subscriber")?)
+}
+
+/// Two shards in memory, in which these subscribers have money.
+fn two_shards<R: RandomSource + AllocGlobal>(
+    rt: &R,
+    subs: &[Sub],
+) -> Result<Shards<MemoryRecords>, Fail> {
+    let alloc = rt.alloc();
+    let plan = Plan::read(alloc, PLAN)?;
+    let hasher = RandomState::new(rt)?;
+    let mut shards = shards_in_memory(alloc, plan.terms(), identity(alloc)?, 2, hasher)?;
+    let moment = Moment::new(1_751_328_000).ok_or("a moment")?;
+    for sub in subs {
+        shards.top_up(alloc, *sub, moment, 1, 1000);
+    }
+    Ok(shards)
+}
+
+#[test]
+fn subscribers_are_told_by_shard(rt: HostRuntime) -> Result<(), Fail> {
+    let one = named(b"491700000001")?;
+    let two = named(b"491700000002")?;
+    let three = named(b"491700000003")?;
+    let shards = two_shards(&rt, &[three, two, one])?;
+    assert_eq!(rt; (shard_of(&one, 2), shard_of(&two, 2)), (0, 1));
+    assert_eq!(rt;
+        shards.subs(rt.alloc())?.as_slice(),
+        [one, three, two].as_slice()
+    );
     Ok(())
 }

@@ -2,6 +2,7 @@
 
 use crate::{Failure, plan_of, replay};
 use dcc_samples::PLAN;
+use std::hash::RandomState;
 use std::alloc::Global;
 use std::test::Fail;
 
@@ -30,7 +31,13 @@ fn plan_faults_have_their_numbers(rt: HostRuntime) -> Result<(), Fail> {
         assert_eq!(&rt; plan_of(alloc, octets).err(), told);
         let mut file = octets;
         let mut output = Vec::new(alloc);
-        let done = replay(alloc, &mut file, &mut b"open 1 a".as_slice(), &mut output);
+        let done = replay(
+            alloc,
+            &mut file,
+            &mut b"open 1 a".as_slice(),
+            &mut output,
+            RandomState::new(&rt)?,
+        );
         assert_eq!(&rt; done.err(), told);
         let printed = if number.is_some() { "" } else { "1 -\n" };
         assert_eq!(&rt; output.as_slice(), printed.as_bytes());

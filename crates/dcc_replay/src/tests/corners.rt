@@ -112,7 +112,7 @@ fn prints_each_row(rt: HostRuntime) -> Result<(), Fail> {
         spell(&mut script, alloc, rest)?;
         let mut expected = String::from_str(alloc, "1 -\n")?;
         spell(&mut expected, alloc, printed)?;
-        let text = replayed(alloc, Plan::read(alloc, MIDNIGHT)?, script.as_bytes())?;
+        let text = replayed(&rt, Plan::read(alloc, MIDNIGHT)?, script.as_bytes())?;
         assert_eq!(&rt; text.as_str(), expected.as_str(), "{rest}");
     }
     Ok(())

@@ -23,7 +23,7 @@ fn a_refusal_changes_no_line(rt: HostRuntime) -> Result<(), Fail> {
             return Err(Fail::from("memory was refused"));
         }
     };
-    match replayed(alloc, plan, script.as_bytes()) {
+    match replayed(&rt, plan, script.as_bytes()) {
         Ok(text) => judge(&rt, text.as_str()),
         Err(fault) => {
             assert_eq!(&rt; fault, ReplayFault::Memory);

@@ -103,7 +103,7 @@ fn charges_by_the_tariff_of_the_moment(rt: HostRuntime) -> Result<(), Fail> {
             "topup {JULY} {SUB} 2 {passes}\ntopup {JULY} {SUB} 3 {fits}\n"
         )?;
         script.push_str(lines.as_str())?;
-        let printed = replayed(alloc, Plan::read(alloc, MIDNIGHT)?, script.as_bytes())?;
+        let printed = replayed(&rt, Plan::read(alloc, MIDNIGHT)?, script.as_bytes())?;
         assert!(&rt; printed.as_str().ends_with(end), "{printed}");
     }
     Ok(())

@@ -5,11 +5,13 @@ use crate::{ReplayFault, replay_run};
 use dcc_samples::PLAN;
 use dcc_tariff::Plan;
 use std::alloc::{AllocError, Global};
+use std::hash::RandomState;
 use std::process::Abort;
+use std::random::RandomSource;
 use std::test::Fail;
 
 /// Whether the fourth line of a script is told where it is this one, and nothing is written.
-fn tells_line<R: Abort + AllocGlobal>(rt: &R, line: &str) -> Result<(), Fail> {
+fn tells_line<R: Abort + RandomSource + AllocGlobal>(rt: &R, line: &str) -> Result<(), Fail> {
     let alloc = rt.alloc();
     let script = format!(in alloc; "# remark\nopen 1 a\n\n{line}\nopen\n")?;
     let mut written = Vec::new(alloc);
@@ -18,6 +20,7 @@ fn tells_line<R: Abort + AllocGlobal>(rt: &R, line: &str) -> Result<(), Fail> {
         &Plan::read(alloc, PLAN)?,
         &mut script.as_bytes(),
         &mut written,
+        RandomState::new(rt)?,
     );
     assert_eq!(rt; result, Err(ReplayFault::Line(4)), "{line:?}");
     assert!(rt; written.is_empty(), "{line:?}");
@@ -118,7 +121,7 @@ fn takes_hosts_of_255_octets_and_subscribers_of_64_and_none_longer(
     ] {
         let mut longest = with_letters(alloc, start, most)?;
         longest.push_str(end)?;
-        let text = replayed(alloc, Plan::read(alloc, PLAN)?, longest.as_bytes())?;
+        let text = replayed(&rt, Plan::read(alloc, PLAN)?, longest.as_bytes())?;
         assert_eq!(&rt; text.as_str(), printed, "{start:?}");
         let mut longer = with_letters(alloc, start, most + 1)?;
         longer.push_str(end)?;
@@ -146,7 +149,7 @@ fn takes_each_form_up_to_its_limits(rt: HostRuntime) -> Result<(), Fail> {
         ),
         (b"topup 0 00:~ 0 00001", "1 topup done\n"),
     ] {
-        let text = replayed(alloc, Plan::read(alloc, PLAN)?, script)?;
+        let text = replayed(&rt, Plan::read(alloc, PLAN)?, script)?;
         assert_eq!(&rt; text.as_str(), printed, "{script:?}");
     }
     Ok(())
@@ -164,7 +167,7 @@ fn takes_messages_of_65536_octets_and_none_longer(rt: HostRuntime) -> Result<(),
         for _ in 0..octets {
             script.push_str("00")?;
         }
-        let result = replayed(alloc, Plan::read(alloc, PLAN)?, script.as_bytes());
+        let result = replayed(&rt, Plan::read(alloc, PLAN)?, script.as_bytes());
         assert_eq!(&rt; result.err(), fault, "{octets}");
     }
     Ok(())

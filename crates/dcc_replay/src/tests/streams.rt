@@ -3,6 +3,7 @@
 use crate::{ReplayFault, replay_run};
 use dcc_samples::PLAN;
 use dcc_tariff::Plan;
+use std::hash::RandomState;
 use std::io::{self, Error, ErrorKind, Read, Write};
 use std::test::Fail;
 
@@ -57,7 +58,13 @@ fn a_script_that_breaks_off_is_a_failure_of_input(rt: HostRuntime) -> Result<(),
     let alloc = rt.alloc();
     let mut input = Broken { rest: SCRIPT };
     let mut output = Vec::new(alloc);
-    let result = replay_run(alloc, &Plan::read(alloc, PLAN)?, &mut input, &mut output);
+    let result = replay_run(
+        alloc,
+        &Plan::read(alloc, PLAN)?,
+        &mut input,
+        &mut output,
+        RandomState::new(&rt)?,
+    );
     assert_eq!(&rt; result, Err(ReplayFault::Input));
     assert!(&rt; output.is_empty());
     Ok(())
@@ -75,7 +82,8 @@ fn a_writer_that_fails_has_a_beginning(rt: HostRuntime) -> Result<(), Fail> {
             sends,
         };
         let mut script = SCRIPT;
-        let result = replay_run(alloc, &plan, &mut script, &mut output);
+        let hasher = RandomState::new(&rt)?;
+        let result = replay_run(alloc, &plan, &mut script, &mut output, hasher);
         let expected = if sends && room == 8 {
             Ok(())
         } else {

@@ -8,7 +8,7 @@ use Rattle.dcc_engine.proofs.Sweeps.{first_here, few_more, swept_more}
 use Rattle.dcc_engine.proofs.sweep.expire_each.Goals as goal
 
 pub loop-sub-preserved : goal.loop-sub-preserved
-loop-sub-preserved c =
+loop-sub-preserved g c =
     let law = c.same_subscribers_are_equal.ensures in
     let subs = c.args.subs.now in
     let i = c.loop-sub.sub-index in
@@ -20,13 +20,13 @@ loop-sub-preserved c =
     ap (λ (s : Sub). is_among s (take i subs)) c.sub-item.is ∙ first_here law subs i sub c.requires.once c.loop-sub-test.true in
     let more : take i subs ++ sub ∷ [] ≡ take (i + 1) subs =
     ap (λ (s : Sub). take i subs ++ s ∷ []) c.sub-item.is ∙ sym (take_more subs i sub c.loop-sub-test.true) in
-    let now = c.loop-sub.shard in
-    let new = c.expire_one.new.shard in
+    let now = c.loop-sub.shards.shard in
+    let new = c.expire_one.new.shards.shard in
     let before = c.loop-sub.refused.items in
     let then_refused = c.expire_one.new.refused.items in
     record {
-      swept = subst (λ (done : List Sub). IsSwept c.args.shard.now new done then_refused act) more
-          (swept_more law c.args.shard.now now new (take i subs) before then_refused sub act h.swept one first);
+      swept = subst (λ (done : List Sub). IsSwept c.args.shards.now.shard new done then_refused act) more
+          (swept_more law c.args.shards.now.shard now new (take i subs) before then_refused sub act h.swept one first);
       few = few_more now new before then_refused sub act i one h.few;
       room = omega arith;
       own = c.expire_one.ensures.own;

@@ -5,9 +5,9 @@ use Rattle.dcc_engine.specs.inner.Sweeps.{IsSwept}
 use Rattle.dcc_engine.proofs.sweep.expire_each.Given as goal
 
 abbrev pub invariant-loop-sub : goal.invariant-loop-sub
-invariant-loop-sub l = record {
-  swept : IsSwept l.fn.shard l.shard (take l.sub-index l.subs) l.refused.items (expiry_act l.moment);
+invariant-loop-sub g l = record {
+  swept : IsSwept l.fn.shards.shard l.shards.shard (take l.sub-index l.subs) l.refused.items (expiry_act l.moment);
   few : length l.refused.items ≤ l.sub-index;
   room : length l.subs ≤ vec_capacity l.refused;
-  own : AreOwn l.shard;
+  own : AreOwn l.shards.shard;
 }

@@ -12,10 +12,10 @@ other_shard : (old new : EngineView) → new.setting ≡ old.setting → new.pee
 other_shard old new setting peers = rw (sym setting, sym peers) refl
 
 pub returns-in-Charging-clause-done : goal.returns-in-Charging-clause-done
-returns-in-Charging-clause-done c =
+returns-in-Charging-clause-done g c =
     let inside = c.self.inside in
     let setting : Setting = record { plan = inside.plan; identity = inside.identity } in
-    let before : EngineView = record { setting = setting; peers = inside.peers; shard = inside.shard } in
+    let before : EngineView = record { setting = setting; peers = inside.peers; shard = inside.shards.shard } in
     let left = c.respond-answer.new.self in
     let after : EngineView = record { setting = setting; peers = inside.peers; shard = left.shard } in
     let header = c.in-Charging.header in
@@ -27,9 +27,9 @@ returns-in-Charging-clause-done c =
     subst (λ (bs : List ℕ). received c.in-Some.from.now bs ≡ Received.Charging (message_view header bs)) c.as_slice.ensures c.in-Charging.ensures.received in
     let received_is : received_on peer octets ≡ Received.Charging (message_view header octets) = ap (λ (p : Option Peer). received_on p octets) (sym from_is) ∙ heard in
     let own_served = subst (λ (bs : List ℕ). IsServed c.args.self.now.setting c.args.self.now.shard left.shard c.args.moment (message_view header bs) answer) c.as_slice-in-Charging.ensures c.respond-answer.ensures.served in
-    let served : IsServed setting inside.shard left.shard c.args.moment (message_view header octets) answer =
+    let served : IsServed setting inside.shards.shard left.shard c.args.moment (message_view header octets) answer =
     subst (λ (engine : EngineView). IsServed engine.setting engine.shard left.shard c.args.moment (message_view header octets) answer) (sym c.self.view_is) own_served in
-    let judged = served_judged c.same_subscribers_are_equal.ensures setting (peer_in inside.peers.rows) inside.shard left.shard c.args.peer c.args.moment octets (message_view header octets) answer
+    let judged = served_judged c.same_subscribers_are_equal.ensures setting (peer_in inside.peers.rows) inside.shards.shard left.shard c.args.peer c.args.moment octets (message_view header octets) answer
     c.self.invariant.1 c.self.invariant.0 c.self.invariant.2 received_is served in
     let done = stays_put before left.shard c.args.peer c.args.moment octets (message_view header octets) answer received_is judged in
     let left_is : after ≡ left = other_shard before left

@@ -10,13 +10,13 @@ use Rattle.dcc_engine.proofs.Runs.{past_push, turn_next, turn_stands, run_from_p
 use Rattle.dcc_engine.proofs.engine.Engine.run.Goals as goal
 
 pub returns-clause-answers : goal.returns-clause-answers
-returns-clause-answers c =
+returns-clause-answers g c =
     let whole : take c.loop-i.i c.args.events.now ≡ c.args.events.now = take_all c.loop-i.i c.args.events.now c.loop-i-test.false in
     run_from_past c.later_acts_change_no_outcome.ensures c.acts_come_to_their_own.ensures.last c.args.self.now (turns c.args.events.now c.loop-i.outs.items)
     (subst (λ (es : List Event). IsPast c.args.self.now (reverse (turns es c.loop-i.outs.items))) whole c.loop-i.invariant.answers)
 
 pub loop-i-preserved : goal.loop-i-preserved
-loop-i-preserved c =
+loop-i-preserved g c =
     let e = c.leaving_out_changes_nothing.ensures in
     let stable : AreStable = record { after_stays = e.after; new_stays = e.is_new; place_stays = e.place; acts_stay = e.acts; whole = e.whole } in
     let i = c.loop-i.i in

@@ -7,7 +7,7 @@ use Rattle.dcc_engine.proofs.engine.Engine.run.Given as goal
 
 -- what was answered so far, and where it has led
 abbrev pub invariant-loop-i : goal.invariant-loop-i
-invariant-loop-i l =
+invariant-loop-i g l =
     let past = reverse (turns (take l.i l.events) l.outs.items) in
     record {
       count : length l.outs.items ≡ l.i;

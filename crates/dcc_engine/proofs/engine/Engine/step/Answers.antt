@@ -8,11 +8,11 @@ use Rattle.dcc_engine.proofs.engine.Engine.step.Goals as goal
 use Rattle.dcc_engine.proofs.engine.Engine.step.Goals.{in-Some-2, in-None-2}
 
 pub returns-in-TopUp-clause-done : goal.returns-in-TopUp-clause-done
-returns-in-TopUp-clause-done c =
+returns-in-TopUp-clause-done g c =
     let inside = c.self-in-TopUp.inside in
     let setting : Setting = record { plan = inside.plan; identity = inside.identity } in
-    let old = inside.shard in
-    let new = c.top_up-answer.new.self in
+    let old = inside.shards.shard in
+    let new = c.top_up-answer.new.self.shard in
     let t = c.in-TopUp in
     let answer = c.top_up-answer.result in
     let after : EngineView = record { setting = setting; peers = inside.peers; shard = new } in

@@ -10,15 +10,15 @@ use Rattle.dcc_engine.proofs.Sweeps.{swept_judged}
 use Rattle.dcc_engine.proofs.engine.Engine.sweep.Goals as goal
 
 pub returns-in-Ok-expire_each-clause-done : goal.returns-in-Ok-expire_each-clause-done
-returns-in-Ok-expire_each-clause-done c =
+returns-in-Ok-expire_each-clause-done g c =
     let inside = c.self.inside in
     let setting : Setting = record { plan = inside.plan; identity = inside.identity } in
-    let new = c.expire_each.new.shard in
+    let new = c.expire_each.new.shards.shard in
     let moment = c.args.moment in
     let refused = c.in-Ok-expire_each.refused in
-    let swept = subst (λ (subs : List Sub). IsSwept inside.shard new subs refused (expiry_act moment)) c.deref.ensures.value c.in-Ok-expire_each.ensures.swept in
-    let judged = swept_judged setting (peer_in inside.peers.rows) inside.shard new moment c.in-Ok.subs.items refused c.self.invariant.0 c.self.invariant.2 c.in-Ok.ensures.none swept in
-    let before : EngineView = record { setting = setting; peers = inside.peers; shard = inside.shard } in
+    let swept = subst (λ (subs : List Sub). IsSwept inside.shards.shard new subs refused (expiry_act moment)) c.deref.ensures.value c.in-Ok-expire_each.ensures.swept in
+    let judged = swept_judged setting (peer_in inside.peers.rows) inside.shards.shard new moment c.in-Ok.subs.items refused c.self.invariant.0 c.self.invariant.2 c.in-Ok.ensures.none swept in
+    let before : EngineView = record { setting = setting; peers = inside.peers; shard = inside.shards.shard } in
     let after : EngineView = record { setting = setting; peers = inside.peers; shard = new } in
     let done : IsTurnDone before after (record { event = Sweep moment; out = out_sweep refused false }) = record { judged = judged; peers = λ id. refl; setting = refl } in
     subst (λ (engine : EngineView). IsTurnDone engine after (record { event = Sweep moment; out = c.sweeping-in-Ok-expire_each.result })) c.self.view_is

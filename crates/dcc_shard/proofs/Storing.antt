@@ -1,0 +1,156 @@
+-- What an append does to the records, and what a stop then leaves.
+use Rattle.std.proofs.Common.{◌≡◌, ◌≢◌, ◌⊎◌, ℕ, ◌+◌, Bool, true, false, List, [], ◌∷◌, ◌++◌, Result, Ok, Err, refl, sym, ap, subst, ◌∙◌, arith, inl, inr}
+use Rattle.std.proofs.Math.Logic.{∥∥₁_map, ∥∥₁_elim}
+use Rattle.std.proofs.Props.{props}
+use Rattle.dcc_tariff.specs.Terms.{TermsView}
+use Rattle.dcc_act.specs.declared.act.Act.{Act}
+use Rattle.dcc_act.specs.declared.entry.Entry.{Entry}
+use Rattle.dcc_act.specs.declared.sub.Sub.{Sub}
+use Rattle.dcc_act.specs.Subs.{SameAreEqual}
+use Rattle.dcc_model.specs.Outcomes.{acts, is_new}
+use Rattle.dcc_model.specs.Entries.{entries}
+use Rattle.dcc_model.specs.Laws.{OneMoreAct}
+use Rattle.dcc_records.specs.Books.{Held, no_acts, with_act}
+use Rattle.dcc_records.specs.Contents.{Content, IsContentOf, IsNext}
+use Rattle.dcc_records.specs.Stops.{LeavesOnly, LeavesEither}
+use Rattle.dcc_records.specs.Laws.{ContentHasOneBook, AlikeBooksHaveOneContent, NewIsNext, NextIsFound, OwnGrows, OthersStay}
+use Rattle.dcc_records.specs.declared.fault.StoreFault.{StoreFault}
+use Rattle.dcc_records.specs.declared.fault.StoreFault.TheVariants.{Memory, Device, Stopped}
+use Rattle.dcc_shard.specs.Shards.{held_in}
+use Rattle.dcc_shard.specs.Stored.{IsKept, IsLeft}
+use Rattle.dcc_shard.specs.inner.Books.{BooksView, IsStepOfBooks}
+use Rattle.dcc_shard.specs.inner.Pending.{step_of, IsPending}
+use Rattle.dcc_shard.specs.declared.pending.Pending.{Pending}
+use Rattle.dcc_shard.proofs.Subs.{one_or_other}
+
+-- the act of a pending step that is new may come next
+pub next_of : NewIsNext → (books : BooksView) (sub : Sub) (pending : Pending) → acts books.terms (held_in books.rows sub) ≡ held_in books.rows sub
+    → IsPending books sub (step_of pending).act pending → (step_of pending).is_new ≡ true
+    → IsNext books.terms (held_in books.rows sub) (step_of pending).act (step_of pending).entries
+next_of law books sub pending own is made =
+    law books.terms (held_in books.rows sub) (step_of pending).act (step_of pending).entries own (sym is.new_is ∙ made) is.entries_are
+
+-- what may come next in the books may come next in whatever a stop leaves
+pub next_in_found : NextIsFound → (terms : TermsView) (held : Held) (sub : Sub) (act : Act) (more : List Entry) (leaves : Content → Type 0) → LeavesOnly terms held leaves
+    → IsNext terms (held sub) act more → (found : Content) → leaves found → IsNext terms (found sub).acts act more
+next_in_found law terms held sub act more leaves only next found left = law terms sub act more held found (only found left) next
+
+pub alike_only : AlikeBooksHaveOneContent → (terms : TermsView) (one other : Held) (leaves : Content → Type 0) → ((sub : Sub) → one sub ≡ other sub) → LeavesOnly terms one leaves
+    → LeavesOnly terms other leaves
+alike_only law terms one other leaves same only found left = law terms one other found same (only found left)
+
+-- what is held after a step of an act that is new, and of one that isn't
+pub held_with : SameAreEqual → OneMoreAct → OwnGrows → OthersStay → (old new : BooksView) (sub : Sub) (act : Act) → acts old.terms (held_in old.rows sub) ≡ held_in old.rows sub
+    → is_new old.terms (held_in old.rows sub) act ≡ true → IsStepOfBooks old new sub act → (other : Sub) → with_act sub act (held_in old.rows) other ≡ held_in new.rows other
+held_with same more grows stays old new sub act own made step other =
+    elim (one_or_other same other sub) [
+      | inl e ↦
+          let at_sub : with_act sub act (held_in old.rows) sub ≡ held_in new.rows sub =
+          grows sub act (held_in old.rows) ∙ ap (λ (xs : List Act). xs ++ act ∷ []) (sym own)
+          ∙ sym (more old.terms (held_in old.rows sub) act ∙ rw made refl) ∙ sym step.own in
+          let P : Sub → Type 0 = λ s. with_act sub act (held_in old.rows) s ≡ held_in new.rows s in
+          subst P (sym e) at_sub
+      | inr apart ↦ stays sub other act (held_in old.rows) apart ∙ sym (step.others other apart)
+    ]
+
+pub held_same : SameAreEqual → OneMoreAct → (old new : BooksView) (sub : Sub) (act : Act) → acts old.terms (held_in old.rows sub) ≡ held_in old.rows sub
+    → is_new old.terms (held_in old.rows sub) act ≡ false → IsStepOfBooks old new sub act → (other : Sub) → held_in old.rows other ≡ held_in new.rows other
+held_same same more old new sub act own made step other =
+    elim (one_or_other same other sub) [
+      | inl e ↦
+          let at_sub : held_in old.rows sub ≡ held_in new.rows sub =
+          sym own ∙ sym (more old.terms (held_in old.rows sub) act ∙ rw made refl) ∙ sym step.own in
+          let P : Sub → Type 0 = λ s. held_in old.rows s ≡ held_in new.rows s in
+          subst P (sym e) at_sub
+      | inr apart ↦ sym (step.others other apart)
+    ]
+
+-- what an append says of itself
+pub record Appended {X : Type 0} (terms : TermsView) (held : Held) (sub : Sub) (act : Act) (result : Result X StoreFault) (before after : Content → Type 0) (was is : Bool) (faults_before faults_after : ℕ)
+    : Type 0 where
+  pub crash : LeavesOnly terms held before → LeavesEither terms held (with_act sub act held) after
+  pub device : result ≡ Err Device → (was ≡ false) × (is ≡ true) × (faults_after ≡ faults_before + 1)
+  pub going : result ≢ Err Device → (is ≡ was) × (faults_after ≡ faults_before)
+  pub frozen : was ≡ true → (result ≡ Err Stopped) × ((found : Content) → after found → before found)
+
+-- by the clauses of an append, under terms and with an act that are these
+pub appended_of : {X : Type 0} (terms given_terms : TermsView) (held : Held) (sub : Sub) (act given : Act) (result : Result X StoreFault) (before after : Content → Type 0) (was is : Bool)
+    (faults_before faults_after : ℕ) → given_terms ≡ terms → given ≡ act
+    → ((all : Held) → LeavesOnly given_terms all before → LeavesEither given_terms all (with_act sub given all) after)
+    → (result ≡ Err Device → (was ≡ false) × (is ≡ true) × (faults_after ≡ faults_before + 1))
+    → (result ≢ Err Device → (is ≡ was) × (faults_after ≡ faults_before))
+    → (was ≡ true → (result ≡ Err Stopped) × ((found : Content) → after found → before found))
+    → Appended terms held sub act result before after was is faults_before faults_after
+appended_of terms given_terms held sub act given result before after was is fb fa same_terms same_act crash device going frozen = record {
+  crash = λ only.
+      let P : TermsView → Type 0 = λ t. LeavesOnly t held before → LeavesEither t held (with_act sub given held) after in
+      let Q : Act → Type 0 = λ a. LeavesEither terms held (with_act sub a held) after in
+      subst Q same_act (subst P same_terms (crash held) only);
+  device = device;
+  going = going;
+  frozen = frozen;
+}
+
+-- once the act is stored, a stop leaves what is then held
+pub stored_only : AlikeBooksHaveOneContent → (terms given_terms : TermsView) (held new : Held) (sub : Sub) (act given : Act) (before after : Content → Type 0) → given_terms ≡ terms → given ≡ act
+    → ((all : Held) → LeavesOnly given_terms all before → LeavesOnly given_terms (with_act sub given all) after) → ((other : Sub) → with_act sub act held other ≡ new other)
+    → LeavesOnly terms held before → LeavesOnly terms new after
+stored_only law terms given_terms held new sub act given before after same_terms same_act stored alike only =
+    let P : TermsView → Type 0 = λ t. LeavesOnly t held before → LeavesOnly t (with_act sub given held) after in
+    let Q : Act → Type 0 = λ a. LeavesOnly terms (with_act sub a held) after in
+    alike_only law terms (with_act sub act held) new after alike (subst Q same_act (subst P same_terms (stored held) only))
+
+device_or_not : {X : Type 0} (result : Result X StoreFault) → (result ≡ Err Device) ⊎ (result ≢ Err Device)
+device_or_not (Ok x) = inr (λ is. absurd cc)
+device_or_not (Err Memory) = inr (λ is. absurd cc)
+device_or_not (Err Device) = inl refl
+device_or_not (Err Stopped) = inr (λ is. absurd cc)
+
+not_device : {X : Type 0} (result : Result X StoreFault) → result ≡ Err Stopped → result ≢ Err Device
+not_device result is device = absurd cc
+
+-- records that are not stopped after it were not before
+pub was_going : {X : Type 0} (terms : TermsView) (held : Held) (sub : Sub) (act : Act) (result : Result X StoreFault) (before after : Content → Type 0) (was is : Bool) (faults_before faults_after : ℕ)
+    → Appended terms held sub act result before after was is faults_before faults_after → is ≡ false → was ≡ false
+was_going terms held sub act result before after was is fb fa appended going = elim (device_or_not result) [
+  | inl d ↦ absurd (let on : is ≡ true = (appended.device d).1 in cc)
+  | inr n ↦ sym (appended.going n).0 ∙ going
+]
+
+pub kept_by_append : {X : Type 0} (terms : TermsView) (held : Held) (sub : Sub) (act : Act) (result : Result X StoreFault) (before after : Content → Type 0) (was is : Bool) (faults_before faults_after : ℕ)
+    → Appended terms held sub act result before after was is faults_before faults_after → (was ≡ false → LeavesOnly terms held before)
+    → IsKept terms held sub act before after was is faults_before faults_after
+kept_by_append terms held sub act result before after was is fb fa appended kept = record {
+  crash = λ going. appended.crash (kept going);
+  frozen = λ stopped.
+      let was_frozen = appended.frozen stopped in
+      ((appended.going (not_device result was_frozen.0)).0 ∙ stopped, was_frozen.1);
+  faults = λ same. elim (device_or_not result) [
+    | inl d ↦ absurd (let more = (appended.device d).2 in omega (arith, same, more))
+    | inr n ↦ (appended.going n).0
+  ];
+}
+
+-- nothing was appended
+pub kept_without : (terms : TermsView) (held : Held) (sub : Sub) (act : Act) (leaves : Content → Type 0) (stopped : Bool) (faults : ℕ) → (stopped ≡ false → LeavesOnly terms held leaves)
+    → IsKept terms held sub act leaves leaves stopped stopped faults faults
+kept_without terms held sub act leaves stopped faults kept = record {
+  crash = λ going found left. inl (kept going found left);
+  frozen = λ is. (is, λ found left. left);
+  faults = λ same. refl;
+}
+
+-- a content of a book that is alike is left too
+pub alike_left : AlikeBooksHaveOneContent → (given terms : TermsView) (one other : Held) (leaves : Content → Type 0) → given ≡ terms → ((sub : Sub) → one sub ≡ other sub) → IsLeft given one leaves
+    → IsLeft terms other leaves
+alike_left law given terms one other leaves same_terms same left =
+    ∥∥₁_map left (λ found.
+    let P : TermsView → Type 0 = λ t. IsContentOf t one found.0 in
+    let r : (content : Content) × IsContentOf terms other content × leaves content = (found.0, law terms one other found.0 same (subst P same_terms found.1), found.2) in
+    r)
+
+-- where no content but that of no acts is left, nothing is held
+pub empty_left : ContentHasOneBook → (terms : TermsView) (held : Held) (content : Content) (leaves : Content → Type 0) → IsContentOf terms no_acts content
+    → ((found : Content) → leaves found → (sub : Sub) → found sub ≡ content sub) → IsLeft terms held leaves → (sub : Sub) → held sub ≡ []
+empty_left law terms held content leaves empty same left sub =
+    ∥∥₁_elim left (hlevel props) (λ found. law terms held no_acts found.0 found.1 (λ s. same found.0 found.2 s ∙ empty s) sub)

@@ -1,0 +1,9 @@
+use Rattle.std.proofs.Common.{◌≡◌}
+use Rattle.dcc_model.specs.Outcomes.{acts}
+use Rattle.dcc_shard.proofs.books.replayed.Given as goal
+
+abbrev pub invariant-loop-act : goal.invariant-loop-act
+invariant-loop-act l = record {
+  terms : l.account.terms ≡ l.terms;
+  acts : l.account.acts ≡ acts l.terms l.yielded;
+}

@@ -1,0 +1,29 @@
+-- A shard and the records that keep its acts.
+use Rattle.std.specs.Prelude.{◌≡◌, ℕ, Bool, true, false}
+use Rattle.dcc_tariff.specs.Terms.{TermsView}
+use Rattle.dcc_act.specs.declared.act.Act.{Act}
+use Rattle.dcc_act.specs.declared.sub.Sub.{Sub}
+use Rattle.dcc_records.specs.Books.{Held, with_act}
+use Rattle.dcc_records.specs.Contents.{Content, IsContentOf}
+use Rattle.dcc_records.specs.Stops.{LeavesEither}
+use Rattle.dcc_shard.specs.Shards.{ShardView}
+
+-- what a shard holds, and its records
+pub record StoredView (R : Type 0) : Type 0 where
+  pub shard : ShardView
+  pub records : R
+
+-- a content of what is held is among those that a stop leaves
+abbrev pub IsLeft : TermsView → Held → (Content → Type 0) → Type 0
+IsLeft terms held leaves = ∥ ((content : Content) × IsContentOf terms held content × leaves content) ∥₁
+
+-- What one act of one subscriber does to the records, by what a stop leaves of them before and after, whether they are stopped, and
+-- how often they have failed.
+pub record IsKept (terms : TermsView) (held : Held) (sub : Sub) (act : Act) (before after : Content → Type 0) (was_stopped is_stopped : Bool) (faults_before faults_after : ℕ)
+    : Type 0 where
+  -- a stop inside it, or after it, leaves what was held, or that with the act, and nothing else
+  pub crash : was_stopped ≡ false → LeavesEither terms held (with_act sub act held) after
+  -- records that were stopped stay so, and what a stop leaves of them stays
+  pub frozen : was_stopped ≡ true → (is_stopped ≡ true) × ((found : Content) → after found → before found)
+  -- they stop only where they have failed
+  pub faults : faults_after ≡ faults_before → is_stopped ≡ was_stopped

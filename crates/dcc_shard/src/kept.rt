@@ -1,0 +1,133 @@
+//! The books, and the records that keep their acts: an act is appended, and then installed.
+
+ghost use Rattle.std.specs.Prelude.{◌≡◌, false, OnOk, OnErr, IfOk};
+ghost use Rattle.dcc_model.specs.Outcomes.{acts};
+ghost use Rattle.dcc_act.specs.declared.sub.Sub.{Sub};
+ghost use Rattle.dcc_records.specs.Stops.{LeavesOnly};
+ghost use Rattle.dcc_shard.specs.Shards.{held_in};
+ghost use Rattle.dcc_shard.specs.Stored.{IsKept};
+ghost use Rattle.dcc_shard.specs.inner.Books.{IsStepOfBooks};
+ghost use Rattle.dcc_shard.specs.inner.Pending.{step_of, IsPending};
+
+use crate::books::Books;
+use crate::pending::Pending;
+use dcc_act::{Act, Sub, same_subscribers_are_equal};
+use dcc_model::{leaving_out_changes_nothing, one_more_act};
+use dcc_records::{
+    Records, StoreFault, acts_stand_apart, content_has_one_book, new_acts_come_next,
+};
+use dcc_tariff::Terms;
+use std::alloc::Global;
+use std::marker::Model;
+
+/// The books of a shard, and the records that keep their acts under the same terms. Where the records are not stopped, a stop
+/// leaves just what the books hold.
+#[derive(Drop)]
+pub(crate) struct KeptBooks<R: Records> {
+    books: Books,
+    records: R,
+}
+
+impl<R: Records> Model for KeptBooks<R> {
+    ghost use Rattle.std.specs.Prelude.{◌≡◌, false};
+    ghost use Rattle.dcc_records.specs.Stops.{LeavesOnly};
+    ghost use Rattle.dcc_shard.specs.Shards.{held_in};
+    ghost use Rattle.dcc_shard.specs.inner.Books.{KeptView};
+
+    ghost Value = { KeptView R };
+
+    ghost view = { λ k. record { books = k.books; records = k.records } };
+
+    ghost invariant = { λ k. (R.terms k.records ≡ k.books.terms)
+        × (R.is_stopped k.records ≡ false → LeavesOnly k.books.terms (held_in k.books.rows) (R.may_leave k.records)) };
+}
+
+impl<R: Records> KeptBooks<R> {
+    /// These books with the records that keep them.
+    pub(crate) fn of(books: Books, records: R) -> KeptBooks<R>
+        requires terms { R.terms records ≡ books.terms }
+        requires kept { R.is_stopped records ≡ false → LeavesOnly books.terms (held_in books.rows) (R.may_leave records) }
+        ensures books { result.books ≡ books }
+        ensures records { result.records ≡ records }
+    {
+        KeptBooks { books, records }
+    }
+
+    /// The books.
+    pub(crate) fn books(&self) -> &Books
+        ensures { result.now ≡ self.now.books }
+    {
+        &self.books
+    }
+
+    /// The records.
+    pub(crate) fn records(&self) -> &R
+        ensures { result.now ≡ self.now.records }
+    {
+        &self.records
+    }
+
+    /// The records, moved out.
+    pub(crate) fn into_records(self) -> R
+        ensures { result ≡ self.records }
+    {
+        let KeptBooks { books: _, records } = self;
+        records
+    }
+
+    /// Does nothing: the acts that are held for each subscriber are those that they themselves make, and where the records are
+    /// not stopped a stop leaves just these.
+    pub(crate) fn acts_are_kept(&self)
+        ensures own { (sub : Sub) → acts self.now.books.terms (held_in self.now.books.rows sub) ≡ held_in self.now.books.rows sub }
+        ensures kept { R.is_stopped self.now.records ≡ false
+            → LeavesOnly self.now.books.terms (held_in self.now.books.rows) (R.may_leave self.now.records) }
+    {
+        self.books.acts_are_own();
+    }
+
+    /// Prepares an act of a subscriber, unless the records are stopped.
+    pub(crate) fn prepare(
+        &mut self,
+        alloc: Global,
+        sub: &Sub,
+        act: Act,
+    ) -> Result<Pending, StoreFault>
+        ensures pending { IfOk result (IsPending self.new.books sub.now act) }
+        ensures going { OnOk result (R.is_stopped self.old.records ≡ false) }
+        ensures terms { self.new.books.terms ≡ self.old.books.terms }
+        ensures rows { self.new.books.rows ≡ self.old.books.rows }
+        ensures records { self.new.records ≡ self.old.records }
+    {
+        if self.records.is_stopped() {
+            return Err(StoreFault::Stopped);
+        }
+        let pending = self.books.prepare(alloc, sub, act)?;
+        Ok(pending)
+    }
+
+    /// Appends the act of a step that was prepared, where it is new, and installs the step. Refused, the books are as before.
+    pub(crate) fn commit(&mut self, sub: Sub, pending: Pending) -> Result<(), StoreFault>
+        requires { IsPending self.old.books sub (step_of pending).act pending }
+        ensures ok { OnOk result (IsStepOfBooks self.old.books self.new.books sub (step_of pending).act) }
+        ensures going { OnOk result (R.is_stopped self.new.records ≡ R.is_stopped self.old.records) }
+        ensures err { OnErr result (self.new.books.rows ≡ self.old.books.rows) }
+        ensures terms { self.new.books.terms ≡ self.old.books.terms }
+        ensures kept { IsKept self.old.books.terms (held_in self.old.books.rows) sub (step_of pending).act
+            (R.may_leave self.old.records) (R.may_leave self.new.records) (R.is_stopped self.old.records) (R.is_stopped self.new.records)
+            (R.faults self.old.records) (R.faults self.new.records) }
+    {
+        one_more_act();
+        leaving_out_changes_nothing();
+        same_subscribers_are_equal();
+        new_acts_come_next();
+        acts_stand_apart();
+        content_has_one_book();
+        self.books.acts_are_own();
+        let step = pending.step();
+        if step.is_new() {
+            self.records.append(sub, step.act(), step.entries())?;
+        }
+        self.books.install(sub, pending);
+        Ok(())
+    }
+}
