@@ -31,9 +31,22 @@ fn replayed<R: RandomSource + AllocGlobal>(
 }
 
 /// Whether this is printed of a script under the plan of the worked examples: line by line, so that a failure shows one.
-fn prints<R: Abort + RandomSource + AllocGlobal>(rt: &R, script: &str, printed: &str) -> Result<(), Fail> {
-    let alloc = rt.alloc();
-    let text = replayed(rt, Plan::read(alloc, PLAN)?, script.as_bytes())?;
+fn prints<R: Abort + RandomSource + AllocGlobal>(
+    rt: &R,
+    script: &str,
+    printed: &str,
+) -> Result<(), Fail> {
+    prints_under(rt, PLAN, script, printed)
+}
+
+/// Whether this is printed of it under this plan.
+fn prints_under<R: Abort + RandomSource + AllocGlobal>(
+    rt: &R,
+    plan: &str,
+    script: &str,
+    printed: &str,
+) -> Result<(), Fail> {
+    let text = replayed(rt, Plan::read(rt.alloc(), plan)?, script.as_bytes())?;
     let mut expected = printed.lines();
     for line in text.as_str().lines() {
         assert_eq!(rt; Some(line), expected.next());

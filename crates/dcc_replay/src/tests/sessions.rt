@@ -5,7 +5,10 @@
 //! two identifiers; `10g1000` grants 1,000, `10f1000` as the last, and `10r4012` grants nothing.
 
 use super::exchanges::spelled;
-use super::prints;
+use super::prints_under;
+use dcc_samples::PLAN;
+use std::process::Abort;
+use std::random::RandomSource;
 use std::test::Fail;
 
 /// Names that stand in rows for AVPs.
@@ -364,12 +367,26 @@ message 1 1748736000 ccs/03/1/0/sub+10a200000\nsweep 1748736000\nmessage 1 17487
     ),
 ];
 
+/// How many shards there are changes no line.
 #[test]
-fn prints_each_session(rt: HostRuntime) -> Result<(), Fail> {
+fn prints_each_session_over_one_two_and_eight_shards(rt: HostRuntime) -> Result<(), Fail> {
+    let alloc = rt.alloc();
+    let (before, after) = PLAN
+        .split_once("shards = 2")
+        .ok_or("the shards of the plan")?;
+    for shards in [1, 2, 8] {
+        let plan = format!(in alloc; "{before}shards = {shards}{after}")?;
+        prints_each(&rt, plan.as_str())?;
+    }
+    Ok(())
+}
+
+/// Whether each row is printed under this plan.
+fn prints_each<R: Abort + RandomSource + AllocGlobal>(rt: &R, plan: &str) -> Result<(), Fail> {
     for (script, printed) in ROWS {
         let script = spelled(rt.alloc(), script)?;
         let printed = spelled(rt.alloc(), printed)?;
-        prints(&rt, script.as_str(), printed.as_str())?;
+        prints_under(rt, plan, script.as_str(), printed.as_str())?;
     }
     Ok(())
 }
