@@ -1,0 +1,3 @@
+pub mod Trees
+pub mod Tallies
+pub mod Keeping

@@ -1,0 +1,118 @@
+-- The tables in the trees of a database, and what a statement of a transaction does to them.
+use Rattle.std.specs.Prelude.{◌≡◌, ◌≢◌, ◌⊎◌, ℕ, ℤ, pos, true, false, IsTrue, List, [], ◌∷◌, ◌++◌, map}
+use Rattle.std.specs.List.{Contains}
+use Rattle.std.specs.List.Sorted.{IsPermutation}
+use Rattle.sqlite.specs.declared.types.Value.TheVariants.{Int, Blob}
+use Rattle.sqlite.specs.Order.{Row, column}
+use Rattle.sqlite.specs.Tree.{Trees, rowid}
+use Rattle.sqlite.specs.State.{State, HasCleanDisk}
+use Rattle.dcc_act.specs.declared.entry.Entry.{Entry}
+use Rattle.dcc_sqlrec.specs.Tables.{layout}
+use Rattle.dcc_sqlrec.specs.Rows.{act_row, entry_rows_of, account_row}
+
+-- the trees of the four tables
+abbrev pub setting_tree : ℕ
+setting_tree = 0
+
+abbrev pub act_tree : ℕ
+act_tree = 1
+
+abbrev pub entry_tree : ℕ
+entry_tree = 3
+
+abbrev pub account_tree : ℕ
+account_tree = 5
+
+-- the columns of a row of three, or of seven, which has its rowid before them
+abbrev pub three_columns : Row → Row
+three_columns row = column row 1 ∷ column row 2 ∷ column row 3 ∷ []
+
+abbrev pub seven_columns : Row → Row
+seven_columns row = column row 1 ∷ column row 2 ∷ column row 3 ∷ column row 4 ∷ column row 5 ∷ column row 6 ∷ column row 7 ∷ []
+
+abbrev pub act_rows : Trees → List Row
+act_rows db = map three_columns (db act_tree)
+
+abbrev pub entry_rows : Trees → List Row
+entry_rows db = map seven_columns (db entry_tree)
+
+-- the rows are added to the table of acts, and the others stay
+pub record AddsActs (rows : List Row) (old new : Trees) : Type 0 where
+  pub setting : new setting_tree ≡ old setting_tree
+  pub acts : IsPermutation (act_rows old ++ rows) (act_rows new)
+  pub entries : new entry_tree ≡ old entry_tree
+  pub accounts : new account_tree ≡ old account_tree
+
+-- the rows are added to the table of entries, and the others stay
+pub record AddsEntries (rows : List Row) (old new : Trees) : Type 0 where
+  pub setting : new setting_tree ≡ old setting_tree
+  pub acts : new act_tree ≡ old act_tree
+  pub entries : IsPermutation (entry_rows old ++ rows) (entry_rows new)
+  pub accounts : new account_tree ≡ old account_tree
+
+-- the rowids are integers, and tell the rows of a tree apart
+pub record IsKeyed (rows : List Row) : Type 0 where
+  pub numbered : (row : Row) → Contains rows row → (id : ℤ) × (rowid row ≡ Int id)
+  pub apart : (one other : Row) → Contains rows one → Contains rows other → rowid one ≡ rowid other → one ≡ other
+
+abbrev pub account_rows : Trees → List Row
+account_rows db = map three_columns (db account_tree)
+
+-- The rows of accounts are without those of one subscriber, and the other tables stay.
+pub record DropsAccount (sub : List ℕ) (old new : Trees) : Type 0 where
+  pub setting : new setting_tree ≡ old setting_tree
+  pub acts : new act_tree ≡ old act_tree
+  pub entries : new entry_tree ≡ old entry_tree
+  pub keyed : IsKeyed (new account_tree)
+  pub stays : (row : Row) → Contains (account_rows old) row → column row 0 ≢ Blob sub → Contains (account_rows new) row
+  pub only : (row : Row) → Contains (account_rows new) row → Contains (account_rows old) row × (column row 0 ≢ Blob sub)
+
+-- One row of accounts is added, and the other tables stay.
+pub record AddsAccount (row : Row) (old new : Trees) : Type 0 where
+  pub setting : new setting_tree ≡ old setting_tree
+  pub acts : new act_tree ≡ old act_tree
+  pub entries : new entry_tree ≡ old entry_tree
+  pub keyed : IsKeyed (old account_tree) → IsKeyed (new account_tree)
+  pub accounts : IsPermutation (account_rows old ++ row ∷ []) (account_rows new)
+
+-- The row of one subscriber's account is set, those of the others and the other tables stay.
+pub record SetsAccount (sub : List ℕ) (set : Row) (old new : Trees) : Type 0 where
+  pub setting : new setting_tree ≡ old setting_tree
+  pub acts : new act_tree ≡ old act_tree
+  pub entries : new entry_tree ≡ old entry_tree
+  pub keyed : IsKeyed (new account_tree)
+  pub there : Contains (account_rows new) set
+  pub stays : (row : Row) → Contains (account_rows old) row → column row 0 ≢ Blob sub → Contains (account_rows new) row
+  pub only : (row : Row) → Contains (account_rows new) row → (Contains (account_rows old) row × (column row 0 ≢ Blob sub)) ⊎ (set ≡ row)
+
+-- An act is added with its entries, and its subscriber's account is set.
+pub record Appends (sub : List ℕ) (place : ℕ) (body : List ℕ) (es : List Entry) (funds : ℤ) (old new : Trees) : Type 0 where
+  pub setting : new setting_tree ≡ old setting_tree
+  pub acts : IsPermutation (act_rows old ++ act_row sub place body ∷ []) (act_rows new)
+  pub entries : IsPermutation (entry_rows old ++ entry_rows_of sub place 0 es) (entry_rows new)
+  pub keyed : IsKeyed (new account_tree)
+  pub there : Contains (account_rows new) (account_row sub place funds)
+  pub stays : (row : Row) → Contains (account_rows old) row → column row 0 ≢ Blob sub → Contains (account_rows new) row
+  pub only : (row : Row) → Contains (account_rows new) row → (Contains (account_rows old) row × (column row 0 ≢ Blob sub)) ⊎ (account_row sub place funds ≡ row)
+
+-- A statement of a transaction was run: the transaction goes on over the same layout, and the trees changed so.
+pub record HasRun (Changes : Trees → Trees → Type 0) (old new : State) : Type 0 where
+  pub inside : IsTrue new.in_transaction
+  pub committed : new.committed ≡ old.committed
+  pub schema : new.now.schema ≡ layout
+  pub changes : Changes old.now.trees new.now.trees
+
+-- A transaction was committed, and none is open: the trees changed so.
+pub record HasCommitted (Changes : Trees → Trees → Type 0) (old new : State) : Type 0 where
+  pub is_open : IsTrue new.is_open
+  pub autocommit : new.in_transaction ≡ false
+  pub settled : new.now ≡ new.committed
+  pub schema : new.now.schema ≡ layout
+  pub changes : Changes old.now.trees new.now.trees
+
+-- nothing is changed, and the connection may be used
+pub record IsUndone (old new : State) : Type 0 where
+  pub is_open : IsTrue new.is_open
+  pub autocommit : new.in_transaction ≡ false
+  pub now_is : new.now ≡ old.committed
+  pub committed_is : new.committed ≡ old.committed
