@@ -6,3 +6,4 @@ pub mod Accounts
 pub mod Books
 pub mod Stopping
 pub mod Tallying
+pub mod OneMore

@@ -4,5 +4,8 @@
 mod adding;
 mod appending;
 mod counts;
+mod sql_records;
 mod tally;
 mod transaction;
+
+pub use sql_records::SqlRecords;
