@@ -7,3 +7,5 @@ pub mod Books
 pub mod Stopping
 pub mod Tallying
 pub mod OneMore
+pub mod Creates
+pub mod First

@@ -1,4 +1,5 @@
 pub mod Tables
 pub mod Rows
 pub mod Content
+pub mod Faults
 pub mod inner
