@@ -168,15 +168,15 @@ dropped db next sub found keyed are applied =
       entries = applied.tables.1.1.0 (λ e. absurd cc);
       keyed = rw left (keyed_less rows (without_all rows (ids_of found)) (λ row h. without_all_has (ids_of found) rows row h) keyed);
       stays = λ row h apart.
-      let full = has_mapped three_columns rows row (to_has (map three_columns rows) row h) in
-      let in_less = others_left sub rows found keyed are full.0 full.1 (λ e. apart (ap (λ (r : Row). column r 0) full.2 ∙ e)) in
-      from_has (map three_columns (next account_tree)) row (rw (left, full.2) (mapped_has three_columns (without_all rows (ids_of found)) full.0 in_less));
+          let full = has_mapped three_columns rows row (to_has (map three_columns rows) row h) in
+          let in_less = others_left sub rows found keyed are full.0 full.1 (λ e. apart (ap (λ (r : Row). column r 0) full.2 ∙ e)) in
+          from_has (map three_columns (next account_tree)) row (rw (left, full.2) (mapped_has three_columns (without_all rows (ids_of found)) full.0 in_less));
       only = λ row h.
-      let full = has_mapped three_columns (next account_tree) row (to_has (map three_columns (next account_tree)) row h) in
-      let in_less : Has (without_all rows (ids_of found)) full.0 = subst (λ all. Has all full.0) left full.1 in (
-        from_has (map three_columns rows) row (rw full.2 (mapped_has three_columns rows full.0 (without_all_has (ids_of found) rows full.0 in_less))),
-        λ e. none_left sub rows found keyed are full.0 in_less (sym (ap (λ (r : Row). column r 0) full.2) ∙ e),
-      );
+          let full = has_mapped three_columns (next account_tree) row (to_has (map three_columns (next account_tree)) row h) in
+          let in_less : Has (without_all rows (ids_of found)) full.0 = subst (λ all. Has all full.0) left full.1 in (
+            from_has (map three_columns rows) row (rw full.2 (mapped_has three_columns rows full.0 (without_all_has (ids_of found) rows full.0 in_less))),
+            λ e. none_left sub rows found keyed are full.0 in_less (sym (ap (λ (r : Row). column r 0) full.2) ∙ e),
+          );
     }
 
 found_of : (db : Trees) (sub : List ℕ) (found : List Row) → IsAnswer of_sub (overlay db []) (Blob sub ∷ []) found → AreFound (of_this ∷ []) (db account_tree) (Blob sub ∷ []) found
@@ -227,13 +227,13 @@ keyed_more rows next new id is free whole keyed = record {
   numbered = λ row h. elim (back row h) [ inl old ↦ keyed.numbered row old | inr same ↦ (id, ap rowid (sym same) ∙ is) ];
   apart = λ one other h k same. elim (back one h) [
     | inl a ↦ elim (back other k) [
-        | inl b ↦ keyed.apart one other a b same
-        | inr b ↦ absurd (free_apart rows new one free (to_has rows one a) (same ∙ ap rowid (sym b)))
-      ]
+      | inl b ↦ keyed.apart one other a b same
+      | inr b ↦ absurd (free_apart rows new one free (to_has rows one a) (same ∙ ap rowid (sym b)))
+    ]
     | inr a ↦ elim (back other k) [
-        | inl b ↦ absurd (free_apart rows new other free (to_has rows other b) (sym same ∙ ap rowid (sym a)))
-        | inr b ↦ sym a ∙ b
-      ]
+      | inl b ↦ absurd (free_apart rows new other free (to_has rows other b) (sym same ∙ ap rowid (sym a)))
+      | inr b ↦ sym a ∙ b
+    ]
   ];
 }
   where

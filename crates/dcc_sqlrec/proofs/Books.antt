@@ -112,7 +112,6 @@ octets_apart a b h =
     let names : a.name ≡ b.name = cc in
     ap₂ (λ (k : ℕ) (n : List ℕ). let s : Sub = record { kind = k; name = n } in s) kinds names
 
-
 -- ---- one act more
 
 module _ (terms : TermsView) (same : SameAreEqual) (old new : Trees) (held : Held) (sub : Sub) (act : Act) (more : List Entry) (book : HoldsBook terms old held) (next : IsNext terms (held sub) act more) (fit : IsAct act)
@@ -157,7 +156,7 @@ module _ (terms : TermsView) (same : SameAreEqual) (old new : Trees) (held : Hel
   acts_there row it = elim (with_cases it.0 it.1 it.2 it.3) [
     | inl was ↦ Contains-permutation _ (act_rows new) row changed.acts (Contains-append_left (act_rows old) _ row (book.acts.there row (it.0, it.1, it.2, was, it.4)))
     | inr last ↦ Contains-permutation _ (act_rows new) row changed.acts
-      (rw (it.4, last.0, last.1, last.2) (Contains-push (act_rows old) (act_row (sub_octets sub) (place + 1) (record_of act))))
+        (rw (it.4, last.0, last.1, last.2) (Contains-push (act_rows old) (act_row (sub_octets sub) (place + 1) (record_of act))))
   ]
 
   acts_only : (row : Row) → Contains (act_rows new) row → IsActRow now row

@@ -9,3 +9,4 @@ pub mod Tallying
 pub mod OneMore
 pub mod Creates
 pub mod First
+pub mod TopUps

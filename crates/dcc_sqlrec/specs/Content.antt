@@ -16,7 +16,7 @@ use Rattle.dcc_record.specs.Records.{record_of}
 use Rattle.dcc_records.specs.Books.{Held, IsBook}
 use Rattle.dcc_records.specs.Contents.{Content, IsContentOf}
 use Rattle.dcc_sqlrec.specs.Rows.{sub_octets, act_row, entry_row, account_row}
-use Rattle.dcc_sqlrec.specs.inner.Trees.{act_rows, entry_rows, account_rows}
+use Rattle.dcc_sqlrec.specs.Trees.{act_rows, entry_rows, account_rows}
 
 -- the entries that the act at a place adds
 abbrev pub entries_at : TermsView → List Act → ℕ → List Entry

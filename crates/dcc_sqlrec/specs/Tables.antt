@@ -57,15 +57,15 @@ setting_text = codes "CREATE TABLE setting (id INTEGER PRIMARY KEY, layout INTEG
 abbrev pub setting_table : Table
 setting_table = table_of (codes "setting")
     (column_of (codes "id") Integer false
-      ∷ column_of (codes "layout") Integer true
-      ∷ column_of (codes "shard") Integer true
-      ∷ column_of (codes "shards") Integer true
-      ∷ column_of (codes "host") Text true
-      ∷ column_of (codes "realm") Text true
-      ∷ column_of (codes "validity") Integer true
-      ∷ column_of (codes "hold") Integer true
-      ∷ column_of (codes "currency") Integer true
-      ∷ column_of (codes "exponent") Integer true ∷ []) (Some 0) (0 ∷ []) []
+    ∷ column_of (codes "layout") Integer true
+    ∷ column_of (codes "shard") Integer true
+    ∷ column_of (codes "shards") Integer true
+    ∷ column_of (codes "host") Text true
+    ∷ column_of (codes "realm") Text true
+    ∷ column_of (codes "validity") Integer true
+    ∷ column_of (codes "hold") Integer true
+    ∷ column_of (codes "currency") Integer true
+    ∷ column_of (codes "exponent") Integer true ∷ []) (Some 0) (0 ∷ []) []
 
 -- the acts: of each subscriber, at each place, the record of one
 abbrev pub act_text : List ℕ
@@ -93,12 +93,12 @@ to_act = record {
 abbrev pub entry_table : Table
 entry_table = table_of (codes "entry")
     (column_of (codes "sub") Blob true
-      ∷ column_of (codes "place") Integer true
-      ∷ column_of (codes "line") Integer true
-      ∷ column_of (codes "kind") Text true
-      ∷ column_of (codes "grp") Integer false
-      ∷ column_of (codes "units") Integer true
-      ∷ column_of (codes "amount") Integer true ∷ []) None (1 ∷ 2 ∷ 3 ∷ [])
+    ∷ column_of (codes "place") Integer true
+    ∷ column_of (codes "line") Integer true
+    ∷ column_of (codes "kind") Text true
+    ∷ column_of (codes "grp") Integer false
+    ∷ column_of (codes "units") Integer true
+    ∷ column_of (codes "amount") Integer true ∷ []) None (1 ∷ 2 ∷ 3 ∷ [])
     (to_act ∷ [])
 
 -- the accounts: of each subscriber how many acts it has, and its funds

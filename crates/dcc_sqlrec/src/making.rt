@@ -23,7 +23,10 @@ pub fn is_blank(schema: &Schema) -> bool
 }
 
 /// The tables are made, without acts, or nothing changes; want of memory leaves a database that may be used.
-pub fn make_store<S: Alter>(conn: &mut Connection<S>, setting: &Setting<'_>) -> Result<(), StoreFault>
+pub fn make_store<S: Alter>(
+    conn: &mut Connection<S>,
+    setting: &Setting<'_>,
+) -> Result<(), StoreFault>
     requires { conn.old.in_transaction ≡ false }
     ensures mode { conn.new.in_transaction ≡ false }
     ensures clean { doubt (state S.Store conn.old).is_clean ≤ doubt (state S.Store conn.new).is_clean }
@@ -167,4 +170,3 @@ fn add_setting<S: Alter>(tx: &mut Transaction<'_, S>, setting: &Setting<'_>) -> 
     )?;
     Ok(())
 }
-

@@ -8,19 +8,18 @@ ghost use Rattle.dcc_records.specs.Contents.{Content, IsNext};
 ghost use Rattle.dcc_records.specs.Stops.{LeavesOnly, LeavesEither};
 ghost use Rattle.dcc_sqlrec.specs.Tables.{no_schema};
 ghost use Rattle.dcc_sqlrec.specs.Content.{leaves};
-ghost use Rattle.dcc_sqlrec.specs.inner.Trees.{IsUndone};
-ghost use Rattle.dcc_sqlrec.specs.inner.Making.{AreEmpty};
+ghost use Rattle.dcc_sqlrec.specs.Trees.{IsUndone, AreEmpty};
 ghost use Rattle.dcc_sqlrec.specs.inner.Keeping.{KeepsBook};
 
 use crate::appending::store_act;
+use crate::counts::Tally;
 use crate::fault::CreateFault;
 use crate::making::{is_blank, make_store};
 use crate::setting::Setting;
-use crate::counts::Tally;
 use crate::tally::{make_room, set_tally, tally_of, with_act};
 use dcc_act::{Act, Entry, Sub, same_subscribers_are_equal};
-use dcc_record::records_differ;
 use dcc_model::{funds_are_accounted_for, leaving_out_changes_nothing};
+use dcc_record::records_differ;
 use dcc_records::{StoreFault, acts_stand_apart, content_has_one_book, new_acts_come_next};
 use dcc_tariff::Terms;
 use sqlite::{Alter, Connection};
@@ -152,7 +151,7 @@ impl<S: Alter> SqlRecords<S> {
             return Err(StoreFault::Memory);
         }
         let Some(next) = with_act(tally_of(&self.tallies, sub), entries) else {
-            self.faults = 1;
+            self.faults += 1;
             return Err(StoreFault::Device);
         };
         match store_act(self.alloc, &mut self.conn, sub, act, entries, next) {

@@ -3,7 +3,8 @@ use Rattle.std.specs.Prelude.{◌≡◌, IsTrue, []}
 use Rattle.sqlite.specs.Schema.{Schema}
 use Rattle.sqlite.specs.Tree.{Trees}
 use Rattle.sqlite.specs.State.{State}
-use Rattle.dcc_sqlrec.specs.inner.Trees.{act_tree, entry_tree, account_tree}
+pub use Rattle.dcc_sqlrec.specs.Trees.{AreEmpty}
+use Rattle.dcc_sqlrec.specs.Trees.{act_tree, entry_tree}
 
 -- nothing is said of the trees
 abbrev pub Anything : Trees → Type 0
@@ -14,10 +15,6 @@ NoActs db = db act_tree ≡ []
 
 abbrev pub NoEntries : Trees → Type 0
 NoEntries db = (db act_tree ≡ []) × (db entry_tree ≡ [])
-
--- there are no acts, no entries and no accounts
-abbrev pub AreEmpty : Trees → Type 0
-AreEmpty db = (db act_tree ≡ []) × (db entry_tree ≡ []) × (db account_tree ≡ [])
 
 -- A statement of a transaction was run: the transaction goes on with this schema, and this holds of the trees.
 pub record HasMade (after : Schema) (Says : Trees → Type 0) (old new : State) : Type 0 where

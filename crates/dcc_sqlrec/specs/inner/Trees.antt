@@ -1,4 +1,4 @@
--- The tables in the trees of a database, and what a statement of a transaction does to them.
+-- What a statement of a transaction does to the tables.
 use Rattle.std.specs.Prelude.{◌≡◌, ◌≢◌, ◌⊎◌, ℕ, ℤ, pos, true, false, IsTrue, List, [], ◌∷◌, ◌++◌, map}
 use Rattle.std.specs.List.{Contains}
 use Rattle.std.specs.List.Sorted.{IsPermutation}
@@ -6,35 +6,10 @@ use Rattle.sqlite.specs.declared.types.Value.TheVariants.{Int, Blob}
 use Rattle.sqlite.specs.Order.{Row, column}
 use Rattle.sqlite.specs.Tree.{Trees, rowid}
 use Rattle.sqlite.specs.State.{State, HasCleanDisk}
+pub use Rattle.dcc_sqlrec.specs.Trees.{setting_tree, act_tree, entry_tree, account_tree, three_columns, seven_columns, act_rows, entry_rows, account_rows, IsUndone}
 use Rattle.dcc_act.specs.declared.entry.Entry.{Entry}
 use Rattle.dcc_sqlrec.specs.Tables.{layout}
 use Rattle.dcc_sqlrec.specs.Rows.{act_row, entry_rows_of, account_row}
-
--- the trees of the four tables
-abbrev pub setting_tree : ℕ
-setting_tree = 0
-
-abbrev pub act_tree : ℕ
-act_tree = 1
-
-abbrev pub entry_tree : ℕ
-entry_tree = 3
-
-abbrev pub account_tree : ℕ
-account_tree = 5
-
--- the columns of a row of three, or of seven, which has its rowid before them
-abbrev pub three_columns : Row → Row
-three_columns row = column row 1 ∷ column row 2 ∷ column row 3 ∷ []
-
-abbrev pub seven_columns : Row → Row
-seven_columns row = column row 1 ∷ column row 2 ∷ column row 3 ∷ column row 4 ∷ column row 5 ∷ column row 6 ∷ column row 7 ∷ []
-
-abbrev pub act_rows : Trees → List Row
-act_rows db = map three_columns (db act_tree)
-
-abbrev pub entry_rows : Trees → List Row
-entry_rows db = map seven_columns (db entry_tree)
 
 -- the rows are added to the table of acts, and the others stay
 pub record AddsActs (rows : List Row) (old new : Trees) : Type 0 where
@@ -54,9 +29,6 @@ pub record AddsEntries (rows : List Row) (old new : Trees) : Type 0 where
 pub record IsKeyed (rows : List Row) : Type 0 where
   pub numbered : (row : Row) → Contains rows row → (id : ℤ) × (rowid row ≡ Int id)
   pub apart : (one other : Row) → Contains rows one → Contains rows other → rowid one ≡ rowid other → one ≡ other
-
-abbrev pub account_rows : Trees → List Row
-account_rows db = map three_columns (db account_tree)
 
 -- The rows of accounts are without those of one subscriber, and the other tables stay.
 pub record DropsAccount (sub : List ℕ) (old new : Trees) : Type 0 where
@@ -109,10 +81,3 @@ pub record HasCommitted (Changes : Trees → Trees → Type 0) (old new : State)
   pub settled : new.now ≡ new.committed
   pub schema : new.now.schema ≡ layout
   pub changes : Changes old.now.trees new.now.trees
-
--- nothing is changed, and the connection may be used
-pub record IsUndone (old new : State) : Type 0 where
-  pub is_open : IsTrue new.is_open
-  pub autocommit : new.in_transaction ≡ false
-  pub now_is : new.now ≡ old.committed
-  pub committed_is : new.committed ≡ old.committed

@@ -21,13 +21,12 @@ loop-i-preserved g c =
     let it = c.in_ok-add_entry.ensures in
     let line : c.in-Ok.line ≡ c.loop-i.i + 1 = search rules in
     let at : c.index-entries-i.result ≡ get_or c.args.entries.now c.loop-i.i c.index-entries-i.result = search rules in
-    let before = λ (clean : HasCleanDisk new). earlier mid new _ it.survives clean in
-    (
+    let before = λ (clean : HasCleanDisk new). earlier mid new _ it.survives clean in (
       it.same_reference ∙ so_far.0,
       survives_both old mid new so_far.1 it.survives,
       λ clean inside. (it.inside clean (so_far.2 (before clean) inside).0, keeps_both old mid new (so_far.2 (before clean) inside).1 (it.kept clean (so_far.2 (before clean) inside).0)),
       λ clean inside has.
-      let ran = so_far.3 (before clean) inside has in
-      one_more old mid new c.args.sub.now c.args.place c.args.entries.now c.loop-i.i c.index-entries-i.result c.loop-i-test.true ran
-      (rw (← line, ← at) (it.added clean (so_far.2 (before clean) inside).0 ran.schema)),
+          let ran = so_far.3 (before clean) inside has in
+          one_more old mid new c.args.sub.now c.args.place c.args.entries.now c.loop-i.i c.index-entries-i.result c.loop-i-test.true ran
+          (rw (← line, ← at) (it.added clean (so_far.2 (before clean) inside).0 ran.schema)),
     )

@@ -133,4 +133,3 @@ returns-in-Err-clause-crash g c =
     let it = c.in-Err.ensures in
     let tally : c.tally_of.result ≡ tally_in room c.args.sub = c.tally_of.ensures in
     crash_of c.args.self.now.terms old new room settles stays it.clean kept c.same_subscribers_are_equal.ensures c.records_differ.ensures.one c.acts_stand_apart.ensures.own c.new_acts_come_next.ensures.account c.args.sub c.args.act.now c.args.entries.now (λ found left. c.requires going found left) it.fits c.tally_of.result c.in-Some.next tally c.in-Some.ensures.acts c.in-Some.ensures.funds it.crash
-
