@@ -1,13 +1,10 @@
 -- A book in the tables, and one act more.
-use Rattle.std.proofs.Common.{◌≡◌, ◌≢◌, ◌⊎◌, inl, inr, ℕ, zero, suc, ◌+◌, ◌<◌, ◌≤◌, ℤ, Bool, true, false, List, [], ◌∷◌, ◌++◌, length, take, drop, slice_get, Some, refl, sym, ap, ap₂, subst, ◌∙◌, arith}
-use native.Mathlib.Numerals.{add-one}
+use Rattle.std.proofs.Common.{◌≡◌, ◌≢◌, ◌⊎◌, inl, inr, ℕ, zero, suc, ◌+◌, ◌<◌, ◌≤◌, ℤ, false, List, [], ◌∷◌, ◌++◌, length, take, drop, slice_get, Some, refl, sym, ap, ap₂, subst, ◌∙◌, arith}
 use Rattle.std.specs.List.{Contains}
-use Rattle.std.specs.List.Sorted.{IsPermutation}
 use Rattle.std.proofs.lemmas.Bool.{cases_Bool}
 use Rattle.std.proofs.lemmas.List.{length-append}
 use Rattle.std.proofs.lemmas.List.Elements.{Contains-push, Contains-push_cases, Contains-append_left, Contains-append_right, Contains-append_cases}
 use Rattle.std.proofs.lemmas.List.Sorted.{IsPermutation-sym, Contains-permutation}
-use Rattle.sqlite.specs.declared.types.Value.{Value}
 use Rattle.sqlite.specs.declared.types.Value.TheVariants.{Blob}
 use Rattle.sqlite.specs.Order.{Row, column}
 use Rattle.sqlite.specs.Tree.{Trees}
@@ -23,7 +20,7 @@ use Rattle.dcc_record.specs.Records.{record_of}
 use Rattle.dcc_records.specs.Books.{Held, with_act, IsBook}
 use Rattle.dcc_records.specs.Contents.{IsNext}
 use Rattle.dcc_sqlrec.specs.Rows.{sub_octets, act_row, entry_row, entry_rows_of, account_row}
-use Rattle.dcc_sqlrec.specs.Content.{entries_at, IsActRow, IsEntryRow, IsAccountRow, AreJust, HoldsBook}
+use Rattle.dcc_sqlrec.specs.Content.{entries_at, IsActRow, IsEntryRow, IsAccountRow, HoldsBook}
 use Rattle.dcc_sqlrec.specs.inner.Trees.{act_rows, entry_rows, account_rows, Appends}
 
 -- ---- places

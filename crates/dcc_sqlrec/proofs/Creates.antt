@@ -1,5 +1,5 @@
 -- What CREATE makes of a schema, and the first row.
-use Rattle.std.proofs.Common.{◌≡◌, ◌⊎◌, inl, inr, ℕ, List, [], ◌∷◌, ◌++◌, map, false, None, Ok, Err, Result, refl, sym, ap, subst, ◌∙◌}
+use Rattle.std.proofs.Common.{◌≡◌, ℕ, List, [], false, None, Ok, refl, sym, ap, subst, ◌∙◌}
 use Rattle.sqlite.specs.Order.{Row}
 use Rattle.sqlite.specs.Tree.{Trees}
 use Rattle.sqlite.specs.Schema.{Schema}
@@ -17,7 +17,7 @@ use Rattle.sqlite.specs.State.{State, mode_of, Writes, ExecutesInside}
 use Rattle.sqlite.proofs.Callers.{IsPlain, statement_of, runs_as}
 use Rattle.sqlite_schema.specs.declared.schema.Keys.TheVariants.{Enforced}
 use Rattle.dcc_sqlrec.specs.Tables.{setting_table, no_schema, one_table, two_tables, three_tables, layout, setting_text, act_text, entry_text, account_text, act_table, entry_table, account_table}
-use Rattle.dcc_sqlrec.specs.inner.Trees.{setting_tree, act_tree, entry_tree, account_tree}
+use Rattle.dcc_sqlrec.specs.inner.Trees.{setting_tree}
 use Rattle.dcc_sqlrec.specs.inner.Making.{HasMade, Anything, NoActs, NoEntries, AreEmpty}
 use Rattle.dcc_sqlrec.proofs.Texts.{Makes, setting_is, setting_plain, act_is, act_plain, entry_is, entry_plain, account_is, account_plain, new_setting, setting_terms, new_setting_is, new_setting_plain}
 use Rattle.dcc_sqlrec.proofs.Inserts.{went, same_value, one_write}

@@ -1,10 +1,9 @@
 -- The book without acts.
-use Rattle.std.proofs.Common.{◌≡◌, ℤ, pos, List, [], ◌∷◌, refl, sym, ap, arith}
+use Rattle.std.proofs.Common.{◌≡◌, ℤ, pos, List, [], refl, sym, ap, arith}
 use Rattle.sqlite.specs.Order.{Row}
 use Rattle.sqlite.specs.Tree.{Trees}
 use Rattle.sqlite.specs.State.{State}
 use Rattle.dcc_tariff.specs.Terms.{TermsView}
-use Rattle.dcc_act.specs.declared.sub.Sub.{Sub}
 use Rattle.dcc_model.specs.Outcomes.{funds}
 use Rattle.dcc_model.specs.Entries.{entries}
 use Rattle.dcc_model.specs.Laws.{EntriesAddUp, NoActs as NoneMade}

@@ -25,7 +25,7 @@ use Rattle.sqlite_schema.specs.declared.schema.Keys.TheVariants.{Enforced}
 use Rattle.sqlite_rules.specs.Action.{works, deed_for, Writes}
 use Rattle.sqlite.specs.Listing.{understood}
 use Rattle.sqlite.specs.Effect.{Database}
-use Rattle.sqlite.specs.State.{State, mode_of, Executes, ExecutesInside}
+use Rattle.sqlite.specs.State.{State, mode_of, ExecutesInside}
 use Rattle.sqlite.proofs.Callers.{statement_of, runs_as, one_step}
 use Rattle.dcc_sqlrec.specs.Tables.{act_table, entry_table, to_act, layout}
 use Rattle.dcc_sqlrec.specs.Rows.{act_row, entry_cells, group_value}

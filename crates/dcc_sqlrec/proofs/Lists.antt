@@ -1,5 +1,5 @@
 -- What a list has.
-use Rattle.std.proofs.Common.{◌≡◌, ◌⊎◌, inl, inr, ℕ, zero, suc, ◌<◌, List, [], ◌∷◌, ◌++◌, length, slice_index_or, refl, sym, arith}
+use Rattle.std.proofs.Common.{◌≡◌, inl, inr, ℕ, zero, suc, ◌<◌, List, [], ◌∷◌, length, slice_index_or, sym, arith}
 use Rattle.std.specs.List.{Contains}
 use Rattle.sqlite_rules.specs.Lists.{Has}
 

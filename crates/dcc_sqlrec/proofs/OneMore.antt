@@ -1,5 +1,5 @@
 -- An append, as far as a caller sees it.
-use Rattle.std.proofs.Common.{◌≡◌, ◌⊎◌, inl, inr, ℕ, ◌+◌, ◌≤◌, ℤ, ◌+ℤ◌, cond, IsTrue, List, [], ◌∷◌, ◌++◌, length, refl, sym, ap, subst, ◌∙◌, arith}
+use Rattle.std.proofs.Common.{◌≡◌, ◌⊎◌, inl, inr, ℕ, ◌+◌, ◌≤◌, ℤ, ◌+ℤ◌, cond, IsTrue, List, [], ◌∷◌, ◌++◌, length, sym, ap, subst, ◌∙◌, arith}
 use Rattle.std.proofs.Math.Logic.{∥∥₁_elim, ∥∥₁_map}
 use Rattle.std.specs.Ordering.{is_eq}
 use Rattle.std.proofs.lemmas.List.{length-append}
@@ -23,7 +23,7 @@ use Rattle.dcc_sqlrec.specs.Tables.{layout}
 use Rattle.dcc_sqlrec.specs.Rows.{sub_octets}
 use Rattle.dcc_sqlrec.specs.Content.{leaves}
 use Rattle.dcc_sqlrec.specs.inner.Trees.{account_tree, IsKeyed, Appends, HasCommitted, IsUndone}
-use Rattle.dcc_sqlrec.specs.inner.Tallies.{tally_in, AreTallies}
+use Rattle.dcc_sqlrec.specs.inner.Tallies.{tally_in}
 use Rattle.dcc_sqlrec.specs.inner.Keeping.{Keeps, KeepsBook}
 use Rattle.dcc_sqlrec.proofs.Tallying.{tallies_grow, tallies_same}
 use Rattle.dcc_sqlrec.proofs.Stopping.{Settles, Differ, content_prop, kept_leaves, only_kept, kept_undone, kept_grown, either_left, same_held, grown_along, along, decided}

@@ -1,5 +1,5 @@
 -- One statement after another in a transaction.
-use Rattle.std.proofs.Common.{◌≡◌, ◌⊎◌, inl, inr, Option, Some, None, ℕ, zero, suc, ◌+◌, ℤ, pos, List, [], ◌∷◌, ◌++◌, IsTrue, map, take, length, refl, sym, ap, subst, ◌∙◌, arith, append-nil, append_assoc, ◌<◌, get_or}
+use Rattle.std.proofs.Common.{◌≡◌, ◌⊎◌, inl, inr, Option, Some, None, ℕ, zero, suc, ◌+◌, List, [], ◌∷◌, ◌++◌, IsTrue, take, length, refl, sym, ap, subst, ◌∙◌, arith, append-nil, append_assoc, ◌<◌, get_or}
 use native.Mathlib.Numerals.{add-one}
 use Rattle.std.specs.List.Sorted.{IsPermutation}
 use Rattle.std.proofs.lemmas.List.Sorted.{IsPermutation-refl, IsPermutation-trans, IsPermutation-append_left}

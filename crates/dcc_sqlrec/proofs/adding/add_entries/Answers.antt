@@ -1,9 +1,6 @@
-use Rattle.std.proofs.Common.{◌≡◌, refl, sym, ◌∙◌, ap, subst, get_or, rules, ◌+◌, [], ◌∷◌, List}
+use Rattle.std.proofs.Common.{◌≡◌, refl, ◌∙◌, get_or, rules, ◌+◌}
 use Rattle.sqlite.specs.Held.{state}
 use Rattle.sqlite.specs.State.{HasCleanDisk}
-use Rattle.dcc_act.specs.declared.entry.Entry.{Entry}
-use Rattle.dcc_sqlrec.specs.Rows.{entry_row}
-use Rattle.dcc_sqlrec.specs.inner.Trees.{AddsEntries, HasRun}
 use Rattle.dcc_sqlrec.proofs.Steps.{nothing_run, survives_nothing, survives_both, keeps_nothing, keeps_both, earlier, one_more}
 use Rattle.dcc_sqlrec.proofs.adding.add_entries.Goals as goal
 

@@ -1,13 +1,10 @@
-use Rattle.std.proofs.Common.{◌≡◌, ◌⊎◌, inl, inr, sym, ap, ◌∙◌, refl, IsTrue, Err, rules}
+use Rattle.std.proofs.Common.{◌≡◌, inl, inr, ap, IsTrue, Err, rules}
 use Rattle.sqlite.specs.State.{HasCleanDisk}
 use Rattle.sqlite.specs.Held.{state}
-use Rattle.dcc_records.specs.Contents.{Content}
-use Rattle.dcc_sqlrec.specs.Content.{leaves}
 use Rattle.dcc_sqlrec.specs.inner.Tallies.{tally_in}
-use Rattle.dcc_sqlrec.specs.inner.Trees.{IsUndone}
 use Rattle.dcc_sqlrec.specs.inner.Keeping.{KeepsBook}
 use Rattle.dcc_sqlrec.proofs.Stopping.{Settles}
-use Rattle.dcc_sqlrec.proofs.OneMore.{kept_room, left_as_was, kept_back, refused_of, kept_ok, stored_of, crash_of}
+use Rattle.dcc_sqlrec.proofs.OneMore.{kept_room, kept_back, refused_of, kept_ok, stored_of, crash_of}
 use Rattle.dcc_sqlrec.proofs.sql_records.SqlRecords.append.Goals as goal
 
 pub returns-then-self-ne0-clause-crash : goal.returns-then-self-ne0-clause-crash
