@@ -32,7 +32,8 @@ pub fn store_act<S: Alter>(
     ensures clean { doubt (state S.Store conn.old).is_clean ≤ doubt (state S.Store conn.new).is_clean }
     ensures added { HasCleanDisk (state S.Store conn.new) → conn.old.schema ≡ layout → IsKeyed ((state S.Store conn.old).now.trees account_tree)
         → OnOk result (HasCommitted (Appends (sub_octets sub) next.acts (record_of act.now) entries.now next.funds) (state S.Store conn.old) (state S.Store conn.new)) }
-    ensures undone { HasCleanDisk (state S.Store conn.new) → result ≡ Err StoreFault.Memory → IsUndone (state S.Store conn.old) (state S.Store conn.new) ⊎ (conn.new ≡ conn.old) }
+    ensures undone { HasCleanDisk (state S.Store conn.new) → result ≡ Err StoreFault.Memory
+        → IsUndone (state S.Store conn.old) (state S.Store conn.new) ⊎ (conn.new ≡ conn.old) }
     ensures fault { OnErr result ((result ≡ Err StoreFault.Memory) ⊎ (result ≡ Err StoreFault.Device)) }
     ensures fits { IsAct act.now }
     ensures crash { conn.old.schema ≡ layout → IsKeyed ((state S.Store conn.old).now.trees account_tree)

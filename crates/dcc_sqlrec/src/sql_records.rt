@@ -127,7 +127,8 @@ impl<S: Alter> SqlRecords<S> {
     /// stopped from then on, and a stop leaves the act or doesn't; [`StoreFault::Stopped`], it had failed before.
     pub fn append(&mut self, sub: Sub, act: &Act, entries: &[Entry]) -> Result<(), StoreFault>
         requires { self.old.faults ≡ 0
-            → (found : Content) → leaves self.old.terms (state S.Store self.old.conn) found → IsNext self.old.terms (found sub).acts act.now entries.now }
+            → (found : Content) → leaves self.old.terms (state S.Store self.old.conn) found
+            → IsNext self.old.terms (found sub).acts act.now entries.now }
         ensures terms { self.new.terms ≡ self.old.terms }
         ensures stored { (held : Held) → LeavesOnly self.old.terms held (leaves self.old.terms (state S.Store self.old.conn))
             → OnOk result (LeavesOnly self.old.terms (with_act sub act.now held) (leaves self.new.terms (state S.Store self.new.conn))) }

@@ -58,7 +58,8 @@ pub fn make_room(tallies: &mut BTreeMap<Sub, Tally>, sub: Sub) -> Result<(), All
 /// Sets the tally of a subscriber for whom there is room. It takes no memory.
 pub fn set_tally(tallies: &mut BTreeMap<Sub, Tally>, sub: Sub, tally: Tally)
     requires { IsSome (lookup (λ key. is_eq (sub_order sub key)) tallies.old.entries) }
-    ensures { (other : Sub) → tally_in tallies.new.entries other ≡ (if is_eq (sub_order sub other) then tally else tally_in tallies.old.entries other) }
+    ensures { (other : Sub)
+        → tally_in tallies.new.entries other ≡ (if is_eq (sub_order sub other) then tally else tally_in tallies.old.entries other) }
 {
     if let Some(place) = tallies.get_mut(&sub) {
         *place = tally;

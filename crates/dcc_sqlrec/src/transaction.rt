@@ -51,7 +51,8 @@ pub fn append_rows<S: Alter>(
     ensures clean { doubt (state S.Store conn.old).is_clean ≤ doubt (state S.Store conn.new).is_clean }
     ensures added { HasCleanDisk (state S.Store conn.new) → conn.old.schema ≡ layout → IsKeyed ((state S.Store conn.old).now.trees account_tree)
         → OnOk result (HasCommitted (Appends sub.now place body.now entries.now funds) (state S.Store conn.old) (state S.Store conn.new)) }
-    ensures undone { HasCleanDisk (state S.Store conn.new) → result ≡ Err StoreFault.Memory → IsUndone (state S.Store conn.old) (state S.Store conn.new) }
+    ensures undone { HasCleanDisk (state S.Store conn.new) → result ≡ Err StoreFault.Memory
+        → IsUndone (state S.Store conn.old) (state S.Store conn.new) }
     ensures fault { OnErr result ((result ≡ Err StoreFault.Memory) ⊎ (result ≡ Err StoreFault.Device)) }
     ensures crash { conn.old.schema ≡ layout → IsKeyed ((state S.Store conn.old).now.trees account_tree)
         → Survives (state S.Store conn.old) (state S.Store conn.new) (Appends sub.now place body.now entries.now funds (state S.Store conn.old).now.trees) }
