@@ -57,12 +57,12 @@ impl<R: Records> Engine<R> {
     pub fn open(alloc: Global, plan: Plan, shards: Shards<R>) -> Result<Engine<R>, AllocError>
     where
         R: Drop,
-        requires terms { shards.shard.terms ≡ plan.terms }
-        requires own { AreOwn shards.shard }
+        requires { shards.shard.terms ≡ plan.terms }
         ensures setting { IfOk result (λ engine. engine.setting ≡ record { plan = plan; identity = shards.shard.identity }) }
         ensures peers { IfOk result (λ engine. (id : ℕ) → peer_of engine id ≡ None) }
         ensures accounts { IfOk result (λ engine. (sub : Sub) → held_of engine sub ≡ held shards.shard sub) }
     {
+        shards.acts_are_own();
         let identity = shards.identity().copy()?;
         Ok(Engine {
             plan,
@@ -74,7 +74,9 @@ impl<R: Records> Engine<R> {
 
     /// The shards, moved out, with all that they hold.
     pub fn into_shards(self) -> Shards<R>
-        ensures { result.shard ≡ self.shard }
+        ensures shard { result.shard ≡ self.shard }
+        ensures terms { result.shard.terms ≡ self.setting.plan.terms }
+        ensures identity { result.shard.identity ≡ self.setting.identity }
     {
         let Engine {
             plan: _,

@@ -1,5 +1,5 @@
 -- The subscribers of shards, by shard and then in their own order.
-use Rattle.std.proofs.Common.{◌≡◌, ◌≢◌, ℕ, ◌+◌, ◌<◌, ◌==◌, ◌||◌, Bool, true, false, List, [], ◌∷◌, ◌++◌, filter, refl, sym, ap, subst, ◌∙◌, arith, inl, inr, true≢false, rules}
+use Rattle.std.proofs.Common.{◌≡◌, ◌≢◌, ℕ, ◌+◌, ◌<◌, ◌==◌, ◌||◌, Bool, true, false, List, [], ◌∷◌, ◌++◌, filter, refl, ◌⊎◌, sym, ap, subst, ◌∙◌, arith, inl, inr, true≢false, rules}
 use Rattle.std.specs.Prelude.{nat_lt}
 use Rattle.std.specs.Cmp.{IsTotalOrder}
 use Rattle.std.specs.Cmp.Rules.{comparing}
@@ -95,11 +95,12 @@ once_in_order same count (sub ∷ subs) sorted = rw (apart_behind same count sub
 pub record AreUpTo (count i : ℕ) (held : Sub → List Act) (all : List Sub) : Type 0 where
   pub order : IsStrictlySortedBy (route_order count) all
   pub below : AllByRecursion (λ s. shard_of s count < i) all
+  pub some : (sub : Sub) → is_among sub all ≡ true → held sub ≢ []
   pub none : (sub : Sub) → shard_of sub count < i → is_among sub all ≡ false → held sub ≡ []
 
 pub up_to_none : (count : ℕ) (held : Sub → List Act) → AreUpTo count 0 held []
 unfolding IsStrictlySortedBy
-up_to_none count held = record { order = tt; below = tt; none = λ sub below. absurd (omega (arith, below)) }
+up_to_none count held = record { order = tt; below = tt; some = λ sub among. absurd (true≢false (sym among)); none = λ sub below. absurd (omega (arith, below)) }
 
 below_next : (count i : ℕ) (xs : List Sub) → AllByRecursion (λ s. shard_of s count < i) xs → AllByRecursion (λ s. shard_of s count < i + 1) xs
 below_next count i [] all = tt
@@ -122,19 +123,43 @@ among_kept same keeps (one ∷ subs) sub stays = elim (cases_Bool (keeps one)) [
 among_join : (xs ys : List Sub) (sub : Sub) → is_among sub (xs ++ ys) ≡ (is_among sub xs || is_among sub ys)
 among_join xs ys sub = list_any-append (λ one. same_sub one sub) xs ys
 
+-- and not where it doesn't stay
+among_dropped : SameAreEqual → (keeps : Sub → Bool) (subs : List Sub) (sub : Sub) → keeps sub ≡ false → is_among sub (filter keeps subs) ≡ false
+among_dropped same keeps [] sub goes = refl
+among_dropped same keeps (one ∷ subs) sub goes = elim (cases_Bool (keeps one)) [
+  | inl k ↦
+      let apart : same_sub one sub ≡ false = false_from_ne_true (same_sub one sub) (λ t. let e = ap keeps ((same one sub).0 t) in absurd (true≢false (sym k ∙ e ∙ goes))) in
+      rw (k, apart) (among_dropped same keeps subs sub goes)
+  | inr n ↦ rw n (among_dropped same keeps subs sub goes)
+]
+
+one_of : (a b : Bool) → (a || b) ≡ true → (a ≡ true) ⊎ (b ≡ true)
+one_of true b h = inl refl
+one_of false b h = inr h
+
 neither : (a b : Bool) → (a || b) ≡ false → (a ≡ false) × (b ≡ false)
 neither true b h = absurd cc
 neither false b h = (refl, h)
 
 -- with those of the next shard
 pub up_to_next : SameAreEqual → (count i : ℕ) (held : Sub → List Act) (all subs : List Sub) → AreUpTo count i held all → IsStrictlySortedBy sub_order subs
+    → ((sub : Sub) → shard_of sub count ≡ i → is_among sub subs ≡ true → held sub ≢ [])
     → ((sub : Sub) → shard_of sub count ≡ i → is_among sub subs ≡ false → held sub ≡ []) → AreUpTo count (i + 1) held (all ++ filter (belongs count i) subs)
-up_to_next same count i held all subs before sorted none =
+up_to_next same count i held all subs before sorted some none =
     let own = filter (belongs count i) subs in
     let of_one = all_belong count i subs in
     record {
       order = joined count i all own before.order (one_shard count i own of_one (IsStrictlySortedBy-filter sub_order (belongs count i) subs sorted)) before.below of_one;
       below = all_join (λ s. shard_of s count < i + 1) all own (below_next count i all before.below) (below_same count i own of_one);
+      some = λ sub among.
+          elim (one_of (is_among sub all) (is_among sub own) (sym (among_join all own sub) ∙ among)) [
+            | inl before_it ↦ before.some sub before_it
+            | inr in_own ↦
+                elim (cases_Bool (belongs count i sub)) [
+                  | inl t ↦ some sub (eqb-true (shard_of sub count) i t) (sym (among_kept same (belongs count i) subs sub t) ∙ in_own)
+                  | inr f ↦ absurd (true≢false (sym in_own ∙ among_dropped same (belongs count i) subs sub f))
+                ]
+          ];
       none = λ sub below apart.
           let both = neither (is_among sub all) (is_among sub own) (sym (among_join all own sub) ∙ apart) in
           elim (cases_Bool (belongs count i sub)) [

@@ -217,6 +217,12 @@ one_steps {R} same law terms identity shards i row one judged sub act are i_is i
       step = all;
     })
 
+-- of a subscriber that its own shard has something is held
+pub some_at_shard : {R : Type 0} → SameAreEqual → (terms : TermsView) (identity : Identity) (shards : List (StoredView R)) (i : ℕ) (row : StoredView R) (sub : Sub) → AreShards terms identity shards
+    → shard_of sub (length shards) ≡ i → row ≡ get_or shards i row → held row.shard sub ≢ [] → held (as_one terms identity shards) sub ≢ []
+some_at_shard same terms identity shards i row sub are i_is is some none =
+    some ((at_shard same terms identity shards i row sub are (sym i_is) is).held_is ∙ none)
+
 -- of a subscriber that its own shard doesn't have nothing is held
 pub none_at_shard : {R : Type 0} → SameAreEqual → (terms : TermsView) (identity : Identity) (shards : List (StoredView R)) (i : ℕ) (row : StoredView R) (sub : Sub) → AreShards terms identity shards
     → shard_of sub (length shards) ≡ i → row ≡ get_or shards i row → held row.shard sub ≡ [] → held (as_one terms identity shards) sub ≡ []

@@ -16,12 +16,12 @@ use Rattle.dcc_records.specs.Stops.{LeavesOnly, LeavesEither}
 use Rattle.dcc_records.specs.Laws.{ContentHasOneBook, AlikeBooksHaveOneContent, NewIsNext, NextIsFound, OwnGrows, OthersStay}
 use Rattle.dcc_records.specs.declared.fault.StoreFault.{StoreFault}
 use Rattle.dcc_records.specs.declared.fault.StoreFault.TheVariants.{Memory, Device, Stopped}
-use Rattle.dcc_shard.specs.Shards.{held_in}
+use Rattle.dcc_shard.specs.Shards.{held_in, held_then}
 use Rattle.dcc_shard.specs.Stored.{IsKept, IsLeft}
 use Rattle.dcc_shard.specs.inner.Books.{BooksView, IsStepOfBooks}
 use Rattle.dcc_shard.specs.inner.Pending.{step_of, IsPending}
 use Rattle.dcc_shard.specs.declared.pending.Pending.{Pending}
-use Rattle.dcc_shard.proofs.Subs.{one_or_other}
+use Rattle.dcc_shard.proofs.Subs.{same_sub-same, same_sub-other, one_or_other}
 
 -- the act of a pending step that is new may come next
 pub next_of : NewIsNext → (books : BooksView) (sub : Sub) (pending : Pending) → acts books.terms (held_in books.rows sub) ≡ held_in books.rows sub
@@ -63,6 +63,22 @@ held_same same more old new sub act own made step other =
           let P : Sub → Type 0 = λ s. held_in old.rows s ≡ held_in new.rows s in
           subst P (sym e) at_sub
       | inr apart ↦ sym (step.others other apart)
+    ]
+
+-- an act that is new is made, so what is held with it is what is held then
+pub with_then : SameAreEqual → OneMoreAct → OwnGrows → OthersStay → (terms : TermsView) (held : Held) (sub : Sub) (act : Act) → acts terms (held sub) ≡ held sub → is_new terms (held sub) act ≡ true
+    → (other : Sub) → with_act sub act held other ≡ held_then terms sub act held other
+with_then same more grows stays terms held sub act own made other =
+    elim (one_or_other same other sub) [
+      | inl e ↦
+          let then_sub : held_then terms sub act held sub ≡ acts terms (held sub ++ act ∷ []) = rw (same_sub-same same sub) refl in
+          let at_sub : with_act sub act held sub ≡ held_then terms sub act held sub =
+          grows sub act held ∙ ap (λ (xs : List Act). xs ++ act ∷ []) (sym own) ∙ sym (more terms (held sub) act ∙ rw made refl) ∙ sym then_sub in
+          let P : Sub → Type 0 = λ s. with_act sub act held s ≡ held_then terms sub act held s in
+          subst P (sym e) at_sub
+      | inr apart ↦
+          let then_other : held_then terms sub act held other ≡ held other = rw (same_sub-other same sub other (λ e. apart (sym e))) refl in
+          stays sub other act held apart ∙ sym then_other
     ]
 
 -- what an append says of itself
@@ -119,9 +135,13 @@ was_going terms held sub act result before after was is fb fa appended going = e
 
 pub kept_by_append : {X : Type 0} (terms : TermsView) (held : Held) (sub : Sub) (act : Act) (result : Result X StoreFault) (before after : Content → Type 0) (was is : Bool) (faults_before faults_after : ℕ)
     → Appended terms held sub act result before after was is faults_before faults_after → (was ≡ false → LeavesOnly terms held before)
+    → AlikeBooksHaveOneContent → ((other : Sub) → with_act sub act held other ≡ held_then terms sub act held other)
     → IsKept terms held sub act before after was is faults_before faults_after
-kept_by_append terms held sub act result before after was is fb fa appended kept = record {
-  crash = λ going. appended.crash (kept going);
+kept_by_append terms held sub act result before after was is fb fa appended kept law alike = record {
+  crash = λ going found left. elim (appended.crash (kept going) found left) [
+    | inl as_before ↦ inl as_before
+    | inr with_it ↦ inr (law terms (with_act sub act held) (held_then terms sub act held) found alike with_it)
+  ];
   frozen = λ stopped.
       let was_frozen = appended.frozen stopped in
       ((appended.going (not_device result was_frozen.0)).0 ∙ stopped, was_frozen.1);

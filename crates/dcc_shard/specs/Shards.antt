@@ -33,6 +33,10 @@ held shard sub = held_in shard.rows sub
 abbrev pub held_after : TermsView → Bool → List Act → Act → List Act
 held_after terms is_judged before act = if is_judged then acts terms (before ++ act ∷ []) else before
 
+-- what is held with one more act of a subscriber, where that is made, else as before
+abbrev pub held_then : TermsView → Sub → Act → (Sub → List Act) → Sub → List Act
+held_then terms sub act before other = if same_sub sub other then acts terms (before other ++ act ∷ []) else before other
+
 -- One act of one subscriber was judged, or nothing changed. What is held for the others, the terms and who answers stay.
 pub record IsStep (old new : ShardView) (is_judged : Bool) (sub : Sub) (act : Act) : Type 0 where
   pub own : held new sub ≡ held_after old.terms is_judged (held old sub) act

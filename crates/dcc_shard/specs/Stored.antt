@@ -3,10 +3,10 @@ use Rattle.std.specs.Prelude.{◌≡◌, ℕ, Bool, true, false}
 use Rattle.dcc_tariff.specs.Terms.{TermsView}
 use Rattle.dcc_act.specs.declared.act.Act.{Act}
 use Rattle.dcc_act.specs.declared.sub.Sub.{Sub}
-use Rattle.dcc_records.specs.Books.{Held, with_act}
+use Rattle.dcc_records.specs.Books.{Held}
 use Rattle.dcc_records.specs.Contents.{Content, IsContentOf}
 use Rattle.dcc_records.specs.Stops.{LeavesEither}
-use Rattle.dcc_shard.specs.Shards.{ShardView}
+use Rattle.dcc_shard.specs.Shards.{ShardView, held_then}
 
 -- what a shard holds, and its records
 pub record StoredView (R : Type 0) : Type 0 where
@@ -21,8 +21,8 @@ IsLeft terms held leaves = ∥ ((content : Content) × IsContentOf terms held co
 -- how often they have failed.
 pub record IsKept (terms : TermsView) (held : Held) (sub : Sub) (act : Act) (before after : Content → Type 0) (was_stopped is_stopped : Bool) (faults_before faults_after : ℕ)
     : Type 0 where
-  -- a stop inside it, or after it, leaves what was held, or that with the act, and nothing else
-  pub crash : was_stopped ≡ false → LeavesEither terms held (with_act sub act held) after
+  -- a stop inside it, or after it, leaves what was held, or what is held once the act was judged, and nothing else
+  pub crash : was_stopped ≡ false → LeavesEither terms held (held_then terms sub act held) after
   -- records that were stopped stay so, and what a stop leaves of them stays
   pub frozen : was_stopped ≡ true → (is_stopped ≡ true) × ((found : Content) → after found → before found)
   -- they stop only where they have failed

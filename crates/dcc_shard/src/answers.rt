@@ -16,11 +16,12 @@ pub enum RequestAnswer {
     Unknown {
         octets: OctetString,
     },
-    /// Memory was short, and nothing changed: DIAMETER_TOO_BUSY (3004).
+    /// Memory was short, or the records failed or were stopped: DIAMETER_TOO_BUSY (3004). What is held is as before; records
+    /// that failed in this call may have the act, and an open after that finds it.
     Busy {
         octets: OctetString,
     },
-    /// Memory was short for that answer too, and nothing changed.
+    /// Memory was short for that answer too; else as busy.
     Silent,
 }
 
@@ -34,7 +35,7 @@ pub enum TopUpAnswer {
     Ceiling { place: u64, fresh: bool },
     /// Its amount isn't 1 to 10^18 minor units; nothing is kept of it.
     BadAmount,
-    /// Memory was short, and nothing changed.
+    /// Memory was short, or the records failed or were stopped; what is held is as before, as with a busy request.
     Refused,
 }
 
@@ -45,6 +46,6 @@ pub enum ExpiryAnswer {
     Closed { sessions: u64, place: u64 },
     /// No session was over; nothing is kept of it.
     Nothing,
-    /// Memory was short, and nothing changed.
+    /// Memory was short, or the records failed or were stopped; what is held is as before, as with a busy request.
     Refused,
 }

@@ -1,12 +1,14 @@
 //! The accounts of a shard's subscribers, and one more act of one of them: it is prepared, and then installed. What is
 //! refused comes with the preparing, which changes nothing that is held; the others stay as they were.
 
-ghost use Rattle.std.specs.Prelude.{◌≡◌, ◌≢◌, [], true, false, IfOk, IfSome, IfNone};
+ghost use Rattle.std.specs.Prelude.{◌≡◌, ◌≢◌, ◌<◌, [], true, false, Some, IfOk, IfSome, IfNone, if◌then◌else◌};
+ghost use Rattle.indexmap.specs.IndexMap.{spare};
+ghost use Rattle.dcc_act.specs.Subs.{same_sub};
 ghost use Rattle.std.specs.List.Sorted.{IsStrictlySortedBy};
 ghost use Rattle.dcc_act.specs.declared.sub.Sub.{Sub};
 ghost use Rattle.dcc_model.specs.Outcomes.{acts};
 ghost use Rattle.dcc_records.specs.Books.{sub_order, acts_in, IsBook};
-ghost use Rattle.dcc_shard.specs.Shards.{held_in, is_among};
+ghost use Rattle.dcc_shard.specs.Shards.{account_in, held_in, is_among};
 ghost use Rattle.dcc_shard.specs.inner.Books.{IsStepOfBooks};
 ghost use Rattle.dcc_shard.specs.inner.Pending.{step_of, Stands, IsPending};
 
@@ -152,7 +154,7 @@ impl Books {
                 let mut account = account;
                 account.install(step);
                 if has_acts(&account) {
-                    self.accounts.insert(sub, account).unwrap();
+                    add(&mut self.accounts, sub, account);
                 }
             }
         }
@@ -185,4 +187,13 @@ fn replayed(
         account.install(step);
     }
     Ok(account)
+}
+
+/// Adds an account, for which there is room. It takes no memory.
+fn add(accounts: &mut IndexMap<Sub, Account, RandomState>, sub: Sub, account: Account)
+    requires { 0 < spare accounts.old }
+    ensures { (other : Sub) → account_in accounts.new.entries other
+        ≡ (if same_sub sub other then Some account else account_in accounts.old.entries other) }
+{
+    accounts.insert(sub, account).unwrap();
 }

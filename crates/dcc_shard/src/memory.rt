@@ -1,6 +1,6 @@
 //! Shards in memory.
 
-ghost use Rattle.std.specs.Prelude.{◌≡◌, ◌≤◌, [], IfOk};
+ghost use Rattle.std.specs.Prelude.{◌≡◌, ◌≤◌, [], IfOk, length};
 ghost use Rattle.dcc_act.specs.declared.sub.Sub.{Sub};
 ghost use Rattle.dcc_shard.specs.Shards.{held, AreOwn};
 
@@ -25,7 +25,7 @@ pub fn shards_in_memory(
     requires most { count ≤ 8 }
     ensures terms { IfOk result (λ shards. shards.shard.terms ≡ terms.now) }
     ensures identity { IfOk result (λ shards. shards.shard.identity ≡ identity) }
-    ensures count { IfOk result (λ shards. shards.count ≡ count) }
+    ensures count { IfOk result (λ shards. length shards.parts ≡ count) }
     ensures nothing { IfOk result (λ shards. (sub : Sub) → held shards.shard sub ≡ []) }
     ensures own { IfOk result (λ shards. AreOwn shards.shard) }
 {

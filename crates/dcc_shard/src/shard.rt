@@ -1,12 +1,13 @@
 //! The shard.
 
-ghost use Rattle.std.specs.Prelude.{◌≡◌, ◌≢◌, [], true, false, IfOk, IfErr, IfSome, IfNone, OnOk, is_some};
+ghost use Rattle.std.specs.Prelude.{◌≡◌, ◌≢◌, ◌+◌, [], true, false, IfOk, IfErr, IfSome, IfNone, OnOk, IsErr, Err, is_some};
 ghost use Rattle.std.specs.List.Sorted.{IsStrictlySortedBy};
 ghost use Rattle.dcc_act.specs.declared.sub.Sub.{Sub};
 ghost use Rattle.dcc_model.specs.Keys.{request_key};
 ghost use Rattle.dcc_records.specs.Books.{sub_order};
 ghost use Rattle.dcc_records.specs.Contents.{Content};
 ghost use Rattle.dcc_records.specs.Stops.{LeavesOnly};
+ghost use Rattle.dcc_records.specs.declared.fault.StoreFault.TheVariants.{Device, Stopped};
 ghost use Rattle.dcc_shard.specs.Shards.{held, held_in, AreOwn, IsStep, is_among};
 ghost use Rattle.dcc_shard.specs.Stored.{IsKept, IsLeft};
 ghost use Rattle.dcc_shard.specs.Answers.{IsAnswer, IsToldApart, IsTold, is_judged, is_judged_top_up, top_up_act};
@@ -48,8 +49,8 @@ impl<R: Records> Shard<R> {
     /// A shard of what the records hold, under their terms, that answers as this server. Each account is made anew from its acts.
     /// Subscribers and what their accounts remember are found by hashes under this state.
     ///
-    /// Errors, with the records handed back: [`StoreFault::Memory`], the records may be used; [`StoreFault::Device`], they failed;
-    /// [`StoreFault::Stopped`], they were stopped before.
+    /// Errors, with the records handed back: [`StoreFault::Memory`], the records may be used; [`StoreFault::Device`], they failed in
+    /// this call, and are stopped from then on; [`StoreFault::Stopped`], they were stopped before.
     pub fn new(
         alloc: Global,
         identity: &Identity,
@@ -64,8 +65,15 @@ impl<R: Records> Shard<R> {
         ensures there { IfOk result (λ shard. R.is_honest shard.records → IsLeft shard.shard.terms (held shard.shard) (R.may_leave shard.records)) }
         ensures same { IfOk result (λ shard. (found : Content) → R.may_leave shard.records found → R.may_leave records found) }
         ensures going { IfOk result (λ shard. R.is_stopped shard.records ≡ R.is_stopped records) }
+        // Refused, the records are handed back, and a stop leaves nothing more of them.
         ensures left { IfErr result (λ refused. (found : Content) → R.may_leave refused.1 found → R.may_leave records found) }
-        ensures faults { IfErr result (λ refused. R.faults refused.1 ≡ R.faults records → R.is_stopped refused.1 ≡ R.is_stopped records) }
+        ensures back { IfErr result (λ refused. R.terms refused.1 ≡ R.terms records) }
+        ensures device { IfErr result (λ refused. refused.0 ≡ Device
+            → (R.is_stopped records ≡ false) × (R.is_stopped refused.1 ≡ true) × (R.faults refused.1 ≡ R.faults records + 1)) }
+        ensures usable { IfErr result (λ refused. refused.0 ≢ Device
+            → (R.is_stopped refused.1 ≡ R.is_stopped records) × (R.faults refused.1 ≡ R.faults records)) }
+        ensures stopped { IfErr result (λ refused. refused.0 ≡ Stopped → R.is_stopped records ≡ true) }
+        ensures frozen { R.is_stopped records ≡ true → IsErr result }
     {
         let mut records = records;
         match read(alloc, identity, &mut records, hasher) {
@@ -87,6 +95,7 @@ impl<R: Records> Shard<R> {
     /// The records that keep the acts. Where they are not stopped, a stop leaves just what is held.
     pub fn records(&self) -> &R
         ensures value { result.now ≡ self.now.records }
+        ensures terms { R.terms result.now ≡ self.now.shard.terms }
         ensures kept { R.is_stopped result.now ≡ false → LeavesOnly self.now.shard.terms (held self.now.shard) (R.may_leave result.now) }
     {
         self.kept.acts_are_kept();
@@ -96,6 +105,7 @@ impl<R: Records> Shard<R> {
     /// The records, moved out.
     pub fn into_records(self) -> R
         ensures value { result ≡ self.records }
+        ensures terms { R.terms result ≡ self.shard.terms }
         ensures kept { R.is_stopped result ≡ false → LeavesOnly self.shard.terms (held self.shard) (R.may_leave result) }
     {
         self.kept.acts_are_kept();
@@ -137,8 +147,10 @@ impl<R: Records> Shard<R> {
         ensures own { AreOwn self.new.shard }
         ensures kept { IsKept self.old.shard.terms (held self.old.shard) sub act (R.may_leave self.old.records) (R.may_leave self.new.records)
             (R.is_stopped self.old.records) (R.is_stopped self.new.records) (R.faults self.old.records) (R.faults self.new.records) }
-        // What was judged is in what a stop leaves, and a shard whose records are stopped judges nothing.
-        ensures stored { is_judged result ≡ true → LeavesOnly self.new.shard.terms (held self.new.shard) (R.may_leave self.new.records) }
+        // Where the records are not stopped, a stop leaves just what is then held; so it is of all that was judged. A shard whose records are
+        // stopped judges nothing.
+        ensures left { R.is_stopped self.new.records ≡ false → LeavesOnly self.new.shard.terms (held self.new.shard) (R.may_leave self.new.records) }
+        ensures going { is_judged result ≡ true → R.is_stopped self.new.records ≡ false }
         ensures stopped { R.is_stopped self.old.records ≡ true → is_judged result ≡ false }
         ensures apart { IsToldApart result }
     {
@@ -175,8 +187,10 @@ impl<R: Records> Shard<R> {
         ensures own { AreOwn self.new.shard }
         ensures kept { IsKept self.old.shard.terms (held self.old.shard) sub (top_up_act moment ticket amount) (R.may_leave self.old.records) (R.may_leave self.new.records)
             (R.is_stopped self.old.records) (R.is_stopped self.new.records) (R.faults self.old.records) (R.faults self.new.records) }
-        // What was judged is in what a stop leaves, and a shard whose records are stopped judges nothing.
-        ensures stored { is_judged_top_up result ≡ true → LeavesOnly self.new.shard.terms (held self.new.shard) (R.may_leave self.new.records) }
+        // Where the records are not stopped, a stop leaves just what is then held; so it is of all that was judged. A shard whose records are
+        // stopped judges nothing.
+        ensures left { R.is_stopped self.new.records ≡ false → LeavesOnly self.new.shard.terms (held self.new.shard) (R.may_leave self.new.records) }
+        ensures going { is_judged_top_up result ≡ true → R.is_stopped self.new.records ≡ false }
         ensures stopped { R.is_stopped self.old.records ≡ true → is_judged_top_up result ≡ false }
     {
         self.kept.acts_are_kept();
@@ -202,8 +216,10 @@ impl<R: Records> Shard<R> {
         ensures own { AreOwn self.new.shard }
         ensures kept { IsKept self.old.shard.terms (held self.old.shard) sub (expiry_act moment) (R.may_leave self.old.records) (R.may_leave self.new.records)
             (R.is_stopped self.old.records) (R.is_stopped self.new.records) (R.faults self.old.records) (R.faults self.new.records) }
-        // What was judged is in what a stop leaves, and a shard whose records are stopped judges nothing.
-        ensures stored { is_judged_expiry result ≡ true → LeavesOnly self.new.shard.terms (held self.new.shard) (R.may_leave self.new.records) }
+        // Where the records are not stopped, a stop leaves just what is then held; so it is of all that was judged. A shard whose records are
+        // stopped judges nothing.
+        ensures left { R.is_stopped self.new.records ≡ false → LeavesOnly self.new.shard.terms (held self.new.shard) (R.may_leave self.new.records) }
+        ensures going { is_judged_expiry result ≡ true → R.is_stopped self.new.records ≡ false }
         ensures stopped { R.is_stopped self.old.records ≡ true → is_judged_expiry result ≡ false }
     {
         self.kept.acts_are_kept();
@@ -234,7 +250,12 @@ fn read<R: Records>(
     ensures there { IfOk result (λ read. R.is_honest records.new → IsLeft read.1.terms (held_in read.1.rows) (R.may_leave records.new)) }
     ensures same { (found : Content) → R.may_leave records.new found → R.may_leave records.old found }
     ensures going { OnOk result (R.is_stopped records.new ≡ R.is_stopped records.old) }
-    ensures faults { R.faults records.new ≡ R.faults records.old → R.is_stopped records.new ≡ R.is_stopped records.old }
+    ensures device { result ≡ Err Device
+        → (R.is_stopped records.old ≡ false) × (R.is_stopped records.new ≡ true) × (R.faults records.new ≡ R.faults records.old + 1) }
+    ensures usable { result ≢ Err Device
+        → (R.is_stopped records.new ≡ R.is_stopped records.old) × (R.faults records.new ≡ R.faults records.old) }
+    ensures stopped { result ≡ Err Stopped → R.is_stopped records.old ≡ true }
+    ensures frozen { R.is_stopped records.old ≡ true → IsErr result }
 {
     let identity = identity.copy()?;
     let book = records.load()?;

@@ -24,7 +24,6 @@ use std::alloc::{AllocError, Global};
 use std::marker::Model;
 
 /// 1 to 8 shards, under one plan's terms and for one server, each of which keeps the subscribers that [`shard_of`] gives it.
-/// A subscriber that stands in another shard than its own is not seen.
 #[derive(Drop)]
 pub struct Shards<R: Records> {
     terms: Terms,
@@ -33,28 +32,30 @@ pub struct Shards<R: Records> {
 }
 
 impl<R: Records> Model for Shards<R> {
-    ghost use Rattle.std.specs.Prelude.{length};
     ghost use Rattle.dcc_shard.specs.Routes.{ShardsView};
     ghost use Rattle.dcc_shard.specs.inner.Routed.{as_one, AreShards};
 
-    ghost Value = { ShardsView };
+    ghost Value = { ShardsView R };
 
-    ghost view = { λ s. record { shard = as_one s.terms s.identity s.shards.items; count = length s.shards.items } };
+    ghost view = { λ s. record { shard = as_one s.terms s.identity s.shards.items; parts = s.shards.items } };
 
     ghost invariant = { λ s. AreShards s.terms s.identity s.shards.items };
 }
 
 impl<R: Records> Shards<R> {
-    /// These shards as one. It takes no memory.
+    /// These shards as one. It takes no memory. The conditions: 1 to 8 shards, under these terms and for this server, each of which
+    /// holds only subscribers that [`shard_of`] gives it.
     pub fn new(terms: &Terms, identity: Identity, shards: Vec<Shard<R>>) -> Shards<R>
         requires some { 1 ≤ length shards.items }
         requires most { length shards.items ≤ 8 }
         requires terms { (i : ℕ) (none : StoredView R) → i < length shards.items → (slice_index_or shards.items i none).shard.terms ≡ terms.now }
         requires identity { (i : ℕ) (none : StoredView R) → i < length shards.items
             → (slice_index_or shards.items i none).shard.identity ≡ identity }
+        requires placed { (i : ℕ) (none : StoredView R) (sub : Sub) → i < length shards.items
+            → held (slice_index_or shards.items i none).shard sub ≢ [] → shard_of sub (length shards.items) ≡ i }
         ensures terms { result.shard.terms ≡ terms.now }
         ensures identity { result.shard.identity ≡ identity }
-        ensures count { result.count ≡ length shards.items }
+        ensures parts { result.parts ≡ shards.items }
         ensures held { (sub : Sub) (none : StoredView R) → held result.shard sub
             ≡ held (slice_index_or shards.items (shard_of sub (length shards.items)) none).shard sub }
         ensures own { AreOwn result.shard }
@@ -68,6 +69,28 @@ impl<R: Records> Shards<R> {
             identity,
             shards,
         }
+    }
+
+    /// The shards, each with its records, moved out.
+    pub fn into_vec(self) -> Vec<Shard<R>>
+        ensures parts { result.items ≡ self.parts }
+        ensures held { (sub : Sub) (none : StoredView R) → held self.shard sub
+            ≡ held (slice_index_or result.items (shard_of sub (length result.items)) none).shard sub }
+    {
+        same_subscribers_are_equal();
+        let Shards {
+            terms: _,
+            identity: _,
+            shards,
+        } = self;
+        shards
+    }
+
+    /// Does nothing: the acts that are held for each subscriber are those that they themselves make.
+    pub fn acts_are_own(&self)
+        ensures { AreOwn self.now.shard }
+    {
+        let _shards = &self.shards;
     }
 
     /// Who answers.
@@ -92,8 +115,9 @@ impl<R: Records> Shards<R> {
 
     /// The subscribers that have acts, each once: by shard, and then in their own order.
     pub fn subs(&self, alloc: Global) -> Result<Vec<Sub>, AllocError>
-        ensures order { IfOk result (λ subs. IsStrictlySortedBy (route_order self.now.count) subs.items) }
+        ensures order { IfOk result (λ subs. IsStrictlySortedBy (route_order (length self.now.parts)) subs.items) }
         ensures once { IfOk result (λ subs. are_apart subs.items ≡ true) }
+        ensures some { IfOk result (λ subs. (sub : Sub) → is_among sub subs.items ≡ true → held self.now.shard sub ≢ []) }
         ensures none { IfOk result (λ subs. (sub : Sub) → is_among sub subs.items ≡ false → held self.now.shard sub ≡ []) }
     {
         same_subscribers_are_equal();
@@ -121,7 +145,7 @@ impl<R: Records> Shards<R> {
         ensures step { IsStep self.old.shard self.new.shard (is_judged result) sub act }
         ensures own { AreOwn self.new.shard }
         ensures apart { IsToldApart result }
-        ensures count { self.new.count ≡ self.old.count }
+        ensures count { length self.new.parts ≡ length self.old.parts }
     {
         same_subscribers_are_equal();
         leaving_out_changes_nothing();
@@ -142,7 +166,7 @@ impl<R: Records> Shards<R> {
         ensures answer { IsTold self.old.shard sub moment ticket amount result }
         ensures step { IsStep self.old.shard self.new.shard (is_judged_top_up result) sub (top_up_act moment ticket amount) }
         ensures own { AreOwn self.new.shard }
-        ensures count { self.new.count ≡ self.old.count }
+        ensures count { length self.new.parts ≡ length self.old.parts }
     {
         same_subscribers_are_equal();
         leaving_out_changes_nothing();
@@ -156,7 +180,7 @@ impl<R: Records> Shards<R> {
         ensures answer { IsExpired self.old.shard sub moment result }
         ensures step { IsStep self.old.shard self.new.shard (is_judged_expiry result) sub (expiry_act moment) }
         ensures own { AreOwn self.new.shard }
-        ensures count { self.new.count ≡ self.old.count }
+        ensures count { length self.new.parts ≡ length self.old.parts }
     {
         same_subscribers_are_equal();
         leaving_out_changes_nothing();

@@ -44,12 +44,21 @@ returns-else-has_acts c =
     stands.2 c.install-in-First.ensures.acts (c.has_acts.ensures.none c.if-has_acts.false) in
     rw (c.in-First.is, ← c.self.view_is) (record { own = step.own; others = step.others; terms = refl })
 
-pub invariant_of-self-then-has_acts-2 : goal.invariant_of-self-then-has_acts-2
-invariant_of-self-then-has_acts-2 c =
+pub invariant_of-self-then-has_acts : goal.invariant_of-self-then-has_acts
+invariant_of-self-then-has_acts c =
     let was = c.in-First.account in
     let stands = subst (Stands c.args.self.now c.args.sub) c.in-First.is c.requires in
     let none = ap (λ (books : BooksView). account_in books.rows c.args.sub) c.self.view_is ∙ stands.0 in
     let found = found_none c.self.inside.accounts.entries c.self.inside.terms c.args.sub was none (stands.1 ∙ sym (ap (λ (books : BooksView). books.terms) c.self.view_is)) stands.2 in
-    (written_steps c.same_subscribers_are_equal.ensures c.leaving_out_changes_nothing.ensures.whole c.self.inside.accounts.entries c.insert.new.self.entries c.self.inside.terms c.args.sub was
-    c.install-in-First.new.self c.in-First.step.act c.self.invariant found (on_success c.insert.result c.unwrap.result _ c.unwrap.ensures c.insert.ensures.updates).0 c.install-in-First.ensures.terms c.install-in-First.ensures.acts
-    (c.has_acts.ensures.some c.if-has_acts.true)).books
+    (written_steps c.same_subscribers_are_equal.ensures c.leaving_out_changes_nothing.ensures.whole c.self.inside.accounts.entries c.add.new.accounts.entries c.self.inside.terms c.args.sub was
+    c.install-in-First.new.self c.in-First.step.act c.self.invariant found c.add.ensures c.install-in-First.ensures.terms c.install-in-First.ensures.acts (c.has_acts.ensures.some c.if-has_acts.true)).books
+
+pub returns-then-has_acts : goal.returns-then-has_acts
+returns-then-has_acts c =
+    let was = c.in-First.account in
+    let stands = subst (Stands c.args.self.now c.args.sub) c.in-First.is c.requires in
+    let none = ap (λ (books : BooksView). account_in books.rows c.args.sub) c.self.view_is ∙ stands.0 in
+    let found = found_none c.self.inside.accounts.entries c.self.inside.terms c.args.sub was none (stands.1 ∙ sym (ap (λ (books : BooksView). books.terms) c.self.view_is)) stands.2 in
+    let step = written_steps c.same_subscribers_are_equal.ensures c.leaving_out_changes_nothing.ensures.whole c.self.inside.accounts.entries c.add.new.accounts.entries c.self.inside.terms c.args.sub was
+    c.install-in-First.new.self c.in-First.step.act c.self.invariant found c.add.ensures c.install-in-First.ensures.terms c.install-in-First.ensures.acts (c.has_acts.ensures.some c.if-has_acts.true) in
+    rw (c.in-First.is, ← c.self.view_is) (record { own = step.own; others = step.others; terms = refl })

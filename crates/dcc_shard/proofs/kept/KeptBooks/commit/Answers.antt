@@ -4,7 +4,7 @@ use Rattle.dcc_records.specs.Stops.{LeavesOnly}
 use Rattle.dcc_shard.specs.Shards.{held_in}
 use Rattle.dcc_shard.specs.inner.Books.{BooksView, KeptView, IsStepOfBooks}
 use Rattle.dcc_shard.specs.inner.Pending.{step_of, IsPending}
-use Rattle.dcc_shard.proofs.Storing.{next_of, next_in_found, stored_only, alike_only, held_with, held_same, appended_of, was_going, kept_by_append, kept_without}
+use Rattle.dcc_shard.proofs.Storing.{next_of, next_in_found, stored_only, alike_only, held_with, held_same, with_then, appended_of, was_going, kept_by_append, kept_without}
 use Rattle.dcc_shard.proofs.kept.KeptBooks.commit.Goals.{then-is_new+in_ok-append, else-is_new}
 use Rattle.dcc_shard.proofs.kept.KeptBooks.commit.Goals as goal
 
@@ -38,10 +38,13 @@ pub returns-in_err-append-clause-kept : goal.returns-in_err-append-clause-kept
 returns-in_err-append-clause-kept g c =
     let books = c.self.inside.books in
     let step = step_of c.args.pending in
+    let pending = subst (λ (v : KeptView g.row.R.Denot). IsPending v.books c.args.sub step.act c.args.pending) (sym c.self.view_is) c.requires in
+    let made : step.is_new ≡ true = sym (ap (λ s. s.is_new) c.step-step.ensures) ∙ sym c.is_new.ensures ∙ c.if-is_new.true in
     let act_is = c.act.ensures ∙ ap (λ s. s.act) c.step-step.ensures in
     rw (← c.self.view_is) (kept_by_append books.terms (held_in books.rows) c.args.sub step.act c.append.result _ _ _ _ _ _
     (appended_of books.terms _ (held_in books.rows) c.args.sub step.act c.act.result.now c.append.result _ _ _ _ _ _ c.self.invariant.0 act_is c.append.ensures.crash c.append.ensures.device c.append.ensures.going
-    c.append.ensures.frozen) c.self.invariant.1)
+    c.append.ensures.frozen) c.self.invariant.1 c.content_has_one_book.ensures.alike (with_then c.same_subscribers_are_equal.ensures c.one_more_act.ensures c.acts_stand_apart.ensures.own c.acts_stand_apart.ensures.others
+    books.terms (held_in books.rows) c.args.sub step.act (c.acts_are_own.ensures c.args.sub) (sym pending.new_is ∙ made)))
 
 pub invariant_of-self-2 : goal.invariant_of-self-2
 invariant_of-self-2 g c =
@@ -79,13 +82,16 @@ pub returns-clause-kept : goal.returns-clause-kept
 returns-clause-kept g c =
     let books = c.self.inside.books in
     let step = step_of c.args.pending in
+    let pending = subst (λ (v : KeptView g.row.R.Denot). IsPending v.books c.args.sub step.act c.args.pending) (sym c.self.view_is) c.requires in
     elim c.if-is_new.branch [
       | then-is_new+in_ok-append w ↦
+          let made : step.is_new ≡ true = sym (ap (λ s. s.is_new) c.step-step.ensures) ∙ sym c.is_new.ensures ∙ w.if-is_new.true in
           let act_is = w.act.ensures ∙ ap (λ s. s.act) c.step-step.ensures in
           let records_are : c.if-is_new.self-inside.records ≡ w.append.new.self = ap (λ i. i.records) w.self-inside-is in
           rw (← c.self.view_is, records_are) (kept_by_append books.terms (held_in books.rows) c.args.sub step.act w.append.result _ _ _ _ _ _
           (appended_of books.terms _ (held_in books.rows) c.args.sub step.act w.act.result.now w.append.result _ _ _ _ _ _ c.self.invariant.0 act_is w.append.ensures.crash w.append.ensures.device w.append.ensures.going
-          w.append.ensures.frozen) c.self.invariant.1)
+          w.append.ensures.frozen) c.self.invariant.1 c.content_has_one_book.ensures.alike (with_then c.same_subscribers_are_equal.ensures c.one_more_act.ensures c.acts_stand_apart.ensures.own c.acts_stand_apart.ensures.others
+          books.terms (held_in books.rows) c.args.sub step.act (c.acts_are_own.ensures c.args.sub) (sym pending.new_is ∙ made)))
       | else-is_new w ↦
           let records_are : c.if-is_new.self-inside.records ≡ c.self.inside.records = ap (λ i. i.records) w.self-inside-is in
           rw (← c.self.view_is, records_are) (kept_without books.terms (held_in books.rows) c.args.sub step.act _ _ _ c.self.invariant.1)

@@ -1,0 +1,12 @@
+pub mod Texts
+pub mod Inserts
+pub mod Steps
+pub mod Lists
+pub mod Accounts
+pub mod Books
+pub mod Stopping
+pub mod Tallying
+pub mod OneMore
+pub mod Creates
+pub mod First
+pub mod TopUps

@@ -1,0 +1,114 @@
+-- What a stop leaves of the tables.
+use Rattle.std.proofs.Common.{◌≡◌, ◌⊎◌, inl, inr, ℕ, ◌+◌, ℤ, cond, IsTrue, List, [], ◌∷◌, ◌++◌, length, refl, sym, ap, subst, ◌∙◌, arith}
+use Rattle.std.proofs.Math.Logic.{∥∥₁_elim}
+use Rattle.std.proofs.Props.{props}
+use Rattle.std.proofs.lemmas.Bool.{cases_eq}
+use Rattle.std.proofs.lemmas.List.{length-append}
+use Rattle.sqlite.specs.Tree.{Trees}
+use Rattle.sqlite.specs.Effect.{Database}
+use Rattle.sqlite.specs.State.{State, HasCleanDisk, Survives}
+use Rattle.dcc_tariff.specs.Terms.{TermsView}
+use Rattle.dcc_act.specs.declared.act.Act.{Act}
+use Rattle.dcc_act.specs.declared.entry.Entry.{Entry}
+use Rattle.dcc_act.specs.declared.sub.Sub.{Sub}
+use Rattle.dcc_act.specs.Subs.{same_sub, SameAreEqual}
+use Rattle.dcc_model.specs.Outcomes.{funds}
+use Rattle.dcc_record.specs.Limits.{IsAct}
+use Rattle.dcc_record.specs.Records.{record_of}
+use Rattle.dcc_records.specs.Books.{Held, with_act}
+use Rattle.dcc_records.specs.Contents.{Content, Kept, IsContentOf, IsNext, kept_by}
+use Rattle.dcc_records.specs.Laws.{OwnGrows}
+use Rattle.dcc_records.specs.Stops.{LeavesOnly, LeavesEither}
+use Rattle.dcc_sqlrec.specs.Rows.{sub_octets}
+use Rattle.dcc_sqlrec.specs.Content.{HoldsBook, leaves}
+use Rattle.dcc_sqlrec.specs.inner.Trees.{Appends, HasCommitted, IsUndone}
+use Rattle.dcc_sqlrec.specs.inner.Keeping.{Keeps}
+use Rattle.dcc_sqlrec.proofs.Books.{book_grows, one_book}
+
+-- while it is open, a stop leaves the last commit
+abbrev pub Settles : State → Type 0
+Settles s = IsTrue s.is_open → (db : Trees) → s.may_leave db → db ≡ s.committed.trees
+
+-- records that are read back are what was written
+abbrev pub Differ : Type 0
+Differ = (a b : Act) → IsAct a → IsAct b → record_of a ≡ record_of b → a ≡ b
+
+content_along : (terms : TermsView) (a b : Held) (found : Content) → ((s : Sub) → a s ≡ b s) → IsContentOf terms a found → IsContentOf terms b found
+content_along terms a b found same is s = is s ∙ ap (kept_by terms) (same s)
+
+pub content_prop : (terms : TermsView) (held : Held) (found : Content) → IsProp (IsContentOf terms held found)
+content_prop terms held found = hlevel props
+
+-- what a connection that keeps a book is left as
+pub kept_leaves : (terms : TermsView) (s : State) (held : Held) → s.may_leave s.committed.trees → HasCleanDisk s → Keeps terms s held → leaves terms s (λ sub. kept_by terms (held sub))
+kept_leaves terms s held stays clean k = (clean, (s.committed.trees, stays, (held, subst (λ (d : Database). HoldsBook terms d.trees held) k.settled k.holds, λ sub. refl)))
+
+pub only_kept : (terms : TermsView) (s : State) (held : Held) → Differ → Settles s → Keeps terms s held → LeavesOnly terms held (leaves terms s)
+only_kept terms s held differ settles k found h =
+    let db = h.1.0 in
+    let same : db ≡ s.now.trees = settles k.is_open db h.1.1 ∙ ap (λ (d : Database). d.trees) (sym k.settled) in
+    let other = h.1.2 in
+    content_along terms other.0 held found (one_book terms s.now.trees differ other.0 held (subst (λ (t : Trees). HoldsBook terms t other.0) same other.1) k.holds) other.2
+
+pub kept_undone : (terms : TermsView) (old new : State) (held : Held) → Keeps terms old held → IsUndone old new → Keeps terms new held
+kept_undone terms old new held k it =
+    let same : new.now ≡ old.now = it.now_is ∙ sym k.settled in
+    record {
+      is_open = it.is_open;
+      autocommit = it.autocommit;
+      settled = it.now_is ∙ sym it.committed_is;
+      schema = ap (λ (d : Database). d.schema) same ∙ k.schema;
+      keyed = rw same k.keyed;
+      holds = subst (λ (d : Database). HoldsBook terms d.trees held) (sym same) k.holds;
+    }
+
+module _ (terms : TermsView) (same : SameAreEqual) (old new : State) (held : Held) (sub : Sub) (act : Act) (more : List Entry) (place : ℕ) (funds_now : ℤ) (k : Keeps terms old held) (next : IsNext terms (held sub) act more) (fit : IsAct act)
+    (at : place ≡ length (held sub) + 1) (are : funds_now ≡ funds terms (held sub ++ act ∷ [])) where
+  grown : (db : Trees) → Appends (sub_octets sub) place (record_of act) more funds_now old.now.trees db → HoldsBook terms db (with_act sub act held)
+  grown db changed =
+      book_grows terms same old.now.trees db held sub act more k.holds next fit (rw (← at, ← are) changed)
+
+  pub kept_grown : HasCommitted (Appends (sub_octets sub) place (record_of act) more funds_now) old new → Keeps terms new (with_act sub act held)
+  kept_grown it = record {
+    is_open = it.is_open;
+    autocommit = it.autocommit;
+    settled = it.settled;
+    schema = it.schema;
+    keyed = it.changes.keyed;
+    holds = grown new.now.trees it.changes;
+  }
+
+  pub either_left : Differ → Settles old → Survives old new (Appends (sub_octets sub) place (record_of act) more funds_now old.now.trees) → LeavesEither terms held (with_act sub act held) (leaves terms new)
+  either_left differ settles survives found h =
+      elim (survives.crash h.0 h.1.0 h.1.1) [
+        | inl before ↦ inl (only_kept terms old held differ settles k found (omega (arith, survives.clean, h.0), (h.1.0, before, h.1.2)))
+        | inr added ↦ let other = h.1.2 in inr (content_along terms other.0 (with_act sub act held) found (one_book terms h.1.0 differ other.0 (with_act sub act held) other.1 (grown h.1.0 added)) other.2)
+      ]
+
+-- ---- the book that the caller knows of
+
+-- a book of which a stop leaves the content and nothing else is the one that is kept
+pub same_held : (terms : TermsView) (s : State) (held known : Held) → s.may_leave s.committed.trees → HasCleanDisk s → Keeps terms s held → LeavesOnly terms known (leaves terms s) → (sub : Sub) → held sub ≡ known sub
+same_held terms s held known stays clean k only sub = ap (λ (kept : Kept). kept.acts) (only (λ t. kept_by terms (held t)) (kept_leaves terms s held stays clean k) sub)
+
+with_same : (sub : Sub) (act : Act) (a b : Held) → ((s : Sub) → a s ≡ b s) → (s : Sub) → with_act sub act a s ≡ with_act sub act b s
+with_same sub act a b same s = ap (λ (xs : List Act). cond (same_sub sub s) (xs ++ act ∷ []) xs) (same s)
+
+pub grown_along : (terms : TermsView) (sub : Sub) (act : Act) (a b : Held) (found : Content) → ((s : Sub) → a s ≡ b s) → IsContentOf terms (with_act sub act a) found → IsContentOf terms (with_act sub act b) found
+grown_along terms sub act a b found same = content_along terms (with_act sub act a) (with_act sub act b) found (with_same sub act a b same)
+
+pub along : (terms : TermsView) (a b : Held) (found : Content) → ((s : Sub) → a s ≡ b s) → IsContentOf terms a found → IsContentOf terms b found
+along = content_along
+
+-- one act more or none: the number of acts tells
+pub decided : (terms : TermsView) (own : OwnGrows) (held : Held) (sub : Sub) (act : Act) (found : Content) → ∥ (IsContentOf terms held found ⊎ IsContentOf terms (with_act sub act held) found) ∥₁
+    → IsContentOf terms held found ⊎ IsContentOf terms (with_act sub act held) found
+decided terms own held sub act found known =
+    let count = length (found sub).acts in
+    let one_more : IsContentOf terms (with_act sub act held) found → count ≡ length (held sub) + 1 = λ is.
+    ap (λ (kept : Kept). length kept.acts) (is sub) ∙ ap length (own sub act held) ∙ length-append (held sub) (act ∷ []) in
+    let none : IsContentOf terms held found → count ≡ length (held sub) = λ is. ap (λ (kept : Kept). length kept.acts) (is sub) in
+    elim (cases_eq count (length (held sub))) [
+      | inl even ↦ inl (∥∥₁_elim known (content_prop terms held found) (elim [ inl x ↦ x | inr y ↦ absurd (let e = one_more y in omega (arith, e, even)) ]))
+      | inr odd ↦ inr (∥∥₁_elim known (content_prop terms (with_act sub act held) found) (elim [ inl x ↦ absurd (odd (none x)) | inr y ↦ y ]))
+    ]

@@ -1,0 +1,66 @@
+-- Tallies of subscribers.
+use Rattle.std.proofs.Common.{◌≡◌, inl, inr, ℕ, zero, suc, ◌+◌, ◌<◌, ℤ, ◌+ℤ◌, pos, true, cond, List, [], ◌∷◌, ◌++◌, length, take, get_or, Option, Some, None, unwrap_or, refl, sym, ap, ◌∙◌, arith, rules}
+use native.Mathlib.Numerals.{add-one}
+use Rattle.std.proofs.Math.IntN.{+ℤ_assoc, +ℤ_comm}
+use Rattle.std.specs.Map.{lookup}
+use Rattle.std.specs.Ordering.{is_eq}
+use Rattle.std.specs.Cmp.Rules.{comparing}
+use Rattle.std.proofs.lemmas.Bool.{cases_Bool}
+use Rattle.dcc_tariff.specs.Terms.{TermsView}
+use Rattle.dcc_act.specs.declared.act.Act.{Act}
+use Rattle.dcc_act.specs.declared.entry.Entry.{Entry}
+use Rattle.dcc_act.specs.declared.sub.Sub.{Sub}
+use Rattle.dcc_act.specs.Subs.{same_sub, SameAreEqual}
+use Rattle.dcc_model.specs.Entries.{sum_of}
+use Rattle.dcc_model.specs.Outcomes.{funds}
+use Rattle.dcc_records.specs.Books.{Held, sub_order, with_act}
+use Rattle.dcc_sqlrec.specs.declared.counts.Tally.{Tally}
+use Rattle.dcc_sqlrec.specs.inner.Tallies.{tally_in, no_tally, AreTallies}
+
+sum_suc : (es : List Entry) (i : ℕ) (e : Entry) → i < length es → sum_of (take (suc i) es) ≡ sum_of (take i es) +ℤ (get_or es i e).amount
+sum_suc [] i e below = absurd (omega (arith, below))
+sum_suc (x ∷ es) zero e below = +ℤ_comm x.amount (pos 0)
+sum_suc (x ∷ es) (suc i) e below = ap (λ n. x.amount +ℤ n) (sum_suc es i e (omega (arith, below))) ∙ sym (+ℤ_assoc x.amount (sum_of (take i es)) (get_or es i e).amount)
+
+-- the sum with one entry more
+pub sum_more : (es : List Entry) (i : ℕ) (e : Entry) (start total next : ℤ) → i < length es → total ≡ start +ℤ sum_of (take i es) → e ≡ get_or es i e → next ≡ total +ℤ e.amount
+    → next ≡ start +ℤ sum_of (take (i + 1) es)
+sum_more es i e start total next below so_far at added =
+    added ∙ ap (λ n. n +ℤ e.amount) so_far ∙ +ℤ_assoc start (sum_of (take i es)) e.amount
+    ∙ ap (λ n. start +ℤ n) (ap (λ (it : Entry). sum_of (take i es) +ℤ it.amount) at ∙ sym (sum_suc es i e below) ∙ ap (λ (k : ℕ). sum_of (take k es)) (sym (add-one i)))
+
+same_where_equal : (a b : Sub) → same_sub a b ≡ is_eq (sub_order a b)
+same_where_equal = search (comparing, rules)
+
+pub equal_subs : (a b : Sub) → SameAreEqual → is_eq (sub_order a b) ≡ true → a ≡ b
+equal_subs a b same h = (same a b).0 (same_where_equal a b ∙ h)
+
+-- a tally of nothing where there was none changes none
+pub room_made : (old new : List (Sub × Tally)) (sub : Sub) → SameAreEqual → lookup (λ key. is_eq (sub_order sub key)) old ≡ None
+    → ((q : Sub) → lookup (λ key. is_eq (sub_order q key)) new ≡ cond (is_eq (sub_order sub q)) (Some no_tally) (lookup (λ key. is_eq (sub_order q key)) old))
+    → (other : Sub) → tally_in new other ≡ tally_in old other
+room_made old new sub same none updates other =
+    ap (λ (o : Option Tally). unwrap_or o no_tally) (updates other)
+    ∙ elim (cases_Bool (is_eq (sub_order sub other))) [
+      | inl one ↦
+          let e : sub ≡ other = equal_subs sub other same one in
+          let gone : lookup (λ key. is_eq (sub_order other key)) old ≡ None = ap (λ (s : Sub). lookup (λ key. is_eq (sub_order s key)) old) (sym e) ∙ none in
+          rw (one, gone) refl
+      | inr apart ↦ rw apart refl
+    ]
+
+-- the tallies of a book with an act more
+pub tallies_grow : (terms : TermsView) (old new : List (Sub × Tally)) (held : Held) (sub : Sub) (act : Act) (next : Tally) → SameAreEqual → AreTallies terms old held
+    → next ≡ record { acts = length (held sub ++ act ∷ []); funds = funds terms (held sub ++ act ∷ []) }
+    → ((other : Sub) → tally_in new other ≡ cond (is_eq (sub_order sub other)) next (tally_in old other)) → AreTallies terms new (with_act sub act held)
+tallies_grow terms old new held sub act next same are is set other =
+    set other
+    ∙ elim (cases_Bool (is_eq (sub_order sub other))) [
+      | inl one ↦
+          let e : sub ≡ other = equal_subs sub other same one in
+          rw (one, same_where_equal sub other, one, is, e) refl
+      | inr apart ↦ rw (apart, same_where_equal sub other, apart) (are other)
+    ]
+
+pub tallies_same : (terms : TermsView) (old new : List (Sub × Tally)) (held : Held) → ((other : Sub) → tally_in new other ≡ tally_in old other) → AreTallies terms old held → AreTallies terms new held
+tallies_same terms old new held same are other = same other ∙ are other

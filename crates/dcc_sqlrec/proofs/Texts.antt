@@ -1,0 +1,166 @@
+-- What the texts of the statements mean.
+use Rattle.std.proofs.Common.{◌≡◌, ℕ, pos, negsuc, List, [], ◌∷◌, codes, None, Ok, false, refl}
+use Rattle.sqlite.specs.declared.types.Value.TheVariants.{Null, Int}
+use Rattle.sqlite.specs.Term.{Term, lit, col, op2}
+use Rattle.sqlite.specs.Query.{Query, inner, end}
+use Rattle.sqlite.specs.Schema.{Schema}
+use Rattle.sqlite.specs.Table.{Table}
+use Rattle.sqlite.specs.Source.TheVariants.{Values}
+use Rattle.sqlite.specs.Command.TheVariants.{Insert, Delete, Select, CreateTable}
+use Rattle.sqlite_sql.specs.declared.ops.BinaryOp.TheVariants.{Compare}
+use Rattle.sqlite_sql.specs.declared.ops.CompareOp.TheVariants.{Eq}
+use Rattle.sqlite.specs.Compile.{table_defined_by}
+use Rattle.sqlite.specs.Listing.{understood, reads_listing}
+use Rattle.sqlite.specs.Collation.TheVariants.{Binary}
+use Rattle.sqlite_value.specs.Keys.{ascending}
+use Rattle.sqlite_tied.specs.Compute.{everything}
+use Rattle.sqlite.proofs.Callers.{IsPlain, command_of, statement_of}
+use Rattle.dcc_sqlrec.specs.Tables.{setting_text, act_text, entry_text, account_text, setting_table, act_table, entry_table, account_table, no_schema, one_table, two_tables, three_tables, layout}
+
+-- ---- the tables
+
+abbrev pub Makes : Schema → List ℕ → Table → Type 0
+Makes schema text table = (command_of (understood schema text) ≡ CreateTable) × (statement_of text (understood schema text) ≡ text) × (table_defined_by text ≡ Ok table)
+
+pub setting_is : Makes no_schema setting_text setting_table
+unfolding understood everything
+setting_is = (refl, refl, refl)
+
+pub setting_plain : IsPlain (understood no_schema setting_text)
+unfolding understood everything
+setting_plain = (refl, refl)
+
+pub act_is : Makes one_table act_text act_table
+unfolding understood everything
+act_is = (refl, refl, refl)
+
+pub act_plain : IsPlain (understood one_table act_text)
+unfolding understood everything
+act_plain = (refl, refl)
+
+pub entry_is : Makes two_tables entry_text entry_table
+unfolding understood everything
+entry_is = (refl, refl, refl)
+
+pub entry_plain : IsPlain (understood two_tables entry_text)
+unfolding understood everything
+entry_plain = (refl, refl)
+
+pub account_is : Makes three_tables account_text account_table
+unfolding understood everything
+account_is = (refl, refl, refl)
+
+pub account_plain : IsPlain (understood three_tables account_text)
+unfolding understood everything
+account_plain = (refl, refl)
+
+-- ---- what is written
+
+abbrev pub new_setting : List ℕ
+new_setting = codes "INSERT INTO setting VALUES (1, 1, ?1, ?2, ?3, ?4, ?5, ?6, ?7, ?8)"
+
+abbrev pub setting_terms : List Term
+setting_terms = lit (Int (pos 1)) ∷ lit Null ∷ lit (Int (pos 1)) ∷ col 0 0 ∷ col 0 1 ∷ col 0 2 ∷ col 0 3 ∷ col 0 4 ∷ col 0 5 ∷ col 0 6 ∷ col 0 7 ∷ []
+
+pub new_setting_is : command_of (understood layout new_setting) ≡ Insert 0 (Values setting_terms 11)
+unfolding understood everything
+new_setting_is = refl
+
+pub new_setting_plain : IsPlain (understood layout new_setting)
+unfolding understood everything
+new_setting_plain = (refl, refl)
+
+abbrev pub new_act : List ℕ
+new_act = codes "INSERT INTO act VALUES (?1, ?2, ?3)"
+
+abbrev pub act_terms : List Term
+act_terms = lit Null ∷ col 0 0 ∷ col 0 1 ∷ col 0 2 ∷ []
+
+pub new_act_is : command_of (understood layout new_act) ≡ Insert 1 (Values act_terms 4)
+unfolding understood everything
+new_act_is = refl
+
+pub new_act_plain : IsPlain (understood layout new_act)
+unfolding understood everything
+new_act_plain = (refl, refl)
+
+abbrev pub new_entry : List ℕ
+new_entry = codes "INSERT INTO entry VALUES (?1, ?2, ?3, ?4, ?5, ?6, ?7)"
+
+abbrev pub entry_terms : List Term
+entry_terms = lit Null ∷ col 0 0 ∷ col 0 1 ∷ col 0 2 ∷ col 0 3 ∷ col 0 4 ∷ col 0 5 ∷ col 0 6 ∷ []
+
+pub new_entry_is : command_of (understood layout new_entry) ≡ Insert 2 (Values entry_terms 8)
+unfolding understood everything
+new_entry_is = refl
+
+pub new_entry_plain : IsPlain (understood layout new_entry)
+unfolding understood everything
+new_entry_plain = (refl, refl)
+
+abbrev pub new_account : List ℕ
+new_account = codes "INSERT INTO account VALUES (?1, ?2, ?3)"
+
+pub new_account_is : command_of (understood layout new_account) ≡ Insert 3 (Values act_terms 4)
+unfolding understood everything
+new_account_is = refl
+
+pub new_account_plain : IsPlain (understood layout new_account)
+unfolding understood everything
+new_account_plain = (refl, refl)
+
+-- ---- what is deleted
+
+abbrev pub old_account : List ℕ
+old_account = codes "DELETE FROM account WHERE sub = ?1"
+
+abbrev pub of_sub : Query
+of_sub = record {
+  from = inner 5 end;
+  filter = op2 (Compare Eq Binary) (col 1 1) (col 0 0) ∷ [];
+  group = None;
+  project = col 1 0 ∷ [];
+  distinct = false;
+  collations = [];
+  order = [];
+  limit = lit (Int (negsuc 0));
+  offset = lit (Int (pos 0));
+}
+
+pub old_account_is : command_of (understood layout old_account) ≡ Delete 3 (record { lets = []; body = of_sub })
+unfolding understood everything
+old_account_is = refl
+
+pub old_account_plain : IsPlain (understood layout old_account)
+unfolding understood everything
+old_account_plain = (refl, refl)
+
+-- ---- what is read
+
+abbrev pub all_acts : List ℕ
+all_acts = codes "SELECT sub, place, body FROM act ORDER BY sub, place"
+
+abbrev pub acts_query : Query
+acts_query = record {
+  from = inner 1 end;
+  filter = [];
+  group = None;
+  project = col 1 1 ∷ col 1 2 ∷ col 1 3 ∷ [];
+  distinct = false;
+  collations = [];
+  order = (col 1 1, ascending Binary) ∷ (col 1 2, ascending Binary) ∷ [];
+  limit = lit (Int (negsuc 0));
+  offset = lit (Int (pos 0));
+}
+
+pub all_acts_is : command_of (understood layout all_acts) ≡ Select (record { lets = []; body = acts_query }) (codes "sub" ∷ codes "place" ∷ codes "body" ∷ [])
+unfolding understood everything
+all_acts_is = refl
+
+pub all_acts_plain : IsPlain (understood layout all_acts)
+unfolding understood everything
+all_acts_plain = (refl, refl)
+
+pub all_acts_unlisted : reads_listing layout all_acts ≡ false
+unfolding understood everything
+all_acts_unlisted = refl

@@ -1,0 +1,28 @@
+use Rattle.std.proofs.Common.{◌≡◌, rules}
+use Rattle.sqlite.specs.Held.{state}
+use Rattle.dcc_records.specs.Books.{no_acts}
+use Rattle.dcc_sqlrec.specs.Tables.{no_schema}
+use Rattle.dcc_sqlrec.proofs.Stopping.{Settles, only_kept}
+use Rattle.dcc_sqlrec.proofs.First.{keeps_nothing, first_book}
+use Rattle.dcc_sqlrec.proofs.sql_records.SqlRecords.create.Goals as goal
+
+pub invariant_of-result : goal.invariant_of-result
+invariant_of-result g c =
+    let old = state g.S.Store c.args.conn in
+    let new = state g.S.Store c.make_store.new.conn in
+    let blank : c.args.conn.schema ≡ no_schema = search rules in
+    let terms = c.args.setting.now.terms in
+    record {
+      idle = c.in-Ok.ensures.mode;
+      kept = λ _ clean. rw c.new.ensures.empty (∣ first_book terms old new c.leaving_out_changes_nothing.ensures.none c.funds_are_accounted_for.ensures.entries (c.in-Ok.ensures.made clean blank) ∣₁);
+    }
+
+pub returns-in-Ok-clause-empty : goal.returns-in-Ok-clause-empty
+returns-in-Ok-clause-empty g c =
+    let old = state g.S.Store c.args.conn in
+    let conn = c.make_store.new.conn in
+    let new = state g.S.Store conn in
+    let blank : c.args.conn.schema ≡ no_schema = search rules in
+    let settled : Settles new = λ is_open db may. g.met.S.Store.settled conn.store db is_open may in
+    let terms = c.args.setting.now.terms in
+    λ found left. only_kept terms new no_acts c.records_differ.ensures.one settled (keeps_nothing terms old new c.leaving_out_changes_nothing.ensures.none (c.in-Ok.ensures.made left.0 blank)) found left

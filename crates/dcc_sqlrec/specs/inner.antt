@@ -1,0 +1,4 @@
+pub mod Trees
+pub mod Tallies
+pub mod Keeping
+pub mod Making

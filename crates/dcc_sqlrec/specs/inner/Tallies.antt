@@ -1,0 +1,20 @@
+-- What records know of each subscriber.
+use Rattle.std.specs.Prelude.{◌≡◌, pos, List, length, unwrap_or}
+use Rattle.std.specs.Map.{lookup}
+use Rattle.std.specs.Ordering.{is_eq}
+use Rattle.dcc_tariff.specs.Terms.{TermsView}
+use Rattle.dcc_act.specs.declared.sub.Sub.{Sub}
+use Rattle.dcc_model.specs.Outcomes.{funds}
+use Rattle.dcc_records.specs.Books.{Held, sub_order}
+use Rattle.dcc_sqlrec.specs.declared.counts.Tally.{Tally}
+
+-- of a subscriber who has none: no acts, no funds
+abbrev pub no_tally : Tally
+no_tally = record { acts = 0; funds = pos 0 }
+
+abbrev pub tally_in : List (Sub × Tally) → Sub → Tally
+tally_in tallies sub = unwrap_or (lookup (λ key. is_eq (sub_order sub key)) tallies) no_tally
+
+-- they are those of a book
+abbrev pub AreTallies : TermsView → List (Sub × Tally) → Held → Type 0
+AreTallies terms tallies held = (sub : Sub) → tally_in tallies sub ≡ record { acts = length (held sub); funds = funds terms (held sub) }

@@ -1,0 +1,36 @@
+//! Records over `sqlite`: the acts of subscribers, with their entries and accounts, as rows of four tables.
+//!
+//! Stands on `dcc_records` for what records promise, on `dcc_record` for the octets of an act, on `dcc_model`, `dcc_act` and
+//! `dcc_tariff` for books, and on the kit's `sqlite` for what a stop leaves of a database. The tables stand in
+//! `specs/Tables.antt` as SQL makes them, their rows in `specs/Rows.antt`, and what they hold of a book in
+//! `specs/Content.antt`.
+//!
+//! The contract that it gives:
+//! - [`SqlRecords::create`] makes the tables in an empty database in one transaction: a stop inside leaves the database as it
+//!   was, or with tables that hold no acts.
+//! - [`SqlRecords::append`] writes an act, its entries and its subscriber's account in one transaction. Its clauses are those of
+//!   `dcc_records::Records::append`: after Ok a stop leaves the content of the book with the act, after want of memory that of
+//!   the book before, and after any other refusal, or inside the call, the one or the other; then nothing is done any more.
+//! - [`stop_and_open`] finds one of the databases that a stop leaves.
+//!
+//! It doesn't read a store yet, so it has no `load` and no opening, and [`SqlRecords`] aren't `Records` until it does.
+#![tactic(auto)]
+
+mod adding;
+mod appending;
+mod counts;
+mod fault;
+mod files;
+mod making;
+mod setting;
+mod sql_records;
+mod tally;
+mod transaction;
+
+pub use fault::CreateFault;
+pub use files::stop_and_open;
+pub use setting::Setting;
+pub use sql_records::SqlRecords;
+
+#[cfg(test)]
+mod tests;

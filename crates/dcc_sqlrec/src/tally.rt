@@ -1,0 +1,67 @@
+//! What records know of each subscriber without asking the database.
+
+ghost use Rattle.std.specs.Prelude.{◌≡◌, ◌+◌, ◌+ℤ◌, if◌then◌else◌, IsSome, IfSome, OnOk};
+ghost use Rattle.std.specs.Map.{lookup};
+ghost use Rattle.std.specs.Ordering.{is_eq};
+ghost use Rattle.dcc_act.specs.declared.sub.Sub.{Sub};
+ghost use Rattle.dcc_model.specs.Entries.{sum_of};
+ghost use Rattle.dcc_records.specs.Books.{sub_order};
+ghost use Rattle.dcc_sqlrec.specs.inner.Tallies.{tally_in, no_tally};
+
+use crate::counts::Tally;
+use dcc_act::{Entry, Sub, same_subscribers_are_equal};
+use std::alloc::AllocError;
+use std::collections::BTreeMap;
+
+/// The tally with one act more, which adds these entries, or none where it passes what a row can hold.
+pub fn with_act(tally: Tally, entries: &[Entry]) -> Option<Tally>
+    ensures acts { IfSome result (λ next. next.acts ≡ tally.acts + 1) }
+    ensures funds { IfSome result (λ next. next.funds ≡ tally.funds +ℤ sum_of entries.now) }
+{
+    let acts = tally.acts.checked_add(1)?;
+    let funds = add_amounts(tally.funds, entries)?;
+    Some(Tally { acts, funds })
+}
+
+/// The funds with the amounts of the entries, or none where they pass 64 bits.
+fn add_amounts(funds: i64, entries: &[Entry]) -> Option<i64>
+    ensures { IfSome result (λ total. total ≡ funds +ℤ sum_of entries.now) }
+{
+    match entries {
+        [] => Some(funds),
+        [first, rest @ ..] => add_amounts(funds.checked_add(first.amount)?, rest),
+    }
+}
+
+/// The tally of a subscriber.
+pub fn tally_of(tallies: &BTreeMap<Sub, Tally>, sub: Sub) -> Tally
+    ensures { result ≡ tally_in tallies.now.entries sub }
+{
+    match tallies.get(&sub) {
+        Some(tally) => *tally,
+        None => Tally { acts: 0, funds: 0 },
+    }
+}
+
+/// Makes room for the tally of a subscriber, or changes nothing; each tally stays.
+pub fn make_room(tallies: &mut BTreeMap<Sub, Tally>, sub: Sub) -> Result<(), AllocError>
+    ensures same { (other : Sub) → tally_in tallies.new.entries other ≡ tally_in tallies.old.entries other }
+    ensures there { OnOk result (IsSome (lookup (λ key. is_eq (sub_order sub key)) tallies.new.entries)) }
+{
+    same_subscribers_are_equal();
+    if !tallies.contains_key(&sub) {
+        tallies.insert(sub, Tally { acts: 0, funds: 0 })?;
+    }
+    Ok(())
+}
+
+/// Sets the tally of a subscriber for whom there is room. It takes no memory.
+pub fn set_tally(tallies: &mut BTreeMap<Sub, Tally>, sub: Sub, tally: Tally)
+    requires { IsSome (lookup (λ key. is_eq (sub_order sub key)) tallies.old.entries) }
+    ensures { (other : Sub)
+        → tally_in tallies.new.entries other ≡ (if is_eq (sub_order sub other) then tally else tally_in tallies.old.entries other) }
+{
+    if let Some(place) = tallies.get_mut(&sub) {
+        *place = tally;
+    }
+}
