@@ -100,8 +100,8 @@ impl<R: Records> Engine<R> {
     /// Answers events in order, each with one out.
     ///
     /// An `Err` is want of memory for the outs and for the new peers with their hosts, and changes nothing. Want of memory
-    /// inside an event is a busy answer, or none where the busy answer finds no memory either, and that event changes
-    /// nothing.
+    /// inside an event, and records that fail or are stopped, are a busy answer, or none where the busy answer finds no memory
+    /// either, and that event changes nothing that is held.
     pub fn run(&mut self, alloc: Global, events: &[Event]) -> Result<Vec<Out>, AllocError>
         // One out for each event.
         ensures count { IfOk result (λ outs. length outs.items ≡ length events.now) }

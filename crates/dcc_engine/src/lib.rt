@@ -5,7 +5,7 @@
 //! events, a subscriber's request is answered with the octets of the outcome at its place in that subscriber's own entries, or
 //! refused with nothing changed; afterwards the subscriber's acts and money are those of the own entries. A message of no
 //! subscriber is answered by its definition, from the message and its peer's own events, or refused with nothing changed. A
-//! sweep is one expiry of each subscriber, each by itself, and what memory refused of it is told subscriber by subscriber. The
+//! sweep is one expiry of each subscriber, each by itself, and what memory or a shard's records refused of it is told subscriber by subscriber. The
 //! law `isolation` follows: two runs that agree on a subscriber's own events agree on its answers, octet for octet.
 #![tactic(auto)]
 

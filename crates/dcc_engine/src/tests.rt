@@ -6,10 +6,10 @@ use dcc_act::{Moment, Sub};
 use dcc_base::Host;
 use dcc_message::{DiameterIdentity, Identity};
 use dcc_octets::OctetString;
+use dcc_records::MemoryRecords;
 use dcc_samples::{
     ANSWER, BUSY, CAPABILITIES, CAPABILITIES_ANSWER, DEBIT, PLAN, WATCHDOG, WATCHDOG_ANSWER,
 };
-use dcc_records::MemoryRecords;
 use dcc_shard::{TopUpAnswer, shards_in_memory};
 use dcc_tariff::Plan;
 use std::alloc::Global;
