@@ -12,3 +12,4 @@ pub mod Requests
 pub mod TopUps
 pub mod Replies
 pub mod Sweeps
+pub mod Refusing

@@ -279,8 +279,8 @@ request_moves_nothing setting rows id moment octets message out received q =
     ]
 
 -- one turn of a request, whose engine keeps its setting and its peers
-pub stays_put : (old : EngineView) (new : ShardView) (id moment : ℕ) (octets : List ℕ) (message : MessageView) (given : List ℕ) → received_on (peer_of old id) octets ≡ Received.Charging message
+pub stays_put : (old : EngineView) (new : ShardView) (shards id moment : ℕ) (octets : List ℕ) (message : MessageView) (given : List ℕ) → received_on (peer_of old id) octets ≡ Received.Charging message
     → Judged old.setting (peer_of old) old.shard new id moment octets given
-    → IsTurnDone old (record { setting = old.setting; peers = old.peers; shard = new }) (record { event = events.Message id moment octets; out = out_octets (Some id) given })
-stays_put old new id moment octets message given received judged =
+    → IsTurnDone old (record { setting = old.setting; peers = old.peers; shard = new; shards = shards }) (record { event = events.Message id moment octets; out = out_octets (Some id) given })
+stays_put old new shards id moment octets message given received judged =
     record { judged = judged; peers = request_moves_nothing old.setting (peer_of old) id moment octets message (out_octets (Some id) given) received; setting = refl }

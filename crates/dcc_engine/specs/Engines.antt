@@ -22,6 +22,8 @@ pub record EngineView : Type 0 where
   pub setting : Setting
   pub peers : PeersView
   pub shard : ShardView
+  -- how many shards it is
+  pub shards : ℕ
 
 -- a peer, where it is connected
 abbrev pub peer_in : List PeerRow → ℕ → Option Peer
@@ -40,3 +42,4 @@ pub record IsUnchanged (old new : EngineView) : Type 0 where
   pub setting : new.setting ≡ old.setting
   pub peers : (id : ℕ) → peer_of new id ≡ peer_of old id
   pub held : (sub : Sub) → held_of new sub ≡ held_of old sub
+  pub shards : new.shards ≡ old.shards

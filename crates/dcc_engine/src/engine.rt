@@ -1,6 +1,8 @@
 //! The engine.
 
-ghost use Rattle.std.specs.Prelude.{◌≡◌, ◌≢◌, ◌+◌, ◌<◌, ◌≤◌, ℕ, [], map, length, None};
+ghost use Rattle.std.specs.Prelude.{◌≡◌, ◌≢◌, ◌+◌, ◌<◌, ◌≤◌, ℕ, [], map, length, None, All};
+ghost use Rattle.std.specs.List.Sorted.{IsStrictlySortedBy};
+ghost use Rattle.dcc_shard.specs.Routes.{route_order};
 ghost use Rattle.std.specs.Prelude.{IfOk, IfSome, IfNone, OnErr};
 ghost use Rattle.dcc_act.specs.declared.sub.Sub.{Sub};
 ghost use Rattle.dcc_model.specs.Outcomes.{acts, funds, free, overrun};
@@ -40,13 +42,13 @@ pub struct Engine<R: Records> {
 }
 
 impl<R: Records> Model for Engine<R> {
-    ghost use Rattle.std.specs.Prelude.{◌≡◌};
+    ghost use Rattle.std.specs.Prelude.{◌≡◌, length};
     ghost use Rattle.dcc_shard.specs.Shards.{AreOwn};
     ghost use Rattle.dcc_engine.specs.Engines.{EngineView};
 
     ghost Value = { EngineView };
 
-    ghost view = { λ e. record { setting = record { plan = e.plan; identity = e.identity }; peers = e.peers; shard = e.shards.shard } };
+    ghost view = { λ e. record { setting = record { plan = e.plan; identity = e.identity }; peers = e.peers; shard = e.shards.shard; shards = length e.shards.parts } };
 
     ghost invariant = { λ e. (e.shards.shard.terms ≡ e.plan.terms) × (e.shards.shard.identity ≡ e.identity) × AreOwn e.shards.shard };
 }
@@ -61,6 +63,7 @@ impl<R: Records> Engine<R> {
         ensures setting { IfOk result (λ engine. engine.setting ≡ record { plan = plan; identity = shards.shard.identity }) }
         ensures peers { IfOk result (λ engine. (id : ℕ) → peer_of engine id ≡ None) }
         ensures accounts { IfOk result (λ engine. (sub : Sub) → held_of engine sub ≡ held shards.shard sub) }
+        ensures shards { IfOk result (λ engine. engine.shards ≡ length shards.parts) }
     {
         shards.acts_are_own();
         let identity = shards.identity().copy()?;
@@ -75,6 +78,7 @@ impl<R: Records> Engine<R> {
     /// The shards, moved out, with all that they hold.
     pub fn into_shards(self) -> Shards<R>
         ensures shard { result.shard ≡ self.shard }
+        ensures count { length result.parts ≡ self.shards }
         ensures terms { result.shard.terms ≡ self.setting.plan.terms }
         ensures identity { result.shard.identity ≡ self.setting.identity }
     {
@@ -119,7 +123,10 @@ impl<R: Records> Engine<R> {
             ≡ overrun self.old.setting.plan.terms (own self.old (turns events.now outs.items) sub)) }
         // Each peer is where its own events leave it.
         ensures peers { IfOk result (λ outs. (id : ℕ) → peer_of self.new id ≡ peers self.old (turns events.now outs.items) id) }
+        // What a sweep refused is told by shard, and then by type and data.
+        ensures order { IfOk result (λ outs. All (λ out. IsStrictlySortedBy (route_order self.old.shards) out.refused) outs.items) }
         ensures setting { self.new.setting ≡ self.old.setting }
+        ensures shards { self.new.shards ≡ self.old.shards }
         ensures err { OnErr result (IsUnchanged self.old self.new) }
     {
         leaving_out_changes_nothing();
@@ -141,6 +148,8 @@ impl<R: Records> Engine<R> {
         requires room { 0 < self.old.peers.room }
         requires host { host ≡ host_in event.now }
         ensures done { IsTurnDone self.old self.new (record { event = event.now; out = result }) }
+        ensures order { IsStrictlySortedBy (route_order self.old.shards) result.refused }
+        ensures shards { self.new.shards ≡ self.old.shards }
         ensures room { self.old.peers.room ≤ self.new.peers.room + 1 }
     {
         same_subscribers_are_equal();
@@ -175,6 +184,8 @@ impl<R: Records> Engine<R> {
     fn hear(&mut self, alloc: Global, peer: u32, moment: Moment, octets: &OctetString) -> Out
         requires room { 0 < self.old.peers.room }
         ensures done { IsTurnDone self.old self.new (record { event = Message peer moment octets.now; out = result }) }
+        ensures quiet { result.refused ≡ [] }
+        ensures shards { self.new.shards ≡ self.old.shards }
         ensures room { self.old.peers.room ≤ self.new.peers.room + 1 }
     {
         same_subscribers_are_equal();

@@ -30,6 +30,7 @@ impl<R: Records> Engine<R> {
         ensures served { IsServed self.old.setting self.old.shard self.new.shard moment (message_view header octets.now) result }
         ensures setting { self.new.setting ≡ self.old.setting }
         ensures peers { self.new.peers ≡ self.old.peers }
+        ensures shards { self.new.shards ≡ self.old.shards }
     {
         let Ok(message) = Message::read(alloc, header, octets) else {
             return OctetString::new(alloc);

@@ -1,7 +1,9 @@
 //! A sweep: each subscriber's expiry, by itself.
 
-ghost use Rattle.std.specs.Prelude.{◌≡◌, ◌<◌, true, vec_len, vec_capacity, IfOk, OnErr};
+ghost use Rattle.std.specs.Prelude.{◌≡◌, ◌<◌, true, length, vec_len, vec_capacity, IfOk, OnErr};
+ghost use Rattle.std.specs.List.Sorted.{IsStrictlySortedBy};
 ghost use Rattle.dcc_shard.specs.Answers.{expiry_act};
+ghost use Rattle.dcc_shard.specs.Routes.{route_order};
 ghost use Rattle.dcc_shard.specs.Shards.{AreOwn, are_apart};
 ghost use Rattle.dcc_engine.specs.inner.Sweeps.{IsSwept, IsOneSwept};
 ghost use Rattle.dcc_engine.specs.inner.Turns.{IsTurnDone};
@@ -21,6 +23,8 @@ impl<R: Records> Engine<R> {
     pub(crate) fn sweep(&mut self, alloc: Global, moment: Moment) -> Out
         ensures done { IsTurnDone self.old self.new (record { event = Sweep moment; out = result }) }
         ensures peers { self.new.peers ≡ self.old.peers }
+        ensures order { IsStrictlySortedBy (route_order self.old.shards) result.refused }
+        ensures shards { self.new.shards ≡ self.old.shards }
     {
         same_subscribers_are_equal();
         let Ok(subs) = self.shards.subs(alloc) else {
@@ -42,8 +46,11 @@ fn expire_each<R: Records>(
     moment: Moment,
 ) -> Result<Subs, AllocError>
     requires once { are_apart subs.now ≡ true }
+    requires order { IsStrictlySortedBy (route_order (length shards.old.parts)) subs.now }
     requires own { AreOwn shards.old.shard }
     ensures swept { IfOk result (λ refused. IsSwept shards.old.shard shards.new.shard subs.now refused (expiry_act moment)) }
+    ensures order { IfOk result (IsStrictlySortedBy (route_order (length shards.old.parts))) }
+    ensures count { length shards.new.parts ≡ length shards.old.parts }
     ensures err { OnErr result (shards.new ≡ shards.old) }
     ensures own { AreOwn shards.new.shard }
 {
@@ -66,6 +73,7 @@ fn expire_one<R: Records>(
     requires room { vec_len refused.old < vec_capacity refused.old }
     ensures swept { IsOneSwept shards.old.shard shards.new.shard refused.old.items refused.new.items sub (expiry_act moment) }
     ensures own { AreOwn shards.new.shard }
+    ensures count { length shards.new.parts ≡ length shards.old.parts }
     ensures room { vec_capacity refused.new ≡ vec_capacity refused.old }
 {
     if shards.expire(alloc, sub, moment) == ExpiryAnswer::Refused {

@@ -1,9 +1,11 @@
-use Rattle.std.proofs.Common.{◌≡◌, ◌∷◌, [], ◌++◌, ◌+◌, take, subst, sym, ap, ◌∙◌, arith, false, List}
+use Rattle.std.proofs.Common.{◌≡◌, ◌∷◌, [], ◌++◌, ◌+◌, length, take, drop, subst, sym, ap, ◌∙◌, arith, false, List}
 use Rattle.std.proofs.lemmas.List.{take_more}
 use Rattle.dcc_act.specs.declared.sub.Sub.{Sub}
 use Rattle.dcc_shard.specs.Answers.{expiry_act}
 use Rattle.dcc_shard.specs.Shards.{is_among}
 use Rattle.dcc_engine.specs.inner.Sweeps.{IsSwept}
+use Rattle.dcc_shard.specs.Routes.{route_order}
+use Rattle.dcc_engine.proofs.Refusing.{next_to_come, order_more}
 use Rattle.dcc_engine.proofs.Sweeps.{first_here, few_more, swept_more}
 use Rattle.dcc_engine.proofs.sweep.expire_each.Goals as goal
 
@@ -30,4 +32,7 @@ loop-sub-preserved g c =
       few = few_more now new before then_refused sub act i one h.few;
       room = omega arith;
       own = c.expire_one.ensures.own;
+      count = c.expire_one.ensures.count ∙ h.count;
+      order = order_more (route_order (length c.args.shards.now.parts)) before then_refused (drop (i + 1) subs) (drop i subs) sub one.judged
+          (next_to_come subs i sub c.loop-sub-test.true c.sub-item.is) h.order one.noted;
     }

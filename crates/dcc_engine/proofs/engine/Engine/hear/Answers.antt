@@ -1,4 +1,4 @@
-use Rattle.std.proofs.Common.{◌≡◌, ℕ, List, Option, Some, refl, sym, subst, ap, ◌∙◌}
+use Rattle.std.proofs.Common.{◌≡◌, ℕ, length, List, Option, Some, refl, sym, subst, ap, ◌∙◌}
 use Rattle.dcc_base.specs.declared.peer.Peer.{Peer}
 use Rattle.dcc_engine.specs.Engines.{EngineView, Setting, peer_in}
 use Rattle.dcc_engine.specs.Messages.{Received, message_view, received, received_on}
@@ -8,16 +8,16 @@ use Rattle.dcc_engine.proofs.Requests.{served_judged, stays_put}
 use Rattle.dcc_engine.proofs.engine.Engine.hear.Goals as goal
 
 -- an engine of which nothing but the shard is another
-other_shard : (old new : EngineView) → new.setting ≡ old.setting → new.peers ≡ old.peers → record { setting = old.setting; peers = old.peers; shard = new.shard } ≡ new
+other_shard : (old new : EngineView) → new.setting ≡ old.setting → new.peers ≡ old.peers → record { setting = old.setting; peers = old.peers; shard = new.shard; shards = new.shards } ≡ new
 other_shard old new setting peers = rw (sym setting, sym peers) refl
 
 pub returns-in-Charging-clause-done : goal.returns-in-Charging-clause-done
 returns-in-Charging-clause-done g c =
     let inside = c.self.inside in
     let setting : Setting = record { plan = inside.plan; identity = inside.identity } in
-    let before : EngineView = record { setting = setting; peers = inside.peers; shard = inside.shards.shard } in
+    let before : EngineView = record { setting = setting; peers = inside.peers; shard = inside.shards.shard; shards = length inside.shards.parts } in
     let left = c.respond-answer.new.self in
-    let after : EngineView = record { setting = setting; peers = inside.peers; shard = left.shard } in
+    let after : EngineView = record { setting = setting; peers = inside.peers; shard = left.shard; shards = left.shards } in
     let header = c.in-Charging.header in
     let octets = c.args.octets.now in
     let answer = c.respond-answer.result in
@@ -31,7 +31,7 @@ returns-in-Charging-clause-done g c =
     subst (λ (engine : EngineView). IsServed engine.setting engine.shard left.shard c.args.moment (message_view header octets) answer) (sym c.self.view_is) own_served in
     let judged = served_judged c.same_subscribers_are_equal.ensures setting (peer_in inside.peers.rows) inside.shards.shard left.shard c.args.peer c.args.moment octets (message_view header octets) answer
     c.self.invariant.1 c.self.invariant.0 c.self.invariant.2 received_is served in
-    let done = stays_put before left.shard c.args.peer c.args.moment octets (message_view header octets) answer received_is judged in
+    let done = stays_put before left.shard left.shards c.args.peer c.args.moment octets (message_view header octets) answer received_is judged in
     let left_is : after ≡ left = other_shard before left
     (c.respond-answer.ensures.setting ∙ ap (λ (engine : EngineView). engine.setting) (sym c.self.view_is))
     (c.respond-answer.ensures.peers ∙ ap (λ (engine : EngineView). engine.peers) (sym c.self.view_is)) in

@@ -4,6 +4,9 @@ use Rattle.dcc_engine.specs.declared.event.Event.{Event}
 use Rattle.dcc_engine.specs.declared.event.Out.{Out}
 use Rattle.dcc_engine.specs.Asks.{Turn}
 use Rattle.dcc_engine.specs.Isolation.{turns}
+use Rattle.std.specs.List.Sorted.{IsStrictlySortedBy}
+use Rattle.dcc_shard.specs.Routes.{route_order}
+use Rattle.dcc_engine.proofs.Refusing.{all_more}
 use Rattle.dcc_engine.proofs.Moves.{AreStable}
 use Rattle.dcc_engine.proofs.Pasts.{IsPast}
 use Rattle.dcc_engine.proofs.Runs.{past_push, turn_next, turn_stands, run_from_past}
@@ -36,6 +39,8 @@ loop-i-preserved g c =
       stands = rw more (turn_stands stable start now c.step-out.new.self past turn h.stands c.step-out.ensures.done);
       room = omega arith;
       outs = omega arith;
+      shards = c.step-out.ensures.shards ∙ h.shards;
+      order = rw c.push_reserved.ensures.items (all_more (λ o. IsStrictlySortedBy (route_order start.shards) o.refused) c.loop-i.outs.items out h.order (rw (← h.shards) c.step-out.ensures.order));
       hosts_count = length-set c.loop-i.hosts.items i c.take-host.new.self ∙ h.hosts_count;
       hosts = λ k le. get_or-set_other c.loop-i.hosts.items i k c.take-host.new.self None (λ at. absurd (omega arith)) ∙ h.hosts k (omega arith);
     }

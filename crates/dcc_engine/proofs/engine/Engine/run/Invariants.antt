@@ -1,4 +1,7 @@
-use Rattle.std.proofs.Common.{◌≡◌, ◌+◌, ◌≤◌, ℕ, length, map, take, reverse, get_or, vec_capacity, None}
+use Rattle.std.proofs.Common.{◌≡◌, ◌+◌, ◌<◌, ◌≤◌, ℕ, length, map, take, reverse, get_or, vec_capacity, None}
+use Rattle.std.specs.List.Sorted.{IsStrictlySortedBy}
+use Rattle.dcc_shard.specs.Routes.{route_order}
+use Rattle.dcc_engine.specs.declared.event.Out.{Out}
 use Rattle.dcc_engine.specs.inner.Hosts.{host_of}
 use Rattle.dcc_engine.specs.Isolation.{turns}
 use Rattle.dcc_engine.proofs.Pasts.{IsPast}
@@ -15,6 +18,8 @@ invariant-loop-i g l =
       stands : StandsAt l.fn.self l.self past;
       room : length l.events ≤ l.i + l.self.peers.room;
       outs : length l.events ≤ vec_capacity l.outs;
+      shards : l.self.shards ≡ l.fn.self.shards;
+      order : (k : ℕ) (d : Out) → k < length l.outs.items → IsStrictlySortedBy (route_order l.fn.self.shards) (get_or l.outs.items k d).refused;
       hosts_count : length l.hosts.items ≡ length l.events;
       hosts : (k : ℕ) → l.i ≤ k → get_or l.hosts.items k None ≡ get_or (map host_of l.events) k None;
     }
