@@ -261,32 +261,15 @@ fn named(name: &[u8]) -> Result<Sub, Fail> {
     Ok(Sub::new(0, name).ok_or("a subscriber")?)
 }
 
-/// Two shards in memory, in which these subscribers have money.
-fn two_shards<R: RandomSource + AllocGlobal>(
-    rt: &R,
-    subs: &[Sub],
-) -> Result<Shards<MemoryRecords>, Fail> {
-    let alloc = rt.alloc();
-    let plan = Plan::read(alloc, PLAN)?;
-    let hasher = RandomState::new(rt)?;
-    let mut shards = shards_in_memory(alloc, plan.terms(), identity(alloc)?, 2, hasher)?;
-    let moment = Moment::new(1_751_328_000).ok_or("a moment")?;
-    for sub in subs {
-        shards.top_up(alloc, *sub, moment, 1, 1000);
-    }
-    Ok(shards)
-}
-
 #[test]
-fn subscribers_are_told_by_shard(rt: HostRuntime) -> Result<(), Fail> {
-    let one = named(b"491700000001")?;
-    let two = named(b"491700000002")?;
-    let three = named(b"491700000003")?;
-    let shards = two_shards(&rt, &[three, two, one])?;
-    assert_eq!(rt; (shard_of(&one, 2), shard_of(&two, 2)), (0, 1));
-    assert_eq!(rt;
-        shards.subs(rt.alloc())?.as_slice(),
-        [one, three, two].as_slice()
-    );
+fn shards_are_found_by_type_and_data(rt: HostRuntime) -> Result<(), Fail> {
+    for (name, of_two, of_eight) in [
+        (b"491700000001".as_slice(), 0, 6),
+        (b"491700000002", 1, 7),
+        (b"491700000003", 0, 0),
+    ] {
+        let sub = named(name)?;
+        assert_eq!(rt; (shard_of(&sub, 2), shard_of(&sub, 8)), (of_two, of_eight));
+    }
     Ok(())
 }
