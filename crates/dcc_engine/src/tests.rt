@@ -75,7 +75,7 @@ fn answers_of(alloc: Global, outs: &[Out]) -> Result<(bool, String), Fail> {
     Ok((added, hex::encode(alloc, second.octets.as_slice())?))
 }
 
-fn funds(engine: &Engine) -> Result<i128, Fail> {
+fn funds(engine: &Engine<MemoryRecords>) -> Result<i128, Fail> {
     match engine.account(subscriber()?) {
         Some(account) => Ok(account.funds()),
         None => Ok(0),
