@@ -17,7 +17,9 @@ pub fn execute<R: Env + Files + RandomSource + Input + Print + AllocGlobal, W: W
     ExitCode::from(end(done(rt), errors).status)
 }
 
-fn done<R: Env + Files + RandomSource + Input + Print + AllocGlobal>(rt: &R) -> Result<(), Failure> {
+fn done<R: Env + Files + RandomSource + Input + Print + AllocGlobal>(
+    rt: &R,
+) -> Result<(), Failure> {
     let words = given_words(rt)?;
     run(rt, words.as_slice(), &mut rt.reader(), &mut io::writer(rt))
 }

@@ -2,8 +2,8 @@
 
 use crate::{Failure, plan_of, replay};
 use dcc_samples::PLAN;
-use std::hash::RandomState;
 use std::alloc::Global;
+use std::hash::RandomState;
 use std::test::Fail;
 
 fn edited(alloc: Global, old: &str, new: &str) -> Result<String, Fail> {
