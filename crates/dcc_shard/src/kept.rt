@@ -75,8 +75,8 @@ impl<R: Records> KeptBooks<R> {
         records
     }
 
-    /// Does nothing: the records are under the terms of the books; the acts that are held for each subscriber are those that they themselves make, and where the records are
-    /// not stopped a stop leaves just these.
+    /// Does nothing: the records are under the terms of the books, the acts that are held for each subscriber are those that they
+    /// themselves make, and where the records are not stopped a stop leaves just these.
     pub(crate) fn acts_are_kept(&self)
         ensures own { (sub : Sub) → acts self.now.books.terms (held_in self.now.books.rows sub) ≡ held_in self.now.books.rows sub }
         ensures terms { R.terms self.now.records ≡ self.now.books.terms }
