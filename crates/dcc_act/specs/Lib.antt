@@ -1,5 +1,6 @@
 pub mod Answers
 pub mod Grants
+pub mod Journals
 pub mod Numbers
 pub mod OneTimeEvents
 pub mod ServiceKeys

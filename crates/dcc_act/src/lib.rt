@@ -3,14 +3,16 @@
 //!
 //! Stands on `dcc_tariff`, and on `dcc_octets` for what is visible and what is short. The contract that it gives: each
 //! type keeps its limits, so that whoever holds a value knows them, a copy equals what was copied, and two subscribers are
-//! told apart by type and data alone.
+//! told apart by type and data alone. What is stored in a [`Journal`] is read only by a call that counts its [`Looks`].
 #![tactic(auto)]
 
 mod act;
 mod entry;
 mod grant;
+mod journal;
 mod laws;
 mod limits;
+mod looks;
 mod moment;
 mod one_time_event;
 mod outcome;
@@ -29,8 +31,10 @@ mod top_up;
 pub use act::{Act, Kind};
 pub use entry::{Entry, EntryKind, EntryName};
 pub use grant::Grant;
+pub use journal::Journal;
 pub use laws::same_subscribers_are_equal;
 pub use limits::{MAX_AMOUNT, MAX_IDS, MAX_SECONDS, MAX_SERVICES, MAX_SESSIONS};
+pub use looks::Looks;
 pub use moment::Moment;
 pub use one_time_event::{Action, OneTimeEvent};
 pub use outcome::{Answer, Balance, Outcome, RequestType, ResultCode, ServiceAnswer};

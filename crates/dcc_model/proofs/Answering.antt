@@ -5,14 +5,15 @@ use Rattle.std.specs.Prelude.{ℤ, pos, filter_map, option_map}
 use Rattle.std.specs.Option.{option_to_list}
 use Rattle.std.proofs.lemmas.Bool.{cases_Bool, and_parts}
 use Rattle.std.proofs.lemmas.Bool.Decides.{nat_tests}
-use Rattle.std.proofs.lemmas.List.{take_more}
+use Rattle.std.specs.List.{list_all}
+use Rattle.std.proofs.lemmas.List.{take_more, length-map}
 use Rattle.std.proofs.lemmas.List.Elements.{filter_map-append}
 use Rattle.std.proofs.lemmas.List.Sums.{sum_by-cons, sum_by_push}
 use Rattle.std.proofs.Math.Seq.{drop-cons}
 use Rattle.std.proofs.lemmas.List.{append_assoc}
 use Rattle.dcc_tariff.specs.Terms.{TermsView}
 use Rattle.dcc_tariff.specs.Prices.{best}
-use Rattle.dcc_act.specs.Services.{ServiceView, service_key, stand_right, are_services}
+use Rattle.dcc_act.specs.Services.{ServiceView, service_key, is_multi, stand_right, are_services}
 use Rattle.dcc_act.specs.ServiceKeys.{are_apart}
 use Rattle.dcc_act.specs.declared.entry.Entry.{Entry}
 use Rattle.dcc_act.specs.declared.grant.Grant.{Grant}
@@ -60,6 +61,31 @@ ids_without_asked (service ∷ services) =
     sum_by-cons (λ (service : ServiceView). length service.ids) (without_asked service) (map without_asked services)
     ∙ ap (λ (n : ℕ). length service.ids + n) (ids_without_asked services)
     ∙ sym (sum_by-cons (λ (service : ServiceView). length service.ids) service services)
+
+-- a request's services stay within its limits where each keeps its key, its identifiers and its form
+keys_alike : (f : ServiceView → ServiceView) → ((service : ServiceView) → service_key (f service) ≡ service_key service) → (services : List ServiceView)
+    → map service_key (map f services) ≡ map service_key services
+keys_alike f same [] = refl
+keys_alike f same (service ∷ services) = rw (same service, keys_alike f same services) refl
+
+forms_alike : (f : ServiceView → ServiceView) → ((service : ServiceView) → (f service).form ≡ service.form) → (services : List ServiceView)
+    → list_all (λ (service : ServiceView). is_multi service.form) (map f services) ≡ list_all (λ (service : ServiceView). is_multi service.form) services
+forms_alike f same [] = refl
+forms_alike f same (service ∷ services) = rw (same service, forms_alike f same services) refl
+
+limits_alike : (f : ServiceView → ServiceView) (services : List ServiceView) → count_ids (map f services) ≡ count_ids services
+    → map service_key (map f services) ≡ map service_key services
+    → list_all (λ (service : ServiceView). is_multi service.form) (map f services) ≡ list_all (λ (service : ServiceView). is_multi service.form) services
+    → are_services (map f services) ≡ are_services services
+limits_alike f services ids keys forms = rw (length-map services f, ids, keys, forms) refl
+
+pub limits_without_report : (services : List ServiceView) → are_services (map without_report services) ≡ are_services services
+limits_without_report services =
+    limits_alike without_report services (ids_without_report services) (keys_alike without_report (λ service. refl) services) (forms_alike without_report (λ service. refl) services)
+
+pub limits_without_asked : (services : List ServiceView) → are_services (map without_asked services) ≡ are_services services
+limits_without_asked services =
+    limits_alike without_asked services (ids_without_asked services) (keys_alike without_asked (λ service. refl) services) (forms_alike without_asked (λ service. refl) services)
 
 -- an answer has the identifiers of its service
 granted_ids : (service : ServiceView) (asked : Grant) (units : ℕ) → (granted service asked units).ids ≡ service.ids

@@ -1,7 +1,7 @@
 //! The services of a request of a session, as the request looks at them.
 
-ghost use Rattle.std.specs.Prelude.{◌≡◌, ◌≤◌, length, map, sum_by, IfOk};
-ghost use Rattle.dcc_act.specs.Services.{ServiceView};
+ghost use Rattle.std.specs.Prelude.{◌≡◌, ◌≤◌, true, length, map, sum_by, IfOk};
+ghost use Rattle.dcc_act.specs.Services.{ServiceView, are_services};
 ghost use Rattle.dcc_act.specs.declared.limits.TheConstants.{MAX_SERVICES, MAX_IDS};
 ghost use Rattle.dcc_model.specs.Sessions.{without_report, without_asked, looked_at};
 
@@ -9,11 +9,12 @@ use dcc_act::{Kind, MAX_IDS, MAX_SERVICES, Service};
 use std::alloc::{AllocError, Global};
 
 /// The services of an act as it looks at them: an initial request at no reports, a termination at no units that are asked
-/// for. They are as few as those of a request.
+/// for. They are within the limits of a request's.
 pub fn services_looked_at(alloc: Global, kind: &Kind) -> Result<Vec<Service>, AllocError>
     ensures value { IfOk result (λ services. services.items ≡ looked_at kind.now) }
     ensures few { IfOk result (λ services. length services.items ≤ MAX_SERVICES) }
     ensures few_ids { IfOk result (λ services. sum_by (λ (service : ServiceView). length service.ids) services.items ≤ MAX_IDS) }
+    ensures limits { IfOk result (λ services. are_services services.items ≡ true) }
 {
     match kind {
         Kind::Initial(request) => without_reports(alloc, request.services.as_slice()),

@@ -1,16 +1,36 @@
 -- The services of a request, one after another.
-use Rattle.std.proofs.Common.{◌≡◌, ℕ, zero, suc, ◌+◌, ◌<◌, true, false, not, ◌||◌, List, [], ◌∷◌, length, get_or, take, refl, sym, ap, ◌∙◌, inl, inr, arith, filter, map, Option, unwrap_or}
+use Rattle.std.specs.Prelude.{nat_le, ◌&&◌}
+use Rattle.std.proofs.Common.{◌≡◌, ℕ, zero, suc, ◌+◌, ◌<◌, ◌≤◌, sum_by, true, false, not, ◌||◌, List, [], ◌∷◌, length, get_or, take, refl, sym, ap, ◌∙◌, inl, inr, arith, filter, map, Option, Some, None, unwrap_or, ℤ, pos, ◌-ℤ◌}
 use Rattle.std.specs.List.{list_any, fold}
-use Rattle.std.proofs.lemmas.Bool.{cases_Bool, or_parts}
+use Rattle.std.specs.Option.{ForSome}
+use Rattle.std.proofs.lemmas.Int.{ints}
+use Rattle.std.proofs.lemmas.Bool.{cases_Bool, and_parts, or_parts}
+use Rattle.std.proofs.lemmas.Bool.Decides.{nat_tests}
 use Rattle.std.proofs.lemmas.List.Filters.{sum_by-filter_both}
 use Rattle.dcc_act.specs.ServiceKeys.{same_service, are_apart}
-use Rattle.dcc_act.specs.Services.{ServiceView, service_key}
+use Rattle.dcc_act.specs.Services.{ServiceView, service_key, stand_right, are_services}
+use Rattle.dcc_act.specs.declared.limits.TheConstants.{MAX_SERVICES, MAX_IDS}
 use Rattle.dcc_act.specs.declared.grant.Grant.{Grant}
 use Rattle.dcc_act.specs.declared.service_key.ServiceKey.{ServiceKey}
 use Rattle.dcc_session.specs.declared.held.Held.{Held}
-use Rattle.dcc_session.specs.Grants.{live_in, without, held_price, prices, charge_by, cost_in, is_named, is_given_back, given_back, left_of}
-use Rattle.dcc_session.specs.inner.Holds.{left_one}
+use Rattle.dcc_session.specs.Grants.{live_in, without, held_price, prices, charge_by, cost_in, is_named, left_by, is_given_back, given_back, left_of}
 use Rattle.dcc_session.proofs.Keys.{same_service-true, same_both_ways, apart_parts}
+
+-- the services of a request have keys of their own, and are few
+pub apart_of : (services : List ServiceView) → are_services services ≡ true → are_apart (map service_key services) ≡ true
+apart_of services h =
+    let few = nat_le (length services) MAX_SERVICES in
+    let short = nat_le (sum_by (λ (service : ServiceView). length service.ids) services) MAX_IDS in
+    let apart = are_apart (map service_key services) in
+    (and_parts (few && short) apart (and_parts ((few && short) && apart) (stand_right services) h).0).1
+
+pub few_of : (services : List ServiceView) → are_services services ≡ true → length services ≤ MAX_SERVICES
+few_of services h =
+    let few = nat_le (length services) MAX_SERVICES in
+    let short = nat_le (sum_by (λ (service : ServiceView). length service.ids) services) MAX_IDS in
+    let apart = are_apart (map service_key services) in
+    let is = (and_parts few short (and_parts (few && short) apart (and_parts ((few && short) && apart) (stand_right services) h).0).0).0 in
+    grind (arith, nat_tests, is)
 
 -- another service's grant is as it was
 live_without : (own : List Held) (key other : ServiceKey) → same_service key other ≡ false → live_in (without own other) key ≡ live_in own key
@@ -26,16 +46,16 @@ live_without (held ∷ own) key other apart =
     ]
 
 live_one : (own : List Held) (key : ServiceKey) (service : ServiceView) → same_service key (service_key service) ≡ false
-    → live_in (left_one own service) key ≡ live_in own key
+    → live_in (left_by own service) key ≡ live_in own key
 live_one own key service apart =
     elim (cases_Bool (is_named service)) [ inl t ↦ rw t (live_without own key (service_key service) apart) | inr f ↦ rw f refl ]
 
 live_left : (services : List ServiceView) (own : List Held) (key : ServiceKey) → list_any (same_service key) (map service_key services) ≡ false
-    → live_in (fold left_one own services) key ≡ live_in own key
+    → live_in (fold left_by own services) key ≡ live_in own key
 live_left [] own key apart = refl
 live_left (service ∷ services) own key apart =
     let parts = or_parts (same_service key (service_key service)) (list_any (same_service key) (map service_key services)) apart in
-    live_left services (left_one own service) key parts.1 ∙ live_one own key service parts.0
+    live_left services (left_by own service) key parts.1 ∙ live_one own key service parts.0
 
 none_at : (services : List ServiceView) (i : ℕ) (service : ServiceView) (key : ServiceKey) → list_any (same_service key) (map service_key services) ≡ false
     → i < length services → service ≡ get_or services i service → same_service key (service_key service) ≡ false
@@ -58,12 +78,17 @@ apart_before (first ∷ services) (suc i) service apart within is =
     let there = none_at services i service (service_key first) parts.0 (omega arith) is in
     rw (same_both_ways (service_key first) (service_key service) there, rest) refl
 
--- so its report costs what it does at first
+-- so it has then the grant that it has at first
+pub live_later : (own : List Held) (services : List ServiceView) (i : ℕ) (service : ServiceView) → are_apart (map service_key services) ≡ true
+    → i < length services → service ≡ get_or services i service → live_in (fold left_by own (take i services)) (service_key service) ≡ live_in own (service_key service)
+live_later own services i service apart within is =
+    live_left (take i services) own (service_key service) (apart_before services i service apart within is)
+
+-- and its report costs what it does at first
 pub cost_later : (own : List Held) (services : List ServiceView) (i : ℕ) (service : ServiceView) → are_apart (map service_key services) ≡ true
-    → i < length services → service ≡ get_or services i service → cost_in (fold left_one own (take i services)) service ≡ cost_in own service
+    → i < length services → service ≡ get_or services i service → cost_in (fold left_by own (take i services)) service ≡ cost_in own service
 cost_later own services i service apart within is =
-    let before = apart_before services i service apart within is in
-    ap (λ (live : Option Grant). unwrap_or (charge_by live service) 0) (live_left (take i services) own (service_key service) before)
+    ap (λ (live : Option Grant). unwrap_or (charge_by live service) 0) (live_later own services i service apart within is)
 
 -- what is in neither is left by both
 left_twice : (services : List ServiceView) (key : ServiceKey) (own : List Held)
@@ -82,10 +107,10 @@ all_left [] = refl
 all_left (held ∷ own) = ap (λ (hs : List Held). held ∷ hs) (all_left own)
 
 -- the grants that are left, one service after another, are those that no service gives back
-pub left_is : (services : List ServiceView) (own : List Held) → fold left_one own services ≡ left_of own services
+pub left_is : (services : List ServiceView) (own : List Held) → fold left_by own services ≡ left_of own services
 left_is [] own = sym (all_left own)
 left_is (service ∷ services) own =
-    let rest = left_is services (left_one own service) in
+    let rest = left_is services (left_by own service) in
     elim (cases_Bool (is_named service)) [
       | inl t ↦ rest ∙ rw t (left_twice services (service_key service) own)
       | inr f ↦ rest ∙ rw f refl
@@ -94,3 +119,11 @@ left_is (service ∷ services) own =
 -- what is given back and what is left are all
 pub given_and_left : (own : List Held) (services : List ServiceView) → given_back own services + prices (left_of own services) ≡ prices own
 given_and_left own services = sum_by-filter_both (is_given_back services) (λ (held : Held). not (is_given_back services held)) (λ held. refl) held_price own
+
+pub at_most : (n : ℕ) (found : Option ℕ) → ForSome found (λ (m : ℕ). m ≤ n) → unwrap_or found 0 ≤ n
+at_most n None all = omega arith
+at_most n (Some m) all = all m refl
+
+-- what one more report is charged
+pub committed_more : (first before after : ℤ) (sum cost more : ℕ) → before ≡ first -ℤ pos sum → after ≡ before -ℤ pos cost → (own : ℕ) → cost ≡ own → more ≡ sum + own → after ≡ first -ℤ pos more
+committed_more first before after sum cost more b a own c m = omega (arith, ints)

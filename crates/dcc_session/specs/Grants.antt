@@ -1,5 +1,5 @@
 -- The live grants of one session: what they cost, which one a service has, and what its report comes to.
-use Rattle.std.specs.Prelude.{ℕ, ◌-◌, Bool, not, ◌||◌, List, map, filter, find, sum_by, is_some, Option, option_map, unwrap_or}
+use Rattle.std.specs.Prelude.{ℕ, ◌-◌, Bool, not, ◌||◌, if◌then◌else◌, List, map, filter, find, sum_by, is_some, Option, option_map, unwrap_or}
 use Rattle.std.specs.List.{list_any}
 use Rattle.std.specs.Option.{option_and_then, option_or, option_map_or}
 use Rattle.dcc_tariff.specs.Prices.{price}
@@ -69,6 +69,13 @@ overrun_in own service = overrun_by (live_in own (service_key service)) service
 abbrev pub is_named : ServiceView → Bool
 is_named service = is_some service.asked || is_some service.used
 
+-- what a service gives back by itself, and the grants that it leaves
+abbrev pub given_by : List Held → ServiceView → ℕ
+given_by own service = if is_named service then live_price_in own (service_key service) else 0
+
+abbrev pub left_by : List Held → ServiceView → List Held
+left_by own service = if is_named service then without own (service_key service) else own
+
 abbrev pub is_given_back : List ServiceView → Held → Bool
 is_given_back services held = list_any (same_service held.key) (map service_key (filter is_named services))
 
@@ -82,3 +89,7 @@ left_of own services = filter (λ (held : Held). not (is_given_back services hel
 -- the charges of a request's reports together
 abbrev pub charges_in : List Held → List ServiceView → ℕ
 charges_in own services = sum_by (λ service. unwrap_or (charge_in own service) 0) services
+
+-- and what each exceeds the price of the live grant by
+abbrev pub overruns_in : List Held → List ServiceView → ℕ
+overruns_in own services = sum_by (overrun_in own) services

@@ -27,7 +27,9 @@ pub(crate) fn settle(pool: &mut Pool, taken: Option<(Held, Parked)>, service: &S
     requires amount { ForSome taken (λ taken. taken.1.amount ≡ held_price taken.0) }
     requires floor { IsAboveFloor (pool.old.committed -ℤ pos (unwrap_or (charge_by (option_map (λ taken. taken.0.grant) taken) service.now) 0)) }
     ensures charge { result.charge ≡ charge_by (option_map (λ taken. taken.0.grant) taken) service.now }
+    ensures charge_bound { ForSome result.charge (λ cost. cost ≤ MAX_PRICE) }
     ensures overrun { result.overrun ≡ overrun_by (option_map (λ taken. taken.0.grant) taken) service.now }
+    ensures overrun_bound { result.overrun ≤ MAX_PRICE }
     ensures pool { pool.new ≡ record {
       id = pool.old.id;
       committed = pool.old.committed -ℤ pos (unwrap_or (charge_by (option_map (λ taken. taken.0.grant) taken) service.now) 0);

@@ -1,6 +1,6 @@
 //! Grants that are about to be made, with memory for them.
 
-ghost use Rattle.std.specs.Prelude.{◌≡◌, ◌+◌, ◌<◌, ◌^◌, vec_len, IfOk};
+ghost use Rattle.std.specs.Prelude.{◌≡◌, IfOk};
 
 use crate::held::Held;
 use dcc_escrow::Parked;
@@ -30,11 +30,11 @@ impl Model for Granted {
 impl Granted {
     /// These grants, with room for so many that a session holds already. The only error is want of memory.
     pub fn new(alloc: Global, mut grants: Vec<Held>, room: usize) -> Result<Granted, AllocError>
-        requires { vec_len grants + room < 2 ^ 64 }
         ensures { IfOk result (λ granted. granted ≡ record { grants = grants.items; room = room }) }
     {
+        let all = grants.len().checked_add(room).ok_or(AllocError)?;
         grants.reserve(room)?;
-        let holds = Vec::with_capacity(alloc, grants.len() + room)?;
+        let holds = Vec::with_capacity(alloc, all)?;
         Ok(Granted {
             grants,
             holds,

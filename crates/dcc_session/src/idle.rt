@@ -57,5 +57,14 @@ impl Idle {
 }
 
 /// A session after its end. It holds nothing, and neither a report nor a grant can be made to it.
-#[derive(Clone, Copy, Debug, PartialEq, Eq)]
-pub struct Closed;
+#[derive(Debug, Drop)]
+pub struct Closed {
+    _ended: (),
+}
+
+impl Closed {
+    /// A session that was ended.
+    pub(crate) fn new() -> Closed {
+        Closed { _ended: () }
+    }
+}

@@ -1,15 +1,16 @@
 //! Open sessions.
 
-ghost use Rattle.std.specs.Prelude.{◌≡◌, ◌+◌, ◌-◌, ◌≤◌, ◌∷◌, ◌++◌, pos, ◌-ℤ◌, true, length, map, Err, OnOk, OnErr};
+ghost use Rattle.std.specs.Prelude.{◌≡◌, ◌+◌, ◌-◌, ◌*◌, ◌≤◌, ◌<◌, ◌^◌, ◌∷◌, ◌++◌, pos, ◌-ℤ◌, true, length, map, Err, OnOk, OnErr};
 ghost use Rattle.std.specs.List.{All};
+ghost use Rattle.std.specs.Option.{ForSome};
 ghost use Rattle.dcc_escrow.specs.Pools.{IsCovered, IsAboveFloor};
 ghost use Rattle.dcc_act.specs.ServiceKeys.{are_apart};
 ghost use Rattle.dcc_act.specs.Services.{service_key};
-ghost use Rattle.dcc_session.specs.Grants.{key_of_held, live_in, held_price, prices, without, live_price_in, charge_in, cost_in, overrun_in, charges_in, given_back, left_of};
+ghost use Rattle.dcc_act.specs.declared.limits.TheConstants.{MAX_SERVICES};
+ghost use Rattle.dcc_session.specs.Grants.{key_of_held, live_in, held_price, prices, without, live_price_in, charge_in, cost_in, overrun_in, charges_in, overruns_in, given_by, left_by, given_back, left_of};
 ghost use Rattle.dcc_session.specs.Sessions.{IsHeldOn};
-ghost use Rattle.dcc_session.specs.inner.Holds.{left_one};
 
-use crate::charged::Charged;
+use crate::charged::{Charged, Charges};
 use crate::charging::settle;
 use crate::fault::GrantFault;
 use crate::granted::Granted;
@@ -17,8 +18,9 @@ use crate::held::{Held, price_held};
 use crate::holds::{release_all, take_all, take_out};
 use crate::idle::Closed;
 use crate::parked::ParkedSession;
-use dcc_act::Service;
+use dcc_act::{Looks, Service, Services};
 use dcc_escrow::{Parked, Pool};
+use dcc_tariff::MAX_PRICE;
 use std::marker::Model;
 
 /// A session that is open: until when it is held, in seconds, and its live grants, each with a hold on the pool of just its
@@ -51,21 +53,59 @@ impl Open {
         self.deadline
     }
 
-    /// Its live grants, those of the latest request first.
-    pub fn grants(&self) -> &[Held]
+    /// How many live grants it has.
+    pub fn count(&self) -> usize
+        ensures { result ≡ length self.now.grants }
+    {
+        self.grants.len()
+    }
+
+    /// Its live grants, those of the latest request first. Each is one look.
+    pub fn grants(&self, looks: &mut Looks) -> &[Held]
+        requires { looks.old + length self.now.grants < 2 ^ 64 }
         ensures value { result.now ≡ self.now.grants }
         ensures apart { are_apart (map key_of_held result.now) ≡ true }
+        ensures looks { looks.new ≡ looks.old + length self.now.grants }
     {
+        looks.add(self.grants.len() as u64);
         &self.grants
     }
 
-    /// Gives back what the service holds, and charges what it reports, in minor units: at the tariff of its live grant, or
-    /// without one at its own. The charge may pass the hold, and the part beyond it is told. It takes no memory.
+    /// Gives back what the service holds, where it reports or asks for some, and charges what it reports, in minor units: at
+    /// the tariff of its live grant, or without one at its own. The charge may pass the hold, and the part beyond it is told.
+    /// A service that neither reports nor asks keeps what it holds. It takes no memory.
     pub fn report(&mut self, pool: &mut Pool, service: &Service) -> Charged
         requires held { IsHeldOn pool.old self.old }
         requires floor { IsAboveFloor (pool.old.committed -ℤ pos (cost_in self.old.grants service.now)) }
         ensures charge { result.charge ≡ charge_in self.old.grants service.now }
+        ensures charge_bound { ForSome result.charge (λ cost. cost ≤ MAX_PRICE) }
         ensures overrun { result.overrun ≡ overrun_in self.old.grants service.now }
+        ensures overrun_bound { result.overrun ≤ MAX_PRICE }
+        ensures session { self.new ≡ record self.old { grants = left_by self.old.grants service.now } }
+        ensures held { prices self.new.grants + given_by self.old.grants service.now ≡ prices self.old.grants }
+        ensures pool { pool.new ≡ record {
+          id = pool.old.id;
+          committed = pool.old.committed -ℤ pos (cost_in self.old.grants service.now);
+          reserved = pool.old.reserved - given_by self.old.grants service.now;
+        } }
+    {
+        if service.asked.is_none() && service.used.is_none() {
+            return Charged {
+                charge: None,
+                overrun: 0,
+            };
+        }
+        self.give_back(pool, service)
+    }
+
+    /// Gives back what the service holds, and charges what it reports.
+    fn give_back(&mut self, pool: &mut Pool, service: &Service) -> Charged
+        requires held { IsHeldOn pool.old self.old }
+        requires floor { IsAboveFloor (pool.old.committed -ℤ pos (cost_in self.old.grants service.now)) }
+        ensures charge { result.charge ≡ charge_in self.old.grants service.now }
+        ensures charge_bound { ForSome result.charge (λ cost. cost ≤ MAX_PRICE) }
+        ensures overrun { result.overrun ≡ overrun_in self.old.grants service.now }
+        ensures overrun_bound { result.overrun ≤ MAX_PRICE }
         ensures session { self.new ≡ record self.old { grants = without self.old.grants (service_key service.now) } }
         ensures held { prices self.new.grants + live_price_in self.old.grants (service_key service.now) ≡ prices self.old.grants }
         ensures pool { pool.new ≡ record {
@@ -79,35 +119,50 @@ impl Open {
     }
 
     /// Gives back what the services of a request hold that report or ask for some, and charges what they report, each as
-    /// [`Open::report`] does. It takes no memory.
-    pub fn report_all(&mut self, pool: &mut Pool, services: &[Service])
+    /// [`Open::report`] does; the charges and what of them passes the holds are told together. It takes no memory.
+    #[tactic(auto, using(crate::proofs::Reporting::apart_of, crate::proofs::Reporting::few_of))]
+    pub fn report_all(&mut self, pool: &mut Pool, services: &Services) -> Charges
         requires held { IsHeldOn pool.old self.old }
-        requires apart { are_apart (map service_key services.now) ≡ true }
         requires floor { IsAboveFloor (pool.old.committed -ℤ pos (charges_in self.old.grants services.now)) }
+        ensures total { result.total ≡ charges_in self.old.grants services.now }
+        ensures overrun { result.overrun ≡ overruns_in self.old.grants services.now }
+        ensures overrun_bound { result.overrun ≤ MAX_SERVICES * MAX_PRICE }
         ensures session { self.new ≡ record self.old { grants = left_of self.old.grants services.now } }
+        ensures held { prices self.new.grants + given_back self.old.grants services.now ≡ prices self.old.grants }
         ensures pool { pool.new ≡ record {
           id = pool.old.id;
           committed = pool.old.committed -ℤ pos (charges_in self.old.grants services.now);
           reserved = pool.old.reserved - given_back self.old.grants services.now;
         } }
     {
-        for service in services {
-            self.report_named(pool, service);
-        }
+        self.report_each(pool, services.as_slice())
     }
 
-    /// Gives back what a service holds that reports or asks for some, and charges what it reports.
-    fn report_named(&mut self, pool: &mut Pool, service: &Service)
+    /// The same of a few services with keys of their own.
+    fn report_each(&mut self, pool: &mut Pool, services: &[Service]) -> Charges
         requires held { IsHeldOn pool.old self.old }
-        requires floor { IsAboveFloor (pool.old.committed -ℤ pos (cost_in self.old.grants service.now)) }
-        ensures session { self.new ≡ record self.old { grants = left_one self.old.grants service.now } }
-        ensures id { pool.new.id ≡ pool.old.id }
-        ensures committed { pool.new.committed ≡ pool.old.committed -ℤ pos (cost_in self.old.grants service.now) }
-        ensures reserved { pool.new.reserved + prices self.old.grants ≡ pool.old.reserved + prices self.new.grants }
+        requires few { length services.now ≤ MAX_SERVICES }
+        requires apart { are_apart (map service_key services.now) ≡ true }
+        requires floor { IsAboveFloor (pool.old.committed -ℤ pos (charges_in self.old.grants services.now)) }
+        ensures total { result.total ≡ charges_in self.old.grants services.now }
+        ensures overrun { result.overrun ≡ overruns_in self.old.grants services.now }
+        ensures overrun_bound { result.overrun ≤ MAX_SERVICES * MAX_PRICE }
+        ensures session { self.new ≡ record self.old { grants = left_of self.old.grants services.now } }
+        ensures held { prices self.new.grants + given_back self.old.grants services.now ≡ prices self.old.grants }
+        ensures pool { pool.new ≡ record {
+          id = pool.old.id;
+          committed = pool.old.committed -ℤ pos (charges_in self.old.grants services.now);
+          reserved = pool.old.reserved - given_back self.old.grants services.now;
+        } }
     {
-        if service.asked.is_some() || service.used.is_some() {
-            self.report(pool, service);
+        let mut total = 0;
+        let mut overrun = 0;
+        for service in services {
+            let charged = self.report(pool, service);
+            total += charged.charge.unwrap_or(0);
+            overrun += charged.overrun;
         }
+        Charges { total, overrun }
     }
 
     /// Makes a grant to a service that has none, with a hold of the pool for its price. [`GrantFault::Short`] where what is
@@ -178,7 +233,7 @@ impl Open {
             holds,
         } = self;
         release_all(pool, holds);
-        Closed
+        Closed::new()
     }
 
     /// Puts the session away as data. What it holds stays reserved.

@@ -1,11 +1,12 @@
 //! Sessions that are put away between requests.
 
-ghost use Rattle.std.specs.Prelude.{◌≡◌, true, map};
+ghost use Rattle.std.specs.Prelude.{◌≡◌, ◌+◌, ◌<◌, ◌^◌, true, length, map};
 ghost use Rattle.dcc_act.specs.ServiceKeys.{are_apart};
 ghost use Rattle.dcc_session.specs.Grants.{key_of_held};
 
 use crate::held::Held;
 use crate::open::Open;
+use dcc_act::Looks;
 use dcc_escrow::Parked;
 use std::marker::Model;
 
@@ -38,11 +39,21 @@ impl ParkedSession {
         self.deadline
     }
 
-    /// Its live grants, those of the latest request first.
-    pub fn grants(&self) -> &[Held]
+    /// How many live grants it has.
+    pub fn count(&self) -> usize
+        ensures { result ≡ length self.now.grants }
+    {
+        self.grants.len()
+    }
+
+    /// Its live grants, those of the latest request first. Each is one look.
+    pub fn grants(&self, looks: &mut Looks) -> &[Held]
+        requires { looks.old + length self.now.grants < 2 ^ 64 }
         ensures value { result.now ≡ self.now.grants }
         ensures apart { are_apart (map key_of_held result.now) ≡ true }
+        ensures looks { looks.new ≡ looks.old + length self.now.grants }
     {
+        looks.add(self.grants.len() as u64);
         &self.grants
     }
 

@@ -1,7 +1,7 @@
 //! What may be refused, once granted and once refused.
 
 use crate::{GrantFault, Granted, Held, Idle, ParkedSession};
-use dcc_act::{Grant, ServiceKey};
+use dcc_act::{Grant, Looks, ServiceKey};
 use dcc_escrow::Pool;
 use dcc_tariff::{Tariff, UnitKind};
 use std::alloc::Global;
@@ -43,7 +43,9 @@ fn grant_is_held(rt: HostRuntime) -> Result<(), Fail> {
     let mut pool = Pool::new(7);
     pool.credit(1000)?;
     let parked = session_with(alloc, &mut pool, octets(100_000)?)?;
-    assert_eq!(rt; (parked.deadline(), parked.grants().len()), (1800, 1));
+    assert_eq!(rt; (parked.deadline(), parked.count()), (1800, 1));
+    let mut looks = Looks::new();
+    assert!(rt; parked.grants(&mut looks).len() == 1 && looks.count() == 1);
     assert_eq!(rt; (pool.committed(), pool.reserved()), (1000, 500));
     let refused = session_with(alloc, &mut pool, octets(100_001)?);
     assert!(rt; matches!(refused, Err(GrantFault::Short)));

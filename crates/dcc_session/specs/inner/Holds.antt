@@ -1,10 +1,9 @@
 -- The holds of a session beside its grants.
-use Rattle.std.specs.Prelude.{◌≡◌, ℕ, true, if◌then◌else◌, List, map}
+use Rattle.std.specs.Prelude.{◌≡◌, ℕ, true, List, map}
 use Rattle.dcc_escrow.specs.Pools.{HoldView}
 use Rattle.dcc_act.specs.ServiceKeys.{are_apart}
-use Rattle.dcc_act.specs.Services.{ServiceView, service_key}
 use Rattle.dcc_session.specs.declared.held.Held.{Held}
-use Rattle.dcc_session.specs.Grants.{key_of_held, held_price, is_named, without}
+use Rattle.dcc_session.specs.Grants.{key_of_held, held_price}
 
 -- the hold that a grant has: just its price
 abbrev pub hold_of : ℕ → Held → HoldView
@@ -17,7 +16,3 @@ amount_of hold = hold.amount
 pub record AreHeld (pool : ℕ) (grants : List Held) (holds : List HoldView) : Type 0 where
   pub held : holds ≡ map (hold_of pool) grants
   pub apart : are_apart (map key_of_held grants) ≡ true
-
--- the grants that a service of a request leaves
-abbrev pub left_one : List Held → ServiceView → List Held
-left_one own service = if is_named service then without own (service_key service) else own

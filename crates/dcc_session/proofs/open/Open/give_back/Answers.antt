@@ -5,7 +5,7 @@ use Rattle.dcc_session.specs.Sessions.{OpenView}
 use Rattle.dcc_session.specs.Grants.{live_in, live_price_in, charge_by, prices}
 use Rattle.dcc_session.specs.inner.Holds.{hold_of}
 use Rattle.dcc_session.proofs.Taking.{apart_without, price-le, price-without}
-use Rattle.dcc_session.proofs.open.Open.report.Goals as goal
+use Rattle.dcc_session.proofs.open.Open.give_back.Goals as goal
 
 pub settle-requires-clause-hold : goal.settle-requires-clause-hold
 settle-requires-clause-hold c = λ x is.
