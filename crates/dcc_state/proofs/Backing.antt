@@ -44,7 +44,7 @@ answer_covered own service space =
       | inr f ↦ elim (cases_Bool (is_none service.asked)) [ inl t ↦ rw (f, t) refl | inr g ↦ rw (f, g) (within_covered service (asked_units service) space) ]
     ]
 
-covers_parts : (money : ℤ) (cost : ℕ) → covers money cost ≡ true → (cost ≡ 0) ⊎ (pos cost ≤ℤ money)
+pub covers_parts : (money : ℤ) (cost : ℕ) → covers money cost ≡ true → (cost ≡ 0) ⊎ (pos cost ≤ℤ money)
 covers_parts money cost h =
     elim (cases_Bool (cost == 0)) [
       | inl t ↦ inl (grind (arith, nat_tests))

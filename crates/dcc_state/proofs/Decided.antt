@@ -1,7 +1,9 @@
 -- What an act comes to by what is known is what it comes to by the definitions.
-use Rattle.std.proofs.Common.{◌≡◌, ℕ, ℤ, Bool, not, ◌&&◌, ◌||◌, cond, List, [], length, refl, sym, ap, ◌∙◌, Option, Some, None}
+use Rattle.std.proofs.Common.{◌≡◌, ◌≤◌, arith, filter, ℕ, ℤ, Bool, not, ◌&&◌, ◌||◌, cond, List, [], length, refl, sym, ap, ◌∙◌, inl, inr, Option, Some, None}
 use Rattle.std.specs.Prelude.{option_map, unwrap_or, is_none, nat_le, nat_lt}
 use Rattle.std.specs.Option.{option_map_or}
+use Rattle.std.proofs.lemmas.Bool.{cases_Bool}
+use Rattle.std.proofs.lemmas.List.{length-map}
 use Rattle.dcc_tariff.specs.Terms.{TermsView}
 use Rattle.dcc_act.specs.Services.{ServiceView}
 use Rattle.dcc_act.specs.declared.act.Act.{Act}
@@ -22,13 +24,15 @@ use Rattle.dcc_model.specs.Keys.{request_key, is_expiry}
 use Rattle.dcc_model.specs.Laws.{IsOpenedOnce}
 use Rattle.dcc_model.specs.Money.{charges, charged, overran, funds_of, free_of}
 use Rattle.dcc_model.specs.Outcomes.{bare, is_under, served, begun, reported, expired, answered, top_up_outcome, event_outcome, decided, has_account, first_of, outcome_of, settled, judged, unknown_of, is_made, standing_of}
-use Rattle.dcc_model.specs.Sessions.{Sid, looked_at, accepted_by, is_open, was_opened, open_sessions}
-use Rattle.dcc_session.specs.Grants.{charges_in}
+use Rattle.dcc_model.specs.Results.{refused}
+use Rattle.dcc_model.specs.Sessions.{Sid, looked_at, accepted_by, is_open, was_opened, open_sessions, lives}
+use Rattle.dcc_session.specs.Grants.{charges_in, overruns_in}
 use Rattle.dcc_state.specs.declared.facts.Facts.{Facts}
 use Rattle.dcc_session.specs.declared.held.Held.{Held}
 use Rattle.dcc_state.specs.Known.{was_opened_by}
-use Rattle.dcc_state.specs.OpenSessions.{SessionView, AreOpen, grants_of, own_in}
-use Rattle.dcc_state.specs.inner.Grants.{overruns_in, served_in, charge_entries_in}
+use Rattle.dcc_state.specs.Looks.{many_of, most_looks}
+use Rattle.dcc_state.specs.OpenSessions.{SessionView, AreOpen, held_of, is_of, grants_of, own_in, own_by as held_by_kind}
+use Rattle.dcc_state.specs.inner.Grants.{served_in, charge_entries_in}
 use Rattle.dcc_state.specs.inner.Judged.{begun_in, reported_in, decided_in, settled_in, judged_in, is_made_in, charged_in, overran_in, entries_by_in}
 use Rattle.dcc_state.proofs.OpenOnes.{own_is, open_is, many_are, expired_are}
 use Rattle.dcc_state.proofs.OwnGrants.{IsSound, charges_are, overruns_are, answers_are, charge_entries_are}
@@ -128,19 +132,35 @@ overran_is terms past standing sessions knows done =
     (λ sid. ap (λ (own : List Held). overruns_in own (looked_at done.act.kind)) (own_by terms past standing sessions knows sid) ∙ sym (overruns_are terms past knows.sound sid (looked_at done.act.kind)))
     (accepted_by done.act.kind done.outcome)
 
-entries_are : (terms : TermsView) (past : List Done) (standing : Standing) (sessions : List SessionView) → Knows terms past standing sessions → (place moment : ℕ) (k : Kind) (session : Option Sid)
-    → option_map_or (λ sid. charge_entries_in (own_in sessions sid) place moment sid (looked_at k)) session []
-    ≡ option_map_or (λ sid. charge_entries terms past place moment sid (looked_at k)) session []
-entries_are terms past standing sessions knows place moment k session =
-    either _ _ []
-    (λ sid. ap (λ (own : List Held). charge_entries_in own place moment sid (looked_at k)) (own_by terms past standing sessions knows sid) ∙ sym (charge_entries_are terms past knows.sound place moment sid (looked_at k)))
-    session
+entries_are : (terms : TermsView) (past : List Done) (standing : Standing) (sessions : List SessionView) → Knows terms past standing sessions → (place moment : ℕ) (sid : Sid) (services : List ServiceView)
+    → charge_entries_in (own_in sessions sid) place moment sid services ≡ charge_entries terms past place moment sid services
+entries_are terms past standing sessions knows place moment sid services =
+    ap (λ (own : List Held). charge_entries_in own place moment sid services) (own_by terms past standing sessions knows sid) ∙ sym (charge_entries_are terms past knows.sound place moment sid services)
 
 pub entries_is : (terms : TermsView) (past : List Done) (standing : Standing) (sessions : List SessionView) → Knows terms past standing sessions → (place moment : ℕ) (k : Kind) (outcome : Outcome)
     → entries_by_in sessions place moment k outcome ≡ entries_of_kind terms past place moment k outcome
 entries_is terms past standing sessions knows place moment (kind.TopUp top_up) outcome = refl
-entries_is terms past standing sessions knows place moment (kind.Initial opening) outcome = entries_are terms past standing sessions knows place moment (kind.Initial opening) (accepted_by (kind.Initial opening) outcome)
-entries_is terms past standing sessions knows place moment (kind.Update report) outcome = entries_are terms past standing sessions knows place moment (kind.Update report) (accepted_by (kind.Update report) outcome)
-entries_is terms past standing sessions knows place moment (kind.Termination report) outcome = entries_are terms past standing sessions knows place moment (kind.Termination report) (accepted_by (kind.Termination report) outcome)
+entries_is terms past standing sessions knows place moment (kind.Initial opening) outcome = refl
+entries_is terms past standing sessions knows place moment (kind.Update report) outcome =
+    elim (cases_Bool (refused outcome)) [ inl t ↦ rw t refl | inr f ↦ rw f (entries_are terms past standing sessions knows place moment report.key.sid (looked_at (kind.Update report))) ]
+entries_is terms past standing sessions knows place moment (kind.Termination report) outcome =
+    elim (cases_Bool (refused outcome)) [ inl t ↦ rw t refl | inr f ↦ rw f (entries_are terms past standing sessions knows place moment report.key.sid (looked_at (kind.Termination report))) ]
 entries_is terms past standing sessions knows place moment (kind.Event event) outcome = refl
-entries_is terms past standing sessions knows place moment kind.Expiry outcome = entries_are terms past standing sessions knows place moment kind.Expiry (accepted_by kind.Expiry outcome)
+entries_is terms past standing sessions knows place moment kind.Expiry outcome = refl
+
+few_own : (terms : TermsView) (past : List Done) (standing : Standing) (sessions : List SessionView) → Knows terms past standing sessions → (sid : Sid)
+    → length (own_in sessions sid) ≤ many_of terms past sid
+few_own terms past standing sessions knows sid =
+    let own = ap (λ (held : List Held). length held) (own_by terms past standing sessions knows sid) in
+    let many = length-map (filter (is_of sid) (lives terms past)) held_of in
+    omega arith
+
+-- no more grants are looked at than are live
+pub looks_are : (terms : TermsView) (past : List Done) (standing : Standing) (sessions : List SessionView) → Knows terms past standing sessions → (moment : ℕ) (k : Kind)
+    → length (held_by_kind sessions k) ≤ most_looks terms past moment k
+looks_are terms past standing sessions knows moment (kind.TopUp top_up) = omega arith
+looks_are terms past standing sessions knows moment (kind.Event event) = omega arith
+looks_are terms past standing sessions knows moment kind.Expiry = omega arith
+looks_are terms past standing sessions knows moment (kind.Initial opening) = few_own terms past standing sessions knows opening.key.sid
+looks_are terms past standing sessions knows moment (kind.Update report) = few_own terms past standing sessions knows report.key.sid
+looks_are terms past standing sessions knows moment (kind.Termination report) = few_own terms past standing sessions knows report.key.sid

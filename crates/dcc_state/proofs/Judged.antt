@@ -1,10 +1,8 @@
 -- What an act comes to and does, by what is known, is what it comes to and does by the definitions.
-use Rattle.std.proofs.Common.{◌≡◌, ℕ, ◌+◌, pos, Bool, true, false, cond, List, [], ◌∷◌, ◌++◌, length, reverse, refl, sym, ap, subst, ◌∙◌, inl, inr, Option, Some, arith}
-use Rattle.std.specs.List.{AllByRecursion}
+use Rattle.std.proofs.Common.{◌≡◌, ℕ, ◌+◌, Bool, true, false, cond, List, [], ◌∷◌, length, reverse, refl, sym, ap, subst, ◌∙◌, inl, inr, Option, Some, arith}
 use Rattle.std.specs.Prelude.{Result, Ok, Err, IfOk}
 use Rattle.std.proofs.lemmas.Bool.{cases_Bool}
 use Rattle.std.proofs.lemmas.Int.{ints}
-use Rattle.std.proofs.lemmas.List.{reverse-append}
 use Rattle.dcc_tariff.specs.Terms.{TermsView}
 use Rattle.dcc_act.specs.declared.act.Act.{Act}
 use Rattle.dcc_act.specs.declared.entry.Entry.{Entry}
@@ -13,19 +11,17 @@ use Rattle.dcc_model.specs.declared.done.Done.{Done}
 use Rattle.dcc_model.specs.declared.judgement.Standing.{Standing}
 use Rattle.dcc_model.specs.Entries.{entries_of_kind, entries_with}
 use Rattle.dcc_model.specs.Laws.{NewAreDecided, SessionsOpenOnce, LiveAreOpen, LiveIsFound}
-use Rattle.dcc_model.specs.Money.{funds_of, free_of, overrun_of}
-use Rattle.dcc_model.specs.Outcomes.{judged, is_made, place_of, with_act, history, standing_of}
-use Rattle.dcc_model.specs.Sessions.{Live, is_open, lives}
+use Rattle.dcc_model.specs.Money.{funds_of, overrun_of}
+use Rattle.dcc_model.specs.Outcomes.{judged, is_made, place_of, with_act, history}
 use Rattle.dcc_state.specs.declared.change.Change.{Change}
 use Rattle.dcc_state.specs.declared.change.Change.TheVariants.{Nothing}
 use Rattle.dcc_state.specs.declared.facts.Facts.{Facts}
-use Rattle.dcc_state.specs.Known.{changed, IsKnown}
+use Rattle.dcc_state.specs.Known.{changed, funds_after, overrun_with, IsKnown}
 use Rattle.dcc_state.specs.OpenSessions.{SessionView, AreOpen}
-use Rattle.dcc_state.specs.inner.Judged.{judged_in, is_made_in, place_in, entries_by_in, entries_after, change_of, change_after, standing_after, money_after}
+use Rattle.dcc_state.specs.inner.Judged.{judged_in, is_made_in, place_in, entries_by_in, entries_after, change_of, change_after}
 use Rattle.dcc_state.proofs.Decided.{Knows, judged_is, made_is, charged_is, overran_is, entries_is}
 use Rattle.dcc_state.proofs.NewSessions.{change_is}
-use Rattle.dcc_state.proofs.Sums.{money_is}
-use Rattle.dcc_state.proofs.Totals.{held_is, changed_sum}
+use Rattle.dcc_state.proofs.Money.{funds_with, overrun_is}
 
 pub knows : LiveIsFound → LiveAreOpen → SessionsOpenOnce → (terms : TermsView) (xs : List Act) (act : Act) (facts : Facts) (first : Option Outcome) (sessions : List SessionView)
     → IsKnown terms xs act facts first sessions → Knows terms (history terms (reverse xs)) facts.standing sessions
@@ -66,16 +62,6 @@ entries_at terms xs act facts first sessions known knows new new_is outcome outc
     ∙ ap (λ (count : ℕ). entries_of_kind terms past (count + 1) act.moment act.kind outcome) known.count_is
     ∙ ap (λ (o : Outcome). entries_of_kind terms past (length past + 1) act.moment act.kind o) outcome_is)
 
--- the acts with one that is made
-made_with : (terms : TermsView) (xs : List Act) (act : Act) → is_made terms (history terms (reverse xs)) act ≡ true
-    → history terms (reverse (xs ++ act ∷ [])) ≡ record { act = act; outcome = judged terms (history terms (reverse xs)) act } ∷ history terms (reverse xs)
-made_with terms xs act made = ap (history terms) (reverse-append xs (act ∷ [])) ∙ rw made refl
-
-all_open : LiveAreOpen → (terms : TermsView) (xs : List Act) (act : Act) (done : Done) → history terms (reverse (xs ++ act ∷ [])) ≡ done ∷ history terms (reverse xs)
-    → AllByRecursion (λ (held : Live). is_open terms (done ∷ history terms (reverse xs)) held.sid ≡ true) (lives terms (done ∷ history terms (reverse xs)))
-all_open are_open terms xs act done is =
-    subst (λ (past : List Done). AllByRecursion (λ (held : Live). is_open terms past held.sid ≡ true) (lives terms past)) is (are_open terms (xs ++ act ∷ []))
-
 new_sessions : NewAreDecided → (terms : TermsView) (xs : List Act) (act : Act) (standing : Standing) (sessions : List SessionView) → Knows terms (history terms (reverse xs)) standing sessions
     → (outcome : Outcome) → outcome ≡ judged terms (history terms (reverse xs)) act → is_made terms (history terms (reverse xs)) act ≡ true
     → AreOpen terms (record { act = act; outcome = outcome } ∷ history terms (reverse xs)) (changed (change_of terms sessions act.moment act.kind outcome) sessions)
@@ -107,39 +93,44 @@ sessions_at decided_law terms xs act facts sessions knows new new_is outcome out
           (subst (λ (c : Change). AreOpen terms past (changed c sessions)) (sym change_is) knows.sessions_are)
     ]
 
--- the money after an act that is made
-new_money : (terms : TermsView) (past : List Done) (done : Done) (standing : Standing) (sessions : List SessionView) → Knows terms past standing sessions
-    → AllByRecursion (λ (held : Live). is_open terms (done ∷ past) held.sid ≡ true) (lives terms (done ∷ past)) → (change : Change) → AreOpen terms (done ∷ past) (changed change sessions)
-    → standing_after standing sessions done.act.kind done.outcome change ≡ standing_of terms (done ∷ past)
-new_money terms past done standing sessions knows open_ones change are =
-    let charged_by = charged_is terms past standing sessions knows done in
-    let overran_by = overran_is terms past standing sessions knows done in
-    let funds = ap (λ (s : Standing). s.funds) knows.standing_is in
-    let free = ap (λ (s : Standing). s.free) knows.standing_is in
-    let overrun = ap (λ (s : Standing). s.overrun) knows.standing_is in
-    let before = held_is terms past sessions knows.sound.are_open knows.sessions_are in
-    let then = held_is terms (done ∷ past) (changed change sessions) open_ones are in
-    let moved = changed_sum change sessions knows.sessions_are.apart in
-    money_is (standing_after standing sessions done.act.kind done.outcome change) (funds_of terms (done ∷ past)) (free_of terms (done ∷ past)) (pos (overrun_of terms (done ∷ past)))
-    (omega (arith, ints)) (omega (arith, ints)) (omega (arith, ints))
-
-pub standing_at : LiveAreOpen → NewAreDecided → (terms : TermsView) (xs : List Act) (act : Act) (facts : Facts) (sessions : List SessionView)
+-- the funds after an act, and what is overrun then
+pub funds_at : (terms : TermsView) (xs : List Act) (act : Act) (facts : Facts) (sessions : List SessionView)
     → Knows terms (history terms (reverse xs)) facts.standing sessions → (new : Bool) → new ≡ is_made terms (history terms (reverse xs)) act
     → (outcome : Outcome) → outcome ≡ judged terms (history terms (reverse xs)) act → (change : Change) → change ≡ change_after terms sessions act new outcome
-    → (standing : Standing) → standing ≡ money_after facts sessions act new outcome change → standing ≡ standing_of terms (with_act terms (history terms (reverse xs)) act)
-standing_at are_open decided_law terms xs act facts sessions knows new new_is outcome outcome_is change is standing standing_is =
+    → funds_of terms (with_act terms (history terms (reverse xs)) act) ≡ funds_after change facts.standing.funds sessions
+funds_at terms xs act facts sessions knows new new_is outcome outcome_is change is =
+    let past = history terms (reverse xs) in
+    let before = ap (λ (s : Standing). s.funds) knows.standing_is in
+    elim (cases_Bool (is_made terms past act)) [
+      | inl t ↦
+          let done : Done = record { act = act; outcome = outcome } in
+          let change_is : change ≡ change_of terms sessions act.moment act.kind outcome = is ∙ ap (λ (b : Bool). change_after terms sessions act b outcome) (new_is ∙ t) in
+          let charged = charged_is terms past facts.standing sessions knows done in
+          let with = funds_with terms sessions facts.standing.funds act.moment act.kind outcome in
+          let one : funds_of terms (done ∷ past) ≡ funds_after (change_of terms sessions act.moment act.kind outcome) facts.standing.funds sessions = omega (arith, ints) in
+          ap (funds_of terms) (with_made terms past act outcome outcome_is t) ∙ one ∙ sym (ap (λ (c : Change). funds_after c facts.standing.funds sessions) change_is)
+      | inr f ↦
+          let change_is : change ≡ Nothing = is ∙ ap (λ (b : Bool). change_after terms sessions act b outcome) (new_is ∙ f) in
+          ap (funds_of terms) (with_old terms past act f) ∙ sym before ∙ sym (ap (λ (c : Change). funds_after c facts.standing.funds sessions) change_is)
+    ]
+
+pub overrun_at : (terms : TermsView) (xs : List Act) (act : Act) (facts : Facts) (sessions : List SessionView)
+    → Knows terms (history terms (reverse xs)) facts.standing sessions → (new : Bool) → new ≡ is_made terms (history terms (reverse xs)) act
+    → (outcome : Outcome) → outcome ≡ judged terms (history terms (reverse xs)) act → (change : Change) → change ≡ change_after terms sessions act new outcome
+    → overrun_of terms (with_act terms (history terms (reverse xs)) act) ≡ overrun_of terms (history terms (reverse xs)) + overrun_with change sessions
+overrun_at terms xs act facts sessions knows new new_is outcome outcome_is change is =
     let past = history terms (reverse xs) in
     elim (cases_Bool (is_made terms past act)) [
       | inl t ↦
           let done : Done = record { act = act; outcome = outcome } in
           let change_is : change ≡ change_of terms sessions act.moment act.kind outcome = is ∙ ap (λ (b : Bool). change_after terms sessions act b outcome) (new_is ∙ t) in
-          let whole : history terms (reverse (xs ++ act ∷ [])) ≡ done ∷ past = made_with terms xs act t ∙ ap (λ (o : Outcome). record { act = act; outcome = o } ∷ past) (sym outcome_is) in
-          let are = subst (λ (c : Change). AreOpen terms (done ∷ past) (changed c sessions)) (sym change_is) (new_sessions decided_law terms xs act facts.standing sessions knows outcome outcome_is t) in
-          standing_is ∙ ap (λ (b : Bool). money_after facts sessions act b outcome change) (new_is ∙ t)
-          ∙ new_money terms past done facts.standing sessions knows (all_open are_open terms xs act done whole) change are
-          ∙ sym (ap (standing_of terms) (with_made terms past act outcome outcome_is t))
+          let same = overrun_is terms sessions act.moment act.kind outcome ∙ overran_is terms past facts.standing sessions knows done in
+          ap (overrun_of terms) (with_made terms past act outcome outcome_is t) ∙ ap (λ (n : ℕ). overrun_of terms past + n) (sym same)
+          ∙ sym (ap (λ (c : Change). overrun_of terms past + overrun_with c sessions) change_is)
       | inr f ↦
-          standing_is ∙ ap (λ (b : Bool). money_after facts sessions act b outcome change) (new_is ∙ f) ∙ knows.standing_is ∙ sym (ap (standing_of terms) (with_old terms past act f))
+          let change_is : change ≡ Nothing = is ∙ ap (λ (b : Bool). change_after terms sessions act b outcome) (new_is ∙ f) in
+          let none : overrun_of terms past ≡ overrun_of terms past + 0 = omega arith in
+          ap (overrun_of terms) (with_old terms past act f) ∙ none ∙ sym (ap (λ (c : Change). overrun_of terms past + overrun_with c sessions) change_is)
     ]
 
 -- what holds of a value holds of it together

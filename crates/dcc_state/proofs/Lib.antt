@@ -1,6 +1,5 @@
 mod Answering
 mod Walks
-mod Sums
 mod Finds
 mod OwnGrants
 mod Names
@@ -13,3 +12,6 @@ mod Judged
 mod Within
 pub mod Backing
 pub mod Backs
+pub mod Money
+pub mod Taken
+pub mod Turns

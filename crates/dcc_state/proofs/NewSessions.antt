@@ -19,16 +19,15 @@ use Rattle.dcc_model.specs.declared.judgement.Standing.{Standing}
 use Rattle.dcc_model.specs.Outcomes.{reported, decided}
 use Rattle.dcc_model.specs.Results.{succeeded, refused, answers_of}
 use Rattle.dcc_model.specs.Sessions.{Sid, is_sid, session_of, opens, updates, ends, deadline, is_open, looked_at}
-use Rattle.dcc_state.specs.declared.change.Change.TheVariants.{Open, End, Expire}
+use Rattle.dcc_state.specs.declared.change.Change.TheVariants.{Expire}
 use Rattle.dcc_session.specs.declared.held.Held.{Held}
-use Rattle.dcc_state.specs.Known.{changed}
+use Rattle.dcc_state.specs.Known.{after_turn, changed}
 use Rattle.dcc_state.specs.OpenSessions.{SessionView, session_at, is_session, session_in, AreApart, AreOpen, is_over_at}
-use Rattle.dcc_state.specs.inner.Grants.{grants_after}
-use Rattle.dcc_state.specs.inner.Judged.{session_after, change_of}
+use Rattle.dcc_state.specs.inner.Judged.{turn_after, change_of}
 use Rattle.dcc_state.proofs.Decided.{Knows}
 use Rattle.dcc_state.proofs.Finds.{find_kept, find_dropped, find_kept_all, find_dropped_all}
 use Rattle.dcc_state.proofs.Names.{same_sid, sid_is_own, flipped}
-use Rattle.dcc_state.proofs.NextSessions.{quiet, expiring, going, ending, made_to_other, made_to_none}
+use Rattle.dcc_state.proofs.NextSessions.{grants_after, quiet, expiring, going, ending, made_to_other, made_to_none}
 use Rattle.dcc_state.proofs.OpenOnes.{IsAsDefined, each_is, own_is}
 
 any_less : (sid : Sid) (p : SessionView → Bool) (sessions : List SessionView) → list_any (is_session sid) sessions ≡ false → list_any (is_session sid) (filter p sessions) ≡ false
@@ -82,7 +81,7 @@ abbrev pub OthersStay : TermsView → List Done → Done → Sid → Type 0
 OthersStay terms past done own = (sid : Sid) → bytes_eq own sid ≡ false → session_at terms (done ∷ past) sid ≡ session_at terms past sid
 
 with_session : (terms : TermsView) (past : List Done) (done : Done) (sessions : List SessionView) (new : SessionView) → OthersStay terms past done new.sid → session_at terms (done ∷ past) new.sid ≡ Some new
-    → AreOpen terms past sessions → AreOpen terms (done ∷ past) (changed (Open new) sessions)
+    → AreOpen terms past sessions → AreOpen terms (done ∷ past) (filter (is_other_session new.sid) sessions ++ new ∷ [])
 with_session terms past done sessions new others is are =
     let left = filter (is_other_session new.sid) sessions in
     record {
@@ -100,7 +99,7 @@ with_session terms past done sessions new others is are =
     }
 
 without_session : (terms : TermsView) (past : List Done) (done : Done) (sessions : List SessionView) (own : Sid) → OthersStay terms past done own → session_at terms (done ∷ past) own ≡ None
-    → AreOpen terms past sessions → AreOpen terms (done ∷ past) (changed (End own) sessions)
+    → AreOpen terms past sessions → AreOpen terms (done ∷ past) (filter (is_other_session own) sessions)
 without_session terms past done sessions own others none are = record {
   found =
       λ sid.
@@ -171,10 +170,10 @@ initial_change terms past standing sessions knows moment opening outcome =
           let moved : (opens done own || updates done own) ≡ true = rw opened refl in
           let others : OthersStay terms past done own =
           λ sid f. quiet terms past done sid (rw (t, f) refl) refl refl refl (ap (λ (o : Option Sid). is_sid o sid) session_is ∙ f) (made_to_other done own sid session_is f) in
-          let new : session_at terms (done ∷ past) own ≡ Some (session_after terms sessions moment own services outcome) =
+          let new : session_at terms (done ∷ past) own ≡ Some (after_turn (turn_after terms sessions moment own services outcome) sessions) =
           going terms past done own session_is now moved refl
           ∙ ap (λ (held : List Held). Some (record { sid = own; deadline = moment + terms.hold; grants = grants_after held services (answers_of outcome) })) (sym (own_is terms past sessions knows.sound knows.sessions_are own)) in
-          rw t (with_session terms past done sessions (session_after terms sessions moment own services outcome) others new knows.sessions_are)
+          rw t (with_session terms past done sessions (after_turn (turn_after terms sessions moment own services outcome) sessions) others new knows.sessions_are)
       | inr f ↦
           let session_is : session_of done ≡ None = rw f refl in
           rw f (unmoved terms past done sessions
@@ -204,10 +203,10 @@ update_change terms past standing sessions knows moment report outcome is =
                 let unended : ends terms past done own ≡ false = rw (updated, s) refl in
                 let now : is_open terms (done ∷ past) own ≡ true = rw (was, unended) refl in
                 let moved : (opens done own || updates done own) ≡ true = rw updated refl in
-                let new : session_at terms (done ∷ past) own ≡ Some (session_after terms sessions moment own services outcome) =
+                let new : session_at terms (done ∷ past) own ≡ Some (after_turn (turn_after terms sessions moment own services outcome) sessions) =
                 going terms past done own session_is now moved unended
                 ∙ ap (λ (held : List Held). Some (record { sid = own; deadline = moment + terms.hold; grants = grants_after held services (answers_of outcome) })) (sym (own_is terms past sessions knows.sound knows.sessions_are own)) in
-                rw (f, s) (with_session terms past done sessions (session_after terms sessions moment own services outcome) others new knows.sessions_are)
+                rw (f, s) (with_session terms past done sessions (after_turn (turn_after terms sessions moment own services outcome) sessions) others new knows.sessions_are)
             | inr g ↦
                 let ended : ends terms past done own ≡ true = rw (updated, g) refl in
                 rw (f, g) (without_session terms past done sessions own others (ending terms past done own refl ended) knows.sessions_are)

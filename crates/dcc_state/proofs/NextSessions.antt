@@ -7,6 +7,7 @@ use Rattle.std.proofs.lemmas.List.{map-append}
 use Rattle.std.proofs.lemmas.List.Elements.{filter-append}
 use Rattle.dcc_tariff.specs.Terms.{TermsView}
 use Rattle.dcc_act.specs.Answers.{answer_key}
+use Rattle.dcc_act.specs.Services.{ServiceView}
 use Rattle.dcc_act.specs.declared.grant.Grant.{Grant}
 use Rattle.dcc_act.specs.declared.outcome.ServiceAnswer.{ServiceAnswer}
 use Rattle.dcc_model.specs.declared.done.Done.{Done}
@@ -14,12 +15,15 @@ use Rattle.dcc_model.specs.Keys.{is_expiry}
 use Rattle.dcc_model.specs.Results.{answers_of}
 use Rattle.dcc_model.specs.Sessions.{Sid, Live, is_sid, opens, updates, terminates, deadline, ends, is_open, session_of, looked_at, live_of, made_by, goes_on, lives}
 use Rattle.dcc_session.specs.declared.held.Held.{Held}
-use Rattle.dcc_session.specs.Grants.{is_given_back}
+use Rattle.dcc_session.specs.Grants.{is_given_back, left_of}
 use Rattle.dcc_state.specs.Backed.{held_by}
 use Rattle.dcc_state.specs.OpenSessions.{SessionView, held_of, is_of, grants_of, session_at}
-use Rattle.dcc_state.specs.inner.Grants.{grants_after}
 use Rattle.dcc_state.proofs.Finds.{filter_turned, filter_true}
 use Rattle.dcc_state.proofs.Names.{same_sid, sid_is_own, flipped}
+
+-- what the session holds after its request: what that granted, and what it did not give back
+abbrev pub grants_after : List Held → List ServiceView → List ServiceAnswer → List Held
+grants_after own services made = filter_map held_by made ++ left_of own services
 
 kept_turned : (keeps : Held → Bool) (all : List Live) → map held_of (filter (λ held. keeps (held_of held)) all) ≡ filter keeps (map held_of all)
 kept_turned keeps [] = refl

@@ -21,9 +21,9 @@ use Rattle.dcc_model.specs.Outcomes.{answer_to, answers}
 use Rattle.dcc_model.specs.Entries.{charge_entry, charge_entries}
 use Rattle.dcc_model.specs.Sessions.{Sid, Live, is_open, live, lives, named}
 use Rattle.dcc_session.specs.declared.held.Held.{Held}
-use Rattle.dcc_session.specs.Grants.{live_in, charge_in, charges_in, is_given_back, given_back}
+use Rattle.dcc_session.specs.Grants.{live_in, charge_in, charges_in, overruns_in, is_given_back, given_back}
 use Rattle.dcc_state.specs.OpenSessions.{held_of, is_of, grants_of}
-use Rattle.dcc_state.specs.inner.Grants.{is_unrated_in, overruns_in, room_in, answer_to_in, answers_in, charge_entries_in}
+use Rattle.dcc_state.specs.inner.Grants.{is_unrated_in, room_in, answer_to_in, answers_in, charge_entries_in}
 use Rattle.dcc_state.proofs.Finds.{sums_alike, maps_alike}
 
 -- what is known of acts that were made: each service's live grant is the one that all live grants have for it, and each of

@@ -2,18 +2,15 @@
 use Rattle.std.proofs.Common.{◌≡◌, ℕ, ◌+◌, true, false, not, cond, List, [], ◌∷◌, map, refl, sym, ap, ◌∙◌, inl, inr, filter, sum_by, bytes_eq, arith}
 use Rattle.std.specs.List.{list_any, AllByRecursion}
 use Rattle.std.proofs.lemmas.Bool.{cases_Bool, or_parts}
-use Rattle.std.proofs.lemmas.List.Sums.{sum_by-cons, sum_by_push}
+use Rattle.std.proofs.lemmas.List.Sums.{sum_by-cons}
 use Rattle.dcc_tariff.specs.Terms.{TermsView}
 use Rattle.dcc_model.specs.declared.done.Done.{Done}
 use Rattle.dcc_model.specs.Money.{grant_price, held_price, reserved_of}
 use Rattle.dcc_model.specs.Sessions.{Sid, Live, is_open, lives}
-use Rattle.dcc_state.specs.declared.change.Change.{Change}
-use Rattle.dcc_state.specs.declared.change.Change.TheVariants.{Nothing, Open, End, Expire}
 use Rattle.dcc_session.specs.declared.held.Held.{Held}
 use Rattle.dcc_session.specs.Grants.{prices}
-use Rattle.dcc_state.specs.Known.{changed, prices_of}
-use Rattle.dcc_state.specs.OpenSessions.{SessionView, held_of, is_of, is_session, AreApart, AreOpen, is_over_at, own_in}
-use Rattle.dcc_state.specs.inner.Judged.{prices_over, expired_prices, released, taken}
+use Rattle.dcc_state.specs.Known.{prices_of}
+use Rattle.dcc_state.specs.OpenSessions.{SessionView, held_of, is_of, is_session, AreApart, AreOpen, own_in}
 use Rattle.dcc_state.proofs.Finds.{sums_alike}
 use Rattle.dcc_state.proofs.Names.{same_sid}
 use Rattle.dcc_state.proofs.OpenOnes.{IsAsDefined, each_is, open_is, found_any}
@@ -89,14 +86,14 @@ held_is terms past sessions open_ones are =
     as_defined terms past sessions (each_is terms past sessions are)
     ∙ total sessions are.apart (lives terms past) (each_kept terms past sessions are (lives terms past) open_ones)
 
-others_kept : (sid : Sid) (sessions : List SessionView) → list_any (is_session sid) sessions ≡ false → filter (λ other. not (is_session sid other)) sessions ≡ sessions
+pub others_kept : (sid : Sid) (sessions : List SessionView) → list_any (is_session sid) sessions ≡ false → filter (λ other. not (is_session sid other)) sessions ≡ sessions
 others_kept sid [] h = refl
 others_kept sid (session ∷ sessions) h =
     let parts = or_parts (bytes_eq session.sid sid) (list_any (is_session sid) sessions) h in
     rw (parts.0, others_kept sid sessions parts.1) refl
 
 -- a session that is taken out takes with it what it holds
-taken_out : (sid : Sid) (sessions : List SessionView) → AreApart sessions
+pub taken_out : (sid : Sid) (sessions : List SessionView) → AreApart sessions
     → sum_by prices_of (filter (λ other. not (is_session sid other)) sessions) + prices (own_in sessions sid) ≡ sum_by prices_of sessions
 taken_out sid [] apart = refl
 taken_out sid (session ∷ sessions) apart =
@@ -110,25 +107,3 @@ taken_out sid (session ∷ sessions) apart =
           let left = sum_by-cons prices_of session (filter (λ other. not (is_session sid other)) sessions) in
           rw (f, more, left) (omega arith)
     ]
-
-expired_out : (moment : ℕ) (sessions : List SessionView)
-    → sum_by prices_of (filter (λ other. not (is_over_at moment other)) sessions) + expired_prices sessions moment ≡ sum_by prices_of sessions
-expired_out moment [] = refl
-expired_out moment (session ∷ sessions) =
-    let rest = expired_out moment sessions in
-    let more = sum_by-cons prices_of session sessions in
-    let over = sum_by-cons (prices_over moment) session sessions in
-    elim (cases_Bool (is_over_at moment session)) [
-      | inl t ↦ rw (more, over, t) (omega arith)
-      | inr f ↦ let left = sum_by-cons prices_of session (filter (λ other. not (is_over_at moment other)) sessions) in rw (more, over, f, left) (omega arith)
-    ]
-
--- what a change gives back and takes is what it does to what the sessions hold
-pub changed_sum : (change : Change) (sessions : List SessionView) → AreApart sessions → sum_by prices_of (changed change sessions) + released sessions change ≡ sum_by prices_of sessions + taken change
-changed_sum Nothing sessions apart = refl
-changed_sum (Open session) sessions apart =
-    let out = taken_out session.sid sessions apart in
-    let push = sum_by_push prices_of (filter (λ other. not (is_session session.sid other)) sessions) session in
-    omega arith
-changed_sum (End sid) sessions apart = let out = taken_out sid sessions apart in omega arith
-changed_sum (Expire moment) sessions apart = let out = expired_out moment sessions in omega arith

@@ -1,5 +1,6 @@
 -- What an account keeps of the acts that were made, so that it judges the next one without looking back.
-use Rattle.std.specs.Prelude.{◌≡◌, ℕ, pos, neg_ℤ, ◌+ℤ◌, ◌≤ℤ◌, Bool, false, not, List, [], ◌∷◌, ◌++◌, length, map, reverse, filter, sum_by, Option, Some, None, option_map}
+use Rattle.std.specs.Prelude.{◌≡◌, ℕ, ℤ, pos, neg_ℤ, ◌+ℤ◌, ◌-ℤ◌, ◌≤ℤ◌, Bool, false, not, List, [], ◌∷◌, ◌++◌, length, map, reverse, filter, sum_by, Option, Some, None, option_map}
+use Rattle.dcc_escrow.specs.Pools.{PoolView}
 use Rattle.dcc_tariff.specs.Terms.{TermsView}
 use Rattle.dcc_act.specs.declared.act.Act.{Act}
 use Rattle.dcc_act.specs.declared.outcome.Outcome.{Outcome}
@@ -12,23 +13,51 @@ use Rattle.dcc_model.specs.Laws.{AreKeyed}
 use Rattle.dcc_model.specs.Money.{reserved_of}
 use Rattle.dcc_model.specs.Outcomes.{history, has_account, first_of, outcome_of, act_made, place_of_key, standing_of}
 use Rattle.dcc_model.specs.Sessions.{was_opened}
-use Rattle.dcc_session.specs.Grants.{prices}
+use Rattle.dcc_session.specs.Grants.{prices, charges_in, overruns_in, left_of}
 use Rattle.dcc_state.specs.declared.change.Change.{Change}
-use Rattle.dcc_state.specs.declared.change.Change.TheVariants.{Nothing, Open, End, Expire}
+use Rattle.dcc_state.specs.declared.change.Change.TheVariants.{Nothing, Post, Open, End, Expire}
+use Rattle.dcc_state.specs.declared.change.Turn.{Turn}
 use Rattle.dcc_state.specs.declared.facts.Facts.{Facts}
-use Rattle.dcc_state.specs.declared.limits.TheConstants.{FARTHEST}
-use Rattle.dcc_state.specs.OpenSessions.{SessionView, is_session, is_over_at, AreOpen}
+use Rattle.dcc_state.specs.declared.limits.TheConstants.{POOL, FARTHEST}
+use Rattle.dcc_state.specs.OpenSessions.{SessionView, is_session, own_in, is_over_at, AreOpen}
+
+-- a session after its request's turn: with what that grants, and what its services don't give back
+abbrev pub after_turn : Turn → List SessionView → SessionView
+after_turn turn sessions =
+    record { sid = turn.sid; deadline = turn.deadline; grants = turn.granted.grants ++ left_of (own_in sessions turn.sid) turn.services }
 
 -- the sessions after a change
 abbrev pub changed : Change → List SessionView → List SessionView
 changed Nothing sessions = sessions
-changed (Open session) sessions = filter (λ other. not (is_session session.sid other)) sessions ++ session ∷ []
-changed (End sid) sessions = filter (λ other. not (is_session sid other)) sessions
+changed (Post credit debit) sessions = sessions
+changed (Open turn) sessions = filter (λ other. not (is_session turn.sid other)) sessions ++ after_turn turn sessions ∷ []
+changed (End sid services) sessions = filter (λ other. not (is_session sid other)) sessions
 changed (Expire moment) sessions = filter (λ other. not (is_over_at moment other)) sessions
+
+-- the funds after it: with what is credited, and less what is debited and charged
+abbrev pub funds_after : Change → ℤ → List SessionView → ℤ
+funds_after Nothing funds sessions = funds
+funds_after (Post credit debit) funds sessions = (funds -ℤ pos debit) +ℤ pos credit
+funds_after (Open turn) funds sessions = funds -ℤ pos (charges_in (own_in sessions turn.sid) turn.services)
+funds_after (End sid services) funds sessions = funds -ℤ pos (charges_in (own_in sessions sid) services)
+funds_after (Expire moment) funds sessions = funds
+
+-- what it charges beyond what the services held
+abbrev pub overrun_with : Change → List SessionView → ℕ
+overrun_with Nothing sessions = 0
+overrun_with (Post credit debit) sessions = 0
+overrun_with (Open turn) sessions = overruns_in (own_in sessions turn.sid) turn.services
+overrun_with (End sid services) sessions = overruns_in (own_in sessions sid) services
+overrun_with (Expire moment) sessions = 0
 
 -- the prices of the grants of a session
 abbrev pub prices_of : SessionView → ℕ
 prices_of session = prices session.grants
+
+-- the pool is the account's, and what it has reserved is just what the sessions hold
+pub record HoldsAll (pool : PoolView) (sessions : List SessionView) : Type 0 where
+  pub id : pool.id ≡ POOL
+  pub reserved : pool.reserved ≡ sum_by prices_of sessions
 
 -- the money that is known, and what the sessions hold of it, is far from what can't be reckoned with
 pub record IsWithin (standing : Standing) (sessions : List SessionView) : Type 0 where

@@ -1,4 +1,5 @@
 pub mod OpenSessions
 pub mod Known
+pub mod Looks
 pub mod Backed
 pub mod inner

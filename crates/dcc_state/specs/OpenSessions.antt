@@ -3,6 +3,8 @@ use Rattle.std.specs.Prelude.{◌≡◌, ℕ, Bool, false, nat_le, if◌then◌e
 use Rattle.std.specs.List.{list_any}
 use Rattle.std.specs.Option.{option_map_or}
 use Rattle.dcc_tariff.specs.Terms.{TermsView}
+use Rattle.dcc_act.specs.declared.act.Kind.{Kind}
+use Rattle.dcc_act.specs.declared.act.Kind.TheVariants as kind
 use Rattle.dcc_model.specs.declared.done.Done.{Done}
 use Rattle.dcc_model.specs.Sessions.{Sid, Live, deadline, is_open, lives}
 use Rattle.dcc_session.specs.declared.held.Held.{Held}
@@ -38,6 +40,15 @@ session_in sessions sid = find (is_session sid) sessions
 -- the grants of a session among these
 abbrev pub own_in : List SessionView → Sid → List Held
 own_in sessions sid = option_map_or (λ (session : SessionView). session.grants) (session_in sessions sid) []
+
+-- what the session of a request holds; what is no request of a session has none
+abbrev pub own_by : List SessionView → Kind → List Held
+own_by sessions (kind.TopUp top_up) = []
+own_by sessions (kind.Initial request) = own_in sessions request.key.sid
+own_by sessions (kind.Update request) = own_in sessions request.key.sid
+own_by sessions (kind.Termination request) = own_in sessions request.key.sid
+own_by sessions (kind.Event event) = []
+own_by sessions kind.Expiry = []
 
 -- no two of them have one name
 abbrev pub AreApart : List SessionView → Type 0

@@ -1,39 +1,32 @@
-//! What an act does to the sessions that are open.
+//! What an act does to the money of an account and to the sessions that are open.
 
-ghost use Rattle.std.specs.Prelude.{◌≡◌, ◌<◌, vec_len, vec_capacity};
+use dcc_act::{Moment, Services, SessionId};
+use dcc_session::Granted;
 
-use crate::open_session::{OpenSession, take_out, take_out_over};
-use dcc_act::{Moment, SessionId};
-
-/// What an act does to the sessions that are open.
+/// A request's turn at its session, which goes on after it or begins with it.
 #[derive(Debug, Drop)]
-pub enum Change {
-    /// All stay as they are.
-    Nothing,
-    /// The session is open, in the place of the one of its name where there is one.
-    Open(OpenSession),
-    /// The session of this name ends.
-    End(SessionId),
-    /// Those end whose time is over at this moment.
-    Expire(Moment),
+pub struct Turn {
+    /// The session's name.
+    pub sid: SessionId,
+    /// Until when it is held then, in seconds.
+    pub deadline: u64,
+    /// The services as the request looks at them: what they report and ask for.
+    pub services: Services,
+    /// What is granted to them, with memory for it.
+    pub granted: Granted,
 }
 
-impl Change {
-    ghost use Rattle.dcc_state.specs.Known.{changed};
-
-    /// Makes the change. It takes no memory.
-    pub fn apply(self, sessions: &mut Vec<OpenSession>)
-        requires { vec_len sessions.old < vec_capacity sessions.old }
-        ensures { sessions.new.items ≡ changed self sessions.old.items }
-    {
-        match self {
-            Change::Nothing => {}
-            Change::Open(session) => {
-                take_out(sessions, &session.sid);
-                sessions.push_reserved(session);
-            }
-            Change::End(sid) => take_out(sessions, &sid),
-            Change::Expire(moment) => take_out_over(sessions, moment),
-        }
-    }
+/// What an act does to the money of an account and to the sessions that are open.
+#[derive(Debug, Drop)]
+pub enum Change {
+    /// All stays as it is.
+    Nothing,
+    /// Money is taken and added at once, in minor units.
+    Post { credit: u64, debit: u64 },
+    /// The session has its turn, and is open after it.
+    Open(Turn),
+    /// The session of this name ends, after what its services report.
+    End { sid: SessionId, services: Services },
+    /// Those end whose time is over at this moment.
+    Expire(Moment),
 }

@@ -1,11 +1,11 @@
-//! Charges and overruns, in minor units, by the grants that a session holds.
+//! Charges, in minor units, by the grants that a session holds.
 
 ghost use Rattle.std.specs.Prelude.{◌≡◌, ◌≤◌, ◌*◌, ◌^◌, pos, ◌≤ℤ◌, length, filter, find, sum_by, unwrap_or, IfOk};
 ghost use Rattle.std.specs.Option.{ForSome, option_copied};
 ghost use Rattle.dcc_act.specs.ServiceKeys.{same_service};
 ghost use Rattle.dcc_act.specs.declared.limits.TheConstants.{MAX_SERVICES};
-ghost use Rattle.dcc_session.specs.Grants.{prices, live_in, charge_tariff_in, charge_in, live_price_in, charges_in, is_given_back, given_back};
-ghost use Rattle.dcc_state.specs.inner.Grants.{is_unrated_in, overruns_in};
+ghost use Rattle.dcc_session.specs.Grants.{live_in, charge_tariff_in, charge_in, charges_in, is_given_back, given_back};
+ghost use Rattle.dcc_state.specs.inner.Grants.{is_unrated_in};
 
 use dcc_act::{Grant, MAX_SERVICES, Service, ServiceKey};
 use dcc_model::{names_any, price};
@@ -80,33 +80,8 @@ pub(crate) fn charges(own: &[Held], services: &[Service]) -> u64
     sum
 }
 
-/// The price of a service's live grant.
-fn live_price(own: &[Held], key: ServiceKey) -> u64
-    ensures value { result ≡ live_price_in own.now key }
-    ensures bound { result ≤ MAX_PRICE }
-{
-    match live(own, key) {
-        Some(grant) => price(&grant),
-        None => 0,
-    }
-}
-
-/// What each charge exceeds the price of the live grant by, together.
-pub(crate) fn overruns(own: &[Held], services: &[Service]) -> u64
-    requires { length services.now ≤ MAX_SERVICES }
-    ensures value { result ≡ overruns_in own.now services.now }
-    ensures bound { result ≤ MAX_SERVICES * MAX_PRICE }
-{
-    let mut sum = 0;
-    for service in services {
-        let held = live_price(own, service.key());
-        sum += cost(own, service).saturating_sub(held);
-    }
-    sum
-}
-
 /// Whether a request gives back what a service holds.
-pub(crate) fn is_given_back(services: &[Service], held: &Held) -> bool
+fn is_given_back(services: &[Service], held: &Held) -> bool
     ensures { result ≡ is_given_back services.now held.now }
 {
     names_any(services, held.key)
@@ -122,18 +97,6 @@ pub(crate) fn given_back(own: &[Held], services: &[Service]) -> i128
         if is_given_back(services, held) {
             sum += i128::from(price(&held.grant));
         }
-    }
-    sum
-}
-
-/// The prices of these grants.
-pub(crate) fn prices(own: &[Held]) -> i128
-    ensures value { result ≡ pos (prices own.now) }
-    ensures bound { result ≤ℤ pos (MAX_PRICE * length own.now) }
-{
-    let mut sum = 0;
-    for held in own {
-        sum += i128::from(price(&held.grant));
     }
     sum
 }

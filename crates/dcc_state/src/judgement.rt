@@ -2,7 +2,6 @@
 
 use crate::change::Change;
 use dcc_act::{Entry, Outcome};
-use dcc_model::Standing;
 
 /// What one more act comes to, and what it does.
 #[derive(Debug, Drop)]
@@ -15,8 +14,6 @@ pub struct Judgement {
     pub place: Option<u64>,
     /// The entries that it adds to the books, in order.
     pub entries: Vec<Entry>,
-    /// The money after it.
-    pub standing: Standing,
-    /// What it does to the sessions that are open.
+    /// What it does to the money and to the sessions that are open.
     pub change: Change,
 }

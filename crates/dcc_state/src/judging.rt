@@ -1,36 +1,39 @@
 //! What one more act comes to, and what it does.
 
-ghost use Rattle.std.specs.Prelude.{◌≡◌, ◌≤◌, ◌+◌, ◌*◌, ◌<◌, ◌^◌, List, reverse, pos, ◌+ℤ◌, length, count_by, sum_by, neg_ℤ, ◌≤ℤ◌, if◌then◌else◌, unwrap_or, IfOk};
+ghost use Rattle.std.specs.Prelude.{◌≡◌, ◌≤◌, ◌+◌, ◌<◌, ◌^◌, List, reverse, length, count_by, sum_by, neg_ℤ, ◌≤ℤ◌, if◌then◌else◌, unwrap_or, IfOk};
 ghost use Rattle.std.specs.Option.{option_copied};
 ghost use Rattle.dcc_act.specs.Services.{ServiceView};
 ghost use Rattle.dcc_act.specs.declared.limits.TheConstants.{MAX_SERVICES, MAX_IDS};
 ghost use Rattle.dcc_act.specs.declared.act.Act.{Act};
 ghost use Rattle.dcc_model.specs.Entries.{entries_with};
-ghost use Rattle.dcc_model.specs.Outcomes.{judged, is_made, place_of, with_act, history, standing_of};
+ghost use Rattle.dcc_model.specs.Money.{funds_of, overrun_of};
+ghost use Rattle.dcc_model.specs.Outcomes.{judged, is_made, place_of, with_act, history};
 ghost use Rattle.dcc_model.specs.Sessions.{looked_at};
-ghost use Rattle.dcc_state.specs.Backed.{made_in, IsBacked};
-ghost use Rattle.dcc_state.specs.Known.{changed, IsWithin, IsKnown};
-ghost use Rattle.dcc_state.specs.OpenSessions.{is_over_at, AreOpen};
-ghost use Rattle.dcc_state.specs.inner.Judged.{expired_in, decided_in, settled_in, judged_in, is_made_in, place_in, entries_by_in, change_of, standing_after, entries_after, change_after, money_after};
+ghost use Rattle.dcc_state.specs.Backed.{IsBacked};
+ghost use Rattle.dcc_state.specs.Known.{changed, funds_after, overrun_with, IsWithin, IsKnown};
+ghost use Rattle.dcc_state.specs.Looks.{most_looks};
+ghost use Rattle.dcc_state.specs.OpenSessions.{own_by, is_over_at, AreOpen};
+ghost use Rattle.dcc_state.specs.inner.Judged.{expired_in, decided_in, settled_in, judged_in, is_made_in, place_in, entries_by_in, change_of, entries_after, change_after};
 
-use crate::after::{change_of, entries_by, standing_after};
+use crate::after::{change_of, entries_by};
 use crate::change::Change;
 use crate::facts::Facts;
 use crate::judgement::Judgement;
 use crate::limits::FARTHEST;
 use crate::open_session::{OpenSession, is_over};
-use crate::requests::{begun, reported};
-use dcc_act::{Act, Kind, MAX_SERVICES, Moment, Outcome, RequestType, Service};
+use crate::requests::{begun, own_of, reported};
+use dcc_act::{Act, Kind, Looks, MAX_SERVICES, Moment, Outcome, RequestType, Service, Services};
 use dcc_model::{
     CEILING, acts_come_to_their_own, decide_event, decide_top_up, is_expiry, keys_are_apart,
     request_key, services_looked_at, sessions_open_once, unknown,
 };
-use dcc_tariff::{MAX_PRICE, Terms};
+use dcc_session::Held;
+use dcc_tariff::Terms;
 use std::alloc::{AllocError, Global};
 
 /// What one more act comes to after those that were made, and what it does, by what is known of these: a few facts, what the
-/// one that has its key came to, and the sessions that are open. It looks at the grants of the act's own session, and for an
-/// expiry at those of the sessions that it ends. The only error is want of memory.
+/// one that has its key came to, and the sessions that are open. It looks at the grants of the act's own session alone, each
+/// once, and counts them. The only error is want of memory.
 pub fn judge(
     alloc: Global,
     terms: &Terms,
@@ -38,7 +41,9 @@ pub fn judge(
     first: Option<&Outcome>,
     sessions: &[OpenSession],
     act: &Act,
+    looks: &mut Looks,
 ) -> Result<Judgement, AllocError>
+    requires fresh { looks.old ≡ 0 }
     requires within { IsWithin facts.now.standing sessions.now }
     requires few { facts.now.count + 1 < 2 ^ 64 }
     ensures outcome { (xs : List Act) → IsKnown terms.now xs act.now facts.now (option_copied first.entry) sessions.now
@@ -49,16 +54,21 @@ pub fn judge(
         → IfOk result (λ judgement. judgement.place ≡ place_of terms.now (history terms.now (reverse xs)) act.now) }
     ensures entries { (xs : List Act) → IsKnown terms.now xs act.now facts.now (option_copied first.entry) sessions.now
         → IfOk result (λ judgement. judgement.entries.items ≡ entries_with terms.now (history terms.now (reverse xs)) act.now) }
-    ensures standing { (xs : List Act) → IsKnown terms.now xs act.now facts.now (option_copied first.entry) sessions.now
-        → IfOk result (λ judgement. judgement.standing ≡ standing_of terms.now (with_act terms.now (history terms.now (reverse xs)) act.now)) }
     ensures sessions { (xs : List Act) → IsKnown terms.now xs act.now facts.now (option_copied first.entry) sessions.now
         → IfOk result (λ judgement. AreOpen terms.now (with_act terms.now (history terms.now (reverse xs)) act.now) (changed judgement.change sessions.now)) }
-    ensures overrun { IfOk result (λ judgement. judgement.standing.overrun ≤ℤ (facts.now.standing.overrun +ℤ pos (MAX_SERVICES * MAX_PRICE))) }
-    ensures backed { IfOk result (λ judgement. IsBacked facts.now.standing sessions.now (looked_at act.now.kind) (made_in judgement.outcome) judgement.change) }
+    ensures funds { (xs : List Act) → IsKnown terms.now xs act.now facts.now (option_copied first.entry) sessions.now
+        → IfOk result (λ judgement. funds_of terms.now (with_act terms.now (history terms.now (reverse xs)) act.now)
+        ≡ funds_after judgement.change facts.now.standing.funds sessions.now) }
+    ensures overrun { (xs : List Act) → IsKnown terms.now xs act.now facts.now (option_copied first.entry) sessions.now
+        → IfOk result (λ judgement. overrun_of terms.now (with_act terms.now (history terms.now (reverse xs)) act.now)
+        ≡ overrun_of terms.now (history terms.now (reverse xs)) + overrun_with judgement.change sessions.now) }
+    ensures backed { IfOk result (λ judgement. IsBacked facts.now.standing.funds facts.now.standing.free sessions.now judgement.change) }
+    ensures looks { (xs : List Act) → IsKnown terms.now xs act.now facts.now (option_copied first.entry) sessions.now
+        → looks.new ≤ most_looks terms.now (history terms.now (reverse xs)) act.now.moment act.now.kind }
 {
     acts_come_to_their_own();
     sessions_open_once();
-    judge_known(alloc, terms, facts, first, sessions, act)
+    judge_known(alloc, terms, facts, first, sessions, act, looks)
 }
 
 /// What one more act comes to, and what it does, by what is known.
@@ -69,7 +79,9 @@ fn judge_known(
     first: Option<&Outcome>,
     sessions: &[OpenSession],
     act: &Act,
+    looks: &mut Looks,
 ) -> Result<Judgement, AllocError>
+    requires fresh { looks.old ≡ 0 }
     requires within { IsWithin facts.now.standing sessions.now }
     requires few { facts.now.count + 1 < 2 ^ 64 }
     ensures outcome { IfOk result (λ judgement. judgement.outcome ≡ judged_in facts.now (option_copied first.entry) sessions.now act.now) }
@@ -77,44 +89,41 @@ fn judge_known(
     ensures place { IfOk result (λ judgement. judgement.place ≡ place_in facts.now judgement.is_new) }
     ensures entries { IfOk result (λ judgement. judgement.entries.items ≡ entries_after facts.now sessions.now act.now judgement.is_new judgement.outcome) }
     ensures change { IfOk result (λ judgement. judgement.change ≡ change_after terms.now sessions.now act.now judgement.is_new judgement.outcome) }
-    ensures standing { IfOk result (λ judgement. judgement.standing ≡ money_after facts.now sessions.now act.now judgement.is_new judgement.outcome judgement.change) }
-    ensures overrun { IfOk result (λ judgement. judgement.standing.overrun ≤ℤ (facts.now.standing.overrun +ℤ pos (MAX_SERVICES * MAX_PRICE))) }
-    ensures backed { IfOk result (λ judgement. IsBacked facts.now.standing sessions.now (looked_at act.now.kind) (made_in judgement.outcome) judgement.change) }
+    ensures backed { IfOk result (λ judgement. IsBacked facts.now.standing.funds facts.now.standing.free sessions.now judgement.change) }
+    ensures looks { looks.new ≡ length (own_by sessions.now act.now.kind) }
 {
     keys_are_apart(act);
-    let services = services_looked_at(alloc, &act.kind)?;
-    let outcome = outcome(alloc, facts, first, sessions, act, &services)?;
-    let is_new = is_made(facts, first, sessions, act);
-    if !is_new {
+    let own = own_of(sessions, &act.kind, looks);
+    let services = services_of(alloc, &act.kind)?;
+    let looked = services.as_slice();
+    let outcome = outcome(alloc, facts, first, sessions, own, act, looked)?;
+    if !is_made(facts, first, sessions, act) {
         return Ok(Judgement {
             outcome,
-            is_new,
+            is_new: false,
             place: facts.place,
             entries: Vec::new(alloc),
-            standing: facts.standing,
             change: Change::Nothing,
         });
     }
     let place = facts.count + 1;
     let (moment, kind) = (act.moment, &act.kind);
-    let entries = entries_by(alloc, sessions, place, moment, kind, &services, &outcome)?;
-    let change = change_of(alloc, terms, sessions, moment, kind, &services, &outcome)?;
-    let standing = standing_after(
-        &facts.standing,
-        sessions,
-        kind,
-        &services,
-        &outcome,
-        &change,
-    );
     Ok(Judgement {
-        outcome,
-        is_new,
+        is_new: true,
         place: Some(place),
-        entries,
-        standing,
-        change,
+        entries: entries_by(alloc, own, place, moment, kind, looked, &outcome)?,
+        change: change_of(alloc, terms, own, moment, kind, services, &outcome)?,
+        outcome,
     })
+}
+
+/// The services of an act as it looks at them. The only error is want of memory.
+fn services_of(alloc: Global, kind: &Kind) -> Result<Services, AllocError>
+    ensures value { IfOk result (λ services. services ≡ looked_at kind.now) }
+    ensures few { IfOk result (λ services. length services ≤ MAX_SERVICES) }
+    ensures few_ids { IfOk result (λ services. sum_by (λ (service : ServiceView). length service.ids) services ≤ MAX_IDS) }
+{
+    Ok(Services::from_vec(services_looked_at(alloc, kind)?).unwrap())
 }
 
 /// What an act comes to.
@@ -123,22 +132,24 @@ fn outcome(
     facts: &Facts,
     first: Option<&Outcome>,
     sessions: &[OpenSession],
+    own: &[Held],
     act: &Act,
     services: &[Service],
 ) -> Result<Outcome, AllocError>
     requires few { length services.now ≤ MAX_SERVICES }
     requires few_ids { sum_by (λ (service : ServiceView). length service.ids) services.now ≤ MAX_IDS }
     requires looked { services.now ≡ looked_at act.now.kind }
+    requires own { own.now ≡ own_by sessions.now act.now.kind }
     requires free_low { neg_ℤ FARTHEST ≤ℤ facts.now.standing.free }
     requires free_high { facts.now.standing.free ≤ℤ CEILING }
     ensures { IfOk result (λ outcome. outcome ≡ judged_in facts.now (option_copied first.entry) sessions.now act.now) }
 {
     if facts.has_account {
-        return settled(alloc, facts, first, sessions, act, services);
+        return settled(alloc, facts, first, sessions, own, act, services);
     }
     match unknown(&act.kind)? {
         Some(outcome) => Ok(outcome),
-        None => settled(alloc, facts, first, sessions, act, services),
+        None => settled(alloc, facts, first, sessions, own, act, services),
     }
 }
 
@@ -148,19 +159,21 @@ fn settled(
     facts: &Facts,
     first: Option<&Outcome>,
     sessions: &[OpenSession],
+    own: &[Held],
     act: &Act,
     services: &[Service],
 ) -> Result<Outcome, AllocError>
     requires few { length services.now ≤ MAX_SERVICES }
     requires few_ids { sum_by (λ (service : ServiceView). length service.ids) services.now ≤ MAX_IDS }
     requires looked { services.now ≡ looked_at act.now.kind }
+    requires own { own.now ≡ own_by sessions.now act.now.kind }
     requires free_low { neg_ℤ FARTHEST ≤ℤ facts.now.standing.free }
     requires free_high { facts.now.standing.free ≤ℤ CEILING }
     ensures { IfOk result (λ outcome. outcome ≡ settled_in facts.now (option_copied first.entry) sessions.now act.now) }
 {
     match first {
         Some(outcome) => outcome.copy(),
-        None => decide(alloc, facts, sessions, act.moment, &act.kind, services),
+        None => decide(alloc, facts, sessions, own, act.moment, &act.kind, services),
     }
 }
 
@@ -169,6 +182,7 @@ fn decide(
     alloc: Global,
     facts: &Facts,
     sessions: &[OpenSession],
+    own: &[Held],
     moment: Moment,
     kind: &Kind,
     services: &[Service],
@@ -176,6 +190,7 @@ fn decide(
     requires few { length services.now ≤ MAX_SERVICES }
     requires few_ids { sum_by (λ (service : ServiceView). length service.ids) services.now ≤ MAX_IDS }
     requires looked { services.now ≡ looked_at kind.now }
+    requires own { own.now ≡ own_by sessions.now kind.now }
     requires free_low { neg_ℤ FARTHEST ≤ℤ facts.now.standing.free }
     requires free_high { facts.now.standing.free ≤ℤ CEILING }
     ensures { IfOk result (λ outcome. outcome ≡ decided_in facts.now sessions.now moment kind.now) }
@@ -189,11 +204,11 @@ fn decide(
                 sessions: expired(sessions, moment),
             });
         }
-        Kind::Initial(opening) => return begun(alloc, facts, sessions, &opening.key, services),
+        Kind::Initial(opening) => return begun(alloc, facts, sessions, own, &opening.key, services),
         Kind::Update(report) => (RequestType::Update, report),
         Kind::Termination(report) => (RequestType::Termination, report),
     };
-    reported(alloc, facts, sessions, request, &report.key, services)
+    reported(alloc, facts, sessions, own, request, &report.key, services)
 }
 
 /// How many of these sessions an expiry at this moment ends.

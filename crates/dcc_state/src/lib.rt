@@ -7,6 +7,7 @@
 #![tactic(auto)]
 
 mod after;
+mod applying;
 mod change;
 mod facts;
 mod granting;
@@ -18,12 +19,12 @@ mod limits;
 mod open_session;
 mod requests;
 
-pub use change::Change;
+pub use change::{Change, Turn};
 pub use facts::Facts;
 pub use judgement::Judgement;
 pub use judging::judge;
 pub use laws::{money_is_within, sessions_hold_what_is_reserved};
-pub use limits::FARTHEST;
+pub use limits::{FARTHEST, POOL};
 pub use open_session::OpenSession;
 
 #[cfg(test)]

@@ -1,47 +1,78 @@
 //! Sessions that are open.
 
-ghost use Rattle.std.specs.Prelude.{◌≡◌, ◌≤◌, filter, not, vec_len, vec_capacity};
-ghost use Rattle.dcc_state.specs.OpenSessions.{is_session, is_over_at};
+ghost use Rattle.std.specs.Prelude.{◌≡◌, ◌≤◌, ◌+◌, [], length, filter, not, position, sum_by, vec_len, vec_capacity, option_map};
+ghost use Rattle.std.specs.Option.{ForSome, option_map_or};
+ghost use Rattle.dcc_session.specs.Grants.{prices};
+ghost use Rattle.dcc_session.specs.Sessions.{OpenView};
+ghost use Rattle.dcc_state.specs.Known.{prices_of};
+ghost use Rattle.dcc_state.specs.OpenSessions.{is_session, own_in, AreApart, is_over_at};
+ghost use Rattle.dcc_state.specs.declared.limits.TheConstants.{POOL};
 
-use dcc_act::{Moment, SessionId};
-use dcc_session::Held;
+use dcc_act::{Looks, Moment, SessionId};
+use dcc_session::{Held, ParkedSession};
 use std::marker::Model;
 
-/// An open session: its name, until when it is held, in seconds, and its live grants.
+/// An open session with its holds, put away under its name between requests.
 #[derive(Debug, Drop)]
 pub struct OpenSession {
-    pub sid: SessionId,
-    pub deadline: u64,
-    pub grants: Vec<Held>,
+    pub(crate) sid: SessionId,
+    pub(crate) session: ParkedSession,
 }
 
 impl Model for OpenSession {
+    ghost use Rattle.std.specs.Prelude.{◌≡◌};
     ghost use Rattle.dcc_state.specs.OpenSessions.{SessionView};
+    ghost use Rattle.dcc_state.specs.declared.limits.TheConstants.{POOL};
 
     ghost Value = { SessionView };
 
-    ghost view = { λ s. record { sid = s.sid; deadline = s.deadline; grants = s.grants.items } };
+    ghost view = { λ s. record { sid = s.sid; deadline = s.session.deadline; grants = s.session.grants } };
+
+    ghost invariant = { λ s. s.session.pool ≡ POOL };
+}
+
+impl OpenSession {
+    /// Its live grants. Each is one look.
+    pub(crate) fn grants(&self, looks: &mut Looks) -> &[Held]
+        requires { looks.old ≡ 0 }
+        ensures value { result.now ≡ self.now.grants }
+        ensures looks { looks.new ≡ length self.now.grants }
+    {
+        let _few = self.session.count();
+        self.session.grants(looks)
+    }
 }
 
 /// Whether the time of a session is over at this moment.
 pub(crate) fn is_over(session: &OpenSession, moment: Moment) -> bool
     ensures { result ≡ is_over_at moment session.now }
 {
-    session.deadline <= moment.seconds()
+    session.session.deadline() <= moment.seconds()
+}
+
+/// Where the session of this name stands.
+fn place(sessions: &[OpenSession], sid: &SessionId) -> Option<usize>
+    ensures { result ≡ position (is_session sid.now) sessions.now }
+{
+    sessions.iter().position(|session| session.sid == *sid)
+}
+
+/// Where the first session stands whose time is over at this moment.
+pub(crate) fn place_over(sessions: &[OpenSession], moment: Moment) -> Option<usize>
+    ensures { result ≡ position (is_over_at moment) sessions.now }
+{
+    sessions.iter().position(|session| is_over(session, moment))
 }
 
 /// Takes the session of this name out, where it is in. It takes no memory.
-pub(crate) fn take_out(sessions: &mut Vec<OpenSession>, sid: &SessionId)
+pub(crate) fn take_out(sessions: &mut Vec<OpenSession>, sid: &SessionId) -> Option<ParkedSession>
+    requires { AreApart sessions.old.items }
+    ensures grants { option_map_or (λ (session : OpenView). session.grants) result [] ≡ own_in sessions.old.items sid.now }
+    ensures pool { ForSome result (λ (session : OpenView). session.pool ≡ POOL) }
     ensures items { sessions.new.items ≡ filter (λ other. not (is_session sid.now other)) sessions.old.items }
     ensures len { vec_len sessions.new ≤ vec_len sessions.old }
     ensures capacity { vec_capacity sessions.new ≡ vec_capacity sessions.old }
 {
-    sessions.retain(|other| other.sid != *sid);
-}
-
-/// Takes those out whose time is over at this moment. It takes no memory.
-pub(crate) fn take_out_over(sessions: &mut Vec<OpenSession>, moment: Moment)
-    ensures { sessions.new.items ≡ filter (λ other. not (is_over_at moment other)) sessions.old.items }
-{
-    sessions.retain(|other| !is_over(other, moment));
+    let at = place(sessions, sid)?;
+    Some(sessions.remove(at).session)
 }

@@ -3,7 +3,7 @@
 ghost use Rattle.std.specs.Prelude.{◌≡◌, ◌≤◌, neg_ℤ, ◌≤ℤ◌, length, find, sum_by, option_map, IfOk};
 ghost use Rattle.dcc_act.specs.Services.{ServiceView};
 ghost use Rattle.dcc_act.specs.declared.limits.TheConstants.{MAX_SERVICES, MAX_IDS};
-ghost use Rattle.dcc_state.specs.OpenSessions.{session_in, own_in};
+ghost use Rattle.dcc_state.specs.OpenSessions.{session_in, own_in, own_by};
 ghost use Rattle.dcc_state.specs.inner.Grants.{served_in};
 ghost use Rattle.dcc_state.specs.inner.Judged.{is_open_in, begun_in, reported_in};
 
@@ -13,8 +13,8 @@ use crate::grants::charges;
 use crate::limits::FARTHEST;
 use crate::open_session::OpenSession;
 use dcc_act::{
-    Answer, MAX_SESSIONS, Outcome, RequestKey, RequestType, ResultCode, Service, ServiceAnswers,
-    SessionId,
+    Answer, Kind, Looks, MAX_SESSIONS, Outcome, RequestKey, RequestType, ResultCode, Service,
+    ServiceAnswers, SessionId,
 };
 use dcc_model::{CEILING, bare, command_result, is_under};
 use dcc_session::Held;
@@ -34,13 +34,29 @@ pub(crate) fn is_open(sessions: &[OpenSession], sid: &SessionId) -> bool
     session(sessions, sid).is_some()
 }
 
-/// The grants of the session of this name.
-pub(crate) fn own<'a>(sessions: &'a [OpenSession], sid: &SessionId) -> &'a [Held]
-    ensures { result.now ≡ own_in sessions.now sid.now }
+/// The grants of the session of this name. Each is one look.
+fn own<'a>(sessions: &'a [OpenSession], sid: &SessionId, looks: &mut Looks) -> &'a [Held]
+    requires { looks.old ≡ 0 }
+    ensures value { result.now ≡ own_in sessions.now sid.now }
+    ensures looks { looks.new ≡ length (own_in sessions.now sid.now) }
 {
     match session(sessions, sid) {
-        Some(session) => &session.grants,
+        Some(session) => session.grants(looks),
         None => &[],
+    }
+}
+
+/// The grants of the session of a request. Each is one look.
+pub(crate) fn own_of<'a>(sessions: &'a [OpenSession], kind: &Kind, looks: &mut Looks) -> &'a [Held]
+    requires { looks.old ≡ 0 }
+    ensures value { result.now ≡ own_by sessions.now kind.now }
+    ensures looks { looks.new ≡ length (own_by sessions.now kind.now) }
+{
+    match kind {
+        Kind::Initial(request) | Kind::Update(request) | Kind::Termination(request) => {
+            own(sessions, &request.key.sid, looks)
+        }
+        Kind::TopUp(_) | Kind::Event(_) | Kind::Expiry => &[],
     }
 }
 
@@ -49,6 +65,7 @@ pub(crate) fn begun(
     alloc: Global,
     facts: &Facts,
     sessions: &[OpenSession],
+    own: &[Held],
     key: &RequestKey,
     services: &[Service],
 ) -> Result<Outcome, AllocError>
@@ -56,6 +73,7 @@ pub(crate) fn begun(
     requires few_ids { sum_by (λ (service : ServiceView). length service.ids) services.now ≤ MAX_IDS }
     requires free_low { neg_ℤ FARTHEST ≤ℤ facts.now.standing.free }
     requires free_high { facts.now.standing.free ≤ℤ CEILING }
+    requires own { own.now ≡ own_in sessions.now key.now.sid }
     ensures { IfOk result (λ outcome. outcome ≡ begun_in facts.now sessions.now key.now services.now) }
 {
     if facts.was_opened {
@@ -68,7 +86,6 @@ pub(crate) fn begun(
             ResultCode::ResourcesExceeded,
         )
     } else {
-        let own = own(sessions, &key.sid);
         let free = facts.standing.free;
         served(alloc, free, own, RequestType::Initial, key, services)
     }
@@ -79,6 +96,7 @@ pub(crate) fn reported(
     alloc: Global,
     facts: &Facts,
     sessions: &[OpenSession],
+    own: &[Held],
     request: RequestType,
     key: &RequestKey,
     services: &[Service],
@@ -87,12 +105,12 @@ pub(crate) fn reported(
     requires few_ids { sum_by (λ (service : ServiceView). length service.ids) services.now ≤ MAX_IDS }
     requires free_low { neg_ℤ FARTHEST ≤ℤ facts.now.standing.free }
     requires free_high { facts.now.standing.free ≤ℤ CEILING }
+    requires own { own.now ≡ own_in sessions.now key.now.sid }
     ensures { IfOk result (λ outcome. outcome ≡ reported_in facts.now sessions.now request key.now services.now) }
 {
     if !is_open(sessions, &key.sid) {
         return bare(alloc, request, key, ResultCode::UnknownSession);
     }
-    let own = own(sessions, &key.sid);
     let charged = charges(own, services);
     if is_under(facts.standing.funds, charged) {
         bare(alloc, request, key, ResultCode::UnableToComply)

@@ -1,10 +1,11 @@
 //! One act after another, by what is kept alone.
 
-use crate::{Change, Facts, OpenSession, judge};
+use crate::{Facts, OpenSession, POOL, judge};
 use dcc_act::{
-    Act, Form, Kind, Moment, Outcome, RequestKey, Service, ServiceIds, Services, SessionId,
+    Act, Form, Kind, Looks, Moment, Outcome, RequestKey, Service, ServiceIds, Services, SessionId,
     SessionRequest,
 };
+use dcc_escrow::Pool;
 use dcc_model::Standing;
 use dcc_tariff::{Tariff, Terms, UnitKind};
 use std::alloc::Global;
@@ -56,19 +57,21 @@ fn opening(alloc: Global) -> Result<SessionRequest, Fail> {
 fn session_opens(rt: HostRuntime) -> Result<(), Fail> {
     let alloc = rt.alloc();
     let mut sessions: Vec<OpenSession> = Vec::with_capacity(alloc, 1)?;
+    let mut pool = Pool::new(POOL);
+    pool.credit(1000)?;
     let act = Act {
         moment: Moment::new(1_748_736_000).ok_or("a moment")?,
         kind: Kind::Initial(opening(alloc)?),
     };
-    let opened = judge(alloc, &TERMS, &FACTS, None, &sessions, &act)?;
+    let mut looks = Looks::new();
+    let opened = judge(alloc, &TERMS, &FACTS, None, &sessions, &act, &mut looks)?;
+    assert_eq!(rt; looks.count(), 0);
     assert!(rt; opened.is_new && matches!(opened.outcome, Outcome::Answered(_)));
-    let money = opened.standing;
+    assert!(rt; opened.place == Some(2) && opened.entries.is_empty());
+    let overrun = opened.change.apply(&mut sessions, &mut pool);
     assert_eq!(rt;
-        (opened.place, money.funds, money.free, money.overrun),
-        (Some(2), 1000, 500, 0)
+        (sessions.len(), pool.committed(), pool.free(), overrun),
+        (1, 1000, 500, 0)
     );
-    assert!(rt; matches!(opened.change, Change::Open(_)) && opened.entries.is_empty());
-    opened.change.apply(&mut sessions);
-    assert_eq!(rt; sessions.len(), 1);
     Ok(())
 }

@@ -1,6 +1,6 @@
 -- What a request of a session comes to, by the grants that its session holds and the money that is free.
-use Rattle.std.specs.Prelude.{ℕ, ◌+◌, ◌-◌, ℤ, pos, ◌+ℤ◌, ◌-ℤ◌, Bool, false, not, ◌&&◌, if◌then◌else◌, List, [], ◌∷◌, ◌++◌, filter, filter_map, sum_by, None, is_some, is_none, option_map, unwrap_or}
-use Rattle.dcc_act.specs.Services.{ServiceView, service_key}
+use Rattle.std.specs.Prelude.{ℕ, ◌+◌, ℤ, pos, ◌+ℤ◌, ◌-ℤ◌, Bool, false, ◌&&◌, if◌then◌else◌, List, [], ◌∷◌, ◌++◌, filter_map, sum_by, None, is_some, is_none, option_map}
+use Rattle.dcc_act.specs.Services.{ServiceView}
 use Rattle.dcc_act.specs.declared.entry.Entry.{Entry}
 use Rattle.dcc_act.specs.declared.outcome.Outcome.{Outcome}
 use Rattle.dcc_act.specs.declared.outcome.RequestType.{RequestType}
@@ -12,14 +12,10 @@ use Rattle.dcc_model.specs.Money.{made_price}
 use Rattle.dcc_model.specs.Outcomes.{answer_with, asked_answer, answered}
 use Rattle.dcc_model.specs.Sessions.{Sid}
 use Rattle.dcc_session.specs.declared.held.Held.{Held}
-use Rattle.dcc_session.specs.Grants.{charge_in, live_price_in, charges_in, is_given_back, given_back}
-use Rattle.dcc_state.specs.Backed.{held_by}
+use Rattle.dcc_session.specs.Grants.{charge_in, charges_in, given_back}
 
 abbrev pub is_unrated_in : List Held → ServiceView → Bool
 is_unrated_in own service = is_some service.used && is_none (charge_in own service)
-
-abbrev pub overruns_in : List Held → List ServiceView → ℕ
-overruns_in own services = sum_by (λ service. unwrap_or (charge_in own service) 0 - live_price_in own (service_key service)) services
 
 -- the money for the next service's grant: what is free and given back, less the charges and the grants before
 abbrev pub room_in : ℤ → List Held → List ServiceView → List ServiceAnswer → ℤ
@@ -36,10 +32,6 @@ answers_in free own services before (service ∷ rest) =
 
 abbrev pub served_in : ℤ → List Held → RequestType → RequestKey → List ServiceView → Outcome
 served_in free own type key services = answered type key (answers_in free own services [] services)
-
--- what the session holds after its request: what that granted, and what it did not give back
-abbrev pub grants_after : List Held → List ServiceView → List ServiceAnswer → List Held
-grants_after own services made = filter_map held_by made ++ filter (λ held. not (is_given_back services held)) own
 
 -- the entries of the reports that are charged
 abbrev pub charge_entries_in : List Held → ℕ → ℕ → Sid → List ServiceView → List Entry

@@ -1,5 +1,5 @@
 -- What one more act comes to, and what it does, by what is known of the acts before it.
-use Rattle.std.specs.Prelude.{ℕ, ◌+◌, ℤ, pos, ◌+ℤ◌, ◌-ℤ◌, Bool, not, ◌&&◌, ◌||◌, nat_le, nat_lt, if◌then◌else◌, List, [], ◌∷◌, ◌++◌, length, count_by, sum_by, Option, Some, is_some, is_none, option_map, unwrap_or}
+use Rattle.std.specs.Prelude.{ℕ, ◌+◌, Bool, not, ◌&&◌, ◌||◌, nat_le, nat_lt, if◌then◌else◌, List, [], ◌∷◌, ◌++◌, length, count_by, filter_map, Option, Some, is_some, is_none, option_map, unwrap_or}
 use Rattle.std.specs.Option.{option_to_list, option_map_or}
 use Rattle.dcc_tariff.specs.Terms.{TermsView}
 use Rattle.dcc_act.specs.Services.{ServiceView}
@@ -14,7 +14,6 @@ use Rattle.dcc_act.specs.declared.outcome.RequestType.{RequestType}
 use Rattle.dcc_act.specs.declared.outcome.RequestType.TheVariants as request
 use Rattle.dcc_act.specs.declared.outcome.ResultCode.TheVariants.{UnknownSession, ResourcesExceeded, UnableToComply}
 use Rattle.dcc_act.specs.declared.request_key.RequestKey.{RequestKey}
-use Rattle.dcc_model.specs.declared.judgement.Standing.{Standing}
 use Rattle.dcc_model.specs.Entries.{top_up_entry, debit_entry, refund_entry}
 use Rattle.dcc_model.specs.Keys.{request_key, is_expiry}
 use Rattle.dcc_model.specs.Money.{charged_event, refunded_event, credit, debit}
@@ -22,12 +21,14 @@ use Rattle.dcc_model.specs.Outcomes.{bare, is_under, top_up_outcome, event_outco
 use Rattle.dcc_model.specs.Results.{succeeded, refused, answers_of, is_added}
 use Rattle.dcc_model.specs.Sessions.{Sid, looked_at, accepted_by}
 use Rattle.dcc_state.specs.declared.change.Change.{Change}
-use Rattle.dcc_state.specs.declared.change.Change.TheVariants.{Nothing, Open, End, Expire}
+use Rattle.dcc_state.specs.declared.change.Change.TheVariants.{Nothing, Post, Open, End, Expire}
+use Rattle.dcc_state.specs.declared.change.Turn.{Turn}
 use Rattle.dcc_state.specs.declared.facts.Facts.{Facts}
-use Rattle.dcc_session.specs.Grants.{prices, charges_in}
-use Rattle.dcc_state.specs.Known.{prices_of}
-use Rattle.dcc_state.specs.OpenSessions.{SessionView, session_in, is_over_at, own_in}
-use Rattle.dcc_state.specs.inner.Grants.{overruns_in, served_in, grants_after, charge_entries_in}
+use Rattle.dcc_session.specs.declared.held.Held.{Held}
+use Rattle.dcc_session.specs.Grants.{charges_in, overruns_in}
+use Rattle.dcc_state.specs.Backed.{held_by}
+use Rattle.dcc_state.specs.OpenSessions.{SessionView, session_in, is_over_at, own_in, own_by}
+use Rattle.dcc_state.specs.inner.Grants.{served_in, charge_entries_in}
 
 abbrev pub is_open_in : List SessionView → Sid → Bool
 is_open_in sessions sid = is_some (session_in sessions sid)
@@ -78,66 +79,49 @@ charged_in sessions kind outcome = option_map_or (λ sid. charges_in (own_in ses
 abbrev pub overran_in : List SessionView → Kind → Outcome → ℕ
 overran_in sessions kind outcome = option_map_or (λ sid. overruns_in (own_in sessions sid) (looked_at kind)) (accepted_by kind outcome) 0
 
-abbrev pub entries_in : List SessionView → ℕ → ℕ → Kind → Outcome → List Entry
-entries_in sessions place moment kind outcome =
-    option_map_or (λ sid. charge_entries_in (own_in sessions sid) place moment sid (looked_at kind)) (accepted_by kind outcome) []
+abbrev pub entries_in : List Held → ℕ → ℕ → Kind → Outcome → List Entry
+entries_in own place moment kind outcome =
+    option_map_or (λ sid. charge_entries_in own place moment sid (looked_at kind)) (accepted_by kind outcome) []
 
-abbrev pub entries_by_in : List SessionView → ℕ → ℕ → Kind → Outcome → List Entry
-entries_by_in sessions place moment (kind.TopUp top_up) outcome = if is_added outcome then top_up_entry place moment top_up ∷ [] else []
-entries_by_in sessions place moment (kind.Event event) outcome =
+abbrev pub entries_with : List Held → ℕ → ℕ → Kind → Outcome → List Entry
+entries_with own place moment (kind.TopUp top_up) outcome = if is_added outcome then top_up_entry place moment top_up ∷ [] else []
+entries_with own place moment (kind.Event event) outcome =
     option_to_list (option_map (debit_entry place moment event) (charged_event event outcome)) ++
     option_to_list (option_map (refund_entry place moment event) (refunded_event event outcome))
-entries_by_in sessions place moment kind outcome = entries_in sessions place moment kind outcome
+entries_with own place moment kind outcome = entries_in own place moment kind outcome
 
--- a session that goes on after its request, or begins with it
-abbrev pub session_after : TermsView → List SessionView → ℕ → Sid → List ServiceView → Outcome → SessionView
-session_after terms sessions moment sid services outcome =
-    record { sid = sid; deadline = moment + terms.hold; grants = grants_after (own_in sessions sid) services (answers_of outcome) }
+abbrev pub entries_by_in : List SessionView → ℕ → ℕ → Kind → Outcome → List Entry
+entries_by_in sessions place moment kind outcome = entries_with (own_by sessions kind) place moment kind outcome
 
--- what a new act does to the sessions that are open
-abbrev pub change_of : TermsView → List SessionView → ℕ → Kind → Outcome → Change
-change_of terms sessions moment (kind.TopUp top_up) outcome = Nothing
-change_of terms sessions moment (kind.Initial opening) outcome =
-    if succeeded outcome then Open (session_after terms sessions moment opening.key.sid (looked_at (kind.Initial opening)) outcome) else Nothing
-change_of terms sessions moment (kind.Update report) outcome =
-    if refused outcome then Nothing
-    else if succeeded outcome then Open (session_after terms sessions moment report.key.sid (looked_at (kind.Update report)) outcome)
-    else End report.key.sid
-change_of terms sessions moment (kind.Termination report) outcome = if refused outcome then Nothing else End report.key.sid
-change_of terms sessions moment (kind.Event event) outcome = Nothing
-change_of terms sessions moment kind.Expiry outcome = Expire moment
-
--- the prices of the grants of the sessions whose time is over
-abbrev pub prices_over : ℕ → SessionView → ℕ
-prices_over moment session = if is_over_at moment session then prices_of session else 0
-
-abbrev pub expired_prices : List SessionView → ℕ → ℕ
-expired_prices sessions moment = sum_by (prices_over moment) sessions
-
--- what a change gives back, and what it takes
-abbrev pub released : List SessionView → Change → ℕ
-released sessions Nothing = 0
-released sessions (Open session) = prices (own_in sessions session.sid)
-released sessions (End sid) = prices (own_in sessions sid)
-released sessions (Expire moment) = expired_prices sessions moment
-
-abbrev pub taken : Change → ℕ
-taken Nothing = 0
-taken (Open session) = prices_of session
-taken (End sid) = 0
-taken (Expire moment) = 0
-
--- what a new act moves the funds by
-abbrev pub moved_in : List SessionView → Kind → Outcome → ℤ
-moved_in sessions kind outcome = pos (credit kind outcome) -ℤ pos (debit kind outcome + charged_in sessions kind outcome)
-
-abbrev pub standing_after : Standing → List SessionView → Kind → Outcome → Change → Standing
-standing_after standing sessions kind outcome change =
+-- the turn of a session that goes on after its request, or begins with it
+abbrev pub turn_with : TermsView → List Held → ℕ → Sid → List ServiceView → Outcome → Turn
+turn_with terms own moment sid services outcome =
     record {
-      funds = standing.funds +ℤ moved_in sessions kind outcome;
-      free = ((standing.free +ℤ moved_in sessions kind outcome) +ℤ pos (released sessions change)) -ℤ pos (taken change);
-      overrun = standing.overrun +ℤ pos (overran_in sessions kind outcome);
+      sid = sid;
+      deadline = moment + terms.hold;
+      services = services;
+      granted = record { grants = filter_map held_by (answers_of outcome); room = length own };
     }
+
+abbrev pub turn_after : TermsView → List SessionView → ℕ → Sid → List ServiceView → Outcome → Turn
+turn_after terms sessions moment sid services outcome = turn_with terms (own_in sessions sid) moment sid services outcome
+
+-- what a new act does to the money and to the sessions that are open
+abbrev pub change_with : TermsView → List Held → ℕ → Kind → Outcome → Change
+change_with terms own moment (kind.TopUp top_up) outcome = Post (credit (kind.TopUp top_up) outcome) (debit (kind.TopUp top_up) outcome)
+change_with terms own moment (kind.Initial opening) outcome =
+    if succeeded outcome then Open (turn_with terms own moment opening.key.sid (looked_at (kind.Initial opening)) outcome) else Nothing
+change_with terms own moment (kind.Update report) outcome =
+    if refused outcome then Nothing
+    else if succeeded outcome then Open (turn_with terms own moment report.key.sid (looked_at (kind.Update report)) outcome)
+    else End report.key.sid (looked_at (kind.Update report))
+change_with terms own moment (kind.Termination report) outcome =
+    if refused outcome then Nothing else End report.key.sid (looked_at (kind.Termination report))
+change_with terms own moment (kind.Event event) outcome = Post (credit (kind.Event event) outcome) (debit (kind.Event event) outcome)
+change_with terms own moment kind.Expiry outcome = Expire moment
+
+abbrev pub change_of : TermsView → List SessionView → ℕ → Kind → Outcome → Change
+change_of terms sessions moment kind outcome = change_with terms (own_by sessions kind) moment kind outcome
 
 -- what an act does that is made, and nothing where it isn't
 abbrev pub entries_after : Facts → List SessionView → Act → (new : Bool) → Outcome → List Entry
@@ -145,6 +129,3 @@ entries_after facts sessions act new outcome = if new then entries_by_in session
 
 abbrev pub change_after : TermsView → List SessionView → Act → (new : Bool) → Outcome → Change
 change_after terms sessions act new outcome = if new then change_of terms sessions act.moment act.kind outcome else Nothing
-
-abbrev pub money_after : Facts → List SessionView → Act → (new : Bool) → Outcome → Change → Standing
-money_after facts sessions act new outcome change = if new then standing_after facts.standing sessions act.kind outcome change else facts.standing

@@ -1,6 +1,9 @@
 use Rattle.std.specs.Option.{option_copied}
 use Rattle.std.proofs.lemmas.Result.{IfOk-weaker}
-use Rattle.dcc_state.proofs.Judged.{knows, outcome_at, new_at, place_at, entries_at, sessions_at, standing_at, both}
+use Rattle.dcc_state.proofs.Judged.{knows, outcome_at, new_at, place_at, entries_at, sessions_at, funds_at, overrun_at, both}
+use Rattle.std.proofs.Common.{reverse, arith}
+use Rattle.dcc_model.specs.Outcomes.{history}
+use Rattle.dcc_state.proofs.Decided.{looks_are}
 use Rattle.dcc_state.proofs.judging.judge.Goals as goal
 
 pub returns-clause-outcome : goal.returns-clause-outcome
@@ -48,13 +51,33 @@ returns-clause-sessions c =
     sessions_at c.acts_come_to_their_own.ensures.decided c.args.terms.now xs c.args.act.now c.args.facts.now c.args.sessions.now have judgement.is_new (new_at c.args.terms.now xs c.args.act.now c.args.facts.now (option_copied c.args.first) c.args.sessions.now known have judgement.is_new is.0) judgement.outcome (outcome_at c.args.terms.now xs c.args.act.now c.args.facts.now (option_copied c.args.first) c.args.sessions.now known have judgement.outcome is.1.0) judgement.change is.1.1)
     (both c.judge_known.result _ _ found.is_new (both c.judge_known.result _ _ found.outcome found.change))
 
-pub returns-clause-standing : goal.returns-clause-standing
-returns-clause-standing c =
+pub returns-clause-funds : goal.returns-clause-funds
+returns-clause-funds c =
     λ xs known.
     let laws = c.sessions_open_once.ensures in
     let have = knows laws.found laws.live laws.once c.args.terms.now xs c.args.act.now c.args.facts.now (option_copied c.args.first) c.args.sessions.now known in
     let found = c.judge_known.ensures in
     IfOk-weaker c.judge_known.result _ _
     (λ judgement is.
-    standing_at laws.live c.acts_come_to_their_own.ensures.decided c.args.terms.now xs c.args.act.now c.args.facts.now c.args.sessions.now have judgement.is_new (new_at c.args.terms.now xs c.args.act.now c.args.facts.now (option_copied c.args.first) c.args.sessions.now known have judgement.is_new is.0) judgement.outcome (outcome_at c.args.terms.now xs c.args.act.now c.args.facts.now (option_copied c.args.first) c.args.sessions.now known have judgement.outcome is.1.0) judgement.change is.1.1.0 judgement.standing is.1.1.1)
-    (both c.judge_known.result _ _ found.is_new (both c.judge_known.result _ _ found.outcome (both c.judge_known.result _ _ found.change found.standing)))
+    funds_at c.args.terms.now xs c.args.act.now c.args.facts.now c.args.sessions.now have judgement.is_new (new_at c.args.terms.now xs c.args.act.now c.args.facts.now (option_copied c.args.first) c.args.sessions.now known have judgement.is_new is.0) judgement.outcome (outcome_at c.args.terms.now xs c.args.act.now c.args.facts.now (option_copied c.args.first) c.args.sessions.now known have judgement.outcome is.1.0) judgement.change is.1.1)
+    (both c.judge_known.result _ _ found.is_new (both c.judge_known.result _ _ found.outcome found.change))
+
+pub returns-clause-overrun : goal.returns-clause-overrun
+returns-clause-overrun c =
+    λ xs known.
+    let laws = c.sessions_open_once.ensures in
+    let have = knows laws.found laws.live laws.once c.args.terms.now xs c.args.act.now c.args.facts.now (option_copied c.args.first) c.args.sessions.now known in
+    let found = c.judge_known.ensures in
+    IfOk-weaker c.judge_known.result _ _
+    (λ judgement is.
+    overrun_at c.args.terms.now xs c.args.act.now c.args.facts.now c.args.sessions.now have judgement.is_new (new_at c.args.terms.now xs c.args.act.now c.args.facts.now (option_copied c.args.first) c.args.sessions.now known have judgement.is_new is.0) judgement.outcome (outcome_at c.args.terms.now xs c.args.act.now c.args.facts.now (option_copied c.args.first) c.args.sessions.now known have judgement.outcome is.1.0) judgement.change is.1.1)
+    (both c.judge_known.result _ _ found.is_new (both c.judge_known.result _ _ found.outcome found.change))
+
+pub returns-clause-looks : goal.returns-clause-looks
+returns-clause-looks c =
+    λ xs known.
+    let laws = c.sessions_open_once.ensures in
+    let have = knows laws.found laws.live laws.once c.args.terms.now xs c.args.act.now c.args.facts.now (option_copied c.args.first) c.args.sessions.now known in
+    let most = looks_are c.args.terms.now (history c.args.terms.now (reverse xs)) c.args.facts.now.standing c.args.sessions.now have c.args.act.now.moment c.args.act.now.kind in
+    let found = c.judge_known.ensures.looks in
+    omega arith

@@ -1,0 +1,139 @@
+//! Changes are made: of the money in the pool, and of the sessions with their holds.
+
+ghost use Rattle.std.specs.Prelude.{◌≡◌, ◌≤◌, ◌<◌, ◌+◌, ◌*◌, ◌∷◌, [], ◌++◌, filter, not, pos, ◌+ℤ◌, ◌-ℤ◌, sum_by, vec_len, vec_capacity};
+ghost use Rattle.dcc_escrow.specs.Pools.{free};
+ghost use Rattle.dcc_act.specs.declared.limits.TheConstants.{MAX_SERVICES};
+ghost use Rattle.dcc_session.specs.Grants.{prices, charges_in, overruns_in};
+ghost use Rattle.dcc_state.specs.Backed.{IsBorne, IsPosted, GoesOn, IsBacked};
+ghost use Rattle.dcc_state.specs.Known.{after_turn, changed, funds_after, overrun_with, prices_of, HoldsAll};
+ghost use Rattle.dcc_state.specs.OpenSessions.{is_session, is_over_at, own_in, AreApart};
+ghost use Rattle.dcc_state.specs.declared.limits.TheConstants.{POOL};
+
+use crate::change::{Change, Turn};
+use crate::open_session::{OpenSession, place_over, take_out};
+use dcc_act::{MAX_SERVICES, Moment, Services, SessionId};
+use dcc_escrow::Pool;
+use dcc_session::{Idle, Open};
+use dcc_tariff::MAX_PRICE;
+
+impl Change {
+    /// Makes the change, and tells what it charges beyond what the services held, in minor units. It takes no memory.
+    pub fn apply(self, sessions: &mut Vec<OpenSession>, pool: &mut Pool) -> u64
+        requires room { vec_len sessions.old < vec_capacity sessions.old }
+        requires apart { AreApart sessions.old.items }
+        requires holds { HoldsAll pool.old sessions.old.items }
+        requires backed { IsBacked pool.old.committed (free pool.old) sessions.old.items self }
+        ensures sessions { sessions.new.items ≡ changed self sessions.old.items }
+        ensures holds { HoldsAll pool.new sessions.new.items }
+        ensures funds { pool.new.committed ≡ funds_after self pool.old.committed sessions.old.items }
+        ensures overrun { result ≡ overrun_with self sessions.old.items }
+        ensures bound { result ≤ MAX_SERVICES * MAX_PRICE }
+    {
+        match self {
+            Change::Nothing => 0,
+            Change::Post { credit, debit } => {
+                post(pool, credit, debit);
+                0
+            }
+            Change::Open(turn) => go_on(sessions, pool, turn),
+            Change::End { sid, services } => end(sessions, pool, &sid, &services),
+            Change::Expire(moment) => {
+                end_over(sessions, pool, moment);
+                0
+            }
+        }
+    }
+}
+
+/// Takes and adds money at once.
+fn post(pool: &mut Pool, credit: u64, debit: u64)
+    requires { IsPosted pool.old.committed (free pool.old) credit debit }
+    ensures { pool.new ≡ record pool.old { committed = (pool.old.committed -ℤ pos debit) +ℤ pos credit } }
+{
+    pool.debit(debit).unwrap();
+    pool.credit(credit).unwrap();
+}
+
+/// Takes the session of this name up again, or begins it where it isn't open.
+fn resume(sessions: &mut Vec<OpenSession>, pool: &Pool, sid: &SessionId) -> Open
+    requires apart { AreApart sessions.old.items }
+    requires id { pool.now.id ≡ POOL }
+    ensures pool { result.pool ≡ POOL }
+    ensures grants { result.grants ≡ own_in sessions.old.items sid.now }
+    ensures items { sessions.new.items ≡ filter (λ other. not (is_session sid.now other)) sessions.old.items }
+    ensures held { sum_by prices_of sessions.new.items + prices result.grants ≡ sum_by prices_of sessions.old.items }
+    ensures len { vec_len sessions.new ≤ vec_len sessions.old }
+    ensures capacity { vec_capacity sessions.new ≡ vec_capacity sessions.old }
+{
+    let alloc = *sessions.allocator();
+    match take_out(sessions, sid) {
+        Some(parked) => parked.resume(),
+        None => Idle::new(alloc, pool).open(0),
+    }
+}
+
+/// A session has its turn: what its services report is charged, what is granted to them is held, and the session is held
+/// until its deadline. What is charged beyond what they held is told.
+fn go_on(sessions: &mut Vec<OpenSession>, pool: &mut Pool, turn: Turn) -> u64
+    requires room { vec_len sessions.old < vec_capacity sessions.old }
+    requires apart { AreApart sessions.old.items }
+    requires holds { HoldsAll pool.old sessions.old.items }
+    requires goes_on { GoesOn pool.old.committed (free pool.old) (own_in sessions.old.items turn.sid) turn }
+    ensures sessions { sessions.new.items ≡ filter (λ other. not (is_session turn.sid other)) sessions.old.items ++ after_turn turn sessions.old.items ∷ [] }
+    ensures holds { HoldsAll pool.new sessions.new.items }
+    ensures funds { pool.new.committed ≡ pool.old.committed -ℤ pos (charges_in (own_in sessions.old.items turn.sid) turn.services) }
+    ensures overrun { result ≡ overruns_in (own_in sessions.old.items turn.sid) turn.services }
+    ensures bound { result ≤ MAX_SERVICES * MAX_PRICE }
+{
+    let Turn {
+        sid,
+        deadline,
+        services,
+        granted,
+    } = turn;
+    let mut open = resume(sessions, pool, &sid);
+    let charges = open.report_all(pool, &services);
+    open.grant_all(pool, granted);
+    open.touch(deadline);
+    sessions.push_reserved(OpenSession {
+        sid,
+        session: open.park(),
+    });
+    charges.overrun
+}
+
+/// A session ends, after what its services report is charged, and all that it holds is given back. What is charged beyond
+/// what they held is told.
+fn end(
+    sessions: &mut Vec<OpenSession>,
+    pool: &mut Pool,
+    sid: &SessionId,
+    services: &Services,
+) -> u64
+    requires apart { AreApart sessions.old.items }
+    requires holds { HoldsAll pool.old sessions.old.items }
+    requires borne { IsBorne pool.old.committed (own_in sessions.old.items sid.now) services.now }
+    ensures sessions { sessions.new.items ≡ filter (λ other. not (is_session sid.now other)) sessions.old.items }
+    ensures holds { HoldsAll pool.new sessions.new.items }
+    ensures funds { pool.new.committed ≡ pool.old.committed -ℤ pos (charges_in (own_in sessions.old.items sid.now) services.now) }
+    ensures overrun { result ≡ overruns_in (own_in sessions.old.items sid.now) services.now }
+    ensures bound { result ≤ MAX_SERVICES * MAX_PRICE }
+{
+    let mut open = resume(sessions, pool, sid);
+    let charges = open.report_all(pool, services);
+    open.end(pool);
+    charges.overrun
+}
+
+/// The sessions end whose time is over at this moment, and all that they hold is given back.
+fn end_over(sessions: &mut Vec<OpenSession>, pool: &mut Pool, moment: Moment)
+    requires { HoldsAll pool.old sessions.old.items }
+    ensures sessions { sessions.new.items ≡ filter (λ other. not (is_over_at moment other)) sessions.old.items }
+    ensures holds { HoldsAll pool.new sessions.new.items }
+    ensures funds { pool.new.committed ≡ pool.old.committed }
+{
+    while let Some(at) = place_over(sessions, moment) {
+        let over = sessions.remove(at);
+        over.session.resume().end(pool);
+    }
+}
