@@ -1,9 +1,10 @@
 -- An account with one more act.
-use Rattle.std.proofs.Common.{◌≡◌, ℕ, ◌+◌, ◌-◌, ◌*◌, ◌<◌, ◌≤◌, pos, ◌≤ℤ◌, length, Option, Some, None, option_map, Bool, true, cond, List, [], ◌∷◌, ◌++◌, map, reverse, refl, sym, ap, subst, ◌∙◌, arith, inl, inr, append-nil}
+use Rattle.std.proofs.Common.{◌≡◌, ℕ, ◌+◌, ◌-◌, ◌*◌, ◌<◌, ◌≤◌, ℤ, pos, ◌-ℤ◌, ◌≤ℤ◌, length, Option, Some, None, option_map, Bool, true, cond, List, [], ◌∷◌, ◌++◌, map, reverse, refl, sym, ap, subst, ◌∙◌, arith, inl, inr, append-nil}
 use Rattle.std.specs.Prelude.{MatchOption}
 use Rattle.std.proofs.lemmas.Bool.{cases_Bool}
 use Rattle.std.proofs.lemmas.Int.{ints}
 use Rattle.std.proofs.lemmas.List.{reverse-append, reverse-reverse, map-append, length-reverse, length_push}
+use Rattle.dcc_escrow.specs.Pools.{PoolView, free as left}
 use Rattle.dcc_tariff.specs.Terms.{TermsView}
 use Rattle.dcc_act.specs.declared.act.Act.{Act}
 use Rattle.dcc_act.specs.declared.entry.Entry.{Entry}
@@ -12,11 +13,14 @@ use Rattle.dcc_act.specs.declared.request_key.RequestKey.{RequestKey}
 use Rattle.dcc_model.specs.declared.done.Done.{Done}
 use Rattle.dcc_model.specs.declared.judgement.Standing.{Standing}
 use Rattle.dcc_model.specs.Keys.{request_key}
-use Rattle.dcc_model.specs.Outcomes.{after, judged, has_account, first_of, outcome_of, place_of_key, history, with_act, is_made, is_new, place_of, place, act_made, acts, standing_of, standing, funds, free, kept_of, kept}
+use Rattle.dcc_model.specs.Outcomes.{after, has_account, first_of, outcome_of, place_of_key, history, with_act, is_made, is_new, place, act_made, acts, standing, funds, overrun, free, kept_of, kept}
 use Rattle.dcc_model.specs.Entries.{entries_of, entries_with, entries}
+use Rattle.dcc_model.specs.Money.{funds_of, overrun_of, reserved_of, free_of}
 use Rattle.dcc_model.specs.Laws.{OneMoreAct, IsKeyed, AreKeyed}
 use Rattle.dcc_state.specs.declared.facts.Facts.{Facts}
-use Rattle.dcc_state.specs.Known.{was_opened_by, IsKnown, IsWithin, MoneyIsWithin}
+use Rattle.dcc_state.specs.declared.change.Change.{Change}
+use Rattle.dcc_state.specs.Backed.{IsBacked}
+use Rattle.dcc_state.specs.Known.{was_opened_by, HoldsAll, IsKnown, IsWithin, MoneyIsWithin, SessionsHoldWhatIsReserved}
 use Rattle.dcc_state.specs.OpenSessions.{SessionView, AreOpen}
 use Rattle.dcc_account.specs.Accounts.{AccountView}
 use Rattle.dcc_account.specs.declared.indexes.Indexes.{Indexes}
@@ -32,9 +36,9 @@ map_reverse (done ∷ past) =
     ∙ ap (λ (xs : List Act). xs ++ done.act ∷ []) (map_reverse past) ∙ sym (reverse-append (done.act ∷ []) (map act_made past))
 
 -- the acts of an account are their own
-pub own_acts : (terms : TermsView) (made : List Done) (posted : List Entry) (money : Standing) → IsKept terms made posted money → acts terms (map act_made made) ≡ map act_made made
+pub own_acts : (terms : TermsView) (made : List Done) (posted : List Entry) → IsKept terms made posted → acts terms (map act_made made) ≡ map act_made made
 unfolding acts
-own_acts terms made posted money kept =
+own_acts terms made posted kept =
     ap (λ (past : List Done). reverse (map act_made past)) (sym kept.own) ∙ ap reverse (map_reverse made) ∙ reverse-reverse (map act_made made)
 
 history_push : (terms : TermsView) (all : List Act) (act : Act) → history terms (reverse (all ++ act ∷ [])) ≡ with_act terms (history terms (reverse all)) act
@@ -54,9 +58,14 @@ entries_at terms xs added act is =
     let past = history terms (reverse xs) in
     ap (entries_of terms) (history_push terms xs act) ∙ entries_more terms past act ∙ ap (λ (es : List Entry). entries_of terms past ++ es) (sym is)
 
-pub standing_at : (terms : TermsView) (xs : List Act) (after_it : Standing) (act : Act) → after_it ≡ standing_of terms (with_act terms (history terms (reverse xs)) act) → after_it ≡ standing terms (xs ++ act ∷ [])
-unfolding standing
-standing_at terms xs after_it act is = is ∙ sym (ap (standing_of terms) (history_push terms xs act))
+pub funds_at : (terms : TermsView) (xs : List Act) (act : Act) (money : ℤ) → funds_of terms (with_act terms (history terms (reverse xs)) act) ≡ money → funds terms (xs ++ act ∷ []) ≡ money
+unfolding funds
+funds_at terms xs act money is = ap (funds_of terms) (history_push terms xs act) ∙ is
+
+pub overrun_at : (terms : TermsView) (xs : List Act) (act : Act) (more : ℕ) → overrun_of terms (with_act terms (history terms (reverse xs)) act) ≡ overrun_of terms (history terms (reverse xs)) + more
+    → overrun terms (xs ++ act ∷ []) ≡ overrun terms xs + more
+unfolding overrun
+overrun_at terms xs act more is = ap (overrun_of terms) (history_push terms xs act) ∙ is
 
 -- one more act whose services have keys of their own
 keyed_push : (all : List Act) (act : Act) → AreKeyed all → IsKeyed act → AreKeyed (all ++ act ∷ [])
@@ -64,13 +73,12 @@ keyed_push [] act keyed one = (one, tt)
 keyed_push (first ∷ all) act keyed one = (keyed.0, keyed_push all act keyed.1 one)
 
 -- what an account keeps after a new act
-pub kept_with : (terms : TermsView) (made : List Done) (posted more : List Entry) (money after_it : Standing) (act : Act) (outcome : Outcome) → IsKept terms made posted money
+pub kept_with : (terms : TermsView) (made : List Done) (posted more : List Entry) (act : Act) (outcome : Outcome) → IsKept terms made posted
     → outcome ≡ after terms (map act_made made) act → is_new terms (map act_made made) act ≡ true
-    → entries terms (map act_made made ++ act ∷ []) ≡ entries terms (map act_made made) ++ more
-    → after_it ≡ standing terms (map act_made made ++ act ∷ []) → IsKeyed act
-    → IsKept terms (made ++ record { act = act; outcome = outcome } ∷ []) (posted ++ more) after_it
+    → entries terms (map act_made made ++ act ∷ []) ≡ entries terms (map act_made made) ++ more → IsKeyed act
+    → IsKept terms (made ++ record { act = act; outcome = outcome } ∷ []) (posted ++ more)
 unfolding after is_new
-kept_with terms made posted more money after_it act outcome kept outcome_is new entries_are standing_is one_keyed =
+kept_with terms made posted more act outcome kept outcome_is new entries_are one_keyed =
     let one : Done = record { act = act; outcome = outcome } in
     let all = map act_made made in
     let pushed : map act_made (made ++ one ∷ []) ≡ all ++ act ∷ [] = map-append act_made made (one ∷ []) in
@@ -80,26 +88,21 @@ kept_with terms made posted more money after_it act outcome kept outcome_is new 
           reverse-append made (one ∷ []) ∙ ap (λ (past : List Done). one ∷ past) kept.own
           ∙ sym (ap (λ (xs : List Act). history terms (reverse xs)) pushed ∙ history_push terms all act ∙ rw new (ap (λ (o : Outcome). record { act = act; outcome = o } ∷ history terms (reverse all)) (sym outcome_is)));
       entries_are = ap (λ (es : List Entry). es ++ more) kept.entries_are ∙ sym entries_are ∙ sym (ap (entries terms) pushed);
-      standing_is = standing_is ∙ sym (ap (standing terms) pushed);
     }
 
--- the same of equal lists
-pub kept_at : (terms : TermsView) (made made' : List Done) (posted posted' : List Entry) (money : Standing) → IsKept terms made posted money → made' ≡ made → posted' ≡ posted → IsKept terms made' posted' money
-kept_at terms made made' posted posted' money kept m p = rw (m, p) kept
-
 -- the acts with one more
-pub acts_with : OneMoreAct → (terms : TermsView) (made : List Done) (posted : List Entry) (money : Standing) (act : Act) (new : Bool) → IsKept terms made posted money
+pub acts_with : OneMoreAct → (terms : TermsView) (made : List Done) (posted : List Entry) (act : Act) (new : Bool) → IsKept terms made posted
     → new ≡ is_new terms (map act_made made) act → acts terms (map act_made made ++ act ∷ []) ≡ cond new (map act_made made ++ act ∷ []) (map act_made made)
-acts_with one_more terms made posted money act new kept new_is =
+acts_with one_more terms made posted act new kept new_is =
     let all = map act_made made in
-    one_more terms all act ∙ ap (λ (own : List Act). cond (is_new terms all act) (own ++ act ∷ []) own) (own_acts terms made posted money kept)
+    one_more terms all act ∙ ap (λ (own : List Act). cond (is_new terms all act) (own ++ act ∷ []) own) (own_acts terms made posted kept)
     ∙ ap (λ (b : Bool). cond b (all ++ act ∷ []) all) (sym new_is)
 
 -- the outcome that was kept
-pub kept_in : (terms : TermsView) (made given : List Done) (posted : List Entry) (money : Standing) (key : RequestKey) (found : Option Outcome) → IsKept terms made posted money → given ≡ made
+pub kept_in : (terms : TermsView) (made given : List Done) (posted : List Entry) (key : RequestKey) (found : Option Outcome) → IsKept terms made posted → given ≡ made
     → found ≡ kept_of (reverse given) key → found ≡ kept terms (map act_made made) key
 unfolding kept
-kept_in terms made given posted money key found is_kept same is =
+kept_in terms made given posted key found is_kept same is =
     is ∙ ap (λ (past : List Done). kept_of (reverse past) key) same ∙ ap (λ (past : List Done). kept_of past key) is_kept.own
 
 pub prepared_at : (a b : AccountView) (s t : StepView) → IsPrepared b t → a ≡ b → s ≡ t → IsPrepared a s
@@ -117,22 +120,41 @@ pub room_of : {X : Type 0} (size : X → ℕ) (larger : Option X) (more count ro
 room_of size None more count room one h = omega (arith, one, h)
 room_of size (Some v) more count room one h = omega (arith, one, h)
 
--- what is free of the money of a list of acts
-pub free_is : (terms : TermsView) (all : List Act) → (standing terms all).free ≡ free terms all
-unfolding standing free
-free_is terms all = refl
+-- the money of the pool is that of the definitions
+pub free_is : SessionsHoldWhatIsReserved → (terms : TermsView) (made : List Done) (posted : List Entry) (pool : PoolView) (over : ℤ) (sessions : List SessionView) (indexes : Indexes)
+    → IsRunning terms made posted pool over sessions indexes → left pool ≡ free terms (map act_made made)
+unfolding funds free
+free_is law terms made posted pool over sessions indexes is =
+    let past = history terms (reverse (map act_made made)) in
+    ap (λ (held : ℕ). pool.committed -ℤ pos held) (is.holds.reserved ∙ law terms (map act_made made) sessions is.sessions_are)
+    ∙ ap (λ (money : ℤ). money -ℤ pos (reserved_of terms past)) is.funds_are
 
-pub funds_is : (terms : TermsView) (all : List Act) → (standing terms all).funds ≡ funds terms all
+pub standing_is : (terms : TermsView) (all : List Act) (money : Standing) → money.funds ≡ funds terms all → money.free ≡ free terms all → money.overrun ≡ pos (overrun terms all)
+    → money ≡ standing terms all
+unfolding standing funds free overrun
+standing_is terms all money f r o =
+    let past = history terms (reverse all) in
+    let with_funds : ℤ → Standing = λ z. record { funds = z; free = money.free; overrun = money.overrun } in
+    let with_free : ℤ → Standing = λ z. record { funds = funds_of terms past; free = z; overrun = money.overrun } in
+    let with_overrun : ℤ → Standing = λ z. record { funds = funds_of terms past; free = free_of terms past; overrun = z } in
+    ap with_funds f ∙ ap with_free r ∙ ap with_overrun o
+
+pub funds_in : (terms : TermsView) (all : List Act) (money : Standing) → money ≡ standing terms all → money.funds ≡ funds terms all
 unfolding standing funds
-funds_is terms all = refl
+funds_in terms all money is = ap (λ (s : Standing). s.funds) is
+
+pub free_in : (terms : TermsView) (all : List Act) (money : Standing) → money ≡ standing terms all → money.free ≡ free terms all
+unfolding standing free
+free_in terms all money is = ap (λ (s : Standing). s.free) is
 
 -- what is known of the acts that were made
-pub known_at : (terms : TermsView) (made : List Done) (posted : List Entry) (money : Standing) (sessions given : List SessionView) (indexes : Indexes) (act : Act) (facts : Facts) (first : Option Outcome) → IsRunning terms made posted money sessions indexes
+pub known_at : (terms : TermsView) (made : List Done) (posted : List Entry) (pool : PoolView) (over : ℤ) (sessions given : List SessionView) (indexes : Indexes) (act : Act) (facts : Facts) (first : Option Outcome)
+    → IsRunning terms made posted pool over sessions indexes
     → given ≡ sessions → facts.count ≡ length made → facts.has_account ≡ has_account (reverse made) → facts.was_opened ≡ was_opened_by (reverse made) (request_key act.kind)
-    → facts.place ≡ place_of_key (map act_made (reverse made)) act.kind → first ≡ option_map outcome_of (first_of (reverse made) act.kind) → facts.standing ≡ money
+    → facts.place ≡ place_of_key (map act_made (reverse made)) act.kind → first ≡ option_map outcome_of (first_of (reverse made) act.kind) → facts.standing ≡ standing terms (map act_made made)
     → IsKnown terms (map act_made made) act facts first given
 unfolding standing
-known_at terms made posted money sessions given indexes act facts first is same count account opened place first_is standing_is =
+known_at terms made posted pool over sessions given indexes act facts first is same count account opened place first_is standing_is =
     let past = history terms (reverse (map act_made made)) in
     let own = is.kept.own in
     record {
@@ -142,33 +164,44 @@ known_at terms made posted money sessions given indexes act facts first is same 
       opened_is = opened ∙ ap (λ (before : List Done). was_opened_by before (request_key act.kind)) own;
       first_is = first_is ∙ ap (λ (before : List Done). option_map outcome_of (first_of before act.kind)) own;
       place_is = place ∙ ap (λ (before : List Done). place_of_key (map act_made before) act.kind) own;
-      standing_is = standing_is ∙ is.kept.standing_is;
+      standing_is = standing_is;
       sessions_are = subst (AreOpen terms past) (sym same) is.sessions_are;
     }
 
 -- the money of an account can be reckoned with
-pub within_at : MoneyIsWithin → (terms : TermsView) (made : List Done) (posted : List Entry) (money : Standing) (sessions given : List SessionView) (indexes : Indexes) → IsRunning terms made posted money sessions indexes
+pub within_at : MoneyIsWithin → (terms : TermsView) (made : List Done) (posted : List Entry) (pool : PoolView) (over : ℤ) (sessions given : List SessionView) (indexes : Indexes)
+    → IsRunning terms made posted pool over sessions indexes → (money : Standing) → money ≡ standing terms (map act_made made)
     → given ≡ sessions → length made < 9_223_372_036_854_775_808 → IsWithin money given
-unfolding standing
-within_at law terms made posted money sessions given indexes is same few =
+unfolding standing overrun
+within_at law terms made posted pool over sessions given indexes is money money_is same few =
     let past = history terms (reverse (map act_made made)) in
-    let over = is.overrun_is in
-    law terms (map act_made made) money given is.kept.keyed is.kept.standing_is (subst (AreOpen terms past) (sym same) is.sessions_are) (omega (arith, ints))
+    let most = is.overrun_is in
+    let over_is = is.overrun_are in
+    let money_over = ap (λ (s : Standing). s.overrun) money_is in
+    law terms (map act_made made) money given is.kept.keyed money_is (subst (AreOpen terms past) (sym same) is.sessions_are) (omega (arith, ints))
 
--- the sessions after one more act, and what is overrun then
-pub running_with : (terms : TermsView) (made : List Done) (posted : List Entry) (money : Standing) (sessions : List SessionView) (indexes : Indexes) (done : Done)
-    → IsKept terms (made ++ done ∷ []) posted money → AreOpen terms (with_act terms (history terms (reverse (map act_made made))) done.act) sessions
-    → money.overrun ≤ℤ pos (MAX_OVERRUN * (length made + 1)) → IsIndexed (done ∷ reverse made) indexes → IsRunning terms (made ++ done ∷ []) posted money sessions indexes
-running_with terms made posted money sessions indexes done kept are over indexed =
+-- what stands behind a change, by the money of the pool
+pub backed_by : (a b c d : ℤ) (sessions given : List SessionView) (change : Change) → IsBacked a b sessions change → c ≡ a → d ≡ b → given ≡ sessions → IsBacked c d given change
+backed_by a b c d sessions given change is e f g = rw (e, f, g) is
+
+-- the sessions and the money after one more act
+pub running_with : (terms : TermsView) (made : List Done) (posted : List Entry) (pool : PoolView) (over : ℤ) (sessions : List SessionView) (indexes : Indexes) (done : Done)
+    → IsKept terms (made ++ done ∷ []) posted → AreOpen terms (with_act terms (history terms (reverse (map act_made made))) done.act) sessions → HoldsAll pool sessions
+    → pool.committed ≡ funds terms (map act_made made ++ done.act ∷ []) → over ≡ pos (overrun terms (map act_made made ++ done.act ∷ []))
+    → over ≤ℤ pos (MAX_OVERRUN * (length made + 1)) → IsIndexed (done ∷ reverse made) indexes → IsRunning terms (made ++ done ∷ []) posted pool over sessions indexes
+running_with terms made posted pool over sessions indexes done kept are holds funds_are overrun_are most indexed =
     let pushed : map act_made (made ++ done ∷ []) ≡ map act_made made ++ done.act ∷ [] = map-append act_made made (done ∷ []) in
     let more = length_push made done in
     record {
       kept = kept;
       sessions_are = subst (λ (past : List Done). AreOpen terms past sessions) (sym (ap (λ (xs : List Act). history terms (reverse xs)) pushed ∙ history_push terms (map act_made made) done.act)) are;
-      overrun_is = subst (λ (n : ℕ). money.overrun ≤ℤ pos (MAX_OVERRUN * n)) (sym more) over;
+      holds = holds;
+      funds_are = funds_are ∙ sym (ap (funds terms) pushed);
+      overrun_are = overrun_are ∙ sym (ap (λ (xs : List Act). pos (overrun terms xs)) pushed);
+      overrun_is = subst (λ (n : ℕ). over ≤ℤ pos (MAX_OVERRUN * n)) (sym more) most;
       indexed = subst (λ (past : List Done). IsIndexed past indexes) (sym (reverse-append made (done ∷ []))) indexed;
     }
 
-pub running_at : (terms : TermsView) (made made' : List Done) (posted posted' : List Entry) (money : Standing) (sessions sessions' : List SessionView) (indexes : Indexes) → IsRunning terms made posted money sessions indexes
-    → made' ≡ made → posted' ≡ posted → sessions' ≡ sessions → IsRunning terms made' posted' money sessions' indexes
-running_at terms made made' posted posted' money sessions sessions' indexes is m p s = rw (m, p, s) is
+pub running_at : (terms : TermsView) (made made' : List Done) (posted posted' : List Entry) (pool : PoolView) (over : ℤ) (sessions : List SessionView) (indexes : Indexes)
+    → IsRunning terms made posted pool over sessions indexes → made' ≡ made → posted' ≡ posted → IsRunning terms made' posted' pool over sessions indexes
+running_at terms made made' posted posted' pool over sessions indexes is m p = rw (m, p) is

@@ -1,7 +1,8 @@
 -- What contracts see of an account.
-use Rattle.std.specs.Prelude.{List}
+use Rattle.std.specs.Prelude.{List, ℤ, ◌-ℤ◌}
 use Rattle.dcc_tariff.specs.Terms.{TermsView}
 use Rattle.dcc_act.specs.declared.act.Act.{Act}
+use Rattle.dcc_model.specs.Outcomes.{funds, free}
 use Rattle.dcc_state.specs.OpenSessions.{SessionView}
 use Rattle.dcc_account.specs.inner.Memory.{Room}
 
@@ -12,3 +13,7 @@ pub record AccountView : Type 0 where
   pub acts : List Act
   pub sessions : List SessionView
   pub room : Room
+
+-- what live grants hold of the funds
+abbrev pub reserved : TermsView → List Act → ℤ
+reserved terms acts = funds terms acts -ℤ free terms acts

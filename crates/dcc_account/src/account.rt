@@ -1,9 +1,11 @@
 //! Accounts.
 
-ghost use Rattle.std.specs.Prelude.{◌≡◌, [], ◌∷◌, ◌++◌, map, reverse, pos, neg_ℤ, ◌+ℤ◌, ◌≤ℤ◌, if◌then◌else◌, IfOk};
+ghost use Rattle.std.specs.Prelude.{◌≡◌, [], ◌∷◌, ◌++◌, map, reverse, pos, neg_ℤ, ◌+ℤ◌, ◌≤ℤ◌, ◌≤◌, if◌then◌else◌, IfOk};
 ghost use Rattle.std.specs.Option.{option_copied};
-ghost use Rattle.dcc_model.specs.Outcomes.{act_made, history, acts, funds, overrun, free, kept};
+ghost use Rattle.dcc_model.specs.Outcomes.{act_made, history, acts, standing, funds, overrun, free, kept};
 ghost use Rattle.dcc_model.specs.Entries.{entries};
+ghost use Rattle.dcc_state.specs.Looks.{most_looks};
+ghost use Rattle.dcc_account.specs.Accounts.{reserved};
 ghost use Rattle.dcc_model.specs.declared.decide.TheConstants.{CEILING};
 
 use crate::growth::{append, grow, larger};
@@ -11,9 +13,12 @@ use crate::indexes::Indexes;
 use crate::kept::outcome_at;
 use crate::new_keys::NewKeys;
 use crate::step::Step;
-use dcc_act::{Act, Entry, Outcome, RequestKey};
+use dcc_act::{Act, Entry, Looks, Outcome, RequestKey};
+use dcc_escrow::Pool;
 use dcc_model::{Done, Standing, funds_are_accounted_for, keys_are_apart, one_more_act};
-use dcc_state::{Facts, Judgement, OpenSession, judge, money_is_within};
+use dcc_state::{
+    Facts, Judgement, OpenSession, POOL, judge, money_is_within, sessions_hold_what_is_reserved,
+};
 use dcc_tariff::Terms;
 use std::alloc::{AllocError, Global};
 use std::hash::RandomState;
@@ -25,7 +30,8 @@ pub struct Account {
     terms: Terms,
     acts: Vec<Done>,
     entries: Vec<Entry>,
-    standing: Standing,
+    pub(crate) pool: Pool,
+    overrun: i128,
     sessions: Vec<OpenSession>,
     indexes: Indexes,
 }
@@ -54,7 +60,7 @@ impl Model for Account {
       };
     } };
 
-    ghost invariant = { λ a. IsRunning a.terms a.acts.items a.entries.items a.standing a.sessions.items a.indexes };
+    ghost invariant = { λ a. IsRunning a.terms a.acts.items a.entries.items a.pool a.overrun a.sessions.items a.indexes };
 }
 
 impl Account {
@@ -69,11 +75,8 @@ impl Account {
             terms: *terms,
             acts: Vec::new(alloc),
             entries: Vec::new(alloc),
-            standing: Standing {
-                funds: 0,
-                free: 0,
-                overrun: 0,
-            },
+            pool: Pool::new(POOL),
+            overrun: 0,
             sessions: Vec::new(alloc),
             indexes: Indexes::new(alloc, hasher),
         }
@@ -109,7 +112,7 @@ impl Account {
         ensures high { result ≤ℤ CEILING }
     {
         funds_are_accounted_for();
-        funds_in(&self.standing)
+        self.pool.committed()
     }
 
     /// What no live grant holds of the funds, in minor units. Only what was overrun takes it below nothing.
@@ -118,14 +121,23 @@ impl Account {
         ensures covered { pos 0 ≤ℤ (result +ℤ pos (overrun self.now.terms self.now.acts)) }
     {
         funds_are_accounted_for();
-        free_in(&self.standing)
+        sessions_hold_what_is_reserved();
+        self.pool.free()
+    }
+
+    /// What live grants hold of the funds, in minor units: what no other grant, and no debit, can have.
+    pub fn reserved(&self) -> u64
+        ensures { pos result ≡ reserved self.now.terms self.now.acts }
+    {
+        sessions_hold_what_is_reserved();
+        self.pool.reserved()
     }
 
     /// What was charged beyond what was reserved, in minor units.
     pub fn overrun(&self) -> i128
         ensures { result ≡ pos (overrun self.now.terms self.now.acts) }
     {
-        overrun_in(&self.standing)
+        self.overrun
     }
 
     /// What the first request of this key came to, where it was made.
@@ -136,12 +148,15 @@ impl Account {
     }
 
     /// The step of the act: what it comes to after those that were made, whether it is made, its place and its entries,
-    /// with all the memory that it takes to install it. The only error is want of memory.
+    /// with all the memory that it takes to install it. It looks at the grants of the act's own session alone, whatever else the
+    /// account holds. The only error is want of memory.
     pub fn prepare(&self, act: Act) -> Result<Step, AllocError>
         ensures act { IfOk result (λ step. step.act ≡ act) }
         ensures prepared { IfOk result (λ step. IsPrepared self.now step) }
         ensures acts { IfOk result (λ step. acts self.now.terms (self.now.acts ++ act ∷ [])
             ≡ (if step.is_new then self.now.acts ++ act ∷ [] else self.now.acts)) }
+        ensures looks { IfOk result (λ step. step.looks
+            ≤ most_looks self.now.terms (history self.now.terms (reverse self.now.acts)) act.moment act.kind) }
     {
         one_more_act();
         money_is_within();
@@ -152,17 +167,25 @@ impl Account {
             has_account: !self.acts.is_empty(),
             was_opened: self.indexes.was_opened(&act.kind),
             place: of_its_key,
-            standing: self.standing,
+            standing: self.standing(),
         };
         let first = outcome_at(&self.acts, of_its_key);
+        let mut looks = Looks::new();
         let Judgement {
             outcome,
             is_new,
             place,
             entries,
-            standing,
             change,
-        } = judge(alloc, &self.terms, &facts, first, &self.sessions, &act)?;
+        } = judge(
+            alloc,
+            &self.terms,
+            &facts,
+            first,
+            &self.sessions,
+            &act,
+            &mut looks,
+        )?;
         let more = usize::from(is_new);
         Ok(Step {
             larger_acts: larger(alloc, &self.acts, more)?,
@@ -175,8 +198,8 @@ impl Account {
             is_new,
             place,
             entries,
-            standing,
             change,
+            looks: looks.count(),
         })
     }
 
@@ -189,6 +212,7 @@ impl Account {
         one_more_act();
         if step.is_new {
             keys_are_apart(&step.act);
+            sessions_hold_what_is_reserved();
             grow(&mut self.acts, step.larger_acts);
             grow(&mut self.entries, step.larger_entries);
             grow(&mut self.sessions, step.larger_sessions);
@@ -199,8 +223,19 @@ impl Account {
                 outcome: step.outcome,
             });
             append(&mut self.entries, step.entries);
-            step.change.apply(&mut self.sessions);
-            self.standing = step.standing;
+            let overrun = step.change.apply(&mut self.sessions, &mut self.pool);
+            self.overrun += i128::from(overrun);
+        }
+    }
+
+    /// The money of the account.
+    fn standing(&self) -> Standing
+        ensures { result ≡ standing self.now.terms self.now.acts }
+    {
+        Standing {
+            funds: self.funds(),
+            free: self.free(),
+            overrun: self.overrun(),
         }
     }
 
@@ -208,22 +243,4 @@ impl Account {
     pub fn discard(step: Step) {
         drop(step);
     }
-}
-
-fn funds_in(standing: &Standing) -> i128
-    ensures { result ≡ standing.now.funds }
-{
-    standing.funds
-}
-
-fn free_in(standing: &Standing) -> i128
-    ensures { result ≡ standing.now.free }
-{
-    standing.free
-}
-
-fn overrun_in(standing: &Standing) -> i128
-    ensures { result ≡ standing.now.overrun }
-{
-    standing.overrun
 }

@@ -5,13 +5,12 @@ ghost use Rattle.std.specs.Prelude.{◌≡◌};
 use crate::indexes::LargerIndexes;
 use crate::new_keys::NewKeys;
 use dcc_act::{Act, Entry, Outcome};
-use dcc_model::{Done, Standing};
+use dcc_model::Done;
 use dcc_state::{Change, OpenSession};
 use std::marker::Model;
 
-/// A step of an account that is prepared and not yet installed: an act, what it comes to, the entries that it adds, the
-/// money after it, what it does to the sessions that are open, the keys that it adds, and all the memory that it takes to
-/// install it.
+/// A step of an account that is prepared and not yet installed: an act, what it comes to, the entries that it adds, what it
+/// does to the money and to the sessions that are open, the keys that it adds, and all the memory that it takes to install it.
 #[derive(Drop)]
 pub struct Step {
     pub(crate) act: Act,
@@ -19,8 +18,8 @@ pub struct Step {
     pub(crate) is_new: bool,
     pub(crate) place: Option<u64>,
     pub(crate) entries: Vec<Entry>,
-    pub(crate) standing: Standing,
     pub(crate) change: Change,
+    pub(crate) looks: u64,
     pub(crate) keys: NewKeys,
     pub(crate) larger_acts: Option<Vec<Done>>,
     pub(crate) larger_entries: Option<Vec<Entry>>,
@@ -44,8 +43,8 @@ impl Model for Step {
       is_new = s.is_new;
       place = s.place;
       entries = s.entries.items;
-      standing = s.standing;
       change = s.change;
+      looks = s.looks;
       space = record {
         acts = option_map (λ v. vec_capacity v) s.larger_acts;
         entries = option_map (λ v. vec_capacity v) s.larger_entries;
@@ -95,5 +94,12 @@ impl Step {
         ensures { result ≡ self.now.place }
     {
         self.place
+    }
+
+    /// How many live grants were looked at to prepare it, counted one by one.
+    pub fn looks(&self) -> u64
+        ensures { result ≡ self.now.looks }
+    {
+        self.looks
     }
 }

@@ -1,14 +1,22 @@
-use Rattle.std.proofs.Common.{◌≡◌, ℕ, ◌+◌, ◌*◌, pos, ◌≤ℤ◌, length, subst, Bool, List, [], ◌∷◌, ◌++◌, map, reverse, cond, sym, ap, ◌∙◌, arith}
-use Rattle.std.proofs.lemmas.List.{map-append, length-map, length-reverse}
+use Rattle.std.proofs.Common.{ℤ, length, subst, Bool, List, [], ◌∷◌, ◌++◌, map, reverse, cond, sym, ap, ◌∙◌, arith}
+use Rattle.std.proofs.lemmas.Int.{ints}
+use Rattle.std.proofs.lemmas.List.{map-append, length-reverse}
 use Rattle.dcc_act.specs.declared.entry.Entry.{Entry}
 use Rattle.dcc_model.specs.declared.done.Done.{Done}
-use Rattle.dcc_model.specs.Outcomes.{act_made, acts}
-use Rattle.dcc_state.specs.Known.{changed}
+use Rattle.dcc_model.specs.Outcomes.{act_made, acts, funds, history, with_act}
+use Rattle.dcc_state.specs.Known.{changed, funds_after, overrun_with}
+use Rattle.dcc_state.specs.OpenSessions.{SessionView, AreOpen}
 use Rattle.dcc_account.specs.Accounts.{AccountView}
 use Rattle.dcc_account.specs.Prepared.{StepView}
-use Rattle.dcc_account.specs.inner.Kept.{MAX_OVERRUN}
-use Rattle.dcc_account.proofs.Steps.{kept_with, running_with, running_at, acts_with, prepared_at}
+use Rattle.dcc_account.proofs.Steps.{free_is, backed_by, kept_with, running_with, running_at, acts_with, prepared_at}
 use Rattle.dcc_account.proofs.account.Account.install.Goals as goal
+
+pub apply-overrun-requires-clause-backed : goal.apply-overrun-requires-clause-backed
+apply-overrun-requires-clause-backed c =
+    let own = c.self.inside in
+    let is = prepared_at _ _ _ _ c.requires c.self.view_is c.step.view_is in
+    let free = free_is c.sessions_hold_what_is_reserved.ensures own.terms own.acts.items own.entries.items own.pool own.overrun own.sessions.items own.indexes c.self.invariant in
+    backed_by _ _ _ _ _ _ c.step.inside.change is.backed c.self.invariant.funds_are free c.grow-then-step-2.ensures.items
 
 pub invariant_of-self : goal.invariant_of-self
 invariant_of-self c =
@@ -16,19 +24,28 @@ invariant_of-self c =
     let step = c.step.inside in
     let is = prepared_at _ _ _ _ c.requires c.self.view_is c.step.view_is in
     let made = own.acts.items in
+    let all = map act_made made in
     let done : Done = record { act = step.act; outcome = step.outcome } in
-    let kept =
-    kept_with own.terms made own.entries.items step.entries.items own.standing step.standing step.act step.outcome c.self.invariant.kept is.outcome_is (sym is.new_is ∙ c.if-step.true) is.entries_are is.standing_is c.keys_are_apart.ensures in
-    let many : length (map act_made made) ≡ length made = length-map made act_made in
-    let over = subst (λ (n : ℕ). step.standing.overrun ≤ℤ pos (MAX_OVERRUN * (n + 1))) many is.overrun_is in
+    let kept = kept_with own.terms made own.entries.items step.entries.items step.act step.outcome c.self.invariant.kept is.outcome_is (sym is.new_is ∙ c.if-step.true) is.entries_are c.keys_are_apart.ensures in
     let grown = c.grow-then-step-3.ensures.indexed (reverse made) c.self.invariant.indexed in
     let held = length-reverse made in
     let stay = ap (λ (made : List Done). length made) c.grow.ensures.items in
     let indexed = c.add.ensures (reverse made) done grown c.step.invariant.4 (omega (arith, held, stay)) in
-    running_at own.terms _ _ _ _ step.standing _ _ _ (running_with own.terms made (own.entries.items ++ step.entries.items) step.standing (changed step.change own.sessions.items) _ done kept is.sessions_are over indexed)
+    let sessions = c.grow-then-step-2.ensures.items in
+    let applied = c.apply-overrun.ensures in
+    let are = subst (λ (now : List SessionView). AreOpen own.terms (with_act own.terms (history own.terms (reverse all)) step.act) now) (sym (applied.sessions ∙ ap (changed step.change) sessions)) is.sessions_are in
+    let funds_are =
+    applied.funds ∙ ap (λ (money : ℤ). funds_after step.change money c.grow-then-step-2.new.items.items) c.self.invariant.funds_are
+    ∙ ap (funds_after step.change (funds own.terms all)) sessions ∙ sym is.funds_are in
+    let more = applied.overrun ∙ ap (overrun_with step.change) sessions in
+    let overrun_is = is.overrun_are in
+    let before = c.self.invariant.overrun_are in
+    let most = c.self.invariant.overrun_is in
+    let bound = applied.bound in
+    running_at own.terms _ _ _ _ _ _ _ _
+    (running_with own.terms made (own.entries.items ++ step.entries.items) _ _ _ _ done kept are applied.holds funds_are (omega (arith, ints)) (omega (arith, ints)) indexed)
     (c.push_reserved.ensures.items ∙ ap (λ (made : List Done). made ++ done ∷ []) c.grow.ensures.items)
     (c.append.ensures ∙ ap (λ (es : List Entry). es ++ step.entries.items) c.grow-then-step.ensures.items)
-    (c.apply.ensures ∙ ap (changed step.change) c.grow-then-step-2.ensures.items)
 
 pub returns-then-step-clause-acts : goal.returns-then-step-clause-acts
 returns-then-step-clause-acts c =
@@ -37,7 +54,7 @@ returns-then-step-clause-acts c =
     let all = map act_made own.acts.items in
     let one : Done = record { act = step.act; outcome = step.outcome } in
     let is = prepared_at _ _ _ _ c.requires c.self.view_is c.step.view_is in
-    let made = acts_with c.one_more_act.ensures own.terms own.acts.items own.entries.items own.standing step.act step.is_new c.self.invariant.kept is.new_is in
+    let made = acts_with c.one_more_act.ensures own.terms own.acts.items own.entries.items step.act step.is_new c.self.invariant.kept is.new_is in
     ap (map act_made) (c.push_reserved.ensures.items ∙ ap (λ (made : List Done). made ++ one ∷ []) c.grow.ensures.items)
     ∙ map-append act_made own.acts.items (one ∷ [])
     ∙ sym (made ∙ ap (λ (b : Bool). cond b (all ++ step.act ∷ []) all) c.if-step.true)
@@ -50,7 +67,7 @@ returns-else-step-clause-acts c =
     let step = c.step.inside in
     let all = map act_made own.acts.items in
     let is = prepared_at _ _ _ _ c.requires c.self.view_is c.step.view_is in
-    let made = acts_with c.one_more_act.ensures own.terms own.acts.items own.entries.items own.standing step.act step.is_new c.self.invariant.kept is.new_is in
+    let made = acts_with c.one_more_act.ensures own.terms own.acts.items own.entries.items step.act step.is_new c.self.invariant.kept is.new_is in
     sym (ap (λ (a : AccountView). a.acts) c.self.view_is)
     ∙ sym (made ∙ ap (λ (b : Bool). cond b (all ++ step.act ∷ []) all) c.if-step.false)
     ∙ ap (λ (a : AccountView). acts a.terms (a.acts ++ step.act ∷ [])) c.self.view_is

@@ -1,16 +1,20 @@
-use Rattle.std.proofs.Common.{refl, arith}
+use Rattle.std.proofs.Common.{refl, ap, arith}
 use Rattle.std.proofs.lemmas.Int.{ints}
+use Rattle.dcc_escrow.specs.Pools.{PoolView}
 use Rattle.dcc_model.specs.Entries.{entries}
-use Rattle.dcc_model.specs.Outcomes.{standing}
+use Rattle.dcc_model.specs.Outcomes.{funds, overrun}
 use Rattle.dcc_account.proofs.Lookbacks.{none_indexed}
 use Rattle.dcc_account.proofs.account.Account.new.Goals as goal
 
 pub invariant_of-result : goal.invariant_of-result
-unfolding entries standing
-invariant_of-result c = rw (c.new.ensures.items, c.new-2.ensures.items, c.new-3.ensures.items)
+unfolding entries funds overrun
+invariant_of-result c = rw (c.new.ensures.items, c.new-2.ensures.items, c.new-4.ensures.items)
     (record {
-      kept = record { keyed = tt; own = refl; entries_are = refl; standing_is = refl };
+      kept = record { keyed = tt; own = refl; entries_are = refl };
       sessions_are = record { found = λ sid. refl; apart = tt };
+      holds = record { id = ap (λ (p : PoolView). p.id) c.new-3.ensures; reserved = ap (λ (p : PoolView). p.reserved) c.new-3.ensures };
+      funds_are = ap (λ (p : PoolView). p.committed) c.new-3.ensures;
+      overrun_are = refl;
       overrun_is = omega (arith, ints);
-      indexed = none_indexed _ c.new-4.ensures.requests c.new-4.ensures.tickets c.new-4.ensures.opened;
+      indexed = none_indexed _ c.new-5.ensures.requests c.new-5.ensures.tickets c.new-5.ensures.opened;
     })
