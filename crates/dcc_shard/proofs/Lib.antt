@@ -4,6 +4,7 @@ pub mod BookSteps
 pub mod Storing
 pub mod Ordered
 pub mod Pages
+pub mod Placed
 pub mod Routing
 pub mod RoutedSubs
 pub mod Beginnings

@@ -1,5 +1,5 @@
 -- What a step of a subscriber is answered.
-use Rattle.std.specs.Prelude.{◌≡◌, ℕ, ◌≤◌, Bool, true, false, List, [], length, Option, Some, None, option_map, MatchBool, ◌⊎◌}
+use Rattle.std.specs.Prelude.{◌≡◌, ℕ, ◌≤◌, Bool, true, false, List, [], length, codes, Option, Some, None, option_map, MatchBool, ◌⊎◌}
 use Rattle.dcc_tariff.specs.Terms.{TermsView}
 use Rattle.dcc_message.specs.HeaderView.{HeaderView}
 use Rattle.dcc_message.specs.declared.identity.Identity.{Identity}
@@ -129,3 +129,10 @@ IsToldApart (answers.Done octets at fresh) = (is_busy octets ≡ false) × (HEAD
 IsToldApart (answers.Unknown octets) = (is_busy octets ≡ false) × (HEADER_LENGTH ≤ length octets)
 IsToldApart (answers.Busy octets) = (is_busy octets ≡ true) × (HEADER_LENGTH ≤ length octets)
 IsToldApart answers.Silent = Unit {0}
+
+-- what a top-up is told, as the word that is printed
+abbrev pub word_of : TopUpAnswer → List ℕ
+word_of (Done at fresh) = codes "done"
+word_of (Ceiling at fresh) = codes "ceiling"
+word_of BadAmount = codes "bad"
+word_of Refused = codes "refused"

@@ -1,5 +1,8 @@
 //! What a shard answers.
 
+ghost use Rattle.std.specs.Prelude.{◌≡◌};
+ghost use Rattle.dcc_shard.specs.Answers.{word_of};
+
 use dcc_octets::OctetString;
 
 /// What a request is answered.
@@ -37,6 +40,20 @@ pub enum TopUpAnswer {
     BadAmount,
     /// Memory was short, or the records failed or were stopped; what is held is as before, as with a busy request.
     Refused,
+}
+
+impl TopUpAnswer {
+    /// The word that is printed for it.
+    pub fn word(&self) -> &'static str
+        ensures { result.now ≡ word_of self.now }
+    {
+        match self {
+            TopUpAnswer::Done { .. } => "done",
+            TopUpAnswer::Ceiling { .. } => "ceiling",
+            TopUpAnswer::BadAmount => "bad",
+            TopUpAnswer::Refused => "refused",
+        }
+    }
 }
 
 /// What an expiry comes to.

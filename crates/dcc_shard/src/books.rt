@@ -1,18 +1,22 @@
 //! The accounts of a shard's subscribers, and one more act of one of them: it is prepared, and then installed. What is
 //! refused comes with the preparing, which changes nothing that is held; the others stay as they were.
 
-ghost use Rattle.std.specs.Prelude.{◌≡◌, ◌≢◌, ◌<◌, [], true, false, Some, IfOk, IfSome, IfNone, if◌then◌else◌};
+ghost use Rattle.std.specs.Prelude.{◌≡◌, ◌≢◌, ◌<◌, ◌==◌, ◌↔◌, [], true, false, Some, IfOk, IfSome, IfNone, if◌then◌else◌};
 ghost use Rattle.indexmap.specs.IndexMap.{spare};
 ghost use Rattle.dcc_act.specs.Subs.{same_sub};
+ghost use Rattle.std.specs.List.{list_all};
 ghost use Rattle.std.specs.List.Sorted.{IsStrictlySortedBy};
+ghost use Rattle.std.specs.Map.{keys_of};
 ghost use Rattle.dcc_act.specs.declared.sub.Sub.{Sub};
 ghost use Rattle.dcc_model.specs.Outcomes.{acts};
 ghost use Rattle.dcc_records.specs.Books.{sub_order, acts_in, IsBook};
 ghost use Rattle.dcc_shard.specs.Shards.{account_in, held_in, is_among};
+ghost use Rattle.dcc_shard.specs.Routes.{shard_of};
 ghost use Rattle.dcc_shard.specs.inner.Books.{IsStepOfBooks};
 ghost use Rattle.dcc_shard.specs.inner.Pending.{step_of, Stands, IsPending};
 
 use crate::pending::Pending;
+use crate::route::shard_of;
 use dcc_account::Account;
 use dcc_act::{Act, Sub, same_subscribers_are_equal};
 use dcc_model::{leaving_out_changes_nothing, one_more_act};
@@ -90,6 +94,29 @@ impl Books {
         }
         subs.sort()?;
         Ok(subs)
+    }
+
+    /// Whether the accounts are of subscribers alone that [`shard_of`] gives the shard of this index, of so many.
+    pub(crate) fn are_placed(&self, index: usize, count: usize) -> bool
+        requires { 0 < count }
+        ensures { result ≡ true ↔ ((sub : Sub) → held_in self.now.rows sub ≢ [] → shard_of sub count ≡ index) }
+    {
+        same_subscribers_are_equal();
+        let _accounts = &self.accounts;
+        self.keys_are_placed(index, count)
+    }
+
+    /// Whether each key of the accounts is such a subscriber.
+    fn keys_are_placed(&self, index: usize, count: usize) -> bool
+        requires { 0 < count }
+        ensures { result ≡ list_all (λ sub. shard_of sub count == index) (keys_of self.now.rows) }
+    {
+        for sub in self.accounts.keys() {
+            if shard_of(sub, count) != index {
+                return false;
+            }
+        }
+        true
     }
 
     /// The terms by which the accounts are judged.

@@ -1,6 +1,6 @@
 //! The shard.
 
-ghost use Rattle.std.specs.Prelude.{◌≡◌, ◌≢◌, ◌+◌, [], true, false, IfOk, IfErr, IfSome, IfNone, OnOk, IsErr, Err, is_some};
+ghost use Rattle.std.specs.Prelude.{◌≡◌, ◌≢◌, ◌+◌, ◌<◌, ◌↔◌, [], true, false, IfOk, IfErr, IfSome, IfNone, OnOk, IsErr, Err, is_some};
 ghost use Rattle.std.specs.List.Sorted.{IsStrictlySortedBy};
 ghost use Rattle.dcc_act.specs.declared.sub.Sub.{Sub};
 ghost use Rattle.dcc_model.specs.Keys.{request_key};
@@ -10,6 +10,7 @@ ghost use Rattle.dcc_records.specs.Stops.{LeavesOnly};
 ghost use Rattle.dcc_records.specs.declared.fault.StoreFault.TheVariants.{Device, Stopped};
 ghost use Rattle.dcc_shard.specs.Shards.{held, held_in, AreOwn, IsStep, is_among};
 ghost use Rattle.dcc_shard.specs.Stored.{IsKept, IsLeft};
+ghost use Rattle.dcc_shard.specs.Routes.{shard_of};
 ghost use Rattle.dcc_shard.specs.Answers.{IsAnswer, IsToldApart, IsTold, is_judged, is_judged_top_up, top_up_act};
 ghost use Rattle.dcc_shard.specs.Answers.{IsExpired, is_judged_expiry, expiry_act};
 
@@ -85,8 +86,15 @@ impl<R: Records> Shard<R> {
         }
     }
 
+    /// Who answers.
+    pub fn identity(&self) -> &Identity
+        ensures { result.now ≡ self.now.shard.identity }
+    {
+        &self.identity
+    }
+
     /// Does nothing: the acts that are held for each subscriber are those that they themselves make.
-    pub(crate) fn acts_are_own(&self)
+    pub fn acts_are_own(&self)
         ensures { AreOwn self.now.shard }
     {
         self.kept.acts_are_kept();
@@ -120,6 +128,15 @@ impl<R: Records> Shard<R> {
         ensures none { IfNone result (held self.now.shard sub ≡ []) }
     {
         self.kept.books().account(&sub)
+    }
+
+    /// Whether it holds acts of subscribers alone that [`shard_of`] gives the shard of this index, of so many: what shards that stand as
+    /// one, and a store, are to be. The condition: there is a shard.
+    pub fn is_placed(&self, index: usize, count: usize) -> bool
+        requires { 0 < count }
+        ensures { result ≡ true ↔ ((sub : Sub) → held self.now.shard sub ≢ [] → shard_of sub count ≡ index) }
+    {
+        self.kept.books().are_placed(index, count)
     }
 
     /// The subscribers that have acts, each once, in their order: by type, and then by the data, octet by octet.

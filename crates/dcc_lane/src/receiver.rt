@@ -1,0 +1,160 @@
+//! The end that takes.
+ghost use Rattle.std.specs.Prelude.{◌≡◌, ◌<◌, [], ℕ, vec_len, slice_index, length};
+ghost use Rattle.std.specs.Arc.{arc_value};
+ghost use Rattle.crossbeam_queue.specs.Passes.{view, IsPassOf};
+ghost use Rattle.dcc_lane.specs.Rule.{receiver, of};
+
+use crate::bell::Patience;
+use crate::rule::{Compares, End, Joins, Shared, Tagged, Takes};
+use crate::search::put_by;
+use crate::sender::{Sender, never};
+use std::alloc::Global;
+use std::sync::{Arc, Wait};
+use thiserror::Error;
+
+/// The receiver of a lane. It counts what it took of each sender.
+#[derive(Drop)]
+pub struct Receiver<T> {
+    pub(crate) alloc: Global,
+    pub(crate) shared: Arc<Shared<T>, Global>,
+    pub(crate) taken: Vec<u64>,
+    pub(crate) pass: End<T>,
+    ghost tied: { IsPassOf (arc_value shared).queue pass },
+    ghost known: { view pass ≡ receiver (vec_len taken) (view pass).taken [] },
+    ghost counted: { (k : ℕ) → k < vec_len taken → slice_index taken.items k ≡ length (of k (view pass).taken) },
+}
+
+/// How many items of one sender were put and taken.
+#[derive(Clone, Copy, Debug, PartialEq, Eq)]
+pub struct Count {
+    pub put: u64,
+    pub taken: u64,
+}
+
+/// Why a lane isn't ended.
+#[derive(Clone, Copy, Debug, PartialEq, Eq, Error)]
+pub enum LaneFault {
+    /// Fault 80: one of the lane's senders isn't there.
+    #[error("a sender is missing")]
+    SenderMissing,
+    /// Memory was short for the counts.
+    #[error("out of memory")]
+    Memory,
+}
+
+/// A lane that isn't ended: why, and its ends as they were.
+#[derive(Drop)]
+pub struct Unfinished<T> {
+    pub fault: LaneFault,
+    pub receiver: Receiver<T>,
+    pub senders: Vec<Sender<T>>,
+}
+
+impl<T: Drop> Receiver<T> {
+    ghost use Rattle.std.specs.Prelude.{MatchOption, IfOk, OnOk, IfErr, IfSome, IfNone};
+    ghost use Rattle.std.specs.List.{All};
+    ghost use Rattle.dcc_lane.specs.Ends.{lane_of, senders_of, number_of, taken_of, IsSameReceiver, TakesOne, IsOfLane, HasNoneOf, IsBegun, IsPutBy, AreCounts, IsMissing};
+
+    /// Takes the oldest item. It waits while there is none.
+    pub fn take<R: Wait>(&mut self, rt: &R) -> T
+        ensures same { IsSameReceiver self.old self.new }
+        ensures taken { TakesOne self.old result self.new }
+    {
+        let mut patience = Patience::new();
+        for _ in rt.forever() {
+            match self.try_take(rt) {
+                Some(item) => {
+                    patience.end(&self.shared.items);
+                    return item;
+                }
+                None => patience.pause(rt, &self.shared.items),
+            }
+        }
+        unreachable!()
+    }
+
+    /// Takes the oldest item, or none where the lane was empty at one moment. It waits for no item, but may try again while a sender
+    /// is in the midst of its step.
+    pub fn try_take<R: Wait>(&mut self, rt: &R) -> Option<T>
+        ensures same { IsSameReceiver self.old self.new }
+        ensures taken { MatchOption result (taken_of self.new ≡ taken_of self.old) (λ x. TakesOne self.old x self.new) }
+    {
+        let tagged = self.shared.queue.pop_as::<Takes, R>(rt, &mut self.pass)?;
+        let Tagged { from, item } = tagged;
+        let Some(count) = self.taken[from].checked_add(1) else {
+            never(rt)
+        };
+        self.taken[from] = count;
+        self.shared.room.ring();
+        Some(item)
+    }
+
+    /// Ends the lane: how many items of each sender were put and taken, by their numbers. It takes nothing more. The condition: the
+    /// senders are of this lane.
+    ///
+    /// Errors, with all ends handed back: [`LaneFault::SenderMissing`], not all senders are there; [`LaneFault::Memory`].
+    pub fn finish(self, senders: Vec<Sender<T>>) -> Result<Vec<Count>, Unfinished<T>>
+        requires { All (IsOfLane (lane_of self)) senders.items }
+        ensures counts { IfOk result (λ counts. (vec_len counts ≡ senders_of self) × AreCounts self senders.items counts.items) }
+        ensures begun { OnOk result (All (IsBegun self) senders.items) }
+        ensures back { IfErr result (λ u. (u.receiver ≡ self) × (u.senders ≡ senders)) }
+        ensures missing { IfErr result (λ u. IsMissing u.fault self senders.items) }
+    {
+        match self.counts(senders.as_slice()) {
+            Ok(counts) => {
+                self.join(senders);
+                Ok(counts)
+            }
+            Err(fault) => Err(Unfinished {
+                fault,
+                receiver: self,
+                senders,
+            }),
+        }
+    }
+
+    /// How many items of each sender were put and taken.
+    fn counts(&self, senders: &[Sender<T>]) -> Result<Vec<Count>, LaneFault>
+        ensures len { IfOk result (λ counts. vec_len counts ≡ senders_of self.now) }
+        ensures ok { IfOk result (λ counts. AreCounts self.now senders.now counts.items) }
+        ensures err { IfErr result (λ fault. IsMissing fault self.now senders.now) }
+    {
+        let Ok(mut all) = Vec::with_capacity(self.alloc, self.taken.len()) else {
+            return Err(LaneFault::Memory);
+        };
+        for number in 0..self.taken.len() {
+            let Some(put) = put_by(senders, number) else {
+                return Err(LaneFault::SenderMissing);
+            };
+            all.push_reserved(Count {
+                put,
+                taken: self.taken[number],
+            });
+        }
+        Ok(all)
+    }
+
+    /// Takes what each sender knows into what the receiver knows, and compares.
+    fn join(self, senders: Vec<Sender<T>>)
+        requires { All (IsOfLane (lane_of self)) senders.items }
+        ensures { All (IsBegun self) senders.items }
+    {
+        let Receiver {
+            alloc: _,
+            shared,
+            taken: _,
+            mut pass,
+        } = self;
+        let mut senders = senders;
+        while senders.len() > 0 {
+            let Sender {
+                shared: _,
+                number: _,
+                sent: _,
+                pass: end,
+            } = senders.remove(0);
+            shared.queue.absorb::<Joins>(&mut pass, end);
+        }
+        shared.queue.learn_as::<Compares>(&mut pass);
+    }
+}

@@ -1,0 +1,92 @@
+//! The end that puts.
+ghost use Rattle.std.specs.Prelude.{◌≡◌, true, length};
+ghost use Rattle.std.specs.Arc.{arc_value};
+ghost use Rattle.crossbeam_queue.specs.Passes.{view, IsPassOf};
+ghost use Rattle.dcc_lane.specs.Rule.{sender};
+
+use crate::bell::Patience;
+use crate::rule::{End, Puts, Shared, Tagged};
+use std::alloc::Global;
+use std::sync::{Arc, Wait};
+
+/// One of the senders of a lane.
+#[derive(Drop)]
+pub struct Sender<T> {
+    pub(crate) shared: Arc<Shared<T>, Global>,
+    pub(crate) number: usize,
+    pub(crate) sent: u64,
+    pub(crate) pass: End<T>,
+    ghost tied: { IsPassOf (arc_value shared).queue pass },
+    ghost known: { view pass ≡ sender number (view pass).put },
+    ghost counted: { sent ≡ length (view pass).put },
+}
+
+impl<T: Drop> Sender<T> {
+    ghost use Rattle.std.specs.Prelude.{◌++◌, ◌∷◌, [], OnOk, IfErr};
+    ghost use Rattle.dcc_lane.specs.Ends.{number_of, put_of, IsSameSender};
+
+    /// The number by which its items are counted, from 0.
+    pub fn number(&self) -> usize
+        ensures { result ≡ number_of self.now }
+    {
+        self.number
+    }
+
+    /// Puts an item at the lane's end. It waits while the lane is full.
+    pub fn put<R: Wait>(&mut self, rt: &R, item: T)
+        ensures same { IsSameSender self.old self.new }
+        ensures put { put_of self.new ≡ put_of self.old ++ item ∷ [] }
+    {
+        let mut item = item;
+        let mut patience = Patience::new();
+        for _ in rt.forever() {
+            match self.try_put(rt, item) {
+                Ok(()) => {
+                    patience.end(&self.shared.room);
+                    return;
+                }
+                Err(back) => {
+                    item = back;
+                    patience.pause(rt, &self.shared.room);
+                }
+            }
+        }
+        unreachable!()
+    }
+
+    /// Puts an item, or hands it back where the lane was full at one moment.
+    pub fn try_put<R: Wait>(&mut self, rt: &R, item: T) -> Result<(), T>
+        ensures same { IsSameSender self.old self.new }
+        ensures ok { OnOk result (put_of self.new ≡ put_of self.old ++ item ∷ []) }
+        ensures err { IfErr result (λ back. (back ≡ item) × (put_of self.new ≡ put_of self.old)) }
+    {
+        let Some(sent) = self.sent.checked_add(1) else {
+            never(rt)
+        };
+        let tagged = Tagged {
+            from: self.number,
+            item,
+        };
+        match self
+            .shared
+            .queue
+            .push_as::<Puts, R>(rt, &mut self.pass, tagged)
+        {
+            Ok(()) => {
+                self.sent = sent;
+                self.shared.items.ring();
+                Ok(())
+            }
+            Err(back) => {
+                let Tagged { from: _, item } = back;
+                Err(item)
+            }
+        }
+    }
+}
+
+/// Waits for ever: where a count has come to its end, 2^64.
+pub(crate) fn never<R: Wait>(rt: &R) -> ! {
+    for _ in rt.forever() {}
+    unreachable!()
+}

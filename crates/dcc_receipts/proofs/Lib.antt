@@ -1,0 +1,5 @@
+pub mod Marked
+pub mod Orders
+pub mod Outcomes
+pub mod Places
+pub mod Singles

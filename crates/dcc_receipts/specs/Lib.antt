@@ -1,0 +1,6 @@
+pub mod Acts
+pub mod Audit
+pub mod Checks
+pub mod Faults
+pub mod Marks
+pub mod inner

@@ -1,0 +1,85 @@
+//! Whether a receipt agrees with its subscriber's acts.
+
+ghost use Rattle.std.specs.Prelude.{◌≡◌, ◌&&◌, ◌||◌, not, nat_lt, map, Some};
+ghost use Rattle.dcc_model.specs.Keys.{same_key};
+ghost use Rattle.dcc_receipts.specs.Audit.{agrees, all_agree, begins, is_there};
+ghost use Rattle.dcc_model.specs.Outcomes.{act_made};
+
+use crate::receipt::Receipt;
+use crate::same::same_act;
+use dcc_act::{Act, Kind};
+use dcc_model::{Done, request_key};
+
+/// Whether each receipt agrees with the acts, of which so many were there at opening.
+pub(crate) fn all_agree(opened: usize, acts: &[Act], receipts: &[Receipt]) -> bool
+    ensures { result ≡ all_agree opened acts.now receipts.now }
+{
+    receipts.iter().all(|r| agrees(opened, acts, r))
+}
+
+/// Whether a receipt agrees with the acts, of which so many were there at opening.
+#[tactic(auto, using(crate::proofs::Places::agrees_at))]
+fn agrees(opened: usize, acts: &[Act], receipt: &Receipt) -> bool
+    ensures { result ≡ agrees opened acts.now receipt.now }
+{
+    if receipt.place == 0 {
+        return !receipt.fresh && opened == 0;
+    }
+    if (acts.len() as u64) < receipt.place {
+        return false;
+    }
+    is_at(opened, &acts[(receipt.place - 1) as usize], receipt)
+}
+
+/// Whether a receipt agrees with the acts that were made, of which so many were there at opening.
+#[tactic(auto, using(crate::proofs::Places::agrees_at_made, crate::proofs::Places::agrees_past))]
+pub fn agrees_with(opened: usize, made: &[Done], receipt: &Receipt) -> bool
+    ensures { result ≡ agrees opened (map act_made made.now) receipt.now }
+{
+    if receipt.place == 0 {
+        return !receipt.fresh && opened == 0;
+    }
+    if (made.len() as u64) < receipt.place {
+        return false;
+    }
+    is_at(opened, &made[(receipt.place - 1) as usize].act, receipt)
+}
+
+/// Whether what stands at a receipt's place is its act, made since opening, or an act of its key.
+fn is_at(opened: usize, there: &Act, receipt: &Receipt) -> bool
+    ensures { result ≡ (is_there (Some there.now) receipt.now && (not receipt.now.fresh || nat_lt opened receipt.now.place)) }
+{
+    if receipt.fresh {
+        same_act(there, &receipt.act) && (opened as u64) < receipt.place
+    } else {
+        is_same_key(&receipt.act.kind, &there.kind)
+    }
+}
+
+/// Whether two acts have one key: requests their session and number, top-ups their ticket.
+fn is_same_key(a: &Kind, b: &Kind) -> bool
+    ensures { result ≡ same_key a.now b.now }
+{
+    match (a, b) {
+        (Kind::TopUp(a), Kind::TopUp(b)) => a.ticket == b.ticket,
+        _ => match (request_key(a), request_key(b)) {
+            (Some(a), Some(b)) => *a == *b,
+            _ => false,
+        },
+    }
+}
+
+/// Whether the acts that were made begin with those at opening.
+pub fn begins(opening: &[Act], made: &[Done]) -> bool
+    ensures { result ≡ begins opening.now (map act_made made.now) }
+{
+    if made.len() < opening.len() {
+        return false;
+    }
+    for i in 0..opening.len() {
+        if !same_act(&opening[i], &made[i].act) {
+            return false;
+        }
+    }
+    true
+}

@@ -1,0 +1,23 @@
+//! Receipts of calls, and whether they agree with the acts that were made.
+//!
+//! Stands on `dcc_model` for what acts come to and on `dcc_credit` for the octets of answers. A receipt says what one call
+//! brought and what it was told. The contract that this crate gives: each test of receipts against acts is its definition,
+//! whether they pass or fail. It knows of no shards and no threads: it works on plain data.
+#![tactic(auto)]
+
+mod agree;
+mod answers;
+mod check;
+mod fault;
+mod marks;
+mod order;
+mod receipt;
+mod same;
+
+pub use agree::{agrees_with, begins};
+pub use answers::is_answered;
+pub use check::check_receipts;
+pub use fault::CloseFault;
+pub use marks::Marks;
+pub use order::each_in_order;
+pub use receipt::{Receipt, Told};

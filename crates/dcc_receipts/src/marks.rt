@@ -1,0 +1,89 @@
+//! The places that have a fresh receipt.
+
+ghost use Rattle.std.specs.Prelude.{◌≡◌, ℕ, ◌+◌, ◌<◌, ◌&&◌, nat_eq, true, false, not, cond, IfOk};
+ghost use Rattle.dcc_act.specs.declared.sub.Sub.{Sub};
+ghost use Rattle.dcc_act.specs.Subs.{same_sub};
+ghost use Rattle.dcc_receipts.specs.Audit.{own, times};
+ghost use Rattle.dcc_receipts.specs.Marks.{is_marked};
+ghost use Rattle.dcc_receipts.specs.inner.Spots.{is_of};
+
+use crate::receipt::Receipt;
+use dcc_act::{Sub, same_subscribers_are_equal};
+use std::alloc::{AllocError, Global};
+use std::collections::HashSet;
+use std::hash::RandomState;
+use std::marker::Model;
+
+/// The places of subscribers that have a fresh receipt, each once. To a contract it is whether a subscriber's place has one.
+#[derive(Drop)]
+pub struct Marks {
+    places: HashSet<(Sub, u64), RandomState>,
+}
+
+impl Model for Marks {
+    ghost use Rattle.std.specs.Prelude.{ℕ, List};
+    ghost use Rattle.dcc_act.specs.declared.sub.Sub.{Sub};
+
+    ghost Value = { List (Sub × ℕ) };
+
+    ghost view = { λ m. m.places.keys };
+}
+
+impl Marks {
+    /// No places.
+    pub fn new(alloc: Global, hasher: RandomState) -> Marks
+        ensures { (sub : Sub) (place : ℕ) → is_marked result sub place ≡ false }
+    {
+        Marks {
+            places: HashSet::with_hasher(alloc, hasher),
+        }
+    }
+
+    /// Whether a subscriber's place has a fresh receipt.
+    pub fn has(&self, sub: Sub, place: u64) -> bool
+        ensures { result ≡ is_marked self.now sub place }
+    {
+        self.places.contains(&(sub, place))
+    }
+
+    /// Adds a place, and says whether it is new. The only error is want of memory.
+    fn add(&mut self, sub: Sub, place: u64) -> Result<bool, AllocError>
+        ensures added { IfOk result (λ added. added ≡ not (is_marked self.old sub place)) }
+        ensures marks { IfOk result (λ added. (other : Sub) (at : ℕ) → is_marked self.new other at
+            ≡ cond (same_sub sub other && nat_eq place at) true (is_marked self.old other at)) }
+    {
+        let added = self.places.insert((sub, place))?;
+        Ok(added)
+    }
+
+    /// Adds the place of a receipt that is fresh, and says whether it is new; any other adds nothing. The only error is want of memory.
+    #[tactic(auto, using(crate::proofs::Marked::marked_more))]
+    fn add_fresh(&mut self, receipt: &Receipt) -> Result<bool, AllocError>
+        ensures single { IfOk result (λ single. single ≡ true → (sub : Sub) (place : ℕ)
+            → cond (is_marked self.new sub place) 1 0 ≡ cond (is_marked self.old sub place) 1 0 + cond (is_of sub place receipt.now) 1 0) }
+        ensures double { IfOk result (λ single. single ≡ false
+            → (receipt.now.fresh ≡ true) × (is_marked self.old receipt.now.sub receipt.now.place ≡ true)) }
+    {
+        same_subscribers_are_equal();
+        if !receipt.fresh {
+            return Ok(true);
+        }
+        self.add(receipt.sub, receipt.place)
+    }
+
+    /// Adds the places of a seat's fresh receipts, and says whether each is new. The only error is want of memory.
+    pub fn add_all(&mut self, receipts: &[Receipt]) -> Result<bool, AllocError>
+        ensures single { IfOk result (λ single. single ≡ true → (sub : Sub) (place : ℕ)
+            → cond (is_marked self.new sub place) 1 0 ≡ cond (is_marked self.old sub place) 1 0 + times place (own sub receipts.now)) }
+        ensures double { IfOk result (λ single. single ≡ false
+            → (sub : Sub) × (place : ℕ) × (1 < cond (is_marked self.old sub place) 1 0 + times place (own sub receipts.now))) }
+    {
+        same_subscribers_are_equal();
+        for receipt in receipts {
+            if !self.add_fresh(receipt)? {
+                return Ok(false);
+            }
+        }
+        Ok(true)
+    }
+}

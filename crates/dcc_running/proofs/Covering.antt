@@ -1,0 +1,33 @@
+-- Acts that have marks, one shard after another.
+use Rattle.std.proofs.Common.{◌≡◌, ℕ, ◌+◌, ◌<◌, ◌≤◌, Bool, true, false, nat_lt, List, [], length, get_or, slice_get, Some, refl, sym, ap, ◌∙◌, inl, inr, arith}
+use Rattle.std.proofs.lemmas.Bool.{cases_Bool}
+use Rattle.std.proofs.lemmas.Grind.{common_steps}
+use Rattle.std.proofs.lemmas.Option.{slice_get_read}
+use Rattle.dcc_act.specs.declared.act.Act.{Act}
+use Rattle.dcc_act.specs.declared.sub.Sub.{Sub}
+use Rattle.dcc_receipts.specs.Marks.{is_marked}
+use Rattle.dcc_shard.specs.Routes.{shard_of}
+use Rattle.dcc_shard.specs.Shards.{held, is_among}
+use Rattle.dcc_shard.specs.Stored.{StoredView}
+use Rattle.dcc_running.specs.Books.{Opening, at_opening, book, held_by}
+
+pub next_covered : {R : Type 0} (parts : List (StoredView R)) (opening : Opening) (marks : List (Sub × ℕ)) (subs : List Sub) (i : ℕ) (part : StoredView R)
+    → i < length parts → part ≡ get_or parts i part → ((sub : Sub) → is_among sub subs ≡ false → held part.shard sub ≡ [])
+    → ((sub : Sub) (place : ℕ) → shard_of sub (length parts) < i → length (at_opening opening sub) < place → place ≤ length (book parts sub) → is_marked marks sub place ≡ true)
+    → ((sub : Sub) (place : ℕ) → is_among sub subs ≡ true → length (at_opening opening sub) < place → place ≤ length (book parts sub) → is_marked marks sub place ≡ true)
+    → (sub : Sub) (place : ℕ) → shard_of sub (length parts) < i + 1 → length (at_opening opening sub) < place → place ≤ length (book parts sub) → is_marked marks sub place ≡ true
+next_covered {R} parts opening marks subs i part within is none before here sub place upto low high =
+    let r = shard_of sub (length parts) in
+    elim (cases_Bool (nat_lt r i)) [
+      | inl lower ↦ let lt : r < i = grind (arith, common_steps) in before sub place lt low high
+      | inr not_lower ↦ elim (cases_Bool (is_among sub subs)) [
+        | inl among ↦ here sub place among low high
+        | inr others ↦
+            let e : r ≡ i = grind (arith, common_steps) in
+            let there : slice_get parts i ≡ Some part = slice_get_read parts (length parts) i part refl within is in
+            let b : book parts sub ≡ [] =
+            ap (λ (k : ℕ). held_by (slice_get parts k) sub) e ∙ (ap (λ o. held_by o sub) there ∙ none sub others) in
+            let n : length (book parts sub) ≡ 0 = ap (λ (l : List Act). length l) b in
+            absurd (omega (arith, n, low, high))
+      ]
+    ]

@@ -1,0 +1,6 @@
+pub mod Begun
+pub mod Copies
+pub mod Covering
+pub mod Ends
+pub mod Owned
+pub mod TopUps

@@ -1,0 +1,52 @@
+-- Shards that work under locks, and what they hold once they are out of these.
+use Rattle.std.specs.Prelude.{◌≡◌, ◌≢◌, ℕ, ◌<◌, List, [], length, slice_index_or, Option, Some, None, slice_get}
+use Rattle.std.specs.Global.{Vec}
+use Rattle.std.specs.Map.{lookup}
+use Rattle.std.specs.Option.{option_map_or}
+use Rattle.dcc_tariff.specs.Terms.{TermsView}
+use Rattle.dcc_message.specs.declared.identity.Identity.{Identity}
+use Rattle.dcc_act.specs.declared.act.Act.{Act}
+use Rattle.dcc_act.specs.declared.sub.Sub.{Sub}
+use Rattle.dcc_act.specs.Subs.{same_sub}
+use Rattle.dcc_records.specs.Books.{Held}
+use Rattle.dcc_shard.specs.Routes.{shard_of}
+use Rattle.dcc_shard.specs.Shards.{held}
+use Rattle.dcc_shard.specs.Stored.{StoredView}
+
+-- subscribers with their acts at opening
+abbrev pub Opening : Type 0
+Opening = List (Sub × Vec Act)
+
+-- shards under locks, of which nothing is known but how many there are: by what terms they judge, who answers, and the acts that were
+-- held of each subscriber when they were opened
+pub record LockedView : Type 0 where
+  pub terms : TermsView
+  pub identity : Identity
+  pub opening : Opening
+  pub count : ℕ
+
+-- the same shards out of their locks
+pub record BooksView (R : Type 0) : Type 0 where
+  pub terms : TermsView
+  pub identity : Identity
+  pub opening : Opening
+  pub parts : List (StoredView R)
+
+-- the acts that a subscriber had at opening
+abbrev pub at_opening : Opening → Held
+at_opening opening sub = option_map_or (λ (acts : Vec Act). acts.items) (lookup (same_sub sub) opening) []
+
+abbrev pub held_by : {R : Type 0} → Option (StoredView R) → Held
+held_by None sub = []
+held_by (Some part) sub = held part.shard sub
+
+-- the acts of a subscriber: those that the shard holds which keeps it
+abbrev pub book : {R : Type 0} → List (StoredView R) → Held
+book parts sub = held_by (slice_get parts (shard_of sub (length parts))) sub
+
+-- shards that may work as one: they judge by these terms, answer for this server, and each holds only subscribers that it keeps
+pub record AreShards {R : Type 0} (terms : TermsView) (identity : Identity) (parts : List (StoredView R)) : Type 0 where
+  pub terms_are : (i : ℕ) (none : StoredView R) → i < length parts → (slice_index_or parts i none).shard.terms ≡ terms
+  pub identity_is : (i : ℕ) (none : StoredView R) → i < length parts → (slice_index_or parts i none).shard.identity ≡ identity
+  pub placed : (i : ℕ) (none : StoredView R) (sub : Sub) → i < length parts
+      → held (slice_index_or parts i none).shard sub ≢ [] → shard_of sub (length parts) ≡ i

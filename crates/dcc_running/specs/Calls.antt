@@ -1,0 +1,61 @@
+-- What a call under a lock answers, and the receipt that it gives.
+use Rattle.std.specs.Prelude.{◌≡◌, ℕ, Bool, true, false, List, [], ◌∷◌}
+use Rattle.dcc_message.specs.HeaderView.{HeaderView}
+use Rattle.dcc_act.specs.declared.act.Act.{Act}
+use Rattle.dcc_act.specs.declared.sub.Sub.{Sub}
+use Rattle.dcc_receipts.specs.declared.receipt.Receipt.{Receipt}
+use Rattle.dcc_receipts.specs.declared.receipt.Told.{Told}
+use Rattle.dcc_receipts.specs.declared.receipt.Told.TheVariants.{Octets, Added, Ceiling, Closed}
+use Rattle.dcc_running.specs.declared.job.Job.{Job}
+use Rattle.dcc_shard.specs.Answers.{IsAnswer, IsTold, IsExpired, top_up_act, expiry_act}
+use Rattle.dcc_shard.specs.Shards.{ShardView}
+use Rattle.dcc_shard.specs.declared.answers.RequestAnswer.{RequestAnswer}
+use Rattle.dcc_shard.specs.declared.answers.RequestAnswer.TheVariants as answers
+use Rattle.dcc_shard.specs.declared.answers.ExpiryAnswer.{ExpiryAnswer}
+use Rattle.dcc_shard.specs.declared.answers.ExpiryAnswer.TheVariants as expiries
+use Rattle.dcc_shard.specs.declared.answers.TopUpAnswer.{TopUpAnswer}
+use Rattle.dcc_shard.specs.declared.answers.TopUpAnswer.TheVariants as top_ups
+
+-- what some shard answers to a job: under the job's own header and with its own proxies
+abbrev pub IsAnswerTo : Job → RequestAnswer → Type 0
+IsAnswerTo job answer = (shard : ShardView) × IsAnswer shard job.sub job.act job.header job.proxies answer
+
+-- what some shard tells of a top-up, and of an expiry
+abbrev pub IsToldOf : Sub → ℕ → ℕ → ℕ → TopUpAnswer → Type 0
+IsToldOf sub moment ticket amount answer = (shard : ShardView) × IsTold shard sub moment ticket amount answer
+
+abbrev pub IsEndOf : Sub → ℕ → ExpiryAnswer → Type 0
+IsEndOf sub moment answer = (shard : ShardView) × IsExpired shard sub moment answer
+
+-- the receipt of a job, of an answer at a place; 0 is that of an unknown subscriber
+abbrev pub receipt : Job → List ℕ → ℕ → Bool → Receipt
+receipt job octets at fresh =
+    record { sub = job.sub; place = at; act = job.act; header = job.header; proxies = job.proxies; answer = Octets octets; fresh = fresh }
+
+abbrev pub receipts_of : Job → RequestAnswer → List Receipt
+receipts_of job (answers.Done octets at fresh) = receipt job octets at fresh ∷ []
+receipts_of job (answers.Unknown octets) = receipt job octets 0 false ∷ []
+receipts_of job (answers.Busy octets) = []
+receipts_of job answers.Silent = []
+
+-- a top-up and an expiry have no request
+abbrev pub no_header : HeaderView
+no_header = record { length = 0; flags = 0; code = 0; app = 0; hop = 0; end_to_end = 0 }
+
+abbrev pub plain_receipt : Sub → Act → ℕ → Told → Bool → Receipt
+plain_receipt sub act at answer fresh =
+    record { sub = sub; place = at; act = act; header = no_header; proxies = []; answer = answer; fresh = fresh }
+
+abbrev pub told_receipts : Sub → Act → TopUpAnswer → List Receipt
+told_receipts sub act (top_ups.Done at fresh) = plain_receipt sub act at Added fresh ∷ []
+told_receipts sub act (top_ups.Ceiling at fresh) = plain_receipt sub act at Ceiling fresh ∷ []
+told_receipts sub act top_ups.BadAmount = []
+told_receipts sub act top_ups.Refused = []
+
+abbrev pub top_up_receipts : Sub → ℕ → ℕ → ℕ → TopUpAnswer → List Receipt
+top_up_receipts sub moment ticket amount answer = told_receipts sub (top_up_act moment ticket amount) answer
+
+abbrev pub expiry_receipts : Sub → ℕ → ExpiryAnswer → List Receipt
+expiry_receipts sub moment (expiries.Closed sessions at) = plain_receipt sub (expiry_act moment) at (Closed sessions) true ∷ []
+expiry_receipts sub moment expiries.Nothing = []
+expiry_receipts sub moment expiries.Refused = []

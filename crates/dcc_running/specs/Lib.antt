@@ -1,0 +1,4 @@
+pub mod Books
+pub mod Audited
+pub mod Calls
+pub mod inner

@@ -1,0 +1,212 @@
+//! The tests of `close`, on plain data.
+
+ghost use Rattle.std.specs.Prelude.{◌≡◌, ◌≢◌, ◌≤◌, ◌<◌, ◌↔◌, ◌&&◌, ℕ, [], true, false, Err, length, IfOk, OnOk, IfSome, IfNone};
+ghost use Rattle.std.specs.List.{list_all};
+ghost use Rattle.dcc_act.specs.declared.sub.Sub.{Sub};
+ghost use Rattle.dcc_receipts.specs.declared.fault.CloseFault.TheVariants.{Memory, ReceiptStray, ActWithoutReceipt, OutOfOrder};
+ghost use Rattle.dcc_running.specs.Audited.{is_true, are_true, times_in, AreTrue, AreCovered, AreOrdered, AreOwn};
+ghost use Rattle.dcc_running.specs.Books.{AreShards, at_opening, book};
+ghost use Rattle.dcc_running.specs.inner.Marked.{AreMarked};
+ghost use Rattle.dcc_receipts.specs.Audit.{begins};
+ghost use Rattle.dcc_receipts.specs.Marks.{is_marked};
+ghost use Rattle.dcc_shard.specs.Shards.{is_among};
+
+use crate::books::Books;
+use crate::placed::are_shards;
+use crate::seat::Seat;
+use dcc_act::{Sub, same_subscribers_are_equal};
+use dcc_receipts::{CloseFault, Marks, Receipt, agrees_with, begins, each_in_order, is_answered};
+use dcc_records::Records;
+use std::alloc::{AllocError, Global};
+use std::hash::RandomState;
+
+/// Compares the receipts of all seats with the books, each test over all of them before the next.
+pub(crate) fn audit<R: Records>(
+    alloc: Global,
+    books: &Books<R>,
+    seats: &[Seat],
+) -> Result<(), CloseFault>
+    ensures ok { OnOk result (AreTrue books.now seats.now × AreCovered books.now seats.now × AreOrdered seats.now × AreOwn books.now) }
+    ensures stray { result ≡ Err ReceiptStray → AreTrue books.now seats.now → ⊥ }
+    ensures uncovered { result ≡ Err ActWithoutReceipt → AreTrue books.now seats.now × (AreCovered books.now seats.now → ⊥) }
+    ensures unordered { result ≡ Err OutOfOrder → AreTrue books.now seats.now × AreCovered books.now seats.now × (AreOrdered seats.now → ⊥) }
+{
+    let Some(marks) = true_marks(alloc, books, seats)? else {
+        return Err(CloseFault::ReceiptStray);
+    };
+    if !are_covered(alloc, books, &marks, seats)? {
+        return Err(CloseFault::ActWithoutReceipt);
+    }
+    if !are_ordered(alloc, books.hasher, seats)? {
+        return Err(CloseFault::OutOfOrder);
+    }
+    books.acts_are_own();
+    Ok(())
+}
+
+/// The places that have a fresh receipt, where all receipts are true.
+fn true_marks<R: Records>(
+    alloc: Global,
+    books: &Books<R>,
+    seats: &[Seat],
+) -> Result<Option<Marks>, AllocError>
+    ensures some { IfOk result (λ found. IfSome found (λ marks. AreTrue books.now seats.now × AreMarked marks seats.now)) }
+    ensures none { IfOk result (λ found. IfNone found (AreTrue books.now seats.now → ⊥)) }
+{
+    if !are_shards(alloc, books)? {
+        return Ok(None);
+    }
+    if !are_begun(books) || !are_true(alloc, books, seats)? {
+        return Ok(None);
+    }
+    marked(alloc, books.hasher, seats)
+}
+
+/// Whether each subscriber's acts begin with those at opening.
+fn are_begun<R: Records>(books: &Books<R>) -> bool
+    requires { AreShards books.now.terms books.now.identity books.now.parts }
+    ensures yes { result ≡ true → (sub : Sub) → begins (at_opening books.now.opening sub) (book books.now.parts sub) ≡ true }
+    ensures no { result ≡ false → (sub : Sub) × (begins (at_opening books.now.opening sub) (book books.now.parts sub) ≡ false) }
+{
+    same_subscribers_are_equal();
+    for (sub, _) in &books.opening {
+        if !begins(books.at_opening(sub), books.made(*sub)) {
+            return false;
+        }
+    }
+    true
+}
+
+/// Whether each receipt is true.
+fn are_true<R: Records>(alloc: Global, books: &Books<R>, seats: &[Seat]) -> Result<bool, AllocError>
+    requires { AreShards books.now.terms books.now.identity books.now.parts }
+    ensures { IfOk result (λ all. all
+        ≡ are_true books.now.identity books.now.terms (at_opening books.now.opening) (book books.now.parts) seats.now) }
+{
+    for seat in seats {
+        if !are_true_of(alloc, books, &seat.receipts)? {
+            return Ok(false);
+        }
+    }
+    Ok(true)
+}
+
+/// Whether each receipt of a seat is true.
+fn are_true_of<R: Records>(
+    alloc: Global,
+    books: &Books<R>,
+    receipts: &[Receipt],
+) -> Result<bool, AllocError>
+    requires { AreShards books.now.terms books.now.identity books.now.parts }
+    ensures { IfOk result (λ all. all
+        ≡ list_all (is_true books.now.identity books.now.terms (at_opening books.now.opening) (book books.now.parts)) receipts.now) }
+{
+    for receipt in receipts {
+        if !is_true(alloc, books, receipt)? {
+            return Ok(false);
+        }
+    }
+    Ok(true)
+}
+
+/// Whether a receipt agrees with its subscriber's acts, and tells what its act came to.
+fn is_true<R: Records>(
+    alloc: Global,
+    books: &Books<R>,
+    receipt: &Receipt,
+) -> Result<bool, AllocError>
+    requires { AreShards books.now.terms books.now.identity books.now.parts }
+    ensures { IfOk result (λ told. told
+        ≡ is_true books.now.identity books.now.terms (at_opening books.now.opening) (book books.now.parts) receipt.now) }
+{
+    let made = books.made(receipt.sub);
+    let opened = books.at_opening(&receipt.sub).len();
+    if !agrees_with(opened, made, receipt) {
+        return Ok(false);
+    }
+    is_answered(alloc, &books.identity, &books.terms, made, receipt)
+}
+
+/// The places that have a fresh receipt, or none where one has two.
+fn marked(alloc: Global, hasher: RandomState, seats: &[Seat]) -> Result<Option<Marks>, AllocError>
+    ensures some { IfOk result (λ found. IfSome found (λ marks. AreMarked marks seats.now)) }
+    ensures none { IfOk result (λ found. IfNone found ((sub : Sub) × (place : ℕ) × (1 < times_in sub place seats.now))) }
+{
+    let mut marks = Marks::new(alloc, hasher);
+    for seat in seats {
+        if !marks.add_all(&seat.receipts)? {
+            return Ok(None);
+        }
+    }
+    Ok(Some(marks))
+}
+
+/// Whether each act since opening has a fresh receipt.
+fn are_covered<R: Records>(
+    alloc: Global,
+    books: &Books<R>,
+    marks: &Marks,
+    seats: &[Seat],
+) -> Result<bool, AllocError>
+    requires shards { AreShards books.now.terms books.now.identity books.now.parts }
+    requires marked { AreMarked marks.now seats.now }
+    ensures yes { IfOk result (λ covered. covered ≡ true → AreCovered books.now seats.now) }
+    ensures no { IfOk result (λ covered. covered ≡ false → AreCovered books.now seats.now → ⊥) }
+{
+    let _seats = seats;
+    for i in 0..books.shards.len() {
+        let subs = books.shards[i].subs(alloc)?;
+        if !are_all_covered(books, marks, &subs) {
+            return Ok(false);
+        }
+    }
+    Ok(true)
+}
+
+/// Whether each act of these subscribers since opening has a mark.
+fn are_all_covered<R: Records>(books: &Books<R>, marks: &Marks, subs: &[Sub]) -> bool
+    requires { AreShards books.now.terms books.now.identity books.now.parts }
+    ensures yes { result ≡ true → (sub : Sub) (place : ℕ) → is_among sub subs.now ≡ true → length (at_opening books.now.opening sub) < place
+        → place ≤ length (book books.now.parts sub) → is_marked marks.now sub place ≡ true }
+    ensures no { result ≡ false → (sub : Sub) × (place : ℕ) × (length (at_opening books.now.opening sub) < place)
+        × (place ≤ length (book books.now.parts sub)) × (is_marked marks.now sub place ≡ false) }
+{
+    same_subscribers_are_equal();
+    for sub in subs {
+        if !is_covered(books, marks, *sub) {
+            return false;
+        }
+    }
+    true
+}
+
+/// Whether each act of a subscriber since opening has a mark.
+fn is_covered<R: Records>(books: &Books<R>, marks: &Marks, sub: Sub) -> bool
+    requires { AreShards books.now.terms books.now.identity books.now.parts }
+    ensures yes { result ≡ true → (place : ℕ) → length (at_opening books.now.opening sub) < place → place ≤ length (book books.now.parts sub)
+        → is_marked marks.now sub place ≡ true }
+    ensures no { result ≡ false → (place : ℕ) × (length (at_opening books.now.opening sub) < place) × (place ≤ length (book books.now.parts sub))
+        × (is_marked marks.now sub place ≡ false) }
+{
+    let opened = books.at_opening(&sub).len();
+    let count = books.made(sub).len();
+    for before in opened..count {
+        if !marks.has(sub, before as u64 + 1) {
+            return false;
+        }
+    }
+    true
+}
+
+/// Whether the receipts of each seat are in order.
+fn are_ordered(alloc: Global, hasher: RandomState, seats: &[Seat]) -> Result<bool, AllocError>
+    ensures yes { IfOk result (λ ordered. ordered ≡ true → AreOrdered seats.now) }
+    ensures no { IfOk result (λ ordered. ordered ≡ false → AreOrdered seats.now → ⊥) }
+{
+    for seat in seats {
+        if !each_in_order(alloc, hasher, &seat.receipts)? {
+            return Ok(false);
+        }
+    }
+    Ok(true)
+}

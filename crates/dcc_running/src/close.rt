@@ -1,0 +1,58 @@
+//! The end: all receipts are compared with the books.
+
+ghost use Rattle.std.specs.Prelude.{◌≡◌, length, IfOk, IfErr};
+ghost use Rattle.dcc_receipts.specs.declared.fault.CloseFault.TheVariants.{ReceiptStray, ActWithoutReceipt, OutOfOrder};
+ghost use Rattle.dcc_running.specs.Audited.{AreTrue, AreCovered, AreOrdered, AreOwn};
+
+use crate::audit::audit;
+use crate::books::Books;
+use crate::seat::Seat;
+use crate::shards::Shards;
+use dcc_receipts::CloseFault;
+use dcc_records::Records;
+use std::alloc::Global;
+
+/// What `close` hands back where receipts and books disagree, or memory was short.
+#[derive(Drop)]
+pub struct Unclosed<R: Records> {
+    pub fault: CloseFault,
+    /// The shards; [`Books::into_locks`] puts them under locks again.
+    pub books: Books<R>,
+    pub seats: Vec<Seat>,
+}
+
+impl<R: Records> Shards<R> {
+    /// Takes the shards out of their locks, once nobody is at work with them, and compares the receipts of all seats with what they hold.
+    /// It waits for nobody.
+    ///
+    /// Errors, with all handed back, and each of the last three only where none before it holds: [`CloseFault::Memory`], a growth was refused;
+    /// [`CloseFault::ReceiptStray`], a list of acts doesn't begin with those at opening, a receipt isn't of these acts or tells another answer than
+    /// its act came to, or a place has two fresh receipts; [`CloseFault::ActWithoutReceipt`], an act since opening has no fresh receipt;
+    /// [`CloseFault::OutOfOrder`], a seat had a receipt after one of the same subscriber that comes later.
+    pub fn close(self, alloc: Global, seats: Vec<Seat>) -> Result<Books<R>, Unclosed<R>>
+        ensures audited { IfOk result (λ books. AreTrue books seats.items × AreCovered books seats.items × AreOrdered seats.items × AreOwn books) }
+        ensures terms { IfOk result (λ books. books.terms ≡ self.terms) }
+        ensures identity { IfOk result (λ books. books.identity ≡ self.identity) }
+        ensures opening { IfOk result (λ books. books.opening ≡ self.opening) }
+        ensures count { IfOk result (λ books. length books.parts ≡ self.count) }
+        // Each fault comes just where its test is the first that fails.
+        ensures stray { IfErr result (λ u. u.fault ≡ ReceiptStray → AreTrue u.books seats.items → ⊥) }
+        ensures uncovered { IfErr result (λ u. u.fault ≡ ActWithoutReceipt → AreTrue u.books seats.items × (AreCovered u.books seats.items → ⊥)) }
+        ensures unordered { IfErr result (λ u. u.fault ≡ OutOfOrder
+            → AreTrue u.books seats.items × AreCovered u.books seats.items × (AreOrdered seats.items → ⊥)) }
+        // All is handed back.
+        ensures back { IfErr result (λ u. (u.books.terms ≡ self.terms) × (u.books.identity ≡ self.identity) × (u.books.opening ≡ self.opening)
+            × (length u.books.parts ≡ self.count)) }
+        ensures seats { IfErr result (λ u. u.seats.items ≡ seats.items) }
+    {
+        let books = Books::of(self);
+        match audit(alloc, &books, &seats) {
+            Ok(()) => Ok(books),
+            Err(fault) => Err(Unclosed {
+                fault,
+                books,
+                seats,
+            }),
+        }
+    }
+}

@@ -1,0 +1,26 @@
+//! Shards that work in many threads, each under a lock, and what they did compared with what callers were told.
+//!
+//! Stands on `dcc_shard` for one subscriber's step, and on `dcc_receipts` for the tests of receipts. Each call takes one shard's lock and
+//! makes one step of `dcc_shard` under it. The contract that it gives: a call adds to its caller's seat the receipt of what it was told,
+//! and no other; once all threads are done, `close` takes the shards out of their locks and compares all receipts with them. Where it
+//! answers Ok, the acts of each subscriber begin with those at opening, each receipt stands in them with what its act came to, each act
+//! since opening has just one fresh receipt, each seat's receipts are in order, and the acts are those that they themselves make. Else it
+//! says which of these doesn't hold.
+#![tactic(auto)]
+
+mod audit;
+mod books;
+mod calls;
+mod close;
+mod job;
+mod opening;
+mod placed;
+mod room;
+mod seat;
+mod shards;
+
+pub use books::Books;
+pub use close::Unclosed;
+pub use job::Job;
+pub use seat::Seat;
+pub use shards::Shards;

@@ -1,0 +1,43 @@
+//! Seats.
+
+ghost use Rattle.std.specs.Prelude.{◌≡◌, ◌++◌, ◌∷◌, ◌<◌, ◌≤◌, ◌+◌, [], IfOk, OnOk, OnErr};
+
+use dcc_receipts::Receipt;
+use std::alloc::{AllocError, Global};
+use std::marker::Model;
+
+/// What one caller was told: a receipt of each call that gave one, in the order of the calls.
+#[derive(Debug, Drop)]
+pub struct Seat {
+    pub(crate) receipts: Vec<Receipt>,
+}
+
+impl Model for Seat {
+    ghost use Rattle.std.specs.Prelude.{List};
+    ghost use Rattle.dcc_receipts.specs.declared.receipt.Receipt.{Receipt};
+
+    ghost Value = { List Receipt };
+
+    ghost view = { λ s. s.receipts.items };
+}
+
+/// For how many receipts there is room at first.
+const ROOM: usize = 64;
+
+impl Seat {
+    /// A seat without receipts. The only error is want of memory.
+    pub(crate) fn new(alloc: Global) -> Result<Seat, AllocError>
+        ensures { IfOk result (λ seat. seat ≡ []) }
+    {
+        Ok(Seat {
+            receipts: Vec::with_capacity(alloc, ROOM)?,
+        })
+    }
+
+    /// The receipts, in the order of the calls. It takes no memory.
+    pub fn receipts(&self) -> &[Receipt]
+        ensures { result.now ≡ self.now }
+    {
+        &self.receipts
+    }
+}

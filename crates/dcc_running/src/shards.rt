@@ -1,0 +1,159 @@
+//! The shards under their locks.
+
+ghost use Rattle.std.specs.Prelude.{◌≡◌, ◌≢◌, ℕ, ◌<◌, ◌≤◌, [], length, slice_index_or, IfOk, IfErr, vec_len, vec_capacity};
+ghost use Rattle.std.specs.List.Sorted.{IsStrictlySortedBy};
+ghost use Rattle.dcc_act.specs.declared.sub.Sub.{Sub};
+ghost use Rattle.dcc_records.specs.Books.{sub_order};
+ghost use Rattle.dcc_running.specs.Books.{at_opening, book};
+ghost use Rattle.dcc_shard.specs.Routes.{shard_of};
+ghost use Rattle.dcc_shard.specs.Shards.{held};
+ghost use Rattle.dcc_shard.specs.Stored.{StoredView};
+
+use crate::opening::{Opening, copied};
+use crate::seat::Seat;
+use dcc_act::Sub;
+use dcc_message::Identity;
+use dcc_records::Records;
+use dcc_shard::Shard;
+use dcc_tariff::Terms;
+use std::alloc::{AllocError, Global};
+use std::hash::RandomState;
+use std::marker::Model;
+use std::sync::{Mutex, Wait};
+
+/// 1 to 8 shards, each under its lock, with a copy of the acts that were held when they were opened.
+#[derive(Drop)]
+pub struct Shards<R: Records> {
+    pub(crate) terms: Terms,
+    pub(crate) identity: Identity,
+    pub(crate) opening: Opening,
+    pub(crate) locks: Vec<Mutex<Shard<R>>>,
+    /// No shards, with room for as many as there are locks.
+    pub(crate) emptied: Vec<Shard<R>>,
+    pub(crate) hasher: RandomState,
+}
+
+impl<R: Records> Model for Shards<R> {
+    ghost use Rattle.std.specs.Prelude.{◌≡◌, ◌≤◌, vec_len, vec_capacity};
+    ghost use Rattle.dcc_running.specs.Books.{LockedView};
+
+    ghost Value = { LockedView };
+
+    ghost view = { λ s. record { terms = s.terms; identity = s.identity; opening = s.opening.entries; count = vec_len s.locks } };
+
+    ghost invariant = { λ s. (1 ≤ vec_len s.locks) × (vec_len s.locks ≤ 8) × (vec_len s.emptied ≡ 0)
+        × (vec_len s.locks ≤ vec_capacity s.emptied) };
+}
+
+impl<R: Records> Shards<R> {
+    /// These shards, each under a lock. The conditions: 1 to 8 shards, under these terms and for this server, each of which holds only
+    /// subscribers that [`dcc_shard::shard_of`] gives it. Subscribers are found by hashes under this state. The only error is want of memory, and
+    /// then the shards are handed back.
+    pub fn new(
+        alloc: Global,
+        terms: &Terms,
+        identity: &Identity,
+        shards: Vec<Shard<R>>,
+        hasher: RandomState,
+    ) -> Result<Shards<R>, Vec<Shard<R>>>
+        requires some { 1 ≤ length shards.items }
+        requires most { length shards.items ≤ 8 }
+        requires terms { (i : ℕ) (none : StoredView R) → i < length shards.items → (slice_index_or shards.items i none).shard.terms ≡ terms.now }
+        requires identity { (i : ℕ) (none : StoredView R) → i < length shards.items
+            → (slice_index_or shards.items i none).shard.identity ≡ identity.now }
+        requires placed { (i : ℕ) (none : StoredView R) (sub : Sub) → i < length shards.items
+            → held (slice_index_or shards.items i none).shard sub ≢ [] → shard_of sub (length shards.items) ≡ i }
+        ensures terms { IfOk result (λ locked. locked.terms ≡ terms.now) }
+        ensures identity { IfOk result (λ locked. locked.identity ≡ identity.now) }
+        ensures count { IfOk result (λ locked. locked.count ≡ length shards.items) }
+        ensures opening { IfOk result (λ locked. (sub : Sub) → at_opening locked.opening sub ≡ book shards.items sub) }
+        ensures back { IfErr result (λ back. back.items ≡ shards.items) }
+    {
+        let Ok((identity, opening, locks)) = room_for(alloc, identity, &shards, hasher) else {
+            return Err(shards);
+        };
+        let (locks, emptied) = locked(locks, shards);
+        Ok(Shards {
+            terms: *terms,
+            identity,
+            opening,
+            locks,
+            emptied,
+            hasher,
+        })
+    }
+
+    /// A seat without receipts, for one caller. The only error is want of memory.
+    pub fn seat(&self, alloc: Global) -> Result<Seat, AllocError>
+        ensures { IfOk result (λ seat. seat ≡ []) }
+    {
+        Seat::new(alloc)
+    }
+
+    /// The subscribers of the shard of this index that have acts, each once, in their order: by type, and then by the data, octet by
+    /// octet. It waits for the shard's lock. The condition is that there is such a shard; the only error is want of memory.
+    pub fn subs<W: Wait>(&self, rt: &W, alloc: Global, shard: usize) -> Result<Vec<Sub>, AllocError>
+        requires { shard < self.now.count }
+        ensures { IfOk result (λ subs. IsStrictlySortedBy sub_order subs.items) }
+    {
+        self.locks[shard].lock(rt).subs(alloc)
+    }
+}
+
+/// All that is taken of memory for shards under locks: a copy of the names, copies of the acts, and room for the locks.
+fn room_for<R: Records>(
+    alloc: Global,
+    identity: &Identity,
+    shards: &[Shard<R>],
+    hasher: RandomState,
+) -> Result<(Identity, Opening, Vec<Mutex<Shard<R>>>), AllocError>
+    requires some { 1 ≤ length shards.now }
+    requires placed { (i : ℕ) (none : StoredView R) (sub : Sub) → i < length shards.now
+        → held (slice_index_or shards.now i none).shard sub ≢ [] → shard_of sub (length shards.now) ≡ i }
+    ensures identity { IfOk result (λ room. room.0 ≡ identity.now) }
+    ensures opening { IfOk result (λ room. (sub : Sub) → at_opening room.1.entries sub ≡ book shards.now sub) }
+    ensures none { IfOk result (λ room. vec_len room.2 ≡ 0) }
+    ensures room { IfOk result (λ room. length shards.now ≤ vec_capacity room.2) }
+{
+    let identity = identity.copy()?;
+    let opening = copied(alloc, shards, hasher)?;
+    let locks = Vec::with_capacity(alloc, shards.len())?;
+    Ok((identity, opening, locks))
+}
+
+/// Puts each shard under a lock, in order, and gives what held them back, emptied. It takes no memory.
+pub(crate) fn locked<R: Records>(
+    locks: Vec<Mutex<Shard<R>>>,
+    shards: Vec<Shard<R>>,
+) -> (Vec<Mutex<Shard<R>>>, Vec<Shard<R>>)
+    requires none { vec_len locks ≡ 0 }
+    requires room { vec_len shards ≤ vec_capacity locks }
+    ensures count { vec_len result.0 ≡ vec_len shards }
+    ensures emptied { vec_len result.1 ≡ 0 }
+    ensures room { vec_len shards ≤ vec_capacity result.1 }
+{
+    let mut locks = locks;
+    let mut shards = shards;
+    while shards.len() > 0 {
+        locks.push_reserved(Mutex::new(shards.remove(0)));
+    }
+    (locks, shards)
+}
+/// Takes each shard out of its lock, in order, and gives what held the locks back, emptied. It takes no memory.
+pub(crate) fn unlocked<R: Records>(
+    locks: Vec<Mutex<Shard<R>>>,
+    shards: Vec<Shard<R>>,
+) -> (Vec<Mutex<Shard<R>>>, Vec<Shard<R>>)
+    requires none { vec_len shards ≡ 0 }
+    requires room { vec_len locks ≤ vec_capacity shards }
+    ensures count { vec_len result.1 ≡ vec_len locks }
+    ensures emptied { vec_len result.0 ≡ 0 }
+    ensures room { vec_len locks ≤ vec_capacity result.0 }
+{
+    let mut locks = locks;
+    let mut shards = shards;
+    while locks.len() > 0 {
+        shards.push_reserved(locks.remove(0).into_inner());
+    }
+    (locks, shards)
+}
