@@ -44,7 +44,7 @@ use Rattle.sqlite_rules.proofs.ProbeLemmas.{has_mapped, mapped_has, found_rowids
 use Rattle.sqlite_value.proofs.OrderLemmas.{value_cmp_total, value_cmp-Int, value_cmp-Blob, value_cmp-apart}
 use Rattle.dcc_sqlrec.specs.Tables.{account_table, layout}
 use Rattle.dcc_act.specs.declared.entry.Entry.{Entry}
-use Rattle.dcc_sqlrec.specs.Rows.{act_row, entry_rows_of, account_row}
+use Rattle.dcc_sqlrows.specs.Rows.{act_row, entry_rows_of, account_row}
 use Rattle.dcc_sqlrec.specs.inner.Trees.{account_tree, three_columns, account_rows, IsKeyed, AddsActs, AddsEntries, DropsAccount, AddsAccount, SetsAccount, Appends, HasRun}
 use Rattle.dcc_sqlrec.proofs.Lists.{to_has, from_has}
 use Rattle.dcc_sqlrec.proofs.Texts.{act_terms, of_sub, old_account, old_account_is, old_account_plain, new_account, new_account_is, new_account_plain}

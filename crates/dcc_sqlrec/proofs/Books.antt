@@ -19,8 +19,11 @@ use Rattle.dcc_record.specs.Limits.{IsAct}
 use Rattle.dcc_record.specs.Records.{record_of}
 use Rattle.dcc_records.specs.Books.{Held, with_act, IsBook}
 use Rattle.dcc_records.specs.Contents.{IsNext}
-use Rattle.dcc_sqlrec.specs.Rows.{sub_octets, act_row, entry_row, entry_rows_of, account_row}
-use Rattle.dcc_sqlrec.specs.Content.{entries_at, IsActRow, IsEntryRow, IsAccountRow, HoldsBook}
+use Rattle.dcc_sqlrows.specs.Rows.{sub_octets, act_row, entry_row, entry_rows_of, account_row}
+use Rattle.dcc_sqlrows.specs.Pages.{entries_at}
+use Rattle.dcc_sqlrows.specs.Held.{IsActRow, IsEntryRow, IsAccountRow}
+use Rattle.dcc_sqlrec.specs.Content.{HoldsBook}
+use Rattle.dcc_sqlrec.specs.inner.Reading.{HasActs}
 use Rattle.dcc_sqlrec.specs.inner.Trees.{act_rows, entry_rows, account_rows, Appends}
 
 -- ---- places
@@ -270,18 +273,25 @@ module _ (terms : TermsView) (same : SameAreEqual) (old new : Trees) (held : Hel
 move : (b : Held) (s t : Sub) (i j : ℕ) (x y : Act) → s ≡ t → i ≡ j → x ≡ y → slice_get (b t) j ≡ Some y → slice_get (b s) i ≡ Some x
 move b s t i j x y e f g h = rw (e, f, g) h
 
-module _ (terms : TermsView) (db : Trees) (differ : (a b : Act) → IsAct a → IsAct b → record_of a ≡ record_of b → a ≡ b) where
-  half : (a b : Held) → HoldsBook terms db a → HoldsBook terms db b → (s : Sub) (i : ℕ) (x : Act) → slice_get (a s) i ≡ Some x → slice_get (b s) i ≡ Some x
+module _ (db : Trees) (differ : (a b : Act) → IsAct a → IsAct b → record_of a ≡ record_of b → a ≡ b) where
+  half : (a b : Held) → HasActs db a → HasActs db b → (s : Sub) (i : ℕ) (x : Act) → slice_get (a s) i ≡ Some x → slice_get (b s) i ≡ Some x
   half a b ha hb s i x h =
       let row = act_row (sub_octets s) (i + 1) (record_of x) in
-      let o = hb.acts.only row (ha.acts.there row (s, i, x, h, refl)) in
+      let o = hb.1.only row (ha.1.there row (s, i, x, h, refl)) in
       let octets : sub_octets s ≡ sub_octets o.0 = let e = o.4 in cc in
       let places : i + 1 ≡ o.1 + 1 = let e = o.4 in cc in
       let bodies : record_of x ≡ record_of o.2 = let e = o.4 in cc in
       let subs : s ≡ o.0 = octets_apart s o.0 octets in
       let at : i ≡ o.1 = omega (arith, places) in
-      let act : x ≡ o.2 = differ x o.2 (ha.fits s i x h) (hb.fits o.0 o.1 o.2 o.3) bodies in
+      let act : x ≡ o.2 = differ x o.2 (ha.0 s i x h) (hb.0 o.0 o.1 o.2 o.3) bodies in
       move b s o.0 i o.1 x o.2 subs at act o.3
 
-  pub one_book : (a b : Held) → HoldsBook terms db a → HoldsBook terms db b → (s : Sub) → a s ≡ b s
-  one_book a b ha hb s = same_places (a s) (b s) (half a b ha hb s) (half b a hb ha s)
+  pub same_acts : (a b : Held) → HasActs db a → HasActs db b → (s : Sub) → a s ≡ b s
+  same_acts a b ha hb s = same_places (a s) (b s) (half a b ha hb s) (half b a hb ha s)
+
+pub acts_held : (terms : TermsView) (db : Trees) (held : Held) → HoldsBook terms db held → HasActs db held
+acts_held terms db held it = (it.fits, it.acts)
+
+pub one_book : (terms : TermsView) (db : Trees) (differ : (a b : Act) → IsAct a → IsAct b → record_of a ≡ record_of b → a ≡ b)
+    → (a b : Held) → HoldsBook terms db a → HoldsBook terms db b → (s : Sub) → a s ≡ b s
+one_book terms db differ a b ha hb = same_acts db differ a b (acts_held terms db a ha) (acts_held terms db b hb)

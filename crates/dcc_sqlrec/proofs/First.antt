@@ -8,7 +8,7 @@ use Rattle.dcc_model.specs.Outcomes.{funds}
 use Rattle.dcc_model.specs.Entries.{entries}
 use Rattle.dcc_model.specs.Laws.{EntriesAddUp, NoActs as NoneMade}
 use Rattle.dcc_records.specs.Books.{no_acts}
-use Rattle.dcc_sqlrec.specs.declared.counts.Tally.{Tally}
+use Rattle.dcc_sqlrows.specs.declared.tally.Tally.{Tally}
 use Rattle.dcc_sqlrec.specs.Content.{HoldsBook}
 use Rattle.dcc_sqlrec.specs.inner.Trees.{account_tree, IsKeyed, HasCommitted}
 use Rattle.dcc_sqlrec.specs.inner.Tallies.{AreTallies}

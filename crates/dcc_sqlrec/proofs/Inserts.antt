@@ -28,7 +28,7 @@ use Rattle.sqlite.specs.Effect.{Database}
 use Rattle.sqlite.specs.State.{State, mode_of, ExecutesInside}
 use Rattle.sqlite.proofs.Callers.{statement_of, runs_as, one_step}
 use Rattle.dcc_sqlrec.specs.Tables.{act_table, entry_table, to_act, layout}
-use Rattle.dcc_sqlrec.specs.Rows.{act_row, entry_cells, group_value}
+use Rattle.dcc_sqlrows.specs.Rows.{act_row, entry_cells, group_value}
 use Rattle.dcc_sqlrec.specs.inner.Trees.{act_tree, entry_tree, three_columns, seven_columns, AddsActs, AddsEntries, HasRun}
 use Rattle.dcc_sqlrec.proofs.Texts.{new_act, act_terms, new_act_is, new_act_plain, new_entry, entry_terms, new_entry_is, new_entry_plain}
 

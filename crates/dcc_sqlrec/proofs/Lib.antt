@@ -1,4 +1,6 @@
 pub mod Texts
+pub mod Answering
+pub mod Loads
 pub mod Inserts
 pub mod Steps
 pub mod Lists

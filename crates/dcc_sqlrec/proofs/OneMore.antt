@@ -18,9 +18,9 @@ use Rattle.dcc_records.specs.Books.{Held, with_act, sub_order}
 use Rattle.dcc_records.specs.Contents.{Content, Kept, IsContentOf, IsNext, kept_by}
 use Rattle.dcc_records.specs.Laws.{OwnGrows, AccountsGrow}
 use Rattle.dcc_records.specs.Stops.{LeavesOnly, LeavesEither}
-use Rattle.dcc_sqlrec.specs.declared.counts.Tally.{Tally}
+use Rattle.dcc_sqlrows.specs.declared.tally.Tally.{Tally}
 use Rattle.dcc_sqlrec.specs.Tables.{layout}
-use Rattle.dcc_sqlrec.specs.Rows.{sub_octets}
+use Rattle.dcc_sqlrows.specs.Rows.{sub_octets}
 use Rattle.dcc_sqlrec.specs.Content.{leaves}
 use Rattle.dcc_sqlrec.specs.inner.Trees.{account_tree, IsKeyed, Appends, HasCommitted, IsUndone}
 use Rattle.dcc_sqlrec.specs.inner.Tallies.{tally_in}

@@ -11,7 +11,7 @@ use Rattle.sqlite.specs.Steps.{FailsToCommit}
 use Rattle.sqlite.proofs.StateLemmas.{survives_then}
 use Rattle.dcc_act.specs.declared.entry.Entry.{Entry}
 use Rattle.dcc_sqlrec.specs.Tables.{layout}
-use Rattle.dcc_sqlrec.specs.Rows.{entry_row, entry_rows_of}
+use Rattle.dcc_sqlrows.specs.Rows.{entry_row, entry_rows_of}
 use Rattle.dcc_sqlrec.specs.inner.Trees.{entry_rows, AddsEntries, HasRun}
 
 pub no_entries : (db : Trees) → AddsEntries [] db db

@@ -19,7 +19,7 @@ use Rattle.dcc_records.specs.Books.{Held, with_act}
 use Rattle.dcc_records.specs.Contents.{Content, Kept, IsContentOf, IsNext, kept_by}
 use Rattle.dcc_records.specs.Laws.{OwnGrows}
 use Rattle.dcc_records.specs.Stops.{LeavesOnly, LeavesEither}
-use Rattle.dcc_sqlrec.specs.Rows.{sub_octets}
+use Rattle.dcc_sqlrows.specs.Rows.{sub_octets}
 use Rattle.dcc_sqlrec.specs.Content.{HoldsBook, leaves}
 use Rattle.dcc_sqlrec.specs.inner.Trees.{Appends, HasCommitted, IsUndone}
 use Rattle.dcc_sqlrec.specs.inner.Keeping.{Keeps}

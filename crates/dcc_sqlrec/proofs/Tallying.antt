@@ -14,7 +14,7 @@ use Rattle.dcc_act.specs.Subs.{same_sub, SameAreEqual}
 use Rattle.dcc_model.specs.Entries.{sum_of}
 use Rattle.dcc_model.specs.Outcomes.{funds}
 use Rattle.dcc_records.specs.Books.{Held, sub_order, with_act}
-use Rattle.dcc_sqlrec.specs.declared.counts.Tally.{Tally}
+use Rattle.dcc_sqlrows.specs.declared.tally.Tally.{Tally}
 use Rattle.dcc_sqlrec.specs.inner.Tallies.{tally_in, no_tally, AreTallies}
 
 sum_suc : (es : List Entry) (i : ℕ) (e : Entry) → i < length es → sum_of (take (suc i) es) ≡ sum_of (take i es) +ℤ (get_or es i e).amount

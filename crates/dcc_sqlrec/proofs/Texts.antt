@@ -12,9 +12,9 @@ use Rattle.sqlite_sql.specs.declared.ops.CompareOp.TheVariants.{Eq}
 use Rattle.sqlite.specs.Compile.{table_defined_by}
 use Rattle.sqlite.specs.Listing.{understood, reads_listing}
 use Rattle.sqlite.specs.Collation.TheVariants.{Binary}
-use Rattle.sqlite_value.specs.Keys.{ascending}
 use Rattle.sqlite_tied.specs.Compute.{everything}
 use Rattle.sqlite.proofs.Callers.{IsPlain, command_of, statement_of}
+use Rattle.dcc_sqlrec.specs.Queries.{all_settings, settings_query, all_acts, acts_query, all_entries, entries_query, all_accounts, accounts_query, all_rowids, rowids_query}
 use Rattle.dcc_sqlrec.specs.Tables.{setting_text, act_text, entry_text, account_text, setting_table, act_table, entry_table, account_table, no_schema, one_table, two_tables, three_tables, layout}
 
 -- ---- the tables
@@ -137,23 +137,22 @@ old_account_plain = (refl, refl)
 
 -- ---- what is read
 
-abbrev pub all_acts : List ℕ
-all_acts = codes "SELECT sub, place, body FROM act ORDER BY sub, place"
+abbrev pub Reads : List ℕ → Query → List (List ℕ) → Type 0
+Reads text query names = command_of (understood layout text) ≡ Select (record { lets = []; body = query }) names
 
-abbrev pub acts_query : Query
-acts_query = record {
-  from = inner 1 end;
-  filter = [];
-  group = None;
-  project = col 1 1 ∷ col 1 2 ∷ col 1 3 ∷ [];
-  distinct = false;
-  collations = [];
-  order = (col 1 1, ascending Binary) ∷ (col 1 2, ascending Binary) ∷ [];
-  limit = lit (Int (negsuc 0));
-  offset = lit (Int (pos 0));
-}
+pub all_settings_is : Reads all_settings settings_query (codes "id" ∷ codes "layout" ∷ codes "shard" ∷ codes "shards" ∷ codes "host" ∷ codes "realm" ∷ codes "validity" ∷ codes "hold" ∷ codes "currency" ∷ codes "exponent" ∷ [])
+unfolding understood everything
+all_settings_is = refl
 
-pub all_acts_is : command_of (understood layout all_acts) ≡ Select (record { lets = []; body = acts_query }) (codes "sub" ∷ codes "place" ∷ codes "body" ∷ [])
+pub all_settings_plain : IsPlain (understood layout all_settings)
+unfolding understood everything
+all_settings_plain = (refl, refl)
+
+pub all_settings_unlisted : reads_listing layout all_settings ≡ false
+unfolding understood everything
+all_settings_unlisted = refl
+
+pub all_acts_is : Reads all_acts acts_query (codes "sub" ∷ codes "place" ∷ codes "body" ∷ [])
 unfolding understood everything
 all_acts_is = refl
 
@@ -164,3 +163,39 @@ all_acts_plain = (refl, refl)
 pub all_acts_unlisted : reads_listing layout all_acts ≡ false
 unfolding understood everything
 all_acts_unlisted = refl
+
+pub all_entries_is : Reads all_entries entries_query (codes "sub" ∷ codes "place" ∷ codes "line" ∷ codes "kind" ∷ codes "grp" ∷ codes "units" ∷ codes "amount" ∷ [])
+unfolding understood everything
+all_entries_is = refl
+
+pub all_entries_plain : IsPlain (understood layout all_entries)
+unfolding understood everything
+all_entries_plain = (refl, refl)
+
+pub all_entries_unlisted : reads_listing layout all_entries ≡ false
+unfolding understood everything
+all_entries_unlisted = refl
+
+pub all_accounts_is : Reads all_accounts accounts_query (codes "sub" ∷ codes "acts" ∷ codes "funds" ∷ [])
+unfolding understood everything
+all_accounts_is = refl
+
+pub all_accounts_plain : IsPlain (understood layout all_accounts)
+unfolding understood everything
+all_accounts_plain = (refl, refl)
+
+pub all_accounts_unlisted : reads_listing layout all_accounts ≡ false
+unfolding understood everything
+all_accounts_unlisted = refl
+
+pub all_rowids_is : Reads all_rowids rowids_query (codes "rowid" ∷ [])
+unfolding understood everything
+all_rowids_is = refl
+
+pub all_rowids_plain : IsPlain (understood layout all_rowids)
+unfolding understood everything
+all_rowids_plain = (refl, refl)
+
+pub all_rowids_unlisted : reads_listing layout all_rowids ≡ false
+unfolding understood everything
+all_rowids_unlisted = refl

@@ -1,6 +1,6 @@
 pub mod Tables
-pub mod Rows
 pub mod Trees
+pub mod Queries
 pub mod Content
 pub mod Faults
 pub mod inner

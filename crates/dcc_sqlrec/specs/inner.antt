@@ -2,3 +2,4 @@ pub mod Trees
 pub mod Tallies
 pub mod Keeping
 pub mod Making
+pub mod Reading

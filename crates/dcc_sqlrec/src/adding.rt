@@ -4,10 +4,11 @@ ghost use Rattle.std.specs.Prelude.{◌≡◌, [], ◌∷◌, IsTrue, OnOk};
 ghost use Rattle.sqlite.specs.State.{HasCleanDisk, Survives, KeepsCommit};
 ghost use Rattle.sqlite.specs.Held.{state};
 ghost use Rattle.dcc_sqlrec.specs.Tables.{layout};
-ghost use Rattle.dcc_sqlrec.specs.Rows.{act_row, entry_cells, entry_row, account_row, kind_text, entry_rows_of};
+ghost use Rattle.dcc_sqlrows.specs.Rows.{act_row, entry_cells, entry_row, account_row, entry_rows_of};
 ghost use Rattle.dcc_sqlrec.specs.inner.Trees.{account_tree, AddsActs, AddsEntries, DropsAccount, AddsAccount, SetsAccount, Appends, IsKeyed, HasRun};
 
-use dcc_act::{Entry, EntryKind};
+use dcc_act::Entry;
+use dcc_sqlrows::kind_text;
 use sqlite::{Alter, Error, ErrorCode, Transaction, params};
 
 /// The rows of an act, of its entries and of its subscriber's account are written.
@@ -199,16 +200,4 @@ fn add_account<S: Alter>(
         params![sub, acts, funds],
     )?;
     Ok(())
-}
-
-/// What an entry stands for, in a word.
-fn kind_text(kind: EntryKind) -> &'static str
-    ensures { result.now ≡ kind_text kind }
-{
-    match kind {
-        EntryKind::TopUp => "TOPUP",
-        EntryKind::Debit => "DEBIT",
-        EntryKind::Refund => "REFUND",
-        EntryKind::Charge => "CHARGE",
-    }
 }

@@ -7,14 +7,14 @@ ghost use Rattle.sqlite.specs.Held.{state};
 ghost use Rattle.dcc_record.specs.Limits.{IsAct};
 ghost use Rattle.dcc_record.specs.Records.{record_of};
 ghost use Rattle.dcc_sqlrec.specs.Tables.{layout};
-ghost use Rattle.dcc_sqlrec.specs.Rows.{sub_octets};
+ghost use Rattle.dcc_sqlrows.specs.Rows.{sub_octets};
 ghost use Rattle.dcc_sqlrec.specs.inner.Trees.{account_tree, Appends, IsKeyed, HasCommitted, IsUndone};
 
-use crate::counts::Tally;
 use crate::transaction::append_rows;
 use dcc_act::{Act, Entry, Sub};
 use dcc_record::{keeps_limits, write_act};
 use dcc_records::StoreFault;
+use dcc_sqlrows::Tally;
 use sqlite::{Alter, Connection};
 use std::alloc::{AllocError, Global};
 
@@ -46,8 +46,10 @@ pub fn store_act<S: Alter>(
     let Ok(body) = write_act(alloc, act) else {
         return Err(StoreFault::Memory);
     };
-    let (place, funds) = (next.acts, next.funds);
-    append_rows(conn, &octets, place, &body, entries, funds)
+    let Ok(place) = u32::try_from(next.acts) else {
+        return Err(StoreFault::Device);
+    };
+    append_rows(conn, &octets, place, &body, entries, next.funds)
 }
 
 /// A subscriber as the tables have it: the type in one octet, and the data.

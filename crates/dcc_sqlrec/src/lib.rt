@@ -1,27 +1,30 @@
 //! Records over `sqlite`: the acts of subscribers, with their entries and accounts, as rows of four tables.
 //!
-//! Stands on `dcc_records` for what records promise, on `dcc_record` for the octets of an act, on `dcc_model`, `dcc_act` and
-//! `dcc_tariff` for books, and on the kit's `sqlite` for what a stop leaves of a database. The tables stand in
-//! `specs/Tables.antt` as SQL makes them, their rows in `specs/Rows.antt`, and what they hold of a book in
-//! `specs/Content.antt`.
+//! Stands on `dcc_records` for what records promise, on `dcc_sqlrows` for rows and the book that they are of, on `dcc_record` for
+//! the octets of an act, on `dcc_model`, `dcc_act` and `dcc_tariff` for books, and on the kit's `sqlite` for what a stop leaves
+//! of a database. The tables stand in `specs/Tables.antt` as SQL makes them, what is read of them in `specs/Queries.antt`, and
+//! what they hold of a book in `specs/Content.antt`.
 //!
 //! The contract that it gives:
 //! - [`SqlRecords::create`] makes the tables in an empty database in one transaction: a stop inside leaves the database as it
 //!   was, or with tables that hold no acts.
-//! - [`SqlRecords::append`] writes an act, its entries and its subscriber's account in one transaction. Its clauses are those of
-//!   `dcc_records::Records::append`: after Ok a stop leaves the content of the book with the act, after want of memory that of
-//!   the book before, and after any other refusal, or inside the call, the one or the other; then nothing is done any more.
+//! - [`SqlRecords`] are `dcc_records::Records`. An append writes an act, its entries and its subscriber's account in one
+//!   transaction: after Ok a stop leaves the content of the book with the act, after want of memory that of the book before, and
+//!   after any other refusal, or inside the call, the one or the other; then nothing is done any more. A load reads the table
+//!   of acts by one statement, and judges each list of acts by an account of its own.
 //! - [`stop_and_open`] finds one of the databases that a stop leaves.
 //!
-//! It doesn't read a store yet, so it has no `load` and no opening, and [`SqlRecords`] aren't `Records` until it does.
+//! It doesn't open a store yet.
 #![tactic(auto)]
 
 mod adding;
 mod appending;
-mod counts;
 mod fault;
 mod files;
+mod loading;
 mod making;
+mod reading;
+mod records;
 mod setting;
 mod sql_records;
 mod tally;

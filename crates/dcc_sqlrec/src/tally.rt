@@ -8,8 +8,8 @@ ghost use Rattle.dcc_model.specs.Entries.{sum_of};
 ghost use Rattle.dcc_records.specs.Books.{sub_order};
 ghost use Rattle.dcc_sqlrec.specs.inner.Tallies.{tally_in, no_tally};
 
-use crate::counts::Tally;
 use dcc_act::{Entry, Sub, same_subscribers_are_equal};
+use dcc_sqlrows::Tally;
 use std::alloc::AllocError;
 use std::collections::BTreeMap;
 

@@ -4,10 +4,12 @@ ghost use Rattle.std.specs.Prelude.{◌≡◌, pos, None, IfOk};
 
 use crate::{Setting, SqlRecords, stop_and_open};
 use dcc_act::{Act, Entry, EntryKind, EntryName, Kind, Moment, Sub, TopUp};
+use dcc_records::Records;
 use dcc_tariff::Terms;
 use sqlite::{Alter, Connection, Files, Options};
 use sqlite_disk::Memory;
 use std::alloc::Global;
+use std::hash::RandomState;
 use std::test::Fail;
 
 const SETTING: Setting<'static> = Setting {
@@ -65,14 +67,19 @@ fn posted(place: u64, ticket: u64, amount: u32) -> Result<Entry, Fail>
 fn stored<S: Alter + Drop>(
     alloc: Global,
     conn: Connection<S>,
+    hasher: RandomState,
     sub: Sub,
 ) -> Result<Connection<S>, Fail> {
     let act = top_up(1, 1000)?;
     let entry = posted(1, 1, 1000)?;
-    match SqlRecords::create(alloc, conn, &SETTING) {
+    match SqlRecords::create(alloc, conn, &SETTING, hasher) {
         Ok(mut records) => {
             records.append(sub, &act, &[entry])?;
-            Ok(records.into_connection())
+            let book = records.load()?;
+            match book.as_slice() {
+                [page] if page.acts().len() == 1 => Ok(records.into_connection()),
+                _ => Err("one act")?,
+            }
         }
         Err((fault, _conn)) => Err(fault)?,
     }
@@ -90,8 +97,9 @@ fn number<S: Alter>(conn: &mut Connection<S>, sql: &str) -> Option<i64> {
 #[test]
 fn tables_are_read_in_sql(rt: HostRuntime) -> Result<(), Fail> {
     let sub = subscriber(b"491700000001")?;
+    let hasher = RandomState::new(&rt)?;
     let conn = Connection::open_in_memory(rt.alloc())?;
-    let mut conn = stored(rt.alloc(), conn, sub)?;
+    let mut conn = stored(rt.alloc(), conn, hasher, sub)?;
     let all = [
         (
             "SELECT shards FROM setting WHERE host = 'ocs.example.com'",
@@ -112,7 +120,7 @@ fn tables_are_read_in_sql(rt: HostRuntime) -> Result<(), Fail> {
     for (sql, wanted) in all {
         assert_eq!(rt; number(&mut conn, sql).ok_or(sql)?, wanted, "{sql}");
     }
-    let again = SqlRecords::create(rt.alloc(), conn, &SETTING);
+    let again = SqlRecords::create(rt.alloc(), conn, &SETTING, hasher);
     let (fault, _conn) = again.err().ok_or("no second store")?;
     assert_eq!(rt; fault.number(), 53);
     Ok(())
@@ -122,12 +130,13 @@ fn tables_are_read_in_sql(rt: HostRuntime) -> Result<(), Fail> {
 #[test]
 fn an_act_outlives_a_stop(rt: HostRuntime) -> Result<(), Fail> {
     let sub = subscriber(b"491700000001")?;
+    let hasher = RandomState::new(&rt)?;
     let files = Files {
         log: Memory::new(rt.alloc()),
         db: Memory::new(rt.alloc()),
     };
     let opened = Connection::open_files(rt.alloc(), files, Options::new(1));
-    let conn = stored(rt.alloc(), opened.ok().ok_or("files")?, sub)?;
+    let conn = stored(rt.alloc(), opened.ok().ok_or("files")?, hasher, sub)?;
     let again = stop_and_open(rt.alloc(), conn, Options::new(1));
     let mut conn = again.ok_or("files")?;
     assert_eq!(rt;

@@ -6,7 +6,7 @@ use Rattle.dcc_act.specs.declared.sub.Sub.{Sub}
 use Rattle.dcc_records.specs.Books.{Held}
 use Rattle.dcc_sqlrec.specs.Tables.{layout}
 use Rattle.dcc_sqlrec.specs.Content.{HoldsBook}
-use Rattle.dcc_sqlrec.specs.declared.counts.Tally.{Tally}
+use Rattle.dcc_sqlrows.specs.declared.tally.Tally.{Tally}
 use Rattle.dcc_sqlrec.specs.inner.Tallies.{AreTallies}
 use Rattle.dcc_sqlrec.specs.inner.Trees.{account_tree, IsKeyed}
 

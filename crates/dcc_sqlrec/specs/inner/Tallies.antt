@@ -6,7 +6,7 @@ use Rattle.dcc_tariff.specs.Terms.{TermsView}
 use Rattle.dcc_act.specs.declared.sub.Sub.{Sub}
 use Rattle.dcc_model.specs.Outcomes.{funds}
 use Rattle.dcc_records.specs.Books.{Held, sub_order}
-use Rattle.dcc_sqlrec.specs.declared.counts.Tally.{Tally}
+use Rattle.dcc_sqlrows.specs.declared.tally.Tally.{Tally}
 
 -- of a subscriber who has none: no acts, no funds
 abbrev pub no_tally : Tally

@@ -9,7 +9,7 @@ use Rattle.sqlite.specs.State.{State}
 pub use Rattle.dcc_sqlrec.specs.Trees.{setting_tree, act_tree, entry_tree, account_tree, three_columns, seven_columns, act_rows, entry_rows, account_rows, IsUndone}
 use Rattle.dcc_act.specs.declared.entry.Entry.{Entry}
 use Rattle.dcc_sqlrec.specs.Tables.{layout}
-use Rattle.dcc_sqlrec.specs.Rows.{act_row, entry_rows_of, account_row}
+use Rattle.dcc_sqlrows.specs.Rows.{act_row, entry_rows_of, account_row}
 
 -- the rows are added to the table of acts, and the others stay
 pub record AddsActs (rows : List Row) (old new : Trees) : Type 0 where

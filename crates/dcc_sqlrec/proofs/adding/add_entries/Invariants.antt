@@ -2,7 +2,7 @@ use Rattle.std.proofs.Common.{◌≡◌, IsTrue, take}
 use Rattle.sqlite.specs.State.{HasCleanDisk, Survives, KeepsCommit}
 use Rattle.sqlite.specs.Held.{state}
 use Rattle.dcc_sqlrec.specs.Tables.{layout}
-use Rattle.dcc_sqlrec.specs.Rows.{entry_rows_of}
+use Rattle.dcc_sqlrows.specs.Rows.{entry_rows_of}
 use Rattle.dcc_sqlrec.specs.inner.Trees.{AddsEntries, HasRun}
 use Rattle.dcc_sqlrec.proofs.adding.add_entries.Given as goal
 

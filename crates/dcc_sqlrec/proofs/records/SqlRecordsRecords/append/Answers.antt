@@ -1,14 +1,14 @@
-use Rattle.std.proofs.Common.{◌≡◌, inl, inr, ap, IsTrue, Err, rules}
+use Rattle.std.proofs.Common.{◌≡◌, inl, inr, ap, IsTrue, Err, false, rules}
 use Rattle.sqlite.specs.State.{HasCleanDisk}
 use Rattle.sqlite.specs.Held.{state}
 use Rattle.dcc_sqlrec.specs.inner.Tallies.{tally_in}
 use Rattle.dcc_sqlrec.specs.inner.Keeping.{KeepsBook}
 use Rattle.dcc_sqlrec.proofs.Stopping.{Settles}
 use Rattle.dcc_sqlrec.proofs.OneMore.{kept_room, kept_back, refused_of, kept_ok, stored_of, crash_of}
-use Rattle.dcc_sqlrec.proofs.sql_records.SqlRecords.append.Goals as goal
+use Rattle.dcc_sqlrec.proofs.records.SqlRecordsRecords.append.Goals as goal
 
-pub returns-then-self-ne0-clause-crash : goal.returns-then-self-ne0-clause-crash
-returns-then-self-ne0-clause-crash g c = λ held only found left. inl (only found left)
+pub returns-then-self-clause-crash : goal.returns-then-self-clause-crash
+returns-then-self-clause-crash g c = λ held only found left. inl (only found left)
 
 pub returns-then-is_err-clause-crash : goal.returns-then-is_err-clause-crash
 returns-then-is_err-clause-crash g c = λ held only found left. inl (only found left)
@@ -31,7 +31,7 @@ invariant_of-self-in-Ok g c =
     let settles : Settles old = λ is_open db may. g.met.S.Store.settled was.store db is_open may in
     let settled : Settles new = λ is_open db may. g.met.S.Store.settled now.store db is_open may in
     let stays : IsTrue old.is_open → old.may_leave old.committed.trees = λ is_open. g.met.S.Store.stays was.store is_open in
-    let going : c.args.self.now.faults ≡ 0 = search rules in
+    let going : c.args.self.now.stopped ≡ false = search rules in
     let kept : HasCleanDisk old → ∥ KeepsBook c.args.self.now.terms old room ∥₁ = kept_room c.args.self.now.terms old c.args.self.now.tallies.entries room c.make_room.ensures.same (c.args.self.now.kept going) in
     let it = c.in-Ok.ensures in
     let tally : c.tally_of.result ≡ tally_in room c.args.sub = c.tally_of.ensures in
@@ -47,7 +47,7 @@ returns-in-Ok-clause-stored g c =
     let settles : Settles old = λ is_open db may. g.met.S.Store.settled was.store db is_open may in
     let settled : Settles new = λ is_open db may. g.met.S.Store.settled now.store db is_open may in
     let stays : IsTrue old.is_open → old.may_leave old.committed.trees = λ is_open. g.met.S.Store.stays was.store is_open in
-    let going : c.args.self.now.faults ≡ 0 = search rules in
+    let going : c.args.self.now.stopped ≡ false = search rules in
     let kept : HasCleanDisk old → ∥ KeepsBook c.args.self.now.terms old room ∥₁ = kept_room c.args.self.now.terms old c.args.self.now.tallies.entries room c.make_room.ensures.same (c.args.self.now.kept going) in
     let it = c.in-Ok.ensures in
     let tally : c.tally_of.result ≡ tally_in room c.args.sub = c.tally_of.ensures in
@@ -63,7 +63,7 @@ returns-in-Ok-clause-crash g c =
     let settles : Settles old = λ is_open db may. g.met.S.Store.settled was.store db is_open may in
     let settled : Settles new = λ is_open db may. g.met.S.Store.settled now.store db is_open may in
     let stays : IsTrue old.is_open → old.may_leave old.committed.trees = λ is_open. g.met.S.Store.stays was.store is_open in
-    let going : c.args.self.now.faults ≡ 0 = search rules in
+    let going : c.args.self.now.stopped ≡ false = search rules in
     let kept : HasCleanDisk old → ∥ KeepsBook c.args.self.now.terms old room ∥₁ = kept_room c.args.self.now.terms old c.args.self.now.tallies.entries room c.make_room.ensures.same (c.args.self.now.kept going) in
     let it = c.in-Ok.ensures in
     let tally : c.tally_of.result ≡ tally_in room c.args.sub = c.tally_of.ensures in
@@ -79,7 +79,7 @@ invariant_of-self-in-Err-Memory g c =
     let settles : Settles old = λ is_open db may. g.met.S.Store.settled was.store db is_open may in
     let settled : Settles new = λ is_open db may. g.met.S.Store.settled now.store db is_open may in
     let stays : IsTrue old.is_open → old.may_leave old.committed.trees = λ is_open. g.met.S.Store.stays was.store is_open in
-    let going : c.args.self.now.faults ≡ 0 = search rules in
+    let going : c.args.self.now.stopped ≡ false = search rules in
     let kept : HasCleanDisk old → ∥ KeepsBook c.args.self.now.terms old room ∥₁ = kept_room c.args.self.now.terms old c.args.self.now.tallies.entries room c.make_room.ensures.same (c.args.self.now.kept going) in
     let it = c.in-Err-Memory.ensures in
     record { idle = it.mode; kept = λ _ clean. kept_back c.args.self.now.terms old new room settles stays it.clean kept (λ clean. elim (it.undone clean (ap Err c.in-Err-Memory.field-0-is)) [ inl u ↦ inl u | inr e ↦ inr (ap (state g.S.Store) e) ]) clean }
@@ -94,7 +94,7 @@ returns-in-Err-Memory-clause-refused g c =
     let settles : Settles old = λ is_open db may. g.met.S.Store.settled was.store db is_open may in
     let settled : Settles new = λ is_open db may. g.met.S.Store.settled now.store db is_open may in
     let stays : IsTrue old.is_open → old.may_leave old.committed.trees = λ is_open. g.met.S.Store.stays was.store is_open in
-    let going : c.args.self.now.faults ≡ 0 = search rules in
+    let going : c.args.self.now.stopped ≡ false = search rules in
     let kept : HasCleanDisk old → ∥ KeepsBook c.args.self.now.terms old room ∥₁ = kept_room c.args.self.now.terms old c.args.self.now.tallies.entries room c.make_room.ensures.same (c.args.self.now.kept going) in
     let it = c.in-Err-Memory.ensures in
     λ known only _. refused_of c.args.self.now.terms old new room settles stays it.clean kept c.records_differ.ensures.one settled (λ clean. elim (it.undone clean (ap Err c.in-Err-Memory.field-0-is)) [ inl u ↦ inl u | inr e ↦ inr (ap (state g.S.Store) e) ]) known only
@@ -109,7 +109,7 @@ returns-in-Err-Memory-clause-crash g c =
     let settles : Settles old = λ is_open db may. g.met.S.Store.settled was.store db is_open may in
     let settled : Settles new = λ is_open db may. g.met.S.Store.settled now.store db is_open may in
     let stays : IsTrue old.is_open → old.may_leave old.committed.trees = λ is_open. g.met.S.Store.stays was.store is_open in
-    let going : c.args.self.now.faults ≡ 0 = search rules in
+    let going : c.args.self.now.stopped ≡ false = search rules in
     let kept : HasCleanDisk old → ∥ KeepsBook c.args.self.now.terms old room ∥₁ = kept_room c.args.self.now.terms old c.args.self.now.tallies.entries room c.make_room.ensures.same (c.args.self.now.kept going) in
     let it = c.in-Err-Memory.ensures in
     let tally : c.tally_of.result ≡ tally_in room c.args.sub = c.tally_of.ensures in
@@ -125,7 +125,7 @@ returns-in-Err-clause-crash g c =
     let settles : Settles old = λ is_open db may. g.met.S.Store.settled was.store db is_open may in
     let settled : Settles new = λ is_open db may. g.met.S.Store.settled now.store db is_open may in
     let stays : IsTrue old.is_open → old.may_leave old.committed.trees = λ is_open. g.met.S.Store.stays was.store is_open in
-    let going : c.args.self.now.faults ≡ 0 = search rules in
+    let going : c.args.self.now.stopped ≡ false = search rules in
     let kept : HasCleanDisk old → ∥ KeepsBook c.args.self.now.terms old room ∥₁ = kept_room c.args.self.now.terms old c.args.self.now.tallies.entries room c.make_room.ensures.same (c.args.self.now.kept going) in
     let it = c.in-Err.ensures in
     let tally : c.tally_of.result ≡ tally_in room c.args.sub = c.tally_of.ensures in

@@ -1,8 +1,8 @@
 //! Tallies.
 
 /// How many acts a subscriber has, and its funds, in minor units.
-#[derive(Clone, Copy, Debug, PartialEq, Eq)]
+#[derive(Clone, Copy)]
 pub struct Tally {
-    pub acts: u32,
+    pub acts: u64,
     pub funds: i64,
 }

@@ -1,0 +1,11 @@
+use Rattle.dcc_sqlrows.proofs.Held.{acts_held, entries_held, accounts_held, makes_a_book, pages_fit}
+use Rattle.dcc_sqlrows.proofs.laws.pages_hold_their_rows.Goals as goal
+
+pub returns : goal.returns
+returns c = record {
+  acts = acts_held c.same_subscribers_are_equal.ensures;
+  entries = entries_held c.same_subscribers_are_equal.ensures;
+  accounts = accounts_held c.same_subscribers_are_equal.ensures;
+  book = makes_a_book c.leaving_out_changes_nothing.ensures.none;
+  fit = pages_fit;
+}

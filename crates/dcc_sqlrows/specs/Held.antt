@@ -1,0 +1,53 @@
+-- The rows of a book, whatever their order.
+use Rattle.std.specs.Prelude.{◌≡◌, ◌≢◌, ℕ, ◌+◌, ◌<◌, List, [], length, slice_get, Some}
+use Rattle.std.specs.List.{Contains, AllByRecursion}
+use Rattle.sqlite.specs.Order.{Row}
+use Rattle.dcc_tariff.specs.Terms.{TermsView}
+use Rattle.dcc_act.specs.declared.act.Act.{Act}
+use Rattle.dcc_act.specs.declared.entry.Entry.{Entry}
+use Rattle.dcc_act.specs.declared.sub.Sub.{Sub}
+use Rattle.dcc_model.specs.Outcomes.{funds}
+use Rattle.dcc_record.specs.Limits.{IsAct}
+use Rattle.dcc_record.specs.Records.{record_of}
+use Rattle.dcc_records.specs.Books.{Held, PageView, AreInOrder, acts_in, IsBook}
+use Rattle.dcc_sqlrows.specs.Rows.{sub_octets, act_row, entry_row, account_row}
+use Rattle.dcc_sqlrows.specs.Pages.{entries_at, IsPage, IsOwn, book_act_rows, book_entry_rows, book_account_rows}
+
+-- the row of an act that is held; places count from 1
+abbrev pub IsActRow : Held → Row → Type 0
+IsActRow held row = (sub : Sub) × (i : ℕ) × (act : Act) × (slice_get (held sub) i ≡ Some act) × (row ≡ act_row (sub_octets sub) (i + 1) (record_of act))
+
+-- the row of an entry of such an act; lines count from 1
+abbrev pub IsEntryRow : TermsView → Held → Row → Type 0
+IsEntryRow terms held row =
+    (sub : Sub) × (i : ℕ) × (j : ℕ) × (entry : Entry) × (i < length (held sub)) × (slice_get (entries_at terms (held sub) i) j ≡ Some entry)
+    × (row ≡ entry_row (sub_octets sub) (i + 1) (j + 1) entry)
+
+-- the row of the account of a subscriber that has acts
+abbrev pub IsAccountRow : TermsView → Held → Row → Type 0
+IsAccountRow terms held row = (sub : Sub) × (held sub ≢ []) × (row ≡ account_row (sub_octets sub) (length (held sub)) (funds terms (held sub)))
+
+-- a table has each such row, and no other; their order says nothing
+pub record AreJust (rows : List Row) (Says : Row → Type 0) : Type 0 where
+  pub there : (row : Row) → Says row → Contains rows row
+  pub only : (row : Row) → Contains rows row → Says row
+
+-- the rows of pages are those of the book that the pages are, and no others
+abbrev pub PagesHoldTheirActs : Type 0
+PagesHoldTheirActs = (pages : List PageView) → AreInOrder pages → AllByRecursion IsPage pages → AreJust (book_act_rows pages) (IsActRow (acts_in pages))
+
+abbrev pub PagesHoldTheirEntries : Type 0
+PagesHoldTheirEntries = (terms : TermsView) (pages : List PageView) → AreInOrder pages → AllByRecursion IsPage pages
+    → AreJust (book_entry_rows terms pages) (IsEntryRow terms (acts_in pages))
+
+abbrev pub PagesHoldTheirAccounts : Type 0
+PagesHoldTheirAccounts = (terms : TermsView) (pages : List PageView) → AreInOrder pages → AllByRecursion IsPage pages
+    → AreJust (book_account_rows terms pages) (IsAccountRow terms (acts_in pages))
+
+-- pages whose acts are those that each list makes are a book
+abbrev pub PagesMakeABook : Type 0
+PagesMakeABook = (terms : TermsView) (pages : List PageView) → AllByRecursion (IsOwn terms) pages → IsBook terms (acts_in pages)
+
+-- the acts of pages are within their limits
+abbrev pub PagesFit : Type 0
+PagesFit = (pages : List PageView) → AllByRecursion IsPage pages → (sub : Sub) (i : ℕ) (act : Act) → slice_get (acts_in pages sub) i ≡ Some act → IsAct act

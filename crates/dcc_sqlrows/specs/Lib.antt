@@ -1,0 +1,6 @@
+pub mod Rows
+pub mod Pages
+pub mod Tallies
+pub mod Stored
+pub mod Held
+pub mod inner

@@ -1,0 +1,63 @@
+//! Rows of entries and of accounts.
+
+ghost use Rattle.std.specs.Prelude.{◌≡◌, ◌↔◌, true, length, take, pos};
+ghost use Rattle.dcc_sqlrows.specs.Rows.{sub_octets, kind_text, entry_row, entry_rows_of, account_row};
+
+use crate::line::has_sub;
+use crate::tally::Tally;
+use crate::value::{has_count, has_group, has_number, has_text};
+use dcc_act::{Entry, EntryKind, Sub};
+use sqlite::Row;
+
+/// Whether the rows begin with those of the entries of the act at this place.
+pub(crate) fn begin_with(rows: &[Row], sub: Sub, place: u64, entries: &[Entry]) -> bool
+    ensures { result ≡ true ↔ take (length entries.now) rows.now ≡ entry_rows_of (sub_octets sub) place 0 entries.now }
+{
+    if rows.len() < entries.len() {
+        return false;
+    }
+    for i in 0..entries.len() {
+        if !is_entry_row(&rows[i], sub, place, i as u64 + 1, &entries[i]) {
+            return false;
+        }
+    }
+    true
+}
+
+/// Whether a row is that of an entry.
+#[tactic(auto, using(crate::proofs::Lists::seven_values))]
+fn is_entry_row(row: &Row, sub: Sub, place: u64, line: u64, entry: &Entry) -> bool
+    ensures { result ≡ true ↔ row.now ≡ entry_row (sub_octets sub) place line entry.now }
+{
+    row.column_count() == 7
+        && has_sub(row, sub)
+        && has_count(row, 1, place)
+        && has_count(row, 2, line)
+        && has_text(row, 3, kind_text(entry.kind))
+        && has_group(row, 4, entry.group)
+        && has_count(row, 5, entry.units)
+        && has_number(row, 6, entry.amount)
+}
+
+/// Whether a row is that of an account.
+#[tactic(auto, using(crate::proofs::Lists::three_values))]
+pub(crate) fn is_account_row(row: &Row, sub: Sub, tally: Tally) -> bool
+    ensures { result ≡ true ↔ row.now ≡ account_row (sub_octets sub) tally.acts tally.funds }
+{
+    row.column_count() == 3
+        && has_sub(row, sub)
+        && has_count(row, 1, tally.acts)
+        && has_number(row, 2, tally.funds)
+}
+
+/// What an entry stands for, in a word.
+pub fn kind_text(kind: EntryKind) -> &'static str
+    ensures { result.now ≡ kind_text kind }
+{
+    match kind {
+        EntryKind::TopUp => "TOPUP",
+        EntryKind::Debit => "DEBIT",
+        EntryKind::Refund => "REFUND",
+        EntryKind::Charge => "CHARGE",
+    }
+}
