@@ -1,4 +1,3 @@
-pub mod WordLemmas
 pub mod ScriptLemmas
 pub mod PrintingLemmas
 pub mod ReplayLemmas

@@ -4,7 +4,7 @@ use Rattle.std.proofs.Common.{Result, Ok, Err, add-one, refl, sym, ◌∙◌, ap
 use Rattle.std.proofs.Math.Seq.{drop-cons}
 use Rattle.std.proofs.lemmas.List.{drop_all, append-nil}
 use Rattle.dcc_engine.specs.declared.event.Event.{Event}
-use Rattle.dcc_replay.specs.Words.{lines_of, words_of}
+use Rattle.dcc_words.specs.Words.{lines_of, words_of}
 use Rattle.dcc_replay.specs.Scripts.{event_of, is_remark, then_later, events_from, script_of}
 
 -- events that were read, before what the later lines say

@@ -1,4 +1,3 @@
-pub mod Words
 pub mod Scripts
 pub mod Printed
 pub mod Faults

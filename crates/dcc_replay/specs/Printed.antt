@@ -4,15 +4,7 @@ use Rattle.std.specs.Fmt.{decimal}
 use Rattle.hex.specs.Hex.{encode_lower}
 use Rattle.dcc_act.specs.declared.sub.Sub.{Sub}
 use Rattle.dcc_engine.specs.declared.event.Out.{Out}
-use Rattle.dcc_shard.specs.declared.answers.TopUpAnswer.{TopUpAnswer}
-use Rattle.dcc_shard.specs.declared.answers.TopUpAnswer.TheVariants.{Done, Ceiling, BadAmount, Refused}
-
--- what a top-up is told, as a word
-abbrev pub word_of : TopUpAnswer → List ℕ
-word_of (Done at fresh) = codes "done"
-word_of (Ceiling at fresh) = codes "ceiling"
-word_of BadAmount = codes "bad"
-word_of Refused = codes "refused"
+use Rattle.dcc_shard.specs.Answers.{word_of}
 
 -- the answer's octets in hex, where there are any, under the peer
 unfoldable pub answered : Out → List (List ℕ)

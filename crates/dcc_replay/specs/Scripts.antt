@@ -5,7 +5,7 @@ use Rattle.dcc_engine.specs.declared.event.Event.{Event}
 use Rattle.dcc_engine.specs.declared.event.Event.TheVariants.{Connect, Disconnect, Message, TopUp, Sweep}
 use Rattle.dcc_replay.specs.declared.script.ScriptFault.{ScriptFault}
 use Rattle.dcc_replay.specs.declared.script.ScriptFault.TheVariants.{Line, Memory}
-use Rattle.dcc_replay.specs.Words.{◌>>=◌, lines_of, words_of, peer, any_u64, moment, host, hex_octets, sub}
+use Rattle.dcc_words.specs.Words.{◌>>=◌, lines_of, words_of, peer, any_u64, moment, host, hex_octets, sub}
 
 -- `connect P`
 unfoldable pub connected : List (List ℕ) → Option Event

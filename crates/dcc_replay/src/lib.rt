@@ -10,9 +10,9 @@ mod names;
 mod printing;
 mod replay;
 mod script;
-mod words;
 
 pub use fault::ReplayFault;
+pub use names::identity_of;
 pub use printing::printed;
 pub use replay::replay_run;
 pub use script::{ScriptFault, read_script};

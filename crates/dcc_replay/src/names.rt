@@ -9,7 +9,7 @@ use dcc_tariff::Plan;
 use std::alloc::{AllocError, Global};
 
 /// Who answers under a plan: its host, its realm and its address.
-pub(crate) fn identity_of(alloc: Global, plan: &Plan) -> Result<Identity, AllocError>
+pub fn identity_of(alloc: Global, plan: &Plan) -> Result<Identity, AllocError>
     ensures { IfOk result (λ identity. identity ≡ identity_of plan.now) }
 {
     Ok(Identity {

@@ -2,11 +2,10 @@
 
 ghost use Rattle.std.specs.Prelude.{◌≡◌, ◌++◌, ◌==◌, ◌||◌, ◌∷◌, [], true, OnOk, IfOk, map, codes, string_bytes, not, length};
 ghost use Rattle.dcc_octets.specs.Names.{are_visible};
-ghost use Rattle.dcc_replay.specs.Printed.{word_of, answered, closed, topped_up, refused_of, all_refused, refused, told, numbered, lines_of_out, printed};
+ghost use Rattle.dcc_replay.specs.Printed.{answered, closed, topped_up, refused_of, all_refused, refused, told, numbered, lines_of_out, printed};
 
 use dcc_act::Sub;
 use dcc_engine::Out;
-use dcc_shard::TopUpAnswer;
 use std::alloc::{AllocError, Global};
 use std::fmt::Write;
 use std::str;
@@ -88,20 +87,9 @@ fn put_top_up(text: &mut String, n: u64, out: &Out) -> Result<bool, AllocError>
     let Some(answer) = out.top_up else {
         return Ok(false);
     };
-    let word = word_of(answer);
+    let word = answer.word();
     writeln!(text, "{n} topup {word}")?;
     Ok(true)
-}
-
-fn word_of(answer: TopUpAnswer) -> &'static str
-    ensures { result.now ≡ word_of answer }
-{
-    match answer {
-        TopUpAnswer::Done { .. } => "done",
-        TopUpAnswer::Ceiling { .. } => "ceiling",
-        TopUpAnswer::BadAmount => "bad",
-        TopUpAnswer::Refused => "refused",
-    }
 }
 
 /// Appends the lines of whose expiries a sweep refused, and says whether there are any.

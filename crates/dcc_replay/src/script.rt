@@ -2,11 +2,11 @@
 
 ghost use Rattle.std.specs.Prelude.{◌≡◌, ◌<◌, map, length, IfOk, IfErr, OnOk, Ok, Err, ◌⊎◌};
 ghost use Rattle.dcc_replay.specs.Scripts.{connected, opened, disconnected, arrived, topped_up, swept, event_of, is_remark, script_of, IsFaultOf};
-ghost use Rattle.dcc_replay.specs.Words.{words_of};
+ghost use Rattle.dcc_words.specs.Words.{words_of};
 ghost use Rattle.dcc_replay.specs.declared.script.ScriptFault.TheVariants as fault;
 
-use crate::words::{any_u64, hex_octets, host, moment, parts, peer, sub};
 use dcc_engine::Event;
+use dcc_words::{any_u64, hex_octets, host, moment, parts, peer, sub};
 use std::alloc::{AllocError, AllocFailed, Global};
 
 /// Why a script gives no events.

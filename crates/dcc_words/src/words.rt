@@ -3,7 +3,7 @@
 ghost use Rattle.std.specs.Prelude.{◌≡◌, ◌<◌, ◌==◌, ◌≤◌, length, position, map, IfOk, IfSome};
 ghost use Rattle.std.specs.List.{list_all, slice_split};
 ghost use Rattle.std.specs.Char.{is_ascii_digit};
-ghost use Rattle.dcc_replay.specs.Words.{number, peer, any_u64, moment, host, hex_octets, known_sub, sub};
+ghost use Rattle.dcc_words.specs.Words.{number, peer, any_u64, moment, host, hex_octets, known_sub, sub};
 
 use dcc_act::{Moment, Sub};
 use dcc_base::Host;
@@ -16,7 +16,7 @@ use std::alloc::{AllocError, Global};
 const MOST_OCTETS: usize = 65_536;
 
 /// The parts of a text, cut at each separator.
-pub(crate) fn parts(alloc: Global, text: &[u8], separator: u8) -> Result<Vec<&[u8]>, AllocError>
+pub fn parts(alloc: Global, text: &[u8], separator: u8) -> Result<Vec<&[u8]>, AllocError>
     ensures { IfOk result (λ parts. map (λ part. part.now) parts.items ≡ slice_split (λ octet. octet == separator) text.now) }
 {
     text.split(|octet| *octet == separator).collect(alloc)
@@ -46,7 +46,7 @@ fn are_digits(word: &[u8]) -> bool
 }
 
 /// The number of a peer.
-pub(crate) fn peer(word: &[u8]) -> Option<u32>
+pub fn peer(word: &[u8]) -> Option<u32>
     ensures { result ≡ peer word.now }
 {
     let number = number(word, u32::MAX as u64)?;
@@ -54,21 +54,21 @@ pub(crate) fn peer(word: &[u8]) -> Option<u32>
 }
 
 /// A ticket, or an amount in minor units.
-pub(crate) fn any_u64(word: &[u8]) -> Option<u64>
+pub fn any_u64(word: &[u8]) -> Option<u64>
     ensures { result ≡ any_u64 word.now }
 {
     number(word, u64::MAX)
 }
 
 /// A moment, in seconds since 1970-01-01T00:00:00Z.
-pub(crate) fn moment(word: &[u8]) -> Option<Moment>
+pub fn moment(word: &[u8]) -> Option<Moment>
     ensures { result ≡ moment word.now }
 {
     Moment::new(number(word, LAST_SECOND)?)
 }
 
 /// A host's name: any word of 1 to 255 octets.
-pub(crate) fn host(alloc: Global, word: &[u8]) -> Result<Option<Host>, AllocError>
+pub fn host(alloc: Global, word: &[u8]) -> Result<Option<Host>, AllocError>
     ensures { IfOk result (λ name. name ≡ host word.now) }
 {
     let name = Vec::from_slice(alloc, word)?;
@@ -77,7 +77,7 @@ pub(crate) fn host(alloc: Global, word: &[u8]) -> Result<Option<Host>, AllocErro
 
 /// Octets in hex digits of either case, 1 to 65,536.
 #[tactic(auto, unfolding(crate::specs::Words::hex_octets))]
-pub(crate) fn hex_octets(alloc: Global, word: &[u8]) -> Result<Option<OctetString>, AllocError>
+pub fn hex_octets(alloc: Global, word: &[u8]) -> Result<Option<OctetString>, AllocError>
     ensures { IfOk result (λ octets. octets ≡ hex_octets word.now) }
 {
     match hex::decode(alloc, word) {
@@ -91,7 +91,7 @@ pub(crate) fn hex_octets(alloc: Global, word: &[u8]) -> Result<Option<OctetStrin
 
 /// A subscriber: its type and its data, with a colon between.
 #[tactic(auto, unfolding(crate::specs::Words::sub))]
-pub(crate) fn sub(word: &[u8]) -> Option<Sub>
+pub fn sub(word: &[u8]) -> Option<Sub>
     ensures { result ≡ sub word.now }
 {
     let colon = first_colon(word)?;

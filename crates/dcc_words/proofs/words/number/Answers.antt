@@ -1,6 +1,6 @@
 use Rattle.std.proofs.Common.{arith, sym}
-use Rattle.dcc_replay.proofs.WordLemmas.{IsUtf8-from_digits, number-no_digits, number-parsed, number-too_great, number-unparsed}
-use Rattle.dcc_replay.proofs.words.number.Goals as goal
+use Rattle.dcc_words.proofs.WordLemmas.{IsUtf8-from_digits, number-no_digits, number-parsed, number-too_great, number-unparsed}
+use Rattle.dcc_words.proofs.words.number.Goals as goal
 
 pub returns-then-not-are_digits-clause-value : goal.returns-then-not-are_digits-clause-value
 returns-then-not-are_digits-clause-value c = sym (number-no_digits c.args.limit c.args.word.now (sym c.if-not-are_digits.ensures))

@@ -10,7 +10,7 @@ use Rattle.std.proofs.lemmas.Str.Parse.{IsNumeralModel, numerals_by_value, parse
 use Rattle.std.proofs.lemmas.Str.{IsUtf8-from_ascii}
 use Rattle.std.proofs.lemmas.Fmt.{IsAscii-from_digits}
 use Rattle.std.proofs.lemmas.Bool.Decides.{nat_tests}
-use Rattle.dcc_replay.specs.Words.{number}
+use Rattle.dcc_words.specs.Words.{number}
 
 -- a word of decimal digits
 own : IsNumeralModel (λ word. list_all is_ascii_digit word ≡ true) (digits_value 10)

@@ -1,0 +1,81 @@
+//! Where the records of shards are kept.
+
+ghost use Rattle.std.specs.Prelude.{◌≡◌, ◌↔◌, ◌≢◌, ◌<◌, [], IfOk, IfErr, IfSome};
+ghost use Rattle.dcc_act.specs.declared.sub.Sub.{Sub};
+ghost use Rattle.dcc_records.specs.Stops.{LeavesOnly};
+ghost use Rattle.dcc_shard.specs.Shards.{held, AreOwn};
+ghost use Rattle.dcc_shard.specs.Routes.{shard_of};
+
+use dcc_message::Identity;
+use dcc_records::{Records, StoreFault};
+use dcc_shard::Shard;
+use dcc_tariff::Plan;
+use std::alloc::Global;
+use std::hash::RandomState;
+use thiserror::Error;
+
+/// Why a store can't be used, by its number: 50 want of memory, 51 it failed, 52 it is stopped, 53 its tables or its setting are others,
+/// 54 its rows aren't those of acts of its subscribers, 55 a row can't be read, 56 it has no tables.
+#[derive(Clone, Copy, Debug, PartialEq, Eq, Error)]
+#[error("store fault {0}")]
+pub struct StoreRefusal(pub u8);
+
+impl From<StoreFault> for StoreRefusal {
+    fn from(fault: StoreFault) -> StoreRefusal {
+        StoreRefusal(fault.number())
+    }
+}
+
+/// Where the records of shards are kept: a store for each, in a folder. What opening does to files has no contract here.
+pub trait Stores {
+    type Records: Records;
+
+    /// The records of a shard, by its index, of a server under this plan, or none where there is no store yet. No store is made.
+    fn open(
+        &self,
+        folder: &str,
+        plan: &Plan,
+        shard: usize,
+        hasher: RandomState,
+    ) -> Result<Option<Self::Records>, StoreRefusal>;
+
+    /// The same, and an empty store is made where there is none.
+    fn open_or_make(
+        &self,
+        folder: &str,
+        plan: &Plan,
+        shard: usize,
+        hasher: RandomState,
+    ) -> Result<Self::Records, StoreRefusal>;
+}
+
+/// The shard of these records, whose subscribers have to be those that `dcc_shard::shard_of` gives the shard of this index, of so many. The
+/// condition: there is a shard.
+///
+/// Errors: the fault of the records (50, 51, 52), or 54 where they have acts of another shard's subscriber.
+pub fn shard_over<R: Records + Drop>(
+    alloc: Global,
+    identity: &Identity,
+    records: R,
+    index: usize,
+    count: usize,
+    hasher: RandomState,
+) -> Result<Shard<R>, StoreRefusal>
+    requires { 0 < count }
+    ensures terms { IfOk result (λ shard. shard.shard.terms ≡ R.terms records) }
+    ensures identity { IfOk result (λ shard. shard.shard.identity ≡ identity.now) }
+    ensures own { IfOk result (λ shard. AreOwn shard.shard) }
+    // What it holds is what a stop leaves, and each subscriber is this shard's.
+    ensures found { IfOk result (λ shard. LeavesOnly shard.shard.terms (held shard.shard) (R.may_leave shard.records)) }
+    ensures placed { IfOk result (λ shard. (sub : Sub) → held shard.shard sub ≢ [] → shard_of sub count ≡ index) }
+{
+    match Shard::new(alloc, identity, records, hasher) {
+        Ok(shard) => {
+            if !shard.is_placed(index, count) {
+                return Err(StoreRefusal(54));
+            }
+            Ok(shard)
+        }
+        Err((fault, _)) => Err(StoreRefusal::from(fault)),
+    }
+}
