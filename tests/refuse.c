@@ -1,0 +1,57 @@
+/* Refuses one allocation of a program, the one whose number is in REFUSE, counted from 1; it is preloaded (LD_PRELOAD). Where there were
+ * fewer it says so on standard error, so that a sweep over all of them knows its end. Only calls of the program's own thread are counted:
+ * the tests have one. */
+#include <stddef.h>
+#include <stdlib.h>
+#include <string.h>
+#include <unistd.h>
+
+extern void *__libc_malloc(size_t);
+extern void *__libc_calloc(size_t, size_t);
+extern void *__libc_realloc(void *, size_t);
+extern void *__libc_memalign(size_t, size_t);
+
+static unsigned long wanted;
+static unsigned long made;
+
+__attribute__((constructor)) static void begin(void) {
+    const char *word = getenv("REFUSE");
+    wanted = word ? strtoul(word, NULL, 10) : 0;
+    made = 0;
+}
+
+__attribute__((destructor)) static void end(void) {
+    static const char text[] = "fewer allocations\n";
+    if (made < wanted && write(2, text, sizeof text - 1) < 0) {
+        _exit(1);
+    }
+}
+
+static int is_refused(void) {
+    made += 1;
+    return made == wanted;
+}
+
+void *malloc(size_t size) {
+    return is_refused() ? NULL : __libc_malloc(size);
+}
+
+void *calloc(size_t count, size_t size) {
+    return is_refused() ? NULL : __libc_calloc(count, size);
+}
+
+void *realloc(void *block, size_t size) {
+    return is_refused() ? NULL : __libc_realloc(block, size);
+}
+
+void *aligned_alloc(size_t alignment, size_t size) {
+    return is_refused() ? NULL : __libc_memalign(alignment, size);
+}
+
+int posix_memalign(void **block, size_t alignment, size_t size) {
+    if (is_refused()) {
+        return 12;
+    }
+    *block = __libc_memalign(alignment, size);
+    return *block ? 0 : 12;
+}
