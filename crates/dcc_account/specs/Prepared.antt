@@ -6,6 +6,7 @@ use Rattle.dcc_act.specs.declared.outcome.Outcome.{Outcome}
 use Rattle.dcc_model.specs.Outcomes.{history, with_act, after, is_new, place, funds, free, overrun}
 use Rattle.dcc_model.specs.Entries.{entries}
 use Rattle.dcc_state.specs.declared.change.Change.{Change}
+use Rattle.dcc_state.specs.declared.judgement.Judgement.{Judgement}
 use Rattle.dcc_state.specs.Backed.{IsBacked}
 use Rattle.dcc_state.specs.Known.{changed, funds_after, overrun_with}
 use Rattle.dcc_state.specs.OpenSessions.{AreOpen}
@@ -25,14 +26,34 @@ pub record StepView : Type 0 where
   pub looks : ℕ
   pub space : Space
 
+-- what the act comes to, whether it is made, its place, the entries that it adds, and what it does to the money and to the
+-- sessions that are open
+pub record JudgementView : Type 0 where
+  pub outcome : Outcome
+  pub is_new : Bool
+  pub place : Option ℕ
+  pub entries : List Entry
+  pub change : Change
+
+abbrev pub in_view : Judgement → JudgementView
+in_view judgement =
+    record { outcome = judgement.outcome; is_new = judgement.is_new; place = judgement.place; entries = judgement.entries.items; change = judgement.change }
+
+abbrev pub judgement_of : StepView → JudgementView
+judgement_of step = record { outcome = step.outcome; is_new = step.is_new; place = step.place; entries = step.entries; change = step.change }
+
+-- the judgement is that of the act after the acts of this account
+pub record IsJudged (account : AccountView) (act : Act) (judgement : JudgementView) : Type 0 where
+  pub outcome_is : judgement.outcome ≡ after account.terms account.acts act
+  pub new_is : judgement.is_new ≡ is_new account.terms account.acts act
+  pub place_is : judgement.place ≡ place account.terms account.acts act
+  pub entries_are : entries account.terms (account.acts ++ act ∷ []) ≡ entries account.terms account.acts ++ judgement.entries
+  pub funds_are : funds account.terms (account.acts ++ act ∷ []) ≡ funds_after judgement.change (funds account.terms account.acts) account.sessions
+  pub overrun_are : overrun account.terms (account.acts ++ act ∷ []) ≡ overrun account.terms account.acts + overrun_with judgement.change account.sessions
+  pub sessions_are : AreOpen account.terms (with_act account.terms (history account.terms (reverse account.acts)) act) (changed judgement.change account.sessions)
+  pub backed : IsBacked (funds account.terms account.acts) (free account.terms account.acts) account.sessions judgement.change
+
 -- the step is that of its act after the acts of this account, with memory for it
 pub record IsPrepared (account : AccountView) (step : StepView) : Type 0 where
-  pub outcome_is : step.outcome ≡ after account.terms account.acts step.act
-  pub new_is : step.is_new ≡ is_new account.terms account.acts step.act
-  pub place_is : step.place ≡ place account.terms account.acts step.act
-  pub entries_are : entries account.terms (account.acts ++ step.act ∷ []) ≡ entries account.terms account.acts ++ step.entries
-  pub funds_are : funds account.terms (account.acts ++ step.act ∷ []) ≡ funds_after step.change (funds account.terms account.acts) account.sessions
-  pub overrun_are : overrun account.terms (account.acts ++ step.act ∷ []) ≡ overrun account.terms account.acts + overrun_with step.change account.sessions
-  pub sessions_are : AreOpen account.terms (with_act account.terms (history account.terms (reverse account.acts)) step.act) (changed step.change account.sessions)
-  pub backed : IsBacked (funds account.terms account.acts) (free account.terms account.acts) account.sessions step.change
+  pub judged : IsJudged account step.act (judgement_of step)
   pub fits : step.is_new ≡ true → Fits account step.space (length step.entries)

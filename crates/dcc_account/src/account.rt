@@ -1,6 +1,6 @@
 //! Accounts.
 
-ghost use Rattle.std.specs.Prelude.{◌≡◌, [], ◌∷◌, ◌++◌, map, reverse, pos, neg_ℤ, ◌+ℤ◌, ◌≤ℤ◌, ◌≤◌, if◌then◌else◌, IfOk};
+ghost use Rattle.std.specs.Prelude.{◌≡◌, [], ◌∷◌, ◌++◌, map, reverse, pos, neg_ℤ, ◌+◌, ◌+ℤ◌, ◌<◌, ◌^◌, ◌≤ℤ◌, ◌≤◌, if◌then◌else◌, IfOk};
 ghost use Rattle.std.specs.Option.{option_copied};
 ghost use Rattle.dcc_model.specs.Outcomes.{act_made, history, acts, standing, funds, overrun, free, kept};
 ghost use Rattle.dcc_model.specs.Entries.{entries};
@@ -64,7 +64,8 @@ impl Model for Account {
 }
 
 impl Account {
-    ghost use Rattle.dcc_account.specs.Prepared.{IsPrepared};
+    ghost use Rattle.dcc_account.specs.Prepared.{IsPrepared, IsJudged, in_view};
+    ghost use Rattle.dcc_state.specs.Known.{IsKnown, IsWithin};
 
     /// An account without acts, whose indexes hash by `hasher`. It takes no memory.
     pub fn new(alloc: Global, terms: &Terms, hasher: RandomState) -> Account
@@ -159,17 +160,6 @@ impl Account {
             ≤ most_looks self.now.terms (history self.now.terms (reverse self.now.acts)) act.moment act.kind) }
     {
         one_more_act();
-        money_is_within();
-        let alloc = *self.acts.allocator();
-        let of_its_key = self.indexes.place(&act.kind);
-        let facts = Facts {
-            count: self.acts.len() as u64,
-            has_account: !self.acts.is_empty(),
-            was_opened: self.indexes.was_opened(&act.kind),
-            place: of_its_key,
-            standing: self.standing(),
-        };
-        let first = outcome_at(&self.acts, of_its_key);
         let mut looks = Looks::new();
         let Judgement {
             outcome,
@@ -177,15 +167,8 @@ impl Account {
             place,
             entries,
             change,
-        } = judge(
-            alloc,
-            &self.terms,
-            &facts,
-            first,
-            &self.sessions,
-            &act,
-            &mut looks,
-        )?;
+        } = self.judged(&act, &mut looks)?;
+        let alloc = *self.acts.allocator();
         let more = usize::from(is_new);
         Ok(Step {
             larger_acts: larger(alloc, &self.acts, more)?,
@@ -226,6 +209,43 @@ impl Account {
             let overrun = step.change.apply(&mut self.sessions, &mut self.pool);
             self.overrun += i128::from(overrun);
         }
+    }
+
+    /// What an act comes to after those that were made, and what it does. The only error is want of memory.
+    fn judged(&self, act: &Act, looks: &mut Looks) -> Result<Judgement, AllocError>
+        requires { looks.old ≡ 0 }
+        ensures judged { IfOk result (λ judgement. IsJudged self.now act.now (in_view judgement)) }
+        ensures looks { looks.new
+            ≤ most_looks self.now.terms (history self.now.terms (reverse self.now.acts)) act.now.moment act.now.kind }
+    {
+        let (facts, first) = self.known(act);
+        judge(
+            *self.acts.allocator(),
+            &self.terms,
+            &facts,
+            first,
+            &self.sessions,
+            act,
+            looks,
+        )
+    }
+
+    /// What is known of the acts that were made, where one more is judged: a few facts, and what the one that has its key came to.
+    fn known(&self, act: &Act) -> (Facts, Option<&Outcome>)
+        ensures known { IsKnown self.now.terms self.now.acts act.now result.0 (option_copied result.1) self.now.sessions }
+        ensures within { IsWithin result.0.standing self.now.sessions }
+        ensures few { result.0.count + 1 < 2 ^ 64 }
+    {
+        money_is_within();
+        let place = self.indexes.place(&act.kind);
+        let facts = Facts {
+            count: self.acts.len() as u64,
+            has_account: !self.acts.is_empty(),
+            was_opened: self.indexes.was_opened(&act.kind),
+            place,
+            standing: self.standing(),
+        };
+        (facts, outcome_at(&self.acts, place))
     }
 
     /// The money of the account.

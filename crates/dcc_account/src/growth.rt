@@ -24,8 +24,8 @@ pub(crate) fn larger<T: Drop>(
     if count + more <= items.capacity() {
         return Ok(None);
     }
-    let wanted = (count + more).max(count + count);
-    Ok(Some(Vec::with_capacity(alloc, wanted)?))
+    let doubled = count.saturating_mul(2);
+    Ok(Some(Vec::with_capacity(alloc, doubled.max(count + more))?))
 }
 
 /// Moves the items into the larger vector, where there is one.

@@ -93,7 +93,7 @@ entries_found : (rows : Rows) (terms : TermsView) (sub : Sub) (account : Account
 entries_found rows terms sub account act step found act_is prepared =
     ap (λ (a : Act). entries terms (held_in rows sub ++ a ∷ [])) (sym act_is)
     ∙ sym (next_found (λ (t : TermsView) (xs : List Act). entries t (xs ++ step.act ∷ [])) rows terms sub account found)
-    ∙ prepared.entries_are
+    ∙ prepared.judged.entries_are
     ∙ next_found (λ (t : TermsView) (xs : List Act). entries t xs ++ step.entries) rows terms sub account found
 
 -- what a step that an account prepared says is said of what is held
@@ -106,9 +106,9 @@ pub record IsFound (books : BooksView) (sub : Sub) (act : Act) (step : StepView)
 pub step_found : (books : BooksView) (sub : Sub) (account : Account) (act : Act) (step : StepView) → Found books.rows books.terms sub account
     → step.act ≡ act → IsPrepared account step → IsFound books sub act step
 step_found books sub account act step found act_is prepared = record {
-  outcome_is = prepared.outcome_is ∙ next_found (λ terms xs. after terms xs step.act) books.rows books.terms sub account found ∙ ap (after books.terms (held_in books.rows sub)) act_is;
-  place_is = prepared.place_is ∙ next_found (λ terms xs. place terms xs step.act) books.rows books.terms sub account found ∙ ap (place books.terms (held_in books.rows sub)) act_is;
-  new_is = prepared.new_is ∙ next_found (λ terms xs. is_new terms xs step.act) books.rows books.terms sub account found ∙ ap (is_new books.terms (held_in books.rows sub)) act_is;
+  outcome_is = prepared.judged.outcome_is ∙ next_found (λ terms xs. after terms xs step.act) books.rows books.terms sub account found ∙ ap (after books.terms (held_in books.rows sub)) act_is;
+  place_is = prepared.judged.place_is ∙ next_found (λ terms xs. place terms xs step.act) books.rows books.terms sub account found ∙ ap (place books.terms (held_in books.rows sub)) act_is;
+  new_is = prepared.judged.new_is ∙ next_found (λ terms xs. is_new terms xs step.act) books.rows books.terms sub account found ∙ ap (is_new books.terms (held_in books.rows sub)) act_is;
   entries_are = entries_found books.rows books.terms sub account act step found act_is prepared;
 }
 

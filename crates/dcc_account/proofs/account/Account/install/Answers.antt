@@ -16,7 +16,7 @@ apply-overrun-requires-clause-backed c =
     let own = c.self.inside in
     let is = prepared_at _ _ _ _ c.requires c.self.view_is c.step.view_is in
     let free = free_is c.sessions_hold_what_is_reserved.ensures own.terms own.acts.items own.entries.items own.pool own.overrun own.sessions.items own.indexes c.self.invariant in
-    backed_by _ _ _ _ _ _ c.step.inside.change is.backed c.self.invariant.funds_are free c.grow-then-step-2.ensures.items
+    backed_by _ _ _ _ _ _ c.step.inside.change is.judged.backed c.self.invariant.funds_are free c.grow-then-step-2.ensures.items
 
 pub invariant_of-self : goal.invariant_of-self
 invariant_of-self c =
@@ -26,19 +26,19 @@ invariant_of-self c =
     let made = own.acts.items in
     let all = map act_made made in
     let done : Done = record { act = step.act; outcome = step.outcome } in
-    let kept = kept_with own.terms made own.entries.items step.entries.items step.act step.outcome c.self.invariant.kept is.outcome_is (sym is.new_is ∙ c.if-step.true) is.entries_are c.keys_are_apart.ensures in
+    let kept = kept_with own.terms made own.entries.items step.entries.items step.act step.outcome c.self.invariant.kept is.judged.outcome_is (sym is.judged.new_is ∙ c.if-step.true) is.judged.entries_are c.keys_are_apart.ensures in
     let grown = c.grow-then-step-3.ensures.indexed (reverse made) c.self.invariant.indexed in
     let held = length-reverse made in
     let stay = ap (λ (made : List Done). length made) c.grow.ensures.items in
     let indexed = c.add.ensures (reverse made) done grown c.step.invariant.4 (omega (arith, held, stay)) in
     let sessions = c.grow-then-step-2.ensures.items in
     let applied = c.apply-overrun.ensures in
-    let are = subst (λ (now : List SessionView). AreOpen own.terms (with_act own.terms (history own.terms (reverse all)) step.act) now) (sym (applied.sessions ∙ ap (changed step.change) sessions)) is.sessions_are in
+    let are = subst (λ (now : List SessionView). AreOpen own.terms (with_act own.terms (history own.terms (reverse all)) step.act) now) (sym (applied.sessions ∙ ap (changed step.change) sessions)) is.judged.sessions_are in
     let funds_are =
     applied.funds ∙ ap (λ (money : ℤ). funds_after step.change money c.grow-then-step-2.new.items.items) c.self.invariant.funds_are
-    ∙ ap (funds_after step.change (funds own.terms all)) sessions ∙ sym is.funds_are in
+    ∙ ap (funds_after step.change (funds own.terms all)) sessions ∙ sym is.judged.funds_are in
     let more = applied.overrun ∙ ap (overrun_with step.change) sessions in
-    let overrun_is = is.overrun_are in
+    let overrun_is = is.judged.overrun_are in
     let before = c.self.invariant.overrun_are in
     let most = c.self.invariant.overrun_is in
     let bound = applied.bound in
@@ -54,7 +54,7 @@ returns-then-step-clause-acts c =
     let all = map act_made own.acts.items in
     let one : Done = record { act = step.act; outcome = step.outcome } in
     let is = prepared_at _ _ _ _ c.requires c.self.view_is c.step.view_is in
-    let made = acts_with c.one_more_act.ensures own.terms own.acts.items own.entries.items step.act step.is_new c.self.invariant.kept is.new_is in
+    let made = acts_with c.one_more_act.ensures own.terms own.acts.items own.entries.items step.act step.is_new c.self.invariant.kept is.judged.new_is in
     ap (map act_made) (c.push_reserved.ensures.items ∙ ap (λ (made : List Done). made ++ one ∷ []) c.grow.ensures.items)
     ∙ map-append act_made own.acts.items (one ∷ [])
     ∙ sym (made ∙ ap (λ (b : Bool). cond b (all ++ step.act ∷ []) all) c.if-step.true)
@@ -67,7 +67,7 @@ returns-else-step-clause-acts c =
     let step = c.step.inside in
     let all = map act_made own.acts.items in
     let is = prepared_at _ _ _ _ c.requires c.self.view_is c.step.view_is in
-    let made = acts_with c.one_more_act.ensures own.terms own.acts.items own.entries.items step.act step.is_new c.self.invariant.kept is.new_is in
+    let made = acts_with c.one_more_act.ensures own.terms own.acts.items own.entries.items step.act step.is_new c.self.invariant.kept is.judged.new_is in
     sym (ap (λ (a : AccountView). a.acts) c.self.view_is)
     ∙ sym (made ∙ ap (λ (b : Bool). cond b (all ++ step.act ∷ []) all) c.if-step.false)
     ∙ ap (λ (a : AccountView). acts a.terms (a.acts ++ step.act ∷ [])) c.self.view_is
