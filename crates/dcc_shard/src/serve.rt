@@ -95,11 +95,20 @@ fn answer_with(step: &Step, octets: OctetString) -> RequestAnswer
     ensures judged { is_judged result ≡ true }
     ensures apart { is_busy octets ≡ false → HEADER_LENGTH ≤ length octets → IsToldApart result }
 {
-    match step.place() {
+    answer_placed(octets, step.place(), step.is_new())
+}
+
+/// The answer of these octets, by where their act stands, and whether it is made.
+fn answer_placed(octets: OctetString, place: Option<u64>, fresh: bool) -> RequestAnswer
+    ensures value { result ≡ answer_at octets place fresh }
+    ensures judged { is_judged result ≡ true }
+    ensures apart { is_busy octets ≡ false → HEADER_LENGTH ≤ length octets → IsToldApart result }
+{
+    match place {
         Some(place) => RequestAnswer::Done {
             octets,
             place,
-            fresh: step.is_new(),
+            fresh,
         },
         None => RequestAnswer::Unknown { octets },
     }
