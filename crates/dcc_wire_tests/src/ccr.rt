@@ -6,46 +6,12 @@ mod order;
 mod values;
 mod whole;
 
-use crate::{Amounts, Request, Service, read_ccr, subscriber};
-use dcc_avp::{Avp, write_avp};
-use dcc_request::{Failed, Refused, Stop, list_within, read_message_list};
+use crate::told::told_stop;
+use dcc_ccr::{Amounts, Request, Service, read_ccr, subscriber};
+use dcc_request::{Stop, list_within, read_message_list};
 use std::alloc::Global;
+use std::process::Abort;
 use std::test::Fail;
-
-/// A text with `new` in place of its first `old`.
-fn edited(alloc: Global, text: &str, old: &str, new: &str) -> Result<String, Fail> {
-    let (before, after) = text.split_once(old).ok_or("an edit of nothing")?;
-    Ok(format!(in alloc; "{before}{new}{after}")?)
-}
-
-fn put(out: &mut Vec<u8>, avp: &Avp<'_>) -> Result<(), Fail> {
-    if avp.length() < 65_536 {
-        write_avp(out, avp)?;
-    }
-    Ok(())
-}
-
-/// The Result-Code, and the octets of what the Failed-AVP holds.
-fn told(alloc: Global, refused: &Refused<'_>) -> Result<String, Fail> {
-    let mut out = Vec::new(alloc);
-    match refused.failed() {
-        Failed::Nothing => {}
-        Failed::One(avp) => put(&mut out, avp)?,
-        Failed::Two(first, second) => {
-            put(&mut out, first)?;
-            put(&mut out, second)?;
-        }
-    }
-    let shown = hex::encode(alloc, &out)?;
-    Ok(format!(in alloc; "{} {shown}", refused.cause().number())?)
-}
-
-fn told_stop(alloc: Global, stop: &Stop<'_>) -> Result<String, Fail> {
-    match stop {
-        Stop::Refused(refused) => told(alloc, refused),
-        Stop::Memory => Err("memory was refused".into()),
-    }
-}
 
 /// Octets, seconds and units, or a dash.
 fn told_amounts(alloc: Global, amounts: Option<Amounts>) -> Result<String, Fail> {
@@ -124,4 +90,22 @@ fn outcome(alloc: Global, list: &str) -> Result<String, Fail> {
         }
         Err(stop) => told_stop(alloc, stop),
     }
+}
+
+/// Checks what is read of a list of AVPs.
+fn check(rt: &(impl Abort + AllocGlobal), list: &str, want: &str) -> Result<(), Fail> {
+    let told = outcome(rt.alloc(), list)?;
+    assert!(rt; told.as_str() == want, "{list}: {told}");
+    Ok(())
+}
+
+/// Checks what is read of one list of AVPs behind another.
+fn check_behind(
+    rt: &(impl Abort + AllocGlobal),
+    head: &str,
+    more: &str,
+    want: &str,
+) -> Result<(), Fail> {
+    let list = format!(in rt.alloc(); "{head}{more}")?;
+    check(rt, list.as_str(), want)
 }

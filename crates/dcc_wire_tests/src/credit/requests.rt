@@ -1,10 +1,10 @@
 //! Acts of requests.
 
-use super::octets::{decoded, edited};
-use crate::to_act;
+use crate::octets::{decoded, edited};
 use dcc_act::{Act, Action, Kind, Moment, OneTimeEvent, Service, SessionRequest};
 use dcc_avp::read_list;
 use dcc_ccr::read_ccr;
+use dcc_credit::to_act;
 use dcc_request::Stop;
 use dcc_samples::{DEBIT, PLAN};
 use dcc_tariff::Plan;

@@ -1,7 +1,7 @@
 //! Requests of each command, and what is found first in them.
 
-use super::outcome;
-use crate::Command;
+use super::check_told;
+use dcc_request::Command;
 use dcc_samples::DEBIT;
 use std::alloc::Global;
 use std::process::Abort;
@@ -24,8 +24,7 @@ fn told_as_wanted(
 ) -> Result<(), Fail> {
     for (old, added, want) in cases {
         let text = edited(rt.alloc(), list, old, added)?;
-        let told = outcome(rt.alloc(), command, &text)?;
-        assert_eq!(rt; told.as_str(), *want, "without {old}, with {added}");
+        check_told(rt, command, text.as_str(), want)?;
     }
     Ok(())
 }

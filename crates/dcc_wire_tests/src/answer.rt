@@ -1,8 +1,8 @@
 //! What is taken over from requests, and the answers that report protocol errors.
 
-use crate::{Proxies, session_id, write_busy, write_error};
+use crate::octets::{header, identity};
+use dcc_answer::{Proxies, session_id, write_busy, write_error};
 use dcc_avp::read_list;
-use dcc_message::{DiameterIdentity, Header, Identity, applications, commands};
 use dcc_samples::{BUSY, COPIED_PROXIES, DEBIT, PROXIES};
 use std::alloc::Global;
 use std::process::Abort;
@@ -14,28 +14,6 @@ const SESSION: &str = "000110000000040000001100000021\
 
 /// Origin-Host and Origin-Realm.
 const ORIGIN: &str = "00000108400000136f63732e6578616d706c6500000001284000000f6578616d706c6500";
-
-fn identity(alloc: Global) -> Result<Identity, Fail> {
-    let host = b"ocs.example".to_vec(alloc)?;
-    let realm = b"example".to_vec(alloc)?;
-    Ok(Identity {
-        host: DiameterIdentity::from_vec(host).ok_or("a host")?,
-        realm: DiameterIdentity::from_vec(realm).ok_or("a realm")?,
-        address: [127, 0, 0, 1],
-    })
-}
-
-/// The header of a request with these flags.
-fn header(flags: u8) -> Header {
-    Header {
-        length: 228,
-        flags,
-        code: commands::CREDIT_CONTROL,
-        app: applications::CREDIT_CONTROL,
-        hop: 0x11,
-        end_to_end: 0x21,
-    }
-}
 
 /// The answer of this Result-Code to a request, or the busy one for none, as text.
 fn answered(alloc: Global, flags: u8, request: &str, code: Option<u32>) -> Result<String, Fail> {

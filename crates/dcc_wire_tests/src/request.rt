@@ -4,47 +4,16 @@ mod requests;
 mod tables;
 mod values;
 
-use crate::{
-    Cause, Command, Failed, Group, Refused, Stop, check, clear, command_of, read_message_list,
-    unread,
-};
-use dcc_avp::{Avp, AvpFault, write_avp};
+use crate::octets::decoded;
+use crate::told::{told, told_stop};
+use dcc_avp::{Avp, AvpFault};
 use dcc_message::Header;
+use dcc_request::{
+    Cause, Command, Group, Refused, Stop, check, clear, command_of, read_message_list, unread,
+};
 use std::alloc::Global;
+use std::process::Abort;
 use std::test::Fail;
-
-fn decoded(alloc: Global, text: &str) -> Result<Vec<u8>, Fail> {
-    Ok(hex::decode(alloc, text)?)
-}
-
-fn put(out: &mut Vec<u8>, avp: &Avp<'_>) -> Result<(), Fail> {
-    if avp.length() < 65_536 {
-        write_avp(out, avp)?;
-    }
-    Ok(())
-}
-
-/// The Result-Code, and the octets of what the Failed-AVP holds.
-fn told(alloc: Global, refused: &Refused<'_>) -> Result<String, Fail> {
-    let mut out = Vec::new(alloc);
-    match refused.failed() {
-        Failed::Nothing => {}
-        Failed::One(avp) => put(&mut out, avp)?,
-        Failed::Two(first, second) => {
-            put(&mut out, first)?;
-            put(&mut out, second)?;
-        }
-    }
-    let shown = hex::encode(alloc, &out)?;
-    Ok(format!(in alloc; "{} {shown}", refused.cause().number())?)
-}
-
-fn told_stop(alloc: Global, stop: &Stop<'_>) -> Result<String, Fail> {
-    match stop {
-        Stop::Refused(refused) => told(alloc, refused),
-        Stop::Memory => Err("memory was refused".into()),
-    }
-}
 
 /// How many groups were walked, with how many inside them, or the refusal.
 fn told_groups(alloc: Global, read: &Result<Vec<Group<'_>>, Stop<'_>>) -> Result<String, Fail> {
@@ -71,6 +40,18 @@ fn outcome(alloc: Global, command: Command, list: &str) -> Result<String, Fail> 
         }
         Err(stop) => told_stop(alloc, stop),
     }
+}
+
+/// Checks what is told of a list of AVPs in a request of a command.
+fn check_told(
+    rt: &(impl Abort + AllocGlobal),
+    command: Command,
+    list: &str,
+    want: &str,
+) -> Result<(), Fail> {
+    let told = outcome(rt.alloc(), command, list)?;
+    assert!(rt; told.as_str() == want, "{list}: {told}");
+    Ok(())
 }
 
 #[test]
@@ -117,8 +98,7 @@ fn broken_lists(rt: HostRuntime) -> Result<(), Fail> {
         ("0000019d40000009", "5014 0000019d40000008"),
         ("0000019fc0000008", "5014 0000019f40000008"),
     ] {
-        let told = outcome(rt.alloc(), Command::DeviceWatchdog, list)?;
-        assert!(rt; told.as_str() == want, "{list}: {told}");
+        check_told(&rt, Command::DeviceWatchdog, list, want)?;
     }
     assert!(rt; unread(&AvpFault::Memory).is_none() && unread(&AvpFault::WrongSize).is_none());
     Ok(())

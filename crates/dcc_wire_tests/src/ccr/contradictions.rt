@@ -1,6 +1,6 @@
 //! AVPs that can't stand side by side.
 
-use super::outcome;
+use super::check_behind;
 use std::test::Fail;
 
 /// A request without its type and what is asked for.
@@ -46,9 +46,7 @@ const CONTRADICTIONS: [(&str, &str); 7] = [
 #[test]
 fn contradictions(rt: HostRuntime) -> Result<(), Fail> {
     for (more, want) in &CONTRADICTIONS {
-        let text = format!(in rt.alloc(); "{REQUEST}{more}")?;
-        let told = outcome(rt.alloc(), &text)?;
-        assert_eq!(rt; told.as_str(), *want);
+        check_behind(&rt, REQUEST, more, want)?;
     }
     Ok(())
 }

@@ -1,4 +1,4 @@
-//! The proxies of a request, its octets, and who answers.
+//! What the tests share: octets of hex digits, an edit of a text, the header of a request, and who answers.
 
 use dcc_message::{DiameterIdentity, Header, Identity, applications, commands};
 use std::alloc::Global;
@@ -16,6 +16,7 @@ pub(crate) fn header(flags: u8) -> Header {
     }
 }
 
+/// Octets of hex digits.
 pub(crate) fn decoded(alloc: Global, text: &str) -> Result<Vec<u8>, Fail> {
     Ok(hex::decode(alloc, text)?)
 }
@@ -33,6 +34,7 @@ pub(crate) fn edited(alloc: Global, text: &str, old: &str, new: &str) -> Result<
     Ok(format!(in alloc; "{before}{new}{after}")?)
 }
 
+/// The server of the samples.
 pub(crate) fn identity(alloc: Global) -> Result<Identity, Fail> {
     let host = b"ocs.example".to_vec(alloc)?;
     let realm = b"example".to_vec(alloc)?;
@@ -41,4 +43,13 @@ pub(crate) fn identity(alloc: Global) -> Result<Identity, Fail> {
         realm: DiameterIdentity::from_vec(realm).ok_or("a realm")?,
         address: [127, 0, 0, 1],
     })
+}
+
+/// A text of these parts.
+pub(crate) fn joined(alloc: Global, parts: &[&str]) -> Result<String, Fail> {
+    let mut text = String::new(alloc);
+    for part in parts {
+        text.push_str(part)?;
+    }
+    Ok(text)
 }

@@ -1,5 +1,4 @@
-use super::octets::{decoded, edited, header, identity, list_in};
-use crate::{lend_session, write_cca};
+use crate::octets::{decoded, edited, header, identity, joined, list_in};
 use dcc_act::{
     Answer, Balance, Form, Grant, Outcome, RequestKey, RequestType, ResultCode, ServiceAnswer,
     ServiceAnswers, ServiceIds, SessionId,
@@ -7,6 +6,7 @@ use dcc_act::{
 use dcc_answer::{Proxies, session_id, write_busy};
 use dcc_avp::read_list;
 use dcc_ccr::read_ccr;
+use dcc_credit::{lend_session, write_cca};
 use dcc_samples::{ANSWER, COPIED_PROXIES, DEBIT, PROXIES, PROXY_INFO};
 use dcc_tariff::{Tariff, Terms, UnitKind};
 use std::alloc::Global;
@@ -138,18 +138,38 @@ fn granted_in_other_units(rt: HostRuntime) -> Result<(), Fail> {
 
 #[test]
 fn refused(rt: HostRuntime) -> Result<(), Fail> {
-    let alloc = rt.alloc();
-    let little = outcome(alloc, Form::Single, ResultCode::CreditLimitReached, None)?;
-    let want = format!(in alloc; "0100008040{SESSION}0000010c4000000c00000fac{MIDDLE}")?;
-    check(&rt, 0xc0, "", &little, want.as_str())?;
-    let full = outcome(alloc, Form::Single, ResultCode::UnableToComply, None)?;
-    let want = format!(in alloc; "0100008040{SESSION}0000010c4000000c00001394{MIDDLE}")?;
-    check(&rt, 0xc0, "", &full, want.as_str())?;
-    let unrated = outcome(alloc, Form::Single, ResultCode::RatingFailed, None)?;
-    let want = format!(in alloc;
-        "010000a800{SESSION}0000010c4000000c000013a7{MIDDLE}{COPIED_PROXIES}"
-    )?;
-    check(&rt, 0x80, PROXIES, &unrated, want.as_str())
+    for (result, flags, from, start, code, more) in [
+        (
+            ResultCode::CreditLimitReached,
+            0xc0,
+            "",
+            "0100008040",
+            "00000fac",
+            "",
+        ),
+        (
+            ResultCode::UnableToComply,
+            0xc0,
+            "",
+            "0100008040",
+            "00001394",
+            "",
+        ),
+        (
+            ResultCode::RatingFailed,
+            0x80,
+            PROXIES,
+            "010000a800",
+            "000013a7",
+            COPIED_PROXIES,
+        ),
+    ] {
+        let refused = outcome(rt.alloc(), Form::Single, result, None)?;
+        let parts = [start, SESSION, "0000010c4000000c", code, MIDDLE, more];
+        let want = joined(rt.alloc(), &parts)?;
+        check(&rt, flags, from, &refused, want.as_str())?;
+    }
+    Ok(())
 }
 
 #[test]
@@ -200,12 +220,28 @@ fn granted_in_a_group(rt: HostRuntime) -> Result<(), Fail> {
     check(&rt, 0xc0, "", &service, want.as_str())
 }
 
+/// Compares the answer to a request of a session: the start of its header, its type and its Result-Code, and what
+/// follows its CC-Request-Number.
+fn check_session(
+    rt: &(impl Abort + AllocGlobal),
+    outcome: &Outcome,
+    start: &str,
+    (kind, code): (&str, &str),
+    more: &str,
+) -> Result<(), Fail> {
+    let parts = [start, SESSION, "0000010c4000000c", code, MIDDLE, more];
+    let event = joined(rt.alloc(), &parts)?;
+    let want = edited(rt.alloc(), event.as_str(), EVENT, kind)?;
+    check(rt, 0xc0, "", outcome, want.as_str())
+}
+
 /// What a request of a session of this type comes to whose one service, in group 10, has this last grant.
 fn last_granted(
     alloc: Global,
     request: RequestType,
     form: Form,
     grant: Option<Grant>,
+    balance: Option<Balance>,
 ) -> Result<Outcome, Fail> {
     let service = ServiceAnswer {
         group: Some(10),
@@ -222,75 +258,93 @@ fn last_granted(
         result: ResultCode::Success,
         services,
         cost: None,
-        balance: None,
+        balance,
     }))
 }
 
 #[test]
 fn last_grant_in_a_group(rt: HostRuntime) -> Result<(), Fail> {
-    let alloc = rt.alloc();
     let octets = grant(UnitKind::Octets, 100_000);
-    let last = last_granted(alloc, RequestType::Initial, Form::Multi, octets)?;
-    let middle = edited(alloc, MIDDLE, EVENT, "000001a04000000c00000001")?;
+    let last = last_granted(rt.alloc(), RequestType::Initial, Form::Multi, octets, None)?;
     let group = "000001c840000058000001af40000018000001a54000001000000000000186a0\
 000001b04000000c0000000a000001c04000000c000002580000010c4000000c000007d1\
 000001ae40000014000001c14000000c00000000";
-    let want = format!(in alloc; "010000d840{SESSION}0000010c4000000c000007d1{middle}{group}")?;
-    check(&rt, 0xc0, "", &last, want.as_str())
+    check_session(
+        &rt,
+        &last,
+        "010000d840",
+        ("000001a04000000c00000001", "000007d1"),
+        group,
+    )
 }
 
 /// At the message's level the indication stands before a balance, and the time behind it.
 #[test]
 fn last_grant_of_the_message(rt: HostRuntime) -> Result<(), Fail> {
-    let alloc = rt.alloc();
     let octets = grant(UnitKind::Octets, 100_000);
-    let last = last_granted(alloc, RequestType::Update, Form::Single, octets)?;
-    let Outcome::Answered(mut answer) = last else {
-        return Err("an answer".into());
-    };
-    let middle = edited(alloc, MIDDLE, EVENT, "000001a04000000c00000002")?;
-    let units = "000001af40000018000001a54000001000000000000186a0";
-    let last = "000001ae40000014000001c14000000c00000000";
-    let time = "000001c04000000c00000258";
-    answer.balance = Some(Balance::EnoughCredit);
-    let want = format!(in alloc;
-        "010000c440{SESSION}0000010c4000000c000007d1{middle}{units}{last}000001a64000000c00000000{time}"
+    let balance = Some(Balance::EnoughCredit);
+    let last = last_granted(
+        rt.alloc(),
+        RequestType::Update,
+        Form::Single,
+        octets,
+        balance,
     )?;
-    check(&rt, 0xc0, "", &Outcome::Answered(answer), want.as_str())
+    // the units, the indication, the balance and the time
+    let more = "000001af40000018000001a54000001000000000000186a0\
+000001ae40000014000001c14000000c00000000000001a64000000c00000000000001c04000000c00000258";
+    check_session(
+        &rt,
+        &last,
+        "010000c440",
+        ("000001a04000000c00000002", "000007d1"),
+        more,
+    )
+}
+
+/// What a request of a session comes to that is refused as a whole.
+fn refused_session(alloc: Global, request: RequestType, code: ResultCode) -> Result<Outcome, Fail> {
+    Ok(Outcome::Answered(Answer {
+        request,
+        key: key(alloc)?,
+        result: code,
+        services: ServiceAnswers::from_vec(Vec::new(alloc)).ok_or("answers")?,
+        cost: None,
+        balance: None,
+    }))
 }
 
 /// A command of a session that is refused has no services.
 #[test]
 fn refused_sessions(rt: HostRuntime) -> Result<(), Fail> {
-    let alloc = rt.alloc();
-    for (request, result, kind, number) in [
-        (RequestType::Update, ResultCode::UnknownSession, 2, "138a"),
+    for (request, result, kind, code) in [
+        (
+            RequestType::Update,
+            ResultCode::UnknownSession,
+            "000001a04000000c00000002",
+            "0000138a",
+        ),
         (
             RequestType::Termination,
             ResultCode::UnknownSession,
-            3,
-            "138a",
+            "000001a04000000c00000003",
+            "0000138a",
         ),
         (
             RequestType::Initial,
             ResultCode::ResourcesExceeded,
-            1,
-            "138e",
+            "000001a04000000c00000001",
+            "0000138e",
         ),
-        (RequestType::Initial, ResultCode::UnableToComply, 1, "1394"),
+        (
+            RequestType::Initial,
+            ResultCode::UnableToComply,
+            "000001a04000000c00000001",
+            "00001394",
+        ),
     ] {
-        let refused = Outcome::Answered(Answer {
-            request,
-            key: key(alloc)?,
-            result,
-            services: ServiceAnswers::from_vec(Vec::new(alloc)).ok_or("answers")?,
-            cost: None,
-            balance: None,
-        });
-        let kind = format!(in alloc; "000001a04000000c0000000{kind}")?;
-        let middle = edited(alloc, MIDDLE, EVENT, kind.as_str())?;
-        let want = format!(in alloc; "0100008040{SESSION}0000010c4000000c0000{number}{middle}")?;
-        check(&rt, 0xc0, "", &refused, want.as_str())?;
+        let refused = refused_session(rt.alloc(), request, result)?;
+        check_session(&rt, &refused, "0100008040", (kind, code), "")?;
     }
     Ok(())
 }

@@ -1,7 +1,7 @@
-use super::octets::{edited, header, identity, list_in};
-use crate::{write_refusal, write_unread};
+use crate::octets::{edited, header, identity, list_in};
 use dcc_answer::Proxies;
 use dcc_avp::{Avp, AvpFault, codes, flags, read_list};
+use dcc_credit::{write_refusal, write_unread};
 use dcc_request::{Cause, Refused};
 use dcc_samples::DEBIT;
 use std::alloc::Global;

@@ -1,6 +1,7 @@
 //! Values of other sizes, and values that can't be.
 
-use super::{edited, outcome};
+use super::check;
+use crate::octets::edited;
 use std::test::Fail;
 
 /// An event without units.
@@ -92,8 +93,7 @@ const VALUES: [(&str, &str, &str); 14] = [
 fn values(rt: HostRuntime) -> Result<(), Fail> {
     for (old, new, want) in &VALUES {
         let text = edited(rt.alloc(), EVENT, old, new)?;
-        let told = outcome(rt.alloc(), &text)?;
-        assert_eq!(rt; told.as_str(), *want, "{new} in place of {old}");
+        check(&rt, text.as_str(), want)?;
     }
     Ok(())
 }

@@ -1,23 +1,17 @@
 //! Messages and streams from outside.
 
-use crate::{
+use crate::octets::decoded;
+use dcc_avp::{read_list, write_avp};
+use dcc_message::{
     DiameterIdentity, Framer, Header, HeaderFault, Identity, LengthFault, MAX_LENGTH, any_pieces,
     applications, begin_message, command_flags, commands, finish_message, read_header,
     write_message,
 };
-use dcc_avp::{read_list, write_avp};
-use dcc_samples::{ANSWER, BUSY, DEBIT};
+use dcc_samples::{
+    ANSWER, BUSY, CAPABILITIES, CAPABILITIES_ANSWER, DEBIT, WATCHDOG, WATCHDOG_ANSWER,
+};
 use std::alloc::Global;
 use std::test::Fail;
-
-/// A watchdog request.
-const WATCHDOG: &str =
-    "010000388000011800000000000000010000000200000108400000136777312e6578616d706c6500000001284000000f6578616d706c6500";
-
-/// The answer to a watchdog request.
-const WATCHDOG_ANSWER: &str =
-    "01000044000001180000000000000001000000020000010c4000000c000007d100000108400000136f63732e6578616d706c\
-6500000001284000000f6578616d706c6500";
 
 /// The answer to a debit without its Service-Context-Id.
 const MISSING_ANSWER: &str =
@@ -30,25 +24,9 @@ const SHORT_ANSWER: &str =
     "01000064400001100000000400000011000000210000010c4000000c0000139600000108400000136f63732e6578616d706c\
 6500000001284000000f6578616d706c6500000001024000000c0000000400000117400000140000019f4000000c00000000";
 
-/// A capabilities exchange request.
-const CAPABILITIES: &str =
-    "0100006c8000010100000000000000030000000400000108400000136777312e6578616d706c6500000001284000000f6578\
-616d706c6500000001014000000e00017f00000100000000010a4000000c000000000000010d0000000a6777000000000102\
-4000000c00000004";
-
-/// The answer to it.
-const CAPABILITIES_ANSWER: &str =
-    "01000078000001010000000000000003000000040000010c4000000c000007d100000108400000136f63732e6578616d706c\
-6500000001284000000f6578616d706c6500000001014000000e00017f00000100000000010a4000000c000000000000010d\
-0000000b64636300000001024000000c00000004";
-
-fn octets(alloc: Global, text: &str) -> Result<Vec<u8>, Fail> {
-    Ok(hex::decode(alloc, text)?)
-}
-
 #[test]
 fn header_of_a_request(rt: HostRuntime) -> Result<(), Fail> {
-    let message = octets(rt.alloc(), DEBIT)?;
+    let message = decoded(rt.alloc(), DEBIT)?;
     assert_eq!(rt; message.len(), 228);
     let header = read_header(&message).ok().ok_or("a header")?;
     let want = Header {
@@ -102,7 +80,7 @@ fn messages_read_and_written_back(rt: HostRuntime) -> Result<(), Fail> {
         CAPABILITIES_ANSWER,
     ];
     for text in texts {
-        let message = octets(rt.alloc(), text)?;
+        let message = decoded(rt.alloc(), text)?;
         assert!(rt; written_anew(rt.alloc(), &message)? == message, "{text}");
     }
     Ok(())
@@ -130,7 +108,7 @@ fn faults_in_their_order(rt: HostRuntime) -> Result<(), Fail> {
         ),
     ];
     for (text, fault) in cases {
-        let message = octets(rt.alloc(), text)?;
+        let message = decoded(rt.alloc(), text)?;
         assert_eq!(rt; read_header(&message), Err(fault), "{text}");
     }
     let long = HeaderFault::Length(LengthFault::TooLong);
@@ -145,7 +123,7 @@ fn faults_in_their_order(rt: HostRuntime) -> Result<(), Fail> {
 /// The longest message, in one piece with another behind it, and in two.
 #[test]
 fn longest_message(rt: HostRuntime) -> Result<(), Fail> {
-    let first = octets(rt.alloc(), DEBIT)?;
+    let first = decoded(rt.alloc(), DEBIT)?;
     let header = read_header(&first).ok().ok_or("a header")?;
     let avps = vec![in rt.alloc(); 0x61; MAX_LENGTH - 20]?;
     let mut stream = Vec::new(rt.alloc());
@@ -183,8 +161,8 @@ fn fed(alloc: Global, stream: &[u8], size: usize) -> Result<Vec<Vec<u8>>, Fail> 
 
 #[test]
 fn stream_in_pieces(rt: HostRuntime) -> Result<(), Fail> {
-    let first = octets(rt.alloc(), WATCHDOG)?;
-    let second = octets(rt.alloc(), DEBIT)?;
+    let first = decoded(rt.alloc(), WATCHDOG)?;
+    let second = decoded(rt.alloc(), DEBIT)?;
     let mut stream = Vec::new(rt.alloc());
     stream.extend_from_slice(&first)?;
     stream.extend_from_slice(&second)?;
@@ -200,7 +178,7 @@ fn stream_in_pieces(rt: HostRuntime) -> Result<(), Fail> {
 
 #[test]
 fn cut_into_two(rt: HostRuntime) -> Result<(), Fail> {
-    let message = octets(rt.alloc(), DEBIT)?;
+    let message = decoded(rt.alloc(), DEBIT)?;
     for cut in 0..=message.len() {
         let mut framer = Framer::new(rt.alloc());
         framer.feed(&message[..cut])?;
@@ -208,7 +186,7 @@ fn cut_into_two(rt: HostRuntime) -> Result<(), Fail> {
             assert!(rt; framer.next() == Ok(None));
             framer.feed(&message[cut..])?;
         }
-        assert!(rt; framer.next() == Ok(Some(octets(rt.alloc(), DEBIT)?)));
+        assert!(rt; framer.next() == Ok(Some(decoded(rt.alloc(), DEBIT)?)));
         assert!(rt; framer.next() == Ok(None));
     }
     Ok(())
@@ -222,10 +200,10 @@ fn bad_length_fields(rt: HostRuntime) -> Result<(), Fail> {
         ("01010000", LengthFault::TooLong),
     ];
     for (text, fault) in cases {
-        let first = octets(rt.alloc(), WATCHDOG)?;
+        let first = decoded(rt.alloc(), WATCHDOG)?;
         let mut framer = Framer::new(rt.alloc());
         framer.feed(&first)?;
-        framer.feed(&octets(rt.alloc(), text)?)?;
+        framer.feed(&decoded(rt.alloc(), text)?)?;
         framer.feed(&first)?;
         assert!(rt; framer.next() == Ok(Some(first)));
         assert!(rt; framer.next() == Err(fault));

@@ -1,11 +1,12 @@
 //! Values of AVPs, and their limits.
 
-use super::{decoded, told};
-use crate::{
+use crate::octets::decoded;
+use crate::told::told;
+use dcc_avp::{Avp, codes};
+use dcc_request::{
     Command, Refused, check, first, long_number, name_octets, number, number_within,
     read_message_list, required,
 };
-use dcc_avp::{Avp, codes};
 use std::alloc::Global;
 use std::test::Fail;
 

@@ -1,9 +1,11 @@
 //! Exchanges of the base protocol: a peer, messages that come from it one after another, and what it is replied.
 
-use crate::{Host, Peer, Reply};
+use crate::octets::{identity, joined};
 use dcc_avp::{AvpFault, read_list};
-use dcc_message::{DiameterIdentity, Identity, read_header};
+use dcc_base::{Host, Peer, Reply};
+use dcc_message::read_header;
 use dcc_octets::OctetString;
+use dcc_samples::{CAPABILITIES, CAPABILITIES_ANSWER, WATCHDOG_ANSWER};
 use std::alloc::Global;
 use std::process::Abort;
 use std::test::Fail;
@@ -44,19 +46,10 @@ const SESSION_COPIED: &str = "000001074000000978000000";
 
 const PROXY: &str = "0000011c40000014000001184000000970000000";
 
-fn identity(alloc: Global) -> Result<Identity, Fail> {
-    let host = b"ocs.example".to_vec(alloc)?;
-    let realm = b"example".to_vec(alloc)?;
-    Ok(Identity {
-        host: DiameterIdentity::from_vec(host).ok_or("a host")?,
-        realm: DiameterIdentity::from_vec(realm).ok_or("a realm")?,
-        address: [127, 0, 0, 1],
-    })
-}
-
-/// A message of this header and list, in hex digits.
-fn message(alloc: Global, head: &str, list: &str) -> Result<String, Fail> {
-    let length = 20 + list.len() / 2;
+/// A message of this header and of these parts of a list, in hex digits.
+fn message(alloc: Global, head: &str, parts: &[&str]) -> Result<String, Fail> {
+    let list = joined(alloc, parts)?;
+    let length = (list.len() / 2).saturating_add(20);
     Ok(format!(in alloc; "01{length:06x}{head}{list}")?)
 }
 
@@ -95,12 +88,12 @@ fn check(
     Ok(())
 }
 
-/// Checks that the peer is answered this under the header of an answer.
+/// Checks that the peer is answered this: a message of the one header and parts by one of the other.
 fn check_answer(
     rt: &(impl Abort + AllocGlobal),
     peer: &mut Peer,
-    asked: (&str, &str),
-    answer: (&str, &str),
+    asked: (&str, &[&str]),
+    answer: (&str, &[&str]),
     end: &str,
 ) -> Result<(), Fail> {
     let alloc = rt.alloc();
@@ -127,42 +120,25 @@ fn is_open_as(peer: &Peer, name: &[u8]) -> bool {
 #[test]
 fn exchange(rt: HostRuntime) -> Result<(), Fail> {
     let mut peer = Peer::Wait;
-    check(
-        &rt,
-        &mut peer,
-        "0100006c8000010100000000000000030000000400000108400000136777312e6578616d706c6500000001284000000f6578\
-616d706c6500000001014000000e00017f00000100000000010a4000000c000000000000010d0000000a6777000000000102\
-4000000c00000004",
-        "01000078000001010000000000000003000000040000010c4000000c000007d100000108400000136f63732e6578616d706c\
-6500000001284000000f6578616d706c6500000001014000000e00017f00000100000000010a4000000c000000000000010d\
-0000000b64636300000001024000000c00000004",
-    )?;
+    check(&rt, &mut peer, CAPABILITIES, CAPABILITIES_ANSWER)?;
     assert!(rt; is_open_as(&peer, b"gw1.example"));
-    check(
-        &rt,
-        &mut peer,
-        "010000388000011800000000000000010000000200000108400000136777312e6578616d706c6500000001284000000f6578616d706c6500",
-        "01000044000001180000000000000001000000020000010c4000000c000007d100000108400000136f63732e6578616d706c\
-6500000001284000000f6578616d706c6500",
-    )
+    check(&rt, &mut peer, dcc_samples::WATCHDOG, WATCHDOG_ANSWER)
 }
 
 #[test]
 fn disconnection(rt: HostRuntime) -> Result<(), Fail> {
     let alloc = rt.alloc();
     let mut peer = open(alloc)?;
-    let list = format!(in alloc; "{PEER}000001114000000c00000002{PROXY}")?;
-    let want = format!(in alloc; "0000010c4000000c000007d1{ORIGIN}{PROXY}")?;
     check_answer(
         &rt,
         &mut peer,
-        (DISCONNECT, list.as_str()),
-        (DISCONNECTED, want.as_str()),
+        (DISCONNECT, &[PEER, "000001114000000c00000002", PROXY]),
+        (DISCONNECTED, &["0000010c4000000c000007d1", ORIGIN, PROXY]),
         " close",
     )?;
     assert!(rt; matches!(peer, Peer::Closed));
     // a closed peer isn't heard
-    let again = message(alloc, ASKED, "")?;
+    let again = message(alloc, ASKED, &[])?;
     check(&rt, &mut peer, again.as_str(), "")
 }
 
@@ -178,7 +154,7 @@ fn first_messages(rt: HostRuntime) -> Result<(), Fail> {
         "80000101000000040000000300000004",
     ] {
         let mut peer = Peer::Wait;
-        let text = message(alloc, head, PEER)?;
+        let text = message(alloc, head, &[PEER])?;
         check(&rt, &mut peer, text.as_str(), " close")?;
         assert!(rt; matches!(peer, Peer::Closed));
     }
@@ -188,7 +164,6 @@ fn first_messages(rt: HostRuntime) -> Result<(), Fail> {
 /// What is added to or taken from a request to exchange capabilities, with the Result-Code and the Failed-AVP of the answer.
 #[test]
 fn capabilities_refused(rt: HostRuntime) -> Result<(), Fail> {
-    let alloc = rt.alloc();
     for (list, code, failed) in [
         // an AVP that isn't known, and has to be
         (
@@ -239,13 +214,11 @@ fn capabilities_refused(rt: HostRuntime) -> Result<(), Fail> {
         ),
     ] {
         let mut peer = Peer::Wait;
-        let asked = format!(in alloc; "{PEER}{PRODUCT}{list}")?;
-        let want = format!(in alloc; "0000010c4000000c{code}{ORIGIN}{OWN}{failed}")?;
         check_answer(
             &rt,
             &mut peer,
-            (ASKED, asked.as_str()),
-            (ANSWERED, want.as_str()),
+            (ASKED, &[PEER, PRODUCT, list]),
+            (ANSWERED, &["0000010c4000000c", code, ORIGIN, OWN, failed]),
             " close",
         )?;
         assert!(rt; matches!(peer, Peer::Closed));
@@ -256,30 +229,36 @@ fn capabilities_refused(rt: HostRuntime) -> Result<(), Fail> {
 /// A host without octets, and no product, for which M isn't set.
 #[test]
 fn other_refusals(rt: HostRuntime) -> Result<(), Fail> {
-    let alloc = rt.alloc();
-    let realm = "000001284000000f6578616d706c6500";
-    let mut peer = Peer::Wait;
-    let list = format!(in alloc; "0000010840000008{realm}{PRODUCT}{APPLICATION}")?;
-    let want = format!(in alloc;
-        "0000010c4000000c00001396{ORIGIN}{OWN}00000117400000100000010840000008"
-    )?;
+    let nameless = "0000010840000008000001284000000f6578616d706c6500";
     check_answer(
         &rt,
-        &mut peer,
-        (ASKED, list.as_str()),
-        (ANSWERED, want.as_str()),
+        &mut Peer::Wait,
+        (ASKED, &[nameless, PRODUCT, APPLICATION]),
+        (
+            ANSWERED,
+            &[
+                "0000010c4000000c00001396",
+                ORIGIN,
+                OWN,
+                "00000117400000100000010840000008",
+            ],
+        ),
         " close",
     )?;
-    let mut peer = Peer::Wait;
-    let list = format!(in alloc; "{PEER}000001014000000e00017f00000100000000010a4000000c00000000")?;
-    let want = format!(in alloc;
-        "0000010c4000000c0000138d{ORIGIN}{OWN}00000117400000100000010d00000008"
-    )?;
+    let no_product = "000001014000000e00017f00000100000000010a4000000c00000000";
     check_answer(
         &rt,
-        &mut peer,
-        (ASKED, list.as_str()),
-        (ANSWERED, want.as_str()),
+        &mut Peer::Wait,
+        (ASKED, &[PEER, no_product]),
+        (
+            ANSWERED,
+            &[
+                "0000010c4000000c0000138d",
+                ORIGIN,
+                OWN,
+                "00000117400000100000010d00000008",
+            ],
+        ),
         " close",
     )
 }
@@ -295,13 +274,11 @@ fn capabilities_accepted(rt: HostRuntime) -> Result<(), Fail> {
         "000001024000000c000000040000012b4000000c000000010000012b4000000c00000000",
     ] {
         let mut peer = open(alloc)?;
-        let asked = format!(in alloc; "{PEER}{PRODUCT}{list}")?;
-        let want = format!(in alloc; "0000010c4000000c000007d1{ORIGIN}{OWN}")?;
         check_answer(
             &rt,
             &mut peer,
-            (ASKED, asked.as_str()),
-            (ANSWERED, want.as_str()),
+            (ASKED, &[PEER, PRODUCT, list]),
+            (ANSWERED, &["0000010c4000000c000007d1", ORIGIN, OWN]),
             "",
         )?;
         // a later exchange changes the host
@@ -314,7 +291,6 @@ fn capabilities_accepted(rt: HostRuntime) -> Result<(), Fail> {
 #[test]
 fn protocol_errors(rt: HostRuntime) -> Result<(), Fail> {
     let alloc = rt.alloc();
-    let asked = format!(in alloc; "{PEER}{SESSION}{PROXY}")?;
     for (head, answer, code) in [
         // both R and E; another application; another command, with P and T
         (
@@ -339,12 +315,14 @@ fn protocol_errors(rt: HostRuntime) -> Result<(), Fail> {
         ),
     ] {
         let mut peer = open(alloc)?;
-        let want = format!(in alloc; "{SESSION_COPIED}0000010c4000000c{code}{ORIGIN}{PROXY}")?;
         check_answer(
             &rt,
             &mut peer,
-            (head, asked.as_str()),
-            (answer, want.as_str()),
+            (head, &[PEER, SESSION, PROXY]),
+            (
+                answer,
+                &[SESSION_COPIED, "0000010c4000000c", code, ORIGIN, PROXY],
+            ),
             "",
         )?;
         assert!(rt; is_open_as(&peer, b"gw9.example"));
@@ -355,14 +333,15 @@ fn protocol_errors(rt: HostRuntime) -> Result<(), Fail> {
 /// An exchange of capabilities with both R and E closes the connection, the first and a later one.
 #[test]
 fn exchange_with_the_error_bit(rt: HostRuntime) -> Result<(), Fail> {
-    let alloc = rt.alloc();
-    let want = format!(in alloc; "0000010c4000000c00000bc0{ORIGIN}")?;
-    for mut peer in [Peer::Wait, open(alloc)?] {
+    for mut peer in [Peer::Wait, open(rt.alloc())?] {
         check_answer(
             &rt,
             &mut peer,
-            ("a0000101000000000000000300000004", PEER),
-            ("20000101000000000000000300000004", want.as_str()),
+            ("a0000101000000000000000300000004", &[PEER]),
+            (
+                "20000101000000000000000300000004",
+                &["0000010c4000000c00000bc0", ORIGIN],
+            ),
             " close",
         )?;
         assert!(rt; matches!(peer, Peer::Closed));
@@ -379,13 +358,14 @@ fn disconnection_refused(rt: HostRuntime) -> Result<(), Fail> {
         ("000001114000000c00000003", "0000138c"),
         ("000001114000000b00000200", "00001396"),
     ] {
-        let asked = format!(in alloc; "{PEER}{cause}")?;
-        let want = format!(in alloc; "0000010c4000000c{code}{ORIGIN}0000011740000014{cause}")?;
         check_answer(
             &rt,
             &mut peer,
-            (DISCONNECT, asked.as_str()),
-            (DISCONNECTED, want.as_str()),
+            (DISCONNECT, &[PEER, cause]),
+            (
+                DISCONNECTED,
+                &["0000010c4000000c", code, ORIGIN, "0000011740000014", cause],
+            ),
             "",
         )?;
         assert!(rt; is_open_as(&peer, b"gw9.example"));
@@ -396,24 +376,22 @@ fn disconnection_refused(rt: HostRuntime) -> Result<(), Fail> {
 /// A list that can't be read: nothing is taken over from it.
 #[test]
 fn broken_lists(rt: HostRuntime) -> Result<(), Fail> {
-    let alloc = rt.alloc();
-    let broken = format!(in alloc; "{PROXY}0000010840000007")?;
+    let broken = [PROXY, "0000010840000007"];
+    let code = "0000010c4000000c00001396";
     let shown = "00000117400000100000010840000008";
-    let mut peer = open(alloc)?;
-    let want = format!(in alloc; "0000010c4000000c00001396{ORIGIN}{shown}")?;
+    let mut peer = open(rt.alloc())?;
     check_answer(
         &rt,
         &mut peer,
-        (WATCHDOG, broken.as_str()),
-        (ALIVE, want.as_str()),
+        (WATCHDOG, &broken),
+        (ALIVE, &[code, ORIGIN, shown]),
         "",
     )?;
-    let want = format!(in alloc; "0000010c4000000c00001396{ORIGIN}{OWN}{shown}")?;
     check_answer(
         &rt,
         &mut peer,
-        (ASKED, broken.as_str()),
-        (ANSWERED, want.as_str()),
+        (ASKED, &broken),
+        (ANSWERED, &[code, ORIGIN, OWN, shown]),
         " close",
     )?;
     assert!(rt; matches!(peer, Peer::Closed));
@@ -430,7 +408,7 @@ fn ignored(rt: HostRuntime) -> Result<(), Fail> {
         "00000999000000070000000300000004",
         "c0000110000000040000001100000021",
     ] {
-        let text = message(alloc, head, PEER)?;
+        let text = message(alloc, head, &[PEER])?;
         check(&rt, &mut peer, text.as_str(), "")?;
     }
     let octets = hex::decode(alloc, "0100001480000118000000000000000100000002")?;

@@ -1,6 +1,6 @@
 //! The most that may be asked for and used.
 
-use super::outcome;
+use super::check_behind;
 use std::test::Fail;
 
 /// An update, without its services.
@@ -74,9 +74,7 @@ const AMOUNTS: [(&str, &str); 14] = [
 #[test]
 fn amounts(rt: HostRuntime) -> Result<(), Fail> {
     for (more, want) in &AMOUNTS {
-        let text = format!(in rt.alloc(); "{UPDATE}{more}")?;
-        let told = outcome(rt.alloc(), &text)?;
-        assert_eq!(rt; told.as_str(), *want);
+        check_behind(&rt, UPDATE, more, want)?;
     }
     Ok(())
 }
@@ -93,9 +91,7 @@ fn seconds(rt: HostRuntime) -> Result<(), Fail> {
         (233, "5004 000001be40000014000001a44000000cffffffff"),
     ] {
         let all = used.repeat(rt.alloc(), times)?;
-        let text = format!(in rt.alloc(); "{UPDATE}{all}")?;
-        let told = outcome(rt.alloc(), &text)?;
-        assert_eq!(rt; told.as_str(), want);
+        check_behind(&rt, UPDATE, all.as_str(), want)?;
     }
     Ok(())
 }

@@ -1,6 +1,7 @@
 //! Good requests, read whole.
 
-use super::outcome;
+use super::{check, check_behind};
+use crate::octets::edited;
 use std::test::Fail;
 
 /// What any request has.
@@ -97,9 +98,7 @@ const REQUESTS: [(&str, &str); 18] = [
 #[test]
 fn whole_requests(rt: HostRuntime) -> Result<(), Fail> {
     for (more, want) in &REQUESTS {
-        let text = format!(in rt.alloc(); "{HEAD}{more}")?;
-        let told = outcome(rt.alloc(), &text)?;
-        assert_eq!(rt; told.as_str(), *want);
+        check_behind(&rt, HEAD, more, want)?;
     }
     Ok(())
 }
@@ -109,13 +108,9 @@ fn whole_requests(rt: HostRuntime) -> Result<(), Fail> {
 fn longest_name(rt: HostRuntime) -> Result<(), Fail> {
     let name = "61".repeat(rt.alloc(), 255)?;
     let session = format!(in rt.alloc(); "0000010740000107{name}00")?;
-    let text = super::edited(rt.alloc(), HEAD, "000001074000000a73310000", &session)?;
-    let more = REQUESTS[5].0;
-    let text = format!(in rt.alloc(); "{text}{more}")?;
-    let told = outcome(rt.alloc(), &text)?;
+    let text = edited(rt.alloc(), HEAD, "000001074000000a73310000", &session)?;
     let want = format!(in rt.alloc(); "Initial 0:343931373030303030303031 {name} 7")?;
-    assert_eq!(rt; told, want);
-    Ok(())
+    check_behind(&rt, text.as_str(), REQUESTS[5].0, want.as_str())
 }
 
 /// What an initial request has besides.
@@ -127,15 +122,13 @@ const INITIAL: &str =
 fn longest_message(rt: HostRuntime) -> Result<(), Fail> {
     let alloc = rt.alloc();
     let context = "000001cd400000106461746164617461";
-    let head = super::edited(alloc, HEAD, "000001cd4000000c64617461", context)?;
+    let head = edited(alloc, HEAD, "000001cd4000000c64617461", context)?;
     let ids = "000001b74000000c00000001".repeat(alloc, 5_447)?;
     let text = format!(in alloc; "{head}{INITIAL}000001c84000ff5c{ids}")?;
     assert_eq!(rt; text.len(), 2 * 65_512);
-    let told = outcome(alloc, &text)?;
     let others = ", 1".repeat(alloc, 5_446)?;
     let want = format!(in alloc;
         "Initial 0:343931373030303030303031 7331 7; Multi - [1{others}] - -"
     )?;
-    assert_eq!(rt; told, want);
-    Ok(())
+    check(&rt, text.as_str(), want.as_str())
 }
