@@ -1,6 +1,6 @@
 use super::texts::{VERSIONS, edited};
-use crate::{Plan, UnitKind};
 use dcc_samples::PLAN;
+use dcc_tariff::{Plan, UnitKind};
 use std::test::Fail;
 
 /// The samples' plan is that of the worked examples, value by value.
@@ -33,8 +33,16 @@ fn the_plan_of_the_samples(rt: HostRuntime) -> Result<(), Fail> {
             (0, 0),
             "group {group}"
         );
+        assert_eq!(rt; tariff_at(&plan, group, u64::MAX), tariff, "group {group}");
     }
-    assert_eq!(rt; plan.versions.len(), 3);
+    for group in 0..100 {
+        let is_priced = group == 10 || group == 20 || group == 30;
+        assert_eq!(rt;
+            plan.at(group, u64::MAX).is_some(),
+            is_priced,
+            "group {group}"
+        );
+    }
     Ok(())
 }
 

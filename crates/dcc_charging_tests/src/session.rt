@@ -1,8 +1,8 @@
 //! What may be refused, once granted and once refused.
 
-use crate::{GrantFault, Granted, Held, Idle, ParkedSession};
 use dcc_act::{Grant, Looks, ServiceKey};
 use dcc_escrow::Pool;
+use dcc_session::{GrantFault, Granted, Held, Idle, ParkedSession};
 use dcc_tariff::{Tariff, UnitKind};
 use std::alloc::Global;
 use std::test::Fail;

@@ -1,7 +1,19 @@
-use crate::moment::moment_of;
+//! Moments of a plan, read from its text.
+
+use super::texts::{edited, fault_in};
+use dcc_samples::PLAN;
+use dcc_tariff::Plan;
+use std::alloc::Global;
+use std::test::Fail;
+
+/// The samples' plan, in which group 10 begins at this moment.
+fn plan_from(alloc: Global, moment: &str) -> Result<String, Fail> {
+    edited(alloc, PLAN, "2020-01-01T00:00:00Z", moment)
+}
 
 #[test]
-fn moments_are_seconds_since_1970(rt: HostRuntime) {
+fn moments_are_seconds_since_1970(rt: HostRuntime) -> Result<(), Fail> {
+    let alloc = rt.alloc();
     for (text, moment) in [
         ("1970-01-01T00:00:00Z", 0),
         ("2020-01-01T00:00:00Z", 1_577_836_800),
@@ -9,7 +21,9 @@ fn moments_are_seconds_since_1970(rt: HostRuntime) {
         ("2025-07-01T00:00:00Z", 1_751_328_000),
         ("2099-12-31T23:59:59Z", 4_102_444_799),
     ] {
-        assert_eq!(rt; moment_of(text), Some(moment), "{text}");
+        let plan = Plan::read(alloc, plan_from(alloc, text)?.as_str())?;
+        assert!(rt; plan.at(10, moment).is_some(), "{text}");
+        assert!(rt; moment == 0 || plan.at(10, moment - 1).is_none(), "{text}");
     }
     for text in [
         "",
@@ -41,6 +55,8 @@ fn moments_are_seconds_since_1970(rt: HostRuntime) {
         "2100-01-01T00:00:00Z",
         "9999-12-31T23:59:59Z",
     ] {
-        assert!(rt; moment_of(text).is_none(), "{text}");
+        let plan = plan_from(alloc, text)?;
+        assert_eq!(rt; fault_in(alloc, plan.as_str()), 23, "{text}");
     }
+    Ok(())
 }

@@ -1,6 +1,6 @@
 ghost use Rattle.std.specs.Prelude.{◌≤◌, ◌^◌};
 
-use crate::{MAX_PRICE, Tariff, most_units, price_of};
+use dcc_tariff::{MAX_PRICE, Tariff, most_units, price_of};
 
 fn tariff(price: u32, block: u64) -> Tariff
     requires price_in_range { price ≤ 1_000_000 }

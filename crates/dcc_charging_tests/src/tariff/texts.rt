@@ -1,6 +1,6 @@
 //! Plan texts, and what reading an edited one answers.
 
-use crate::Plan;
+use dcc_tariff::Plan;
 use std::alloc::Global;
 use std::test::Fail;
 

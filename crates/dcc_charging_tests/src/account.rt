@@ -6,20 +6,11 @@ ghost use Rattle.dcc_tariff.specs.declared.limits.TheConstants.{MAX_UNITS};
 
 mod many;
 
-use dcc_act::{
-    Act, Form, Kind, Moment, RequestKey, Service, ServiceIds, Services, SessionId, SessionRequest,
-    TopUp,
-};
-use dcc_tariff::{MAX_UNITS, Tariff, Terms, UnitKind};
+use crate::acts::key;
+use dcc_act::{Act, Form, Kind, Moment, Service, ServiceIds, Services, SessionRequest, TopUp};
+use dcc_tariff::{MAX_UNITS, Tariff, UnitKind};
 use std::alloc::Global;
 use std::test::Fail;
-
-const TERMS: Terms = Terms {
-    validity: 600,
-    hold: 1200,
-    currency: 978,
-    exponent: -2,
-};
 
 /// An act in short. A session's name has one octet; a request has a number, and reports and asks for so many octets, 0 for
 /// none.
@@ -32,11 +23,6 @@ enum Ask {
     /// Session, number, what is reported, and what is asked for.
     Update(u8, u32, u64, u64),
     Expiry,
-}
-
-fn key(alloc: Global, session: u8, number: u32) -> Result<RequestKey, Fail> {
-    let sid = SessionId::from_vec([session].to_vec(alloc)?).ok_or("a name")?;
-    Ok(RequestKey { sid, number })
 }
 
 /// So many units, where there are any.

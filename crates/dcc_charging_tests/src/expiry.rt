@@ -1,7 +1,7 @@
 //! Each public call once, on its happy path.
 
-use crate::Due;
 use dcc_act::{Moment, SessionId};
+use dcc_expiry::Due;
 use std::alloc::Global;
 use std::test::Fail;
 

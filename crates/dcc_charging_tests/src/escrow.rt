@@ -1,6 +1,6 @@
 //! Each call once on its happy path, and each refusal once.
 
-use super::*;
+use dcc_escrow::{Ceiling, Floor, MOST_MONEY, Pool, Settled, Short};
 use std::test::Fail;
 
 /// A pool with this much money.

@@ -3,7 +3,7 @@
 ghost use Rattle.std.specs.Prelude.{IfOk};
 ghost use Rattle.dcc_act.specs.OneTimeEvents.{AsksUnits};
 
-use crate::{
+use dcc_act::{
     Act, Action, Answer, Balance, Entry, EntryKind, EntryName, Form, Grant, Kind, Moment,
     OneTimeEvent, Outcome, RequestKey, RequestType, ResultCode, Service, ServiceAnswer,
     ServiceAnswers, ServiceIds, ServiceKey, Services, SessionId, SessionRequest, Sub, TopUp,

@@ -1,7 +1,8 @@
 //! An account of many acts.
 
-use super::{Ask, TERMS, act, key};
-use crate::Account;
+use super::{Ask, act};
+use crate::acts::{TERMS, key};
+use dcc_account::Account;
 use dcc_act::{Act, Kind, Moment, TopUp};
 use dcc_model::is_refused;
 use std::alloc::Global;

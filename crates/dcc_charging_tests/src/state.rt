@@ -1,22 +1,15 @@
 //! One act after another, by what is kept alone.
 
-use crate::{Facts, OpenSession, POOL, judge};
+use crate::acts::{TERMS, key};
 use dcc_act::{
-    Act, Form, Kind, Looks, Moment, Outcome, RequestKey, Service, ServiceIds, Services, SessionId,
-    SessionRequest,
+    Act, Form, Kind, Looks, Moment, Outcome, Service, ServiceIds, Services, SessionRequest,
 };
 use dcc_escrow::Pool;
 use dcc_model::Standing;
-use dcc_tariff::{Tariff, Terms, UnitKind};
+use dcc_state::{Facts, OpenSession, POOL, judge};
+use dcc_tariff::{Tariff, UnitKind};
 use std::alloc::Global;
 use std::test::Fail;
-
-const TERMS: Terms = Terms {
-    validity: 600,
-    hold: 1200,
-    currency: 978,
-    exponent: -2,
-};
 
 /// One top-up of a thousand minor units was made.
 const FACTS: Facts = Facts {
@@ -33,7 +26,6 @@ const FACTS: Facts = Facts {
 
 /// A request that asks for 100,000 octets of group 10, which cost 5 for each 1,000.
 fn opening(alloc: Global) -> Result<SessionRequest, Fail> {
-    let sid = SessionId::from_vec([b's'].to_vec(alloc)?).ok_or("a name")?;
     let service = Service {
         group: Some(10),
         ids: ServiceIds::new(alloc),
@@ -47,7 +39,7 @@ fn opening(alloc: Global) -> Result<SessionRequest, Fail> {
         }),
     };
     Ok(SessionRequest {
-        key: RequestKey { sid, number: 0 },
+        key: key(alloc, b's', 0)?,
         services: Services::from_vec(vec![in alloc; service]?).ok_or("services")?,
     })
 }

@@ -7,22 +7,16 @@ ghost use Rattle.dcc_tariff.specs.declared.limits.TheConstants.{MAX_UNITS};
 
 mod rows;
 
-use crate::{Done, Judgement, Standing, judge, plain_answer};
+use crate::acts::{TERMS, key};
 use dcc_act::{
-    Act, Action, Answer, Entry, Form, Kind, MAX_SECONDS, Moment, OneTimeEvent, Outcome, RequestKey,
-    Service, ServiceAnswer, ServiceIds, Services, SessionId, SessionRequest, TopUp,
+    Act, Action, Answer, Entry, Form, Kind, MAX_SECONDS, Moment, OneTimeEvent, Outcome, Service,
+    ServiceAnswer, ServiceIds, Services, SessionRequest, TopUp,
 };
-use dcc_tariff::{MAX_UNITS, Tariff, Terms, UnitKind};
+use dcc_model::{Done, Judgement, Standing, judge, plain_answer};
+use dcc_tariff::{MAX_UNITS, Tariff, UnitKind};
 use std::alloc::Global;
 use std::process::Abort;
 use std::test::Fail;
-
-const TERMS: Terms = Terms {
-    validity: 600,
-    hold: 1200,
-    currency: 978,
-    exponent: -2,
-};
 
 /// 2025-06-01T00:00:00Z.
 const START: u64 = 1_748_736_000;
@@ -164,12 +158,6 @@ fn service(alloc: Global, want: Want) -> Service {
         unit: Some(unit),
         tariff: Some(tariff_of(group)),
     }
-}
-
-/// A request's key in the session of this name.
-fn key(alloc: Global, session: u8, number: u32) -> Result<RequestKey, Fail> {
-    let sid = SessionId::from_vec([session].to_vec(alloc)?).ok_or("a name")?;
-    Ok(RequestKey { sid, number })
 }
 
 /// A request of a session.
