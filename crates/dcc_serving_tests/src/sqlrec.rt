@@ -1,11 +1,9 @@
 //! Stores in memory and on disks that fail.
 
-ghost use Rattle.std.specs.Prelude.{◌≡◌, pos, None, IfOk};
-
-use crate::{Setting, SqlRecords, stop_and_open};
-use dcc_act::{Act, Entry, EntryKind, EntryName, Kind, Moment, Sub, TopUp};
+use crate::top_ups::{TERMS, posted, subscriber, top_up};
+use dcc_act::Sub;
 use dcc_records::Records;
-use dcc_tariff::Terms;
+use dcc_sqlrec::{Setting, SqlRecords, stop_and_open};
 use sqlite::{Alter, Connection, Files, Options};
 use sqlite_disk::Memory;
 use std::alloc::Global;
@@ -17,51 +15,8 @@ const SETTING: Setting<'static> = Setting {
     shards: 1,
     host: "ocs.example.com",
     realm: "example.com",
-    terms: Terms {
-        validity: 600,
-        hold: 1200,
-        currency: 978,
-        exponent: -2,
-    },
+    terms: TERMS,
 };
-
-fn subscriber(name: &[u8]) -> Result<Sub, Fail> {
-    Ok(Sub::new(0, name).ok_or("a subscriber")?)
-}
-
-/// A top-up at 2025-06-01T00:00:00Z.
-fn top_up(ticket: u64, amount: u64) -> Result<Act, Fail>
-    ensures { IfOk result (λ act. act
-        ≡ record { moment = 1748736000; kind = Kind.TopUp (record { ticket = ticket; amount = amount }) }) }
-{
-    Ok(Act {
-        moment: Moment::new(1_748_736_000).ok_or("a moment")?,
-        kind: Kind::TopUp(TopUp::new(ticket, amount).ok_or("an amount")?),
-    })
-}
-
-/// Its entry.
-fn posted(place: u64, ticket: u64, amount: u32) -> Result<Entry, Fail>
-    ensures { IfOk result (λ entry. entry ≡ record {
-      place = place;
-      moment = 1748736000;
-      kind = EntryKind.TopUp;
-      group = None;
-      units = 0;
-      amount = pos amount;
-      name = EntryName.Ticket ticket;
-    }) }
-{
-    Ok(Entry {
-        place,
-        moment: Moment::new(1_748_736_000).ok_or("a moment")?,
-        kind: EntryKind::TopUp,
-        group: None,
-        units: 0,
-        amount: i64::from(amount),
-        name: EntryName::Ticket(ticket),
-    })
-}
 
 /// Makes a store and appends one top-up.
 fn stored<S: Alter + Drop>(

@@ -1,10 +1,10 @@
 //! A debit, and an exchange of capabilities, with ample memory and with each allocation refused; other rows stand where
 //! scripts are replayed.
 
-use super::*;
+use crate::server::identity;
 use dcc_act::{Moment, Sub};
 use dcc_base::Host;
-use dcc_message::{DiameterIdentity, Identity};
+use dcc_engine::{Engine, Event, Out};
 use dcc_octets::OctetString;
 use dcc_records::MemoryRecords;
 use dcc_samples::{
@@ -20,11 +20,7 @@ use std::test::Fail;
 
 fn engine<R: RandomSource + AllocGlobal>(rt: &R) -> Result<Engine<MemoryRecords>, Fail> {
     let alloc = rt.alloc();
-    let identity = Identity {
-        host: DiameterIdentity::from_vec(b"ocs.example".to_vec(alloc)?).ok_or("a host")?,
-        realm: DiameterIdentity::from_vec(b"example".to_vec(alloc)?).ok_or("a realm")?,
-        address: [127, 0, 0, 1],
-    };
+    let identity = identity(alloc)?;
     let plan = Plan::read(alloc, PLAN)?;
     let hasher = RandomState::new(rt)?;
     let shards = shards_in_memory(alloc, plan.terms(), identity, 2, hasher)?;

@@ -1,8 +1,8 @@
 use Rattle.std.proofs.Common.{◌∷◌, [], refl, sym, ap, ◌∙◌}
 use Rattle.dcc_act.specs.declared.act.Act.{Act}
 use Rattle.dcc_records.specs.Books.{no_acts, with_act}
-use Rattle.dcc_records.proofs.TopUps.{first_left, second_left}
-use Rattle.dcc_records.proofs.tests.fill.Goals as goal
+use Rattle.dcc_serving_tests.proofs.TopUps.{first_left, second_left}
+use Rattle.dcc_serving_tests.proofs.records.fill.Goals as goal
 
 pub append-requires : goal.append-requires
 append-requires g c = λ going.

@@ -1,9 +1,9 @@
 //! Records octet for octet, one of each kind, and octets that are none.
 
-use crate::{RecordFault, read_act, write_act};
 use dcc_act::{
     Act, Action, Form, Kind, Moment, OneTimeEvent, RequestKey, Service, ServiceIds, SessionId,
 };
+use dcc_record::{RecordFault, read_act, write_act};
 use dcc_tariff::{Tariff, UnitKind};
 use std::alloc::Global;
 use std::process::Abort;

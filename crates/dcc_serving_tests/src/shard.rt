@@ -3,29 +3,23 @@
 
 ghost use Rattle.std.specs.Prelude.{◌≡◌, true, is_some};
 
-use super::*;
+use crate::server::identity;
+use crate::top_ups::subscriber;
 use dcc_act::{
     Act, Action, Form, Kind, Moment, OneTimeEvent, RequestKey, Service, ServiceIds, Services,
     SessionId, SessionRequest, Sub,
 };
 use dcc_answer::Proxies;
-use dcc_message::{DiameterIdentity, Header, Identity, read_header};
+use dcc_message::{Header, read_header};
 use dcc_records::{MemoryRecords, OnceRecords, Records};
 use dcc_samples::{ANSWER, BUSY, DEBIT, PLAN};
+use dcc_shard::{ExpiryAnswer, RequestAnswer, Shard, TopUpAnswer, shard_of};
 use dcc_tariff::{Plan, Tariff, UnitKind};
 use std::alloc::Global;
 use std::hash::RandomState;
 use std::process::Abort;
 use std::random::RandomSource;
 use std::test::Fail;
-
-fn identity(alloc: Global) -> Result<Identity, Fail> {
-    Ok(Identity {
-        host: DiameterIdentity::from_vec(b"ocs.example".to_vec(alloc)?).ok_or("a host")?,
-        realm: DiameterIdentity::from_vec(b"example".to_vec(alloc)?).ok_or("a realm")?,
-        address: [127, 0, 0, 1],
-    })
-}
 
 /// A shard of what these records hold.
 fn shard_over<R: RandomSource + AllocGlobal, S: Records + Drop>(
@@ -122,7 +116,7 @@ fn a_debit_is_made_once(rt: HostRuntime) -> Result<(), Fail> {
     let alloc = rt.alloc();
     let plan = Plan::read(alloc, PLAN)?;
     let mut shard = shard(&rt, &plan)?;
-    let sub = Sub::new(0, b"491700000001").ok_or("a subscriber")?;
+    let sub = subscriber(b"491700000001")?;
     let (unknown, place, _) = step(alloc, &mut shard, sub)?;
     assert!(rt; unknown.as_str().contains("000013a6"));
     assert_eq!(rt; place, 0);
@@ -167,7 +161,7 @@ fn opening(alloc: Global) -> Result<Act, Fail> {
 
 /// What the opening of the sample's session is answered.
 fn opened<R: Records>(alloc: Global, shard: &mut Shard<R>) -> Result<(u64, bool), Fail> {
-    let sub = Sub::new(0, b"491700000001").ok_or("a subscriber")?;
+    let sub = subscriber(b"491700000001")?;
     let (header, act) = (header(alloc)?, opening(alloc)?);
     if !matches!(act.kind, Kind::Initial(_)) {
         return Err("a request".into());
@@ -183,7 +177,7 @@ fn expired<R: Records>(
     shard: &mut Shard<R>,
     seconds: u32,
 ) -> Result<ExpiryAnswer, Fail> {
-    let sub = Sub::new(0, b"491700000001").ok_or("a subscriber")?;
+    let sub = subscriber(b"491700000001")?;
     let later = Moment::new(1_751_328_000 + u64::from(seconds)).ok_or("a moment")?;
     Ok(shard.expire(alloc, sub, later))
 }
@@ -216,14 +210,14 @@ fn told<R: Records>(
     ticket: u64,
     amount: u64,
 ) -> Result<TopUpAnswer, Fail> {
-    let sub = Sub::new(0, b"491700000001").ok_or("a subscriber")?;
+    let sub = subscriber(b"491700000001")?;
     let moment = Moment::new(1_751_328_000).ok_or("a moment")?;
     Ok(shard.top_up(alloc, sub, moment, ticket, amount))
 }
 
 /// What the sample's request is answered, in hex.
 fn answered<R: Records>(alloc: Global, shard: &mut Shard<R>) -> Result<String, Fail> {
-    let sub = Sub::new(0, b"491700000001").ok_or("a subscriber")?;
+    let sub = subscriber(b"491700000001")?;
     let (octets, _, _) = step(alloc, shard, sub)?;
     Ok(octets)
 }
@@ -256,11 +250,6 @@ fn a_store_that_fails_stops_its_shard(rt: HostRuntime) -> Result<(), Fail> {
     Ok(())
 }
 
-/// A subscriber of these data.
-fn named(name: &[u8]) -> Result<Sub, Fail> {
-    Ok(Sub::new(0, name).ok_or("a subscriber")?)
-}
-
 #[test]
 fn shards_are_found_by_type_and_data(rt: HostRuntime) -> Result<(), Fail> {
     for (name, of_two, of_eight) in [
@@ -268,7 +257,7 @@ fn shards_are_found_by_type_and_data(rt: HostRuntime) -> Result<(), Fail> {
         (b"491700000002", 1, 7),
         (b"491700000003", 0, 0),
     ] {
-        let sub = named(name)?;
+        let sub = subscriber(name)?;
         assert_eq!(rt; (shard_of(&sub, 2), shard_of(&sub, 8)), (of_two, of_eight));
     }
     Ok(())

@@ -1,8 +1,9 @@
 //! Top-ups of a shard in memory, in one word each, and the ledgers after them.
 
-use super::*;
-use dcc_act::{Moment, Sub};
-use dcc_message::{DiameterIdentity, Identity};
+use crate::server::identity;
+use crate::top_ups::subscriber;
+use dcc_act::Moment;
+use dcc_operator::{ledger_run, top_up_run};
 use dcc_records::MemoryRecords;
 use dcc_samples::PLAN;
 use dcc_shard::Shard;
@@ -14,11 +15,7 @@ use std::test::Fail;
 fn shard<R: RandomSource + AllocGlobal>(rt: &R) -> Result<Shard<MemoryRecords>, Fail> {
     let alloc = rt.alloc();
     let plan = Plan::read(alloc, PLAN)?;
-    let identity = Identity {
-        host: DiameterIdentity::from_vec(b"ocs.example".to_vec(alloc)?).ok_or("a host")?,
-        realm: DiameterIdentity::from_vec(b"example".to_vec(alloc)?).ok_or("a realm")?,
-        address: [127, 0, 0, 1],
-    };
+    let identity = identity(alloc)?;
     let records = MemoryRecords::new(alloc, plan.terms());
     Shard::new(alloc, &identity, records, RandomState::new(rt)?).map_err(|_| Fail::from("a shard"))
 }
@@ -38,8 +35,8 @@ account 0:491700000002 unknown
 fn top_ups_are_told_in_a_word_and_stand_in_the_ledger(rt: HostRuntime) -> Result<(), Fail> {
     let alloc = rt.alloc();
     let mut shard = shard(&rt)?;
-    let sub = Sub::new(0, b"491700000001").ok_or("a subscriber")?;
-    let other = Sub::new(0, b"491700000002").ok_or("a subscriber")?;
+    let sub = subscriber(b"491700000001")?;
+    let other = subscriber(b"491700000002")?;
     let moment = Moment::new(1_748_736_000).ok_or("a moment")?;
     let mut output = Vec::new(alloc);
     for (ticket, amount) in [(1, 1000), (1, 1), (2, 0), (3, 1_000_000_000_000_000_000)] {

@@ -1,60 +1,15 @@
 //! Records in memory, and those that fail once; pages and books.
 
-ghost use Rattle.std.specs.Prelude.{◌≡◌, false, pos, None, IfOk};
+ghost use Rattle.std.specs.Prelude.{◌≡◌, false};
 ghost use Rattle.dcc_act.specs.Subs.{same_sub};
 ghost use Rattle.dcc_records.specs.Books.{no_acts};
 ghost use Rattle.dcc_records.specs.Stops.{LeavesOnly};
 
-use crate::{Book, MemoryRecords, OnceRecords, Page, Records, StoreFault, acts_stand_apart};
-use dcc_act::{Act, Entry, EntryKind, EntryName, Kind, Moment, Sub, TopUp};
-use dcc_tariff::Terms;
+use crate::top_ups::{TERMS, posted, subscriber, top_up};
+use dcc_act::{Kind, Sub};
+use dcc_records::{Book, MemoryRecords, OnceRecords, Page, Records, StoreFault, acts_stand_apart};
 use std::alloc::Global;
 use std::test::Fail;
-
-const TERMS: Terms = Terms {
-    validity: 600,
-    hold: 1200,
-    currency: 978,
-    exponent: -2,
-};
-
-fn subscriber(name: &[u8]) -> Result<Sub, Fail> {
-    Ok(Sub::new(0, name).ok_or("a subscriber")?)
-}
-
-/// A top-up at 2025-06-01T00:00:00Z.
-fn top_up(ticket: u64, amount: u64) -> Result<Act, Fail>
-    ensures { IfOk result (λ act. act
-        ≡ record { moment = 1748736000; kind = Kind.TopUp (record { ticket = ticket; amount = amount }) }) }
-{
-    Ok(Act {
-        moment: Moment::new(1_748_736_000).ok_or("a moment")?,
-        kind: Kind::TopUp(TopUp::new(ticket, amount).ok_or("an amount")?),
-    })
-}
-
-/// Its entry.
-fn posted(place: u64, ticket: u64, amount: u32) -> Result<Entry, Fail>
-    ensures { IfOk result (λ entry. entry ≡ record {
-      place = place;
-      moment = 1748736000;
-      kind = EntryKind.TopUp;
-      group = None;
-      units = 0;
-      amount = pos amount;
-      name = EntryName.Ticket ticket;
-    }) }
-{
-    Ok(Entry {
-        place,
-        moment: Moment::new(1_748_736_000).ok_or("a moment")?,
-        kind: EntryKind::TopUp,
-        group: None,
-        units: 0,
-        amount: i64::from(amount),
-        name: EntryName::Ticket(ticket),
-    })
-}
 
 /// Two top-ups of the later subscriber, and one of the earlier between them, until one isn't appended: how many were.
 fn fill<R: Records>(records: &mut R, later: Sub, earlier: Sub) -> Result<u8, Fail>

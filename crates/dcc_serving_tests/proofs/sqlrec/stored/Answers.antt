@@ -2,8 +2,8 @@ use Rattle.std.proofs.Common.{refl}
 use Rattle.sqlite.specs.Held.{state}
 use Rattle.dcc_records.specs.Books.{no_acts}
 use Rattle.dcc_sqlrec.specs.Content.{leaves}
-use Rattle.dcc_sqlrec.proofs.TopUps.{first_left}
-use Rattle.dcc_sqlrec.proofs.tests.stored.Goals as goal
+use Rattle.dcc_serving_tests.proofs.TopUps.{first_left}
+use Rattle.dcc_serving_tests.proofs.sqlrec.stored.Goals as goal
 
 pub append-requires : goal.append-requires
 append-requires g c = λ going.
