@@ -16,6 +16,3 @@ mod step;
 
 pub use account::Account;
 pub use step::Step;
-
-#[cfg(test)]
-mod tests;

@@ -48,6 +48,3 @@ pub use session_id::SessionId;
 pub use session_request::SessionRequest;
 pub use sub::Sub;
 pub use top_up::TopUp;
-
-#[cfg(test)]
-mod tests;

@@ -21,6 +21,3 @@ pub use laws::{busy_by_result, proxies_are_spelled, read_back};
 pub use protocol_error::{TOO_BUSY, write_busy, write_error};
 pub use proxies::Proxies;
 pub use session::{Session, session_id};
-
-#[cfg(test)]
-mod tests;

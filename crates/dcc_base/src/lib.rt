@@ -22,6 +22,3 @@ pub use host::Host;
 pub use laws::told_apart;
 pub use peer::Peer;
 pub use reply::Reply;
-
-#[cfg(test)]
-mod tests;

@@ -31,6 +31,3 @@ pub use read::read_ccr;
 pub use request::{Request, subscriber};
 pub use request_type::RequestType;
 pub use service::Service;
-
-#[cfg(test)]
-mod tests;

@@ -21,6 +21,3 @@ pub use answer::{USER_UNKNOWN, write_cca};
 pub use laws::{read_back, told_apart};
 pub use refusal::{write_refusal, write_unread};
 pub use session::lend_session;
-
-#[cfg(test)]
-mod tests;

@@ -26,6 +26,3 @@ pub use event::{Event, Out};
 pub use laws::{isolation, runs_in_turn};
 pub use peers::PeerRow;
 pub use subs::Subs;
-
-#[cfg(test)]
-mod tests;

@@ -15,6 +15,3 @@ pub use fault::{Ceiling, Floor, Short};
 pub use hold::{Hold, Parked};
 pub use limits::MOST_MONEY;
 pub use pool::{Pool, Settled};
-
-#[cfg(test)]
-mod tests;

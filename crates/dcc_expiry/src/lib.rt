@@ -9,6 +9,3 @@ mod due;
 mod row;
 
 pub use due::Due;
-
-#[cfg(test)]
-mod tests;

@@ -20,6 +20,3 @@ mod sender;
 pub use making::Lane;
 pub use receiver::{Count, LaneFault, Receiver, Unfinished};
 pub use sender::Sender;
-
-#[cfg(test)]
-mod tests;

@@ -1,8 +1,7 @@
 //! Diameter messages: the header, messages in a stream of octets, and who answers them.
 //!
-//! Stands on `dcc_octets`, and in its tests on `dcc_avp`. The contract that it gives: a header is read exactly where the
-//! octets spell it, and a stream of octets gives its messages, the same ones however it was cut into pieces (RFC 6733,
-//! section 3).
+//! Stands on `dcc_octets`. The contract that it gives: a header is read exactly where the octets spell it, and a stream of
+//! octets gives its messages, the same ones however it was cut into pieces (RFC 6733, section 3).
 #![tactic(auto)]
 
 pub mod applications;
@@ -13,8 +12,6 @@ mod header;
 mod identity;
 mod laws;
 mod length;
-#[cfg(test)]
-mod tests;
 
 pub use framer::Framer;
 pub use header::{Header, HeaderFault, begin_message, finish_message, read_header, write_message};

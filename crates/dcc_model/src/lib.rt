@@ -36,6 +36,3 @@ pub use outcomes::{bare, command_result, is_under};
 pub use posting::{charge_entry, event_entries, top_up_entries};
 pub use results::{has_succeeded, is_refused};
 pub use sessions::{answers_of, names_any, was_opened};
-
-#[cfg(test)]
-mod tests;

@@ -15,6 +15,3 @@ pub use fault::OperatorFault;
 pub use ledger::{ledger_run, unknown_run};
 pub use stores::{StoreRefusal, Stores, shard_over};
 pub use top_up::top_up_run;
-
-#[cfg(test)]
-mod tests;

@@ -25,6 +25,3 @@ pub use kept::keeps_limits;
 pub use laws::records_differ;
 pub use reading::read_act;
 pub use writing::write_act;
-
-#[cfg(test)]
-mod tests;

@@ -3,4 +3,3 @@ pub mod Adding
 pub mod Reading
 pub mod Orders
 pub mod Stopping
-pub mod TopUps

@@ -31,6 +31,3 @@ pub use memory::MemoryRecords;
 pub use once::OnceRecords;
 pub use page::Page;
 pub use records::Records;
-
-#[cfg(test)]
-mod tests;

@@ -17,6 +17,3 @@ mod moment;
 
 pub use laws::{moments_are_read_back, names_are_apart};
 pub use ledger::{account_line, ledger_text};
-
-#[cfg(test)]
-mod tests;

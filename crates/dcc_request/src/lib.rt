@@ -35,6 +35,3 @@ pub use refused::{Failed, Refused, clear};
 pub use stop::Stop;
 pub use values::{first, long_number, name_octets, number, number_within, required};
 pub use walk::{Group, List};
-
-#[cfg(test)]
-mod tests;

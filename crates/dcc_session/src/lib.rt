@@ -30,6 +30,3 @@ pub use held::{Held, price_held};
 pub use idle::{Closed, Idle};
 pub use open::Open;
 pub use parked::ParkedSession;
-
-#[cfg(test)]
-mod tests;

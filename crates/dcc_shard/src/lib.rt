@@ -23,6 +23,3 @@ pub use memory::shards_in_memory;
 pub use route::shard_of;
 pub use shard::Shard;
 pub use shards::Shards;
-
-#[cfg(test)]
-mod tests;

@@ -11,4 +11,3 @@ pub mod Tallying
 pub mod OneMore
 pub mod Creates
 pub mod First
-pub mod TopUps

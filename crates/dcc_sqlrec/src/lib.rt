@@ -34,6 +34,3 @@ pub use fault::CreateFault;
 pub use files::stop_and_open;
 pub use setting::Setting;
 pub use sql_records::SqlRecords;
-
-#[cfg(test)]
-mod tests;

@@ -26,6 +26,3 @@ pub use judging::judge;
 pub use laws::{money_is_within, sessions_hold_what_is_reserved};
 pub use limits::{FARTHEST, POOL};
 pub use open_session::OpenSession;
-
-#[cfg(test)]
-mod tests;

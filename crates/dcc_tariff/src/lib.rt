@@ -36,6 +36,3 @@ pub use prices::{most_units, price_of};
 pub use tariff::{Tariff, UnitKind};
 pub use terms::Terms;
 pub use version::Version;
-
-#[cfg(test)]
-mod tests;

@@ -1,0 +1,402 @@
+//! Worked examples, answered by the plain program.
+
+ghost use Rattle.std.specs.Prelude.{◌≤◌};
+ghost use Rattle.std.specs.Option.{ForSome};
+ghost use Rattle.dcc_act.specs.declared.limits.TheConstants.{MAX_SECONDS};
+ghost use Rattle.dcc_tariff.specs.declared.limits.TheConstants.{MAX_UNITS};
+
+mod rows;
+
+use crate::acts::{TERMS, key};
+use dcc_act::{
+    Act, Action, Answer, Entry, Form, Kind, MAX_SECONDS, Moment, OneTimeEvent, Outcome, Service,
+    ServiceAnswer, ServiceIds, Services, SessionRequest, TopUp,
+};
+use dcc_model::{Done, Judgement, Standing, judge, plain_answer};
+use dcc_tariff::{MAX_UNITS, Tariff, UnitKind};
+use std::alloc::Global;
+use std::process::Abort;
+use std::test::Fail;
+
+/// 2025-06-01T00:00:00Z.
+const START: u64 = 1_748_736_000;
+
+/// A service in single form, which has no Rating-Group.
+const SINGLE: u32 = 0;
+
+/// Another, which the plan doesn't have.
+const UNRATED: u32 = 1;
+
+/// The session of the one-time events.
+const EVENTS: u8 = b'e';
+
+/// A service in short, by its group.
+#[derive(Clone, Copy)]
+enum Want {
+    /// It asks for so many units.
+    Asks(u32, u64),
+    /// It reports so many.
+    Used(u32, u64),
+    /// It reports the first, and asks for the second.
+    Both(u32, u64, u64),
+}
+
+/// An act in short. A session's name has one octet; a request has a number.
+#[derive(Clone, Copy)]
+enum Ask {
+    /// Ticket and amount.
+    TopUp(u64, u64),
+    Initial(u8, u32, &'static [Want]),
+    Update(u8, u32, &'static [Want]),
+    Termination(u8, u32, &'static [Want]),
+    /// Action, number, and the service that asks.
+    Event(Action, u32, Want),
+    Expiry,
+}
+
+/// In place of a result: a top-up that is added, one past the ceiling, an expiry, a grant of the last units.
+const ADDED: u32 = 0;
+
+const CEILING: u32 = 1;
+
+const ENDS: u32 = 2;
+
+const LAST: u32 = 3;
+
+/// A result, and what was granted or told of a price, 100 and the number of a balance, or how many sessions ended.
+type Told = (u32, u64);
+
+/// A command that succeeds.
+const OK: &[Told] = &[(2001, 0)];
+
+/// An act so many seconds after the start, and what it comes to: the command, then each service in multi form.
+type Line = (u64, Ask, &'static [Told]);
+
+/// What a group counts, where the plan has it.
+fn unit_of(group: u32) -> Option<UnitKind> {
+    match group {
+        SINGLE | 10 | 40 => Some(UnitKind::Octets),
+        20 => Some(UnitKind::Time),
+        30 => Some(UnitKind::Units),
+        _ => None,
+    }
+}
+
+/// What the units of a group cost.
+fn tariff_of(group: u32) -> Tariff {
+    match group {
+        20 => Tariff {
+            price: 2,
+            block: 60,
+        },
+        30 => Tariff { price: 0, block: 1 },
+        40 => Tariff {
+            price: 1_000_000,
+            block: 1,
+        },
+        _ => Tariff {
+            price: 5,
+            block: 1000,
+        },
+    }
+}
+
+/// The group of a service in short.
+fn group_of(want: Want) -> u32 {
+    match want {
+        Want::Asks(group, _) | Want::Used(group, _) | Want::Both(group, _, _) => group,
+    }
+}
+
+/// What a service asks for, within its limits.
+fn asked_of(want: Want) -> Option<u64>
+    ensures least { ForSome result (λ units. 1 ≤ units) }
+    ensures most { ForSome result (λ units. units ≤ MAX_SECONDS) }
+{
+    match want {
+        Want::Asks(_, asked) | Want::Both(_, _, asked) => Some(asked.clamp(1, MAX_SECONDS)),
+        Want::Used(_, _) => None,
+    }
+}
+
+/// What it reports, within its limit.
+fn used_of(want: Want) -> Option<u64>
+    ensures { ForSome result (λ units. units ≤ MAX_UNITS) }
+{
+    match want {
+        Want::Used(_, used) | Want::Both(_, used, _) => Some(used.min(MAX_UNITS)),
+        Want::Asks(_, _) => None,
+    }
+}
+
+/// The service in short.
+fn service(alloc: Global, want: Want) -> Service {
+    let group = group_of(want);
+    let ids = ServiceIds::new(alloc);
+    let (named, form) = if group == SINGLE || group == UNRATED {
+        (None, Form::Single)
+    } else {
+        (Some(group), Form::Multi)
+    };
+    let Some(unit) = unit_of(group) else {
+        return Service {
+            group: named,
+            ids,
+            form,
+            asked: asked_of(want).and(Some(0)),
+            used: used_of(want).and(Some(0)),
+            unit: None,
+            tariff: None,
+        };
+    };
+    Service {
+        group: named,
+        ids,
+        form,
+        asked: asked_of(want),
+        used: used_of(want),
+        unit: Some(unit),
+        tariff: Some(tariff_of(group)),
+    }
+}
+
+/// A request of a session.
+fn request(
+    alloc: Global,
+    session: u8,
+    number: u32,
+    wants: &[Want],
+) -> Result<SessionRequest, Fail> {
+    let mut services = Vec::new(alloc);
+    for want in wants {
+        services.push(service(alloc, *want))?;
+    }
+    Ok(SessionRequest {
+        key: key(alloc, session, number)?,
+        services: Services::from_vec(services).ok_or("services")?,
+    })
+}
+
+/// A one-time event of a service.
+fn event(alloc: Global, action: Action, number: u32, want: Want) -> Result<OneTimeEvent, Fail> {
+    let service = service(alloc, want);
+    if service.asked.is_none() {
+        return Err("units".into());
+    }
+    Ok(OneTimeEvent {
+        key: key(alloc, EVENTS, number)?,
+        action,
+        service,
+    })
+}
+
+/// What happens by an act in short.
+fn kind(alloc: Global, ask: Ask) -> Result<Kind, Fail> {
+    Ok(match ask {
+        Ask::TopUp(ticket, amount) => Kind::TopUp(TopUp::new(ticket, amount).ok_or("an amount")?),
+        Ask::Initial(session, number, wants) => {
+            Kind::Initial(request(alloc, session, number, wants)?)
+        }
+        Ask::Update(session, number, wants) => {
+            Kind::Update(request(alloc, session, number, wants)?)
+        }
+        Ask::Termination(session, number, wants) => {
+            Kind::Termination(request(alloc, session, number, wants)?)
+        }
+        Ask::Event(action, number, want) => Kind::Event(event(alloc, action, number, want)?),
+        Ask::Expiry => Kind::Expiry,
+    })
+}
+
+/// The act so many seconds after the start.
+fn act(alloc: Global, after: u64, ask: Ask) -> Result<Act, Fail> {
+    let seconds = START.saturating_add(after);
+    Ok(Act {
+        moment: Moment::new(seconds).ok_or("a moment")?,
+        kind: kind(alloc, ask)?,
+    })
+}
+
+/// What a service comes to.
+fn service_told(service: &ServiceAnswer) -> Told {
+    match &service.grant {
+        None => (service.result.number(), 0),
+        Some(grant) if service.is_final => (LAST, grant.units),
+        Some(grant) => (service.result.number(), grant.units),
+    }
+}
+
+/// What a command comes to, with its service where that stands alone at its level.
+fn command_told(answer: &Answer) -> Told {
+    if let Some(cost) = answer.cost {
+        return (answer.result.number(), cost);
+    }
+    if let Some(balance) = answer.balance {
+        return (answer.result.number(), 100 + u64::from(balance.number()));
+    }
+    match answer.services.as_slice() {
+        [service] if service.form == Form::Single => service_told(service),
+        _ => (answer.result.number(), 0),
+    }
+}
+
+/// What an act comes to, in short.
+fn told(alloc: Global, outcome: &Outcome) -> Result<Vec<Told>, Fail> {
+    let command = match outcome {
+        Outcome::Unknown { .. } => (5030, 0),
+        Outcome::Added => (ADDED, 0),
+        Outcome::Ceiling => (CEILING, 0),
+        Outcome::Expired { sessions } => (ENDS, *sessions),
+        Outcome::Answered(answer) => command_told(answer),
+    };
+    let mut told = vec![in alloc; command]?;
+    if let Outcome::Answered(answer) = outcome {
+        for service in answer.services.as_slice() {
+            if service.form == Form::Multi {
+                told.push(service_told(service))?;
+            }
+        }
+    }
+    Ok(told)
+}
+
+/// All acts of a subscriber, and of them those that were made.
+#[derive(Drop)]
+struct Book {
+    all: Vec<Act>,
+    made: Vec<Done>,
+    standing: Standing,
+}
+
+impl Book {
+    /// No acts.
+    fn new(alloc: Global) -> Book {
+        Book {
+            all: Vec::new(alloc),
+            made: Vec::new(alloc),
+            standing: Standing {
+                funds: 0,
+                free: 0,
+                overrun: 0,
+            },
+        }
+    }
+
+    /// The entries that one more act adds.
+    fn judge(&mut self, alloc: Global, act: &Act) -> Result<Vec<Entry>, Fail> {
+        let Judgement {
+            outcome,
+            is_new,
+            entries,
+            standing,
+            ..
+        } = judge(alloc, &TERMS, &self.made, act)?;
+        self.standing = standing;
+        if is_new {
+            let act = act.copy()?;
+            self.made.push(Done { act, outcome })?;
+        }
+        Ok(entries)
+    }
+
+    /// What one more act comes to by the plain program.
+    fn make(&mut self, alloc: Global, act: Act) -> Result<Outcome, Fail> {
+        self.judge(alloc, &act)?;
+        self.all.push(act)?;
+        Ok(plain_answer(alloc, &TERMS, &self.all, self.all.len())?)
+    }
+
+    /// Whether these acts come to what they are to.
+    fn check(
+        &mut self,
+        rt: &impl Abort,
+        alloc: Global,
+        row: usize,
+        lines: &[Line],
+    ) -> Result<(), Fail> {
+        for (i, (after, ask, expected)) in lines.iter().enumerate() {
+            let outcome = self.make(alloc, act(alloc, *after, *ask)?)?;
+            let told = told(alloc, &outcome)?;
+            assert_eq!(rt; told.as_slice(), *expected, "line {i} of row {row}");
+        }
+        Ok(())
+    }
+}
+
+#[test]
+fn lists_of_acts(rt: HostRuntime) -> Result<(), Fail> {
+    for (row, (lines, standing)) in rows::ROWS.iter().enumerate() {
+        let mut book = Book::new(rt.alloc());
+        book.check(&rt, rt.alloc(), row, lines)?;
+        let Standing {
+            funds,
+            free,
+            overrun,
+        } = book.standing;
+        assert_eq!(rt; (funds, free, overrun), *standing, "row {row}");
+    }
+    Ok(())
+}
+
+/// A subscriber has at most 64 sessions open.
+#[test]
+fn open_sessions(rt: HostRuntime) -> Result<(), Fail> {
+    let alloc = rt.alloc();
+    let mut book = Book::new(alloc);
+    book.check(&rt, alloc, 0, &[(0, Ask::TopUp(1, 1), &[(ADDED, 0)])])?;
+    for session in 0..64u8 {
+        let opening = (0, Ask::Initial(session, 0, &[]), OK);
+        book.check(&rt, alloc, session as usize, &[opening])?;
+    }
+    book.check(
+        &rt,
+        alloc,
+        64,
+        &[
+            (0, Ask::Initial(64, 0, &[]), &[(5006, 0)]),
+            (0, Ask::Termination(7, 1, &[]), OK),
+            (0, Ask::Initial(65, 0, &[]), OK),
+        ],
+    )?;
+    Ok(())
+}
+
+/// Place, group or 0, units and amount of an entry.
+type Posted = (u64, u32, u64, i64);
+
+/// Lists of acts, each with the entries that its acts leave in the books.
+const ENTRIES: [(&[Line], &[Posted]); 3] = [
+    (rows::OVERRUN, &[(1, 0, 0, 500), (3, 10, 100_500, -505)]),
+    (rows::TWO_SERVICES, &[(1, 0, 0, 100), (3, 20, 700, -24)]),
+    (
+        rows::REFUND,
+        &[(1, 0, 0, 4), (3, 0, 1, 5), (4, 0, 1000, -5)],
+    ),
+];
+
+/// The entries of a list of acts.
+fn posted(alloc: Global, lines: &[Line]) -> Result<Vec<Posted>, Fail> {
+    let mut book = Book::new(alloc);
+    let mut posted = Vec::new(alloc);
+    for (after, ask, _) in lines {
+        let entries = book.judge(alloc, &act(alloc, *after, *ask)?)?;
+        for entry in &entries {
+            posted.push((
+                entry.place,
+                entry.group.unwrap_or(0),
+                entry.units,
+                entry.amount,
+            ))?;
+        }
+    }
+    Ok(posted)
+}
+
+#[test]
+fn entries(rt: HostRuntime) -> Result<(), Fail> {
+    for (row, (lines, expected)) in ENTRIES.iter().enumerate() {
+        let posted = posted(rt.alloc(), lines)?;
+        assert_eq!(rt; posted.as_slice(), *expected, "row {row}");
+    }
+    Ok(())
+}

@@ -1,0 +1,24 @@
+//! Tests of the crates that keep and serve, which stand apart: a crate with tests of its own is proved a second time with
+//! them.
+#![tactic(auto)]
+
+#[cfg(test)]
+mod engine;
+#[cfg(test)]
+mod lane;
+#[cfg(test)]
+mod operator;
+#[cfg(test)]
+mod record;
+#[cfg(test)]
+mod records;
+#[cfg(test)]
+mod report;
+#[cfg(test)]
+mod server;
+#[cfg(test)]
+mod shard;
+#[cfg(test)]
+mod sqlrec;
+#[cfg(test)]
+mod top_ups;

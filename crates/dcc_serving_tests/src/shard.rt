@@ -1,0 +1,264 @@
+//! Each call once on its happy path: money, a debit, the same again, a subscriber without an account, and a session that
+//! expires.
+
+ghost use Rattle.std.specs.Prelude.{◌≡◌, true, is_some};
+
+use crate::server::identity;
+use crate::top_ups::subscriber;
+use dcc_act::{
+    Act, Action, Form, Kind, Moment, OneTimeEvent, RequestKey, Service, ServiceIds, Services,
+    SessionId, SessionRequest, Sub,
+};
+use dcc_answer::Proxies;
+use dcc_message::{Header, read_header};
+use dcc_records::{MemoryRecords, OnceRecords, Records};
+use dcc_samples::{ANSWER, BUSY, DEBIT, PLAN};
+use dcc_shard::{ExpiryAnswer, RequestAnswer, Shard, TopUpAnswer, shard_of};
+use dcc_tariff::{Plan, Tariff, UnitKind};
+use std::alloc::Global;
+use std::hash::RandomState;
+use std::process::Abort;
+use std::random::RandomSource;
+use std::test::Fail;
+
+/// A shard of what these records hold.
+fn shard_over<R: RandomSource + AllocGlobal, S: Records + Drop>(
+    rt: &R,
+    records: S,
+) -> Result<Shard<S>, Fail> {
+    let alloc = rt.alloc();
+    let hasher = RandomState::new(rt)?;
+    let identity = identity(alloc)?;
+    Shard::new(alloc, &identity, records, hasher).map_err(|_| Fail::from("a shard"))
+}
+
+fn shard<R: RandomSource + AllocGlobal>(rt: &R, plan: &Plan) -> Result<Shard<MemoryRecords>, Fail> {
+    shard_over(rt, MemoryRecords::new(rt.alloc(), plan.terms()))
+}
+
+/// The header of the sample's request.
+fn header(alloc: Global) -> Result<Header, Fail> {
+    let octets = hex::decode(alloc, DEBIT)?;
+    let Ok(header) = read_header(&octets) else {
+        return Err("a header".into());
+    };
+    Ok(header)
+}
+
+/// The first request of the sample's session.
+fn first_key(alloc: Global) -> Result<RequestKey, Fail> {
+    let sid = SessionId::from_vec(b"gw1.example;1;1".to_vec(alloc)?).ok_or("a name")?;
+    Ok(RequestKey { sid, number: 0 })
+}
+
+/// The service of the sample's request: 1,001 octets at 5 minor units per 1,000.
+fn service(alloc: Global) -> Service
+    ensures { is_some result.asked ≡ true }
+{
+    Service {
+        group: None,
+        ids: ServiceIds::new(alloc),
+        form: Form::Single,
+        asked: Some(1001),
+        used: None,
+        unit: Some(UnitKind::Octets),
+        tariff: Some(Tariff {
+            price: 5,
+            block: 1000,
+        }),
+    }
+}
+
+/// What the sample's request asks for: a direct debit.
+fn debit(alloc: Global) -> Result<Act, Fail> {
+    Ok(Act {
+        moment: Moment::new(1_751_328_000).ok_or("a moment")?,
+        kind: Kind::Event(OneTimeEvent {
+            key: first_key(alloc)?,
+            action: Action::DirectDebiting,
+            service: service(alloc),
+        }),
+    })
+}
+
+/// What the answer says: its octets in hex, its place, and whether it is fresh.
+fn parts_of(alloc: Global, answer: &RequestAnswer) -> Result<(String, u64, bool), Fail> {
+    let (octets, place, fresh) = match answer {
+        RequestAnswer::Done {
+            octets,
+            place,
+            fresh,
+        } => (octets.as_slice(), *place, *fresh),
+        RequestAnswer::Unknown { octets } => (octets.as_slice(), 0, false),
+        RequestAnswer::Busy { octets } => (octets.as_slice(), 0, false),
+        RequestAnswer::Silent => return Err("no memory".into()),
+    };
+    Ok((hex::encode(alloc, octets)?, place, fresh))
+}
+
+/// The debit of a subscriber, answered.
+fn step<R: Records>(
+    alloc: Global,
+    shard: &mut Shard<R>,
+    sub: Sub,
+) -> Result<(String, u64, bool), Fail> {
+    let header = header(alloc)?;
+    let act = debit(alloc)?;
+    if !matches!(act.kind, Kind::Event(_)) {
+        return Err("a request".into());
+    }
+    let answer = shard.step(alloc, sub, act, &header, &Proxies::none(alloc));
+    parts_of(alloc, &answer)
+}
+
+#[test]
+fn a_debit_is_made_once(rt: HostRuntime) -> Result<(), Fail> {
+    let alloc = rt.alloc();
+    let plan = Plan::read(alloc, PLAN)?;
+    let mut shard = shard(&rt, &plan)?;
+    let sub = subscriber(b"491700000001")?;
+    let (unknown, place, _) = step(alloc, &mut shard, sub)?;
+    assert!(rt; unknown.as_str().contains("000013a6"));
+    assert_eq!(rt; place, 0);
+    let added = told(alloc, &mut shard, 1, 1000)?;
+    assert_eq!(rt;
+        added,
+        TopUpAnswer::Done {
+            place: 1,
+            fresh: true
+        }
+    );
+    for fresh in [true, false] {
+        let (octets, place, is_fresh) = step(alloc, &mut shard, sub)?;
+        assert_eq!(rt; octets.as_str(), ANSWER);
+        assert_eq!(rt; (place, is_fresh), (2, fresh));
+    }
+    let again = told(alloc, &mut shard, 1, 5)?;
+    assert_eq!(rt;
+        again,
+        TopUpAnswer::Done {
+            place: 1,
+            fresh: false
+        }
+    );
+    assert_eq!(rt; told(alloc, &mut shard, 2, 0)?, TopUpAnswer::BadAmount);
+    let account = shard.account(sub).ok_or("an account")?;
+    assert_eq!(rt; account.funds(), 990);
+    Ok(())
+}
+
+/// What opens the sample's session.
+fn opening(alloc: Global) -> Result<Act, Fail> {
+    let services = Services::from_vec(vec![in alloc; service(alloc)]?).ok_or("services")?;
+    Ok(Act {
+        moment: Moment::new(1_751_328_000).ok_or("a moment")?,
+        kind: Kind::Initial(SessionRequest {
+            key: first_key(alloc)?,
+            services,
+        }),
+    })
+}
+
+/// What the opening of the sample's session is answered.
+fn opened<R: Records>(alloc: Global, shard: &mut Shard<R>) -> Result<(u64, bool), Fail> {
+    let sub = subscriber(b"491700000001")?;
+    let (header, act) = (header(alloc)?, opening(alloc)?);
+    if !matches!(act.kind, Kind::Initial(_)) {
+        return Err("a request".into());
+    }
+    let answer = shard.step(alloc, sub, act, &header, &Proxies::none(alloc));
+    let (_, place, fresh) = parts_of(alloc, &answer)?;
+    Ok((place, fresh))
+}
+
+/// What an expiry comes to that is made so many seconds after the opening.
+fn expired<R: Records>(
+    alloc: Global,
+    shard: &mut Shard<R>,
+    seconds: u32,
+) -> Result<ExpiryAnswer, Fail> {
+    let sub = subscriber(b"491700000001")?;
+    let later = Moment::new(1_751_328_000 + u64::from(seconds)).ok_or("a moment")?;
+    Ok(shard.expire(alloc, sub, later))
+}
+
+/// The plan holds a session for 1,200 seconds. The moment after which it does no more ends it, once.
+#[test]
+fn a_session_expires_once(rt: HostRuntime) -> Result<(), Fail> {
+    let alloc = rt.alloc();
+    let plan = Plan::read(alloc, PLAN)?;
+    let mut shard = shard(&rt, &plan)?;
+    assert!(rt; shard.subs(alloc)?.is_empty());
+    told(alloc, &mut shard, 1, 1000)?;
+    assert_eq!(rt; opened(alloc, &mut shard)?, (2, true));
+    assert_eq!(rt; shard.subs(alloc)?.len(), 1);
+    let closed = ExpiryAnswer::Closed {
+        sessions: 1,
+        place: 3,
+    };
+    let nothing = ExpiryAnswer::Nothing;
+    for (seconds, wanted) in [(1199, nothing), (1200, closed), (1200, nothing)] {
+        assert_eq!(rt; expired(alloc, &mut shard, seconds)?, wanted);
+    }
+    Ok(())
+}
+
+/// What a top-up of the sample's subscriber is told.
+fn told<R: Records>(
+    alloc: Global,
+    shard: &mut Shard<R>,
+    ticket: u64,
+    amount: u64,
+) -> Result<TopUpAnswer, Fail> {
+    let sub = subscriber(b"491700000001")?;
+    let moment = Moment::new(1_751_328_000).ok_or("a moment")?;
+    Ok(shard.top_up(alloc, sub, moment, ticket, amount))
+}
+
+/// What the sample's request is answered, in hex.
+fn answered<R: Records>(alloc: Global, shard: &mut Shard<R>) -> Result<String, Fail> {
+    let sub = subscriber(b"491700000001")?;
+    let (octets, _, _) = step(alloc, shard, sub)?;
+    Ok(octets)
+}
+
+/// What is opened again of records that failed, once the act that they refused is asked for again.
+fn reopened(rt: &HostRuntime, shard: Shard<OnceRecords>) -> Result<String, Fail> {
+    let mut again = shard_over(rt, shard.into_records().healed())?;
+    answered(rt.alloc(), &mut again)
+}
+
+/// The second append fails: its debit is answered busy, and so is all else but a bad amount. What is opened again has the money,
+/// and makes the debit.
+#[test]
+fn a_store_that_fails_stops_its_shard(rt: HostRuntime) -> Result<(), Fail> {
+    let alloc = rt.alloc();
+    let plan = Plan::read(alloc, PLAN)?;
+    let records = OnceRecords::new(MemoryRecords::new(alloc, plan.terms()), 2);
+    let mut shard = shard_over(&rt, records)?;
+    let added = TopUpAnswer::Done {
+        place: 1,
+        fresh: true,
+    };
+    assert_eq!(rt; told(alloc, &mut shard, 1, 1000)?, added);
+    for _ in 0..2 {
+        assert_eq!(rt; answered(alloc, &mut shard)?.as_str(), BUSY);
+    }
+    assert_eq!(rt; told(alloc, &mut shard, 1, 1000)?, TopUpAnswer::Refused);
+    assert_eq!(rt; told(alloc, &mut shard, 2, 0)?, TopUpAnswer::BadAmount);
+    assert_eq!(rt; reopened(&rt, shard)?.as_str(), ANSWER);
+    Ok(())
+}
+
+#[test]
+fn shards_are_found_by_type_and_data(rt: HostRuntime) -> Result<(), Fail> {
+    for (name, of_two, of_eight) in [
+        (b"491700000001".as_slice(), 0, 6),
+        (b"491700000002", 1, 7),
+        (b"491700000003", 0, 0),
+    ] {
+        let sub = subscriber(name)?;
+        assert_eq!(rt; (shard_of(&sub, 2), shard_of(&sub, 8)), (of_two, of_eight));
+    }
+    Ok(())
+}

@@ -1,0 +1,54 @@
+//! Top-ups for the tests of records, and who makes them under which terms.
+
+ghost use Rattle.std.specs.Prelude.{◌≡◌, pos, None, IfOk};
+
+use dcc_act::{Act, Entry, EntryKind, EntryName, Kind, Moment, Sub, TopUp};
+use dcc_tariff::Terms;
+use std::test::Fail;
+
+/// The terms of the samples' plan.
+pub(crate) const TERMS: Terms = Terms {
+    validity: 600,
+    hold: 1200,
+    currency: 978,
+    exponent: -2,
+};
+
+/// A subscriber of these data.
+pub(crate) fn subscriber(name: &[u8]) -> Result<Sub, Fail> {
+    Ok(Sub::new(0, name).ok_or("a subscriber")?)
+}
+
+/// A top-up at 2025-06-01T00:00:00Z.
+pub(crate) fn top_up(ticket: u64, amount: u64) -> Result<Act, Fail>
+    ensures { IfOk result (λ act. act
+        ≡ record { moment = 1748736000; kind = Kind.TopUp (record { ticket = ticket; amount = amount }) }) }
+{
+    Ok(Act {
+        moment: Moment::new(1_748_736_000).ok_or("a moment")?,
+        kind: Kind::TopUp(TopUp::new(ticket, amount).ok_or("an amount")?),
+    })
+}
+
+/// Its entry.
+pub(crate) fn posted(place: u64, ticket: u64, amount: u32) -> Result<Entry, Fail>
+    ensures { IfOk result (λ entry. entry ≡ record {
+      place = place;
+      moment = 1748736000;
+      kind = EntryKind.TopUp;
+      group = None;
+      units = 0;
+      amount = pos amount;
+      name = EntryName.Ticket ticket;
+    }) }
+{
+    Ok(Entry {
+        place,
+        moment: Moment::new(1_748_736_000).ok_or("a moment")?,
+        kind: EntryKind::TopUp,
+        group: None,
+        units: 0,
+        amount: i64::from(amount),
+        name: EntryName::Ticket(ticket),
+    })
+}

@@ -1,0 +1,155 @@
+//! The rows of each table, in their order: the definitions take the tables as they are, and so say nothing of their rows.
+
+use super::check_told;
+use dcc_request::Command;
+use dcc_samples::DEBIT;
+use std::process::Abort;
+use std::test::Fail;
+
+/// Adds the AVPs that a request has to have, one after another: before each it is the first that is missing, and is told
+/// with its flags and the least data of its format.
+fn told_missing(
+    rt: &(impl Abort + AllocGlobal),
+    command: Command,
+    rows: &[(&str, &str)],
+) -> Result<(), Fail> {
+    let mut list = String::new(rt.alloc());
+    for (missing, added) in rows {
+        let want = format!(in rt.alloc(); "5005 {missing}")?;
+        check_told(rt, command, list.as_str(), want.as_str())?;
+        list.push_str(added)?;
+    }
+    Ok(())
+}
+
+const HOST: (&str, &str) = ("0000010840000008", "0000010800000008");
+
+const REALM: (&str, &str) = ("0000012840000008", "0000012800000008");
+
+#[test]
+fn missing_in_base_requests(rt: HostRuntime) -> Result<(), Fail> {
+    told_missing(&rt, Command::DeviceWatchdog, &[HOST, REALM])?;
+    let cause = ("000001114000000c00000000", "0000011100000008");
+    told_missing(&rt, Command::DisconnectPeer, &[HOST, REALM, cause])?;
+    let vendor = ("0000010a4000000c00000000", "0000010a00000008");
+    let product = ("0000010d00000008", "0000010d00000008");
+    let address = ("000001014000000e0000000000000000", "0000010100000008");
+    told_missing(
+        &rt,
+        Command::CapabilitiesExchange,
+        &[HOST, REALM, vendor, product, address],
+    )
+}
+
+#[test]
+fn missing_in_an_event(rt: HostRuntime) -> Result<(), Fail> {
+    let rows = [
+        ("0000010740000008", "0000010700000008"),
+        HOST,
+        REALM,
+        ("0000011b40000008", "0000011b00000008"),
+        ("000001024000000c00000000", "0000010200000008"),
+        ("000001cd40000008", "000001cd00000008"),
+        ("000001a04000000c00000000", "000001a00000000c00000004"),
+        ("0000019f4000000c00000000", "0000019f00000008"),
+        ("000001bb40000008", "000001bb00000008"),
+        ("000001b44000000c00000000", "000001b400000008"),
+        ("000001c24000000c00000000", ""),
+    ];
+    told_missing(&rt, Command::CreditControl, &rows)
+}
+
+/// Adds a second AVP of each code, from the last code to the first: then it is the one told.
+fn told_twice(
+    rt: &(impl Abort + AllocGlobal),
+    command: Command,
+    list: &mut String,
+    codes: &[u32],
+) -> Result<(), Fail> {
+    for code in codes.iter().rev() {
+        let second = format!(in rt.alloc(); "{code:08x}00000008")?;
+        list.push_str(&second)?;
+        let want = format!(in rt.alloc(); "5009 {second}")?;
+        check_told(rt, command, list.as_str(), want.as_str())?;
+    }
+    Ok(())
+}
+
+#[test]
+fn twice_in_requests(rt: HostRuntime) -> Result<(), Fail> {
+    let mut list = String::new(rt.alloc());
+    list.push_str(
+        "00000108000000080000012800000008000001110000000800000101000000080000010a000000080000010d00000008",
+    )?;
+    told_twice(
+        &rt,
+        Command::DeviceWatchdog,
+        &mut list.clone()?,
+        &[264, 296],
+    )?;
+    told_twice(
+        &rt,
+        Command::DisconnectPeer,
+        &mut list.clone()?,
+        &[264, 296, 273],
+    )?;
+    told_twice(
+        &rt,
+        Command::CapabilitiesExchange,
+        &mut list,
+        &[264, 296, 266, 269],
+    )
+}
+
+#[test]
+fn twice_in_credit_control(rt: HostRuntime) -> Result<(), Fail> {
+    let (front, back) = DEBIT
+        .split_once("000001a04000000c00000004")
+        .ok_or("a type")?;
+    let front = front.get(40..).ok_or("a list")?;
+    let more = "000001b700000008";
+    let mut event = format!(in rt.alloc(); "{front}000001a04000000c00000004{back}{more}")?;
+    told_twice(
+        &rt,
+        Command::CreditControl,
+        &mut event,
+        &[263, 264, 296, 283, 258, 461, 416, 415, 436, 439, 437],
+    )?;
+    let mut session = format!(in rt.alloc(); "{front}000001a04000000c00000002{back}{more}")?;
+    told_twice(
+        &rt,
+        Command::CreditControl,
+        &mut session,
+        &[263, 264, 296, 283, 258, 461, 416, 415, 439, 436, 437],
+    )
+}
+
+/// The same inside a walked group behind a debit.
+fn told_twice_inside(
+    rt: &(impl Abort + AllocGlobal),
+    group: u32,
+    codes: &[u32],
+) -> Result<(), Fail> {
+    let debit = DEBIT.get(40..).unwrap_or_default();
+    let mut inner = String::new(rt.alloc());
+    for code in codes {
+        inner.push_str(&format!(in rt.alloc(); "{code:08x}00000008")?)?;
+    }
+    for code in codes.iter().rev() {
+        let second = format!(in rt.alloc(); "{code:08x}00000008")?;
+        inner.push_str(&second)?;
+        let length = (inner.len() / 2).saturating_add(8);
+        let list = format!(in rt.alloc(); "{debit}{group:08x}40{length:06x}{inner}")?;
+        let want = format!(in rt.alloc(); "5009 {second}")?;
+        check_told(rt, Command::CreditControl, list.as_str(), want.as_str())?;
+    }
+    Ok(())
+}
+
+#[test]
+fn twice_in_groups(rt: HostRuntime) -> Result<(), Fail> {
+    told_twice_inside(&rt, 443, &[450, 444])?;
+    told_twice_inside(&rt, 456, &[432, 437])?;
+    // of a message two amounts asked for are too many already, so these were used
+    told_twice_inside(&rt, 446, &[420, 421, 412, 414, 417])
+}
