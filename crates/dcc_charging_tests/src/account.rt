@@ -6,8 +6,8 @@ ghost use Rattle.dcc_tariff.specs.declared.limits.TheConstants.{MAX_UNITS};
 
 mod many;
 
-use crate::acts::key;
-use dcc_act::{Act, Form, Kind, Moment, Service, ServiceIds, Services, SessionRequest, TopUp};
+use crate::acts::{key, moment};
+use dcc_act::{Act, Form, Kind, Service, ServiceIds, Services, SessionRequest, TopUp};
 use dcc_tariff::{MAX_UNITS, Tariff, UnitKind};
 use std::alloc::Global;
 use std::test::Fail;
@@ -79,7 +79,7 @@ fn kind(alloc: Global, ask: Ask) -> Result<Kind, Fail> {
 /// The act so many seconds after 2025-06-01T00:00:00Z.
 fn act(alloc: Global, after: u32, ask: Ask) -> Result<Act, Fail> {
     Ok(Act {
-        moment: Moment::new(1_748_736_000 + u64::from(after)).ok_or("a moment")?,
+        moment: moment(1_748_736_000 + u64::from(after))?,
         kind: kind(alloc, ask)?,
     })
 }

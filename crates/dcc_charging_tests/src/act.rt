@@ -3,14 +3,18 @@
 ghost use Rattle.std.specs.Prelude.{IfOk};
 ghost use Rattle.dcc_act.specs.OneTimeEvents.{AsksUnits};
 
+use crate::acts::moment;
 use dcc_act::{
-    Act, Action, Answer, Balance, Entry, EntryKind, EntryName, Form, Grant, Kind, Moment,
-    OneTimeEvent, Outcome, RequestKey, RequestType, ResultCode, Service, ServiceAnswer,
-    ServiceAnswers, ServiceIds, ServiceKey, Services, SessionId, SessionRequest, Sub, TopUp,
+    Act, Action, Answer, Balance, Entry, EntryKind, EntryName, Form, Grant, Kind, OneTimeEvent,
+    Outcome, RequestKey, RequestType, ResultCode, Service, ServiceAnswer, ServiceAnswers,
+    ServiceIds, ServiceKey, Services, SessionId, SessionRequest, Sub, TopUp,
 };
 use dcc_tariff::{Tariff, UnitKind};
 use std::alloc::Global;
 use std::test::Fail;
+
+/// 2025-06-01T00:00:00Z.
+const JUNE: u64 = 1_748_736_000;
 
 const TARIFF: Tariff = Tariff {
     price: 5,
@@ -27,10 +31,6 @@ fn subscribers(rt: HostRuntime) -> Result<(), Fail> {
     assert!(rt; c < a && a < b && a == a && a != c);
     assert!(rt; Sub::new(0, b"4 9").is_none());
     Ok(())
-}
-
-fn moment() -> Result<Moment, Fail> {
-    Ok(Moment::new(1_748_736_000).ok_or("a moment")?)
 }
 
 fn key(alloc: Global) -> Result<RequestKey, Fail> {
@@ -131,14 +131,14 @@ fn kinds(alloc: Global) -> Result<Vec<Kind>, Fail> {
 #[test]
 fn acts(rt: HostRuntime) -> Result<(), Fail> {
     let alloc = rt.alloc();
-    let moment = moment()?;
+    let moment = moment(JUNE)?;
     for kind in kinds(alloc)? {
         let act = Act { moment, kind };
         let copy = format!(in alloc; "{:?}", act.copy()?)?;
         let act = format!(in alloc; "{act:?}")?;
         assert_eq!(rt; copy.as_str(), act.as_str());
     }
-    assert_eq!(rt; moment.seconds(), 1_748_736_000);
+    assert_eq!(rt; moment.seconds(), JUNE);
     Ok(())
 }
 
@@ -192,7 +192,7 @@ fn outcomes(rt: HostRuntime) -> Result<(), Fail> {
 fn entries(rt: HostRuntime) -> Result<(), Fail> {
     let entry = Entry {
         place: 2,
-        moment: moment()?,
+        moment: moment(JUNE)?,
         kind: EntryKind::Charge,
         group: None,
         units: 1001,

@@ -1,6 +1,6 @@
 //! What the tests of acts share.
 
-use dcc_act::{RequestKey, SessionId};
+use dcc_act::{Moment, RequestKey, SessionId};
 use dcc_tariff::Terms;
 use std::alloc::Global;
 use std::test::Fail;
@@ -17,4 +17,9 @@ pub(crate) const TERMS: Terms = Terms {
 pub(crate) fn key(alloc: Global, session: u8, number: u32) -> Result<RequestKey, Fail> {
     let sid = SessionId::from_vec([session].to_vec(alloc)?).ok_or("a name")?;
     Ok(RequestKey { sid, number })
+}
+
+/// The moment of these seconds. `Moment::new` of a literal, in its place, takes the prover minutes.
+pub(crate) fn moment(seconds: u64) -> Result<Moment, Fail> {
+    Ok(Moment::new(seconds).ok_or("a moment")?)
 }

@@ -7,9 +7,9 @@ ghost use Rattle.dcc_tariff.specs.declared.limits.TheConstants.{MAX_UNITS};
 
 mod rows;
 
-use crate::acts::{TERMS, key};
+use crate::acts::{TERMS, key, moment};
 use dcc_act::{
-    Act, Action, Answer, Entry, Form, Kind, MAX_SECONDS, Moment, OneTimeEvent, Outcome, Service,
+    Act, Action, Answer, Entry, Form, Kind, MAX_SECONDS, OneTimeEvent, Outcome, Service,
     ServiceAnswer, ServiceIds, Services, SessionRequest, TopUp,
 };
 use dcc_model::{Done, Judgement, Standing, judge, plain_answer};
@@ -212,7 +212,7 @@ fn kind(alloc: Global, ask: Ask) -> Result<Kind, Fail> {
 fn act(alloc: Global, after: u64, ask: Ask) -> Result<Act, Fail> {
     let seconds = START.saturating_add(after);
     Ok(Act {
-        moment: Moment::new(seconds).ok_or("a moment")?,
+        moment: moment(seconds)?,
         kind: kind(alloc, ask)?,
     })
 }

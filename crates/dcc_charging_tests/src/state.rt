@@ -1,9 +1,7 @@
 //! One act after another, by what is kept alone.
 
-use crate::acts::{TERMS, key};
-use dcc_act::{
-    Act, Form, Kind, Looks, Moment, Outcome, Service, ServiceIds, Services, SessionRequest,
-};
+use crate::acts::{TERMS, key, moment};
+use dcc_act::{Act, Form, Kind, Looks, Outcome, Service, ServiceIds, Services, SessionRequest};
 use dcc_escrow::Pool;
 use dcc_model::Standing;
 use dcc_state::{Facts, OpenSession, POOL, judge};
@@ -52,7 +50,7 @@ fn session_opens(rt: HostRuntime) -> Result<(), Fail> {
     let mut pool = Pool::new(POOL);
     pool.credit(1000)?;
     let act = Act {
-        moment: Moment::new(1_748_736_000).ok_or("a moment")?,
+        moment: moment(1_748_736_000)?,
         kind: Kind::Initial(opening(alloc)?),
     };
     let mut looks = Looks::new();

@@ -2,7 +2,7 @@
 //! scripts are replayed.
 
 use crate::server::identity;
-use dcc_act::{Moment, Sub};
+use crate::top_ups::{moment, subscriber};
 use dcc_base::Host;
 use dcc_engine::{Engine, Event, Out};
 use dcc_octets::OctetString;
@@ -18,6 +18,9 @@ use std::process::Abort;
 use std::random::RandomSource;
 use std::test::Fail;
 
+/// 2025-07-01T00:00:00Z.
+const JULY: u64 = 1_751_328_000;
+
 fn engine<R: RandomSource + AllocGlobal>(rt: &R) -> Result<Engine<MemoryRecords>, Fail> {
     let alloc = rt.alloc();
     let identity = identity(alloc)?;
@@ -27,14 +30,6 @@ fn engine<R: RandomSource + AllocGlobal>(rt: &R) -> Result<Engine<MemoryRecords>
     Ok(Engine::open(alloc, plan, shards)?)
 }
 
-fn subscriber() -> Result<Sub, Fail> {
-    Ok(Sub::new(0, b"491700000001").ok_or("a subscriber")?)
-}
-
-fn moment() -> Result<Moment, Fail> {
-    Ok(Moment::new(1_751_328_000).ok_or("a moment")?)
-}
-
 /// A peer, its subscriber's first money, and a debit.
 fn events(alloc: Global) -> Result<Vec<Event>, Fail> {
     let connect = Event::Connect {
@@ -42,8 +37,8 @@ fn events(alloc: Global) -> Result<Vec<Event>, Fail> {
         host: Host::from_octets(OctetString::from_vec(b"gw1.example".to_vec(alloc)?)),
     };
     let top_up = Event::TopUp {
-        moment: moment()?,
-        sub: subscriber()?,
+        moment: moment(JULY)?,
+        sub: subscriber(b"491700000001")?,
         ticket: 1,
         amount: 1000,
     };
@@ -54,7 +49,7 @@ fn events(alloc: Global) -> Result<Vec<Event>, Fail> {
 fn message(alloc: Global, text: &str) -> Result<Event, Fail> {
     Ok(Event::Message {
         peer: 1,
-        moment: moment()?,
+        moment: moment(JULY)?,
         octets: OctetString::from_vec(hex::decode(alloc, text)?),
     })
 }
@@ -72,7 +67,7 @@ fn answers_of(alloc: Global, outs: &[Out]) -> Result<(bool, String), Fail> {
 }
 
 fn funds(engine: &Engine<MemoryRecords>) -> Result<i128, Fail> {
-    match engine.account(subscriber()?) {
+    match engine.account(subscriber(b"491700000001")?) {
         Some(account) => Ok(account.funds()),
         None => Ok(0),
     }

@@ -1,8 +1,7 @@
 //! Top-ups of a shard in memory, in one word each, and the ledgers after them.
 
 use crate::server::identity;
-use crate::top_ups::subscriber;
-use dcc_act::Moment;
+use crate::top_ups::{moment, subscriber};
 use dcc_operator::{ledger_run, top_up_run};
 use dcc_records::MemoryRecords;
 use dcc_samples::PLAN;
@@ -37,7 +36,7 @@ fn top_ups_are_told_in_a_word_and_stand_in_the_ledger(rt: HostRuntime) -> Result
     let mut shard = shard(&rt)?;
     let sub = subscriber(b"491700000001")?;
     let other = subscriber(b"491700000002")?;
-    let moment = Moment::new(1_748_736_000).ok_or("a moment")?;
+    let moment = moment(1_748_736_000)?;
     let mut output = Vec::new(alloc);
     for (ticket, amount) in [(1, 1000), (1, 1), (2, 0), (3, 1_000_000_000_000_000_000)] {
         let (_, written) = top_up_run(alloc, &mut shard, sub, moment, ticket, amount, &mut output);

@@ -1,8 +1,7 @@
 //! Records octet for octet, one of each kind, and octets that are none.
 
-use dcc_act::{
-    Act, Action, Form, Kind, Moment, OneTimeEvent, RequestKey, Service, ServiceIds, SessionId,
-};
+use crate::top_ups::moment;
+use dcc_act::{Act, Action, Form, Kind, OneTimeEvent, RequestKey, Service, ServiceIds, SessionId};
 use dcc_record::{RecordFault, read_act, write_act};
 use dcc_tariff::{Tariff, UnitKind};
 use std::alloc::Global;
@@ -64,7 +63,7 @@ fn debit(alloc: Global) -> Result<Act, Fail> {
         service,
     };
     Ok(Act {
-        moment: Moment::new(1_748_736_000).ok_or("a moment")?,
+        moment: moment(1_748_736_000)?,
         kind: Kind::Event(event),
     })
 }

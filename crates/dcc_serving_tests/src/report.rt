@@ -1,6 +1,7 @@
 //! Ledgers octet for octet.
 
-use dcc_act::{Entry, EntryKind, EntryName, Moment, SessionId, Sub};
+use crate::top_ups::moment;
+use dcc_act::{Entry, EntryKind, EntryName, SessionId, Sub};
 use dcc_report::{account_line, ledger_text};
 use std::alloc::Global;
 use std::test::Fail;
@@ -19,7 +20,7 @@ fn session(alloc: Global, octets: &[u8]) -> Result<EntryName, Fail> {
 fn top_up(place: u64, seconds: u64, amount: i64, ticket: u64) -> Result<Entry, Fail> {
     Ok(Entry {
         place,
-        moment: Moment::new(seconds).ok_or("a moment")?,
+        moment: moment(seconds)?,
         kind: EntryKind::TopUp,
         group: None,
         units: 0,
@@ -52,7 +53,7 @@ fn ledger_after_an_overrun(rt: HostRuntime) -> Result<(), Fail> {
     let alloc = rt.alloc();
     let charge = Entry {
         place: 3,
-        moment: Moment::new(JUNE + 60).ok_or("a moment")?,
+        moment: moment(JUNE + 60)?,
         kind: EntryKind::Charge,
         group: Some(10),
         units: 100_500,
@@ -78,7 +79,7 @@ fn ledger_of_an_unprintable_session(rt: HostRuntime) -> Result<(), Fail> {
     let alloc = rt.alloc();
     let debit = Entry {
         place: 2,
-        moment: Moment::new(JUNE).ok_or("a moment")?,
+        moment: moment(JUNE)?,
         kind: EntryKind::Debit,
         group: Some(30),
         units: 10,
@@ -110,7 +111,7 @@ fn names_of_sessions(rt: HostRuntime) -> Result<(), Fail> {
     for (octets, shown) in names {
         let refund = Entry {
             place: 1,
-            moment: Moment::new(JUNE).ok_or("a moment")?,
+            moment: moment(JUNE)?,
             kind: EntryKind::Refund,
             group: None,
             units: 1,
@@ -142,7 +143,7 @@ fn columns_at_their_greatest_widths(rt: HostRuntime) -> Result<(), Fail> {
     let amount = 1_000_000_000_000_000_000;
     let debit = Entry {
         place: 100_000_000,
-        moment: Moment::new(LAST).ok_or("a moment")?,
+        moment: moment(LAST)?,
         kind: EntryKind::Debit,
         group: Some(u32::MAX),
         units: 1_000_000_000_000,
@@ -156,7 +157,7 @@ fn columns_at_their_greatest_widths(rt: HostRuntime) -> Result<(), Fail> {
     };
     let refund = Entry {
         place: u64::MAX,
-        moment: Moment::new(0).ok_or("a moment")?,
+        moment: moment(0)?,
         kind: EntryKind::Refund,
         group: Some(0),
         units: u64::MAX,

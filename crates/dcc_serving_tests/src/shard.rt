@@ -4,10 +4,10 @@
 ghost use Rattle.std.specs.Prelude.{◌≡◌, true, is_some};
 
 use crate::server::identity;
-use crate::top_ups::subscriber;
+use crate::top_ups::{moment, subscriber};
 use dcc_act::{
-    Act, Action, Form, Kind, Moment, OneTimeEvent, RequestKey, Service, ServiceIds, Services,
-    SessionId, SessionRequest, Sub,
+    Act, Action, Form, Kind, OneTimeEvent, RequestKey, Service, ServiceIds, Services, SessionId,
+    SessionRequest, Sub,
 };
 use dcc_answer::Proxies;
 use dcc_message::{Header, read_header};
@@ -72,7 +72,7 @@ fn service(alloc: Global) -> Service
 /// What the sample's request asks for: a direct debit.
 fn debit(alloc: Global) -> Result<Act, Fail> {
     Ok(Act {
-        moment: Moment::new(1_751_328_000).ok_or("a moment")?,
+        moment: moment(1_751_328_000)?,
         kind: Kind::Event(OneTimeEvent {
             key: first_key(alloc)?,
             action: Action::DirectDebiting,
@@ -151,7 +151,7 @@ fn a_debit_is_made_once(rt: HostRuntime) -> Result<(), Fail> {
 fn opening(alloc: Global) -> Result<Act, Fail> {
     let services = Services::from_vec(vec![in alloc; service(alloc)]?).ok_or("services")?;
     Ok(Act {
-        moment: Moment::new(1_751_328_000).ok_or("a moment")?,
+        moment: moment(1_751_328_000)?,
         kind: Kind::Initial(SessionRequest {
             key: first_key(alloc)?,
             services,
@@ -178,7 +178,7 @@ fn expired<R: Records>(
     seconds: u32,
 ) -> Result<ExpiryAnswer, Fail> {
     let sub = subscriber(b"491700000001")?;
-    let later = Moment::new(1_751_328_000 + u64::from(seconds)).ok_or("a moment")?;
+    let later = moment(1_751_328_000 + u64::from(seconds))?;
     Ok(shard.expire(alloc, sub, later))
 }
 
@@ -211,7 +211,7 @@ fn told<R: Records>(
     amount: u64,
 ) -> Result<TopUpAnswer, Fail> {
     let sub = subscriber(b"491700000001")?;
-    let moment = Moment::new(1_751_328_000).ok_or("a moment")?;
+    let moment = moment(1_751_328_000)?;
     Ok(shard.top_up(alloc, sub, moment, ticket, amount))
 }
 

@@ -19,13 +19,20 @@ pub(crate) fn subscriber(name: &[u8]) -> Result<Sub, Fail> {
     Ok(Sub::new(0, name).ok_or("a subscriber")?)
 }
 
+/// The moment of these seconds. `Moment::new` of a literal, in its place, takes the prover minutes.
+pub(crate) fn moment(seconds: u64) -> Result<Moment, Fail>
+    ensures { IfOk result (λ moment. moment ≡ seconds) }
+{
+    Ok(Moment::new(seconds).ok_or("a moment")?)
+}
+
 /// A top-up at 2025-06-01T00:00:00Z.
 pub(crate) fn top_up(ticket: u64, amount: u64) -> Result<Act, Fail>
     ensures { IfOk result (λ act. act
         ≡ record { moment = 1748736000; kind = Kind.TopUp (record { ticket = ticket; amount = amount }) }) }
 {
     Ok(Act {
-        moment: Moment::new(1_748_736_000).ok_or("a moment")?,
+        moment: moment(1_748_736_000)?,
         kind: Kind::TopUp(TopUp::new(ticket, amount).ok_or("an amount")?),
     })
 }
@@ -44,7 +51,7 @@ pub(crate) fn posted(place: u64, ticket: u64, amount: u32) -> Result<Entry, Fail
 {
     Ok(Entry {
         place,
-        moment: Moment::new(1_748_736_000).ok_or("a moment")?,
+        moment: moment(1_748_736_000)?,
         kind: EntryKind::TopUp,
         group: None,
         units: 0,

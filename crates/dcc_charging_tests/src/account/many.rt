@@ -1,9 +1,9 @@
 //! An account of many acts.
 
 use super::{Ask, act};
-use crate::acts::{TERMS, key};
+use crate::acts::{TERMS, key, moment};
 use dcc_account::Account;
-use dcc_act::{Act, Kind, Moment, TopUp};
+use dcc_act::{Act, Kind, TopUp};
 use dcc_model::is_refused;
 use std::alloc::Global;
 use std::hash::RandomState;
@@ -22,10 +22,10 @@ fn place_again(account: &Account, act: Act) -> Result<Option<u64>, Fail> {
     Ok(if step.is_new() { None } else { step.place() })
 }
 
-fn top_up(ticket: u8) -> Option<Act> {
-    Some(Act {
-        moment: Moment::new(1_748_736_000)?,
-        kind: Kind::TopUp(TopUp::new(u64::from(ticket), 1)?),
+fn top_up(ticket: u8) -> Result<Act, Fail> {
+    Ok(Act {
+        moment: moment(1_748_736_000)?,
+        kind: Kind::TopUp(TopUp::new(u64::from(ticket), 1).ok_or("a top-up")?),
     })
 }
 
@@ -38,7 +38,7 @@ fn live(alloc: Global, account: &mut Account, session: u8) -> Result<(), Fail> {
 
 /// Whether the top-up and the beginning of a session are still found, and the session can't be opened any more.
 fn is_remembered(alloc: Global, account: &Account, session: u8) -> Result<bool, Fail> {
-    let place = place_again(account, top_up(session).ok_or("a top-up")?)?;
+    let place = place_again(account, top_up(session)?)?;
     let is_kept = account.kept(&key(alloc, session, 0)?).is_some();
     let step = account.prepare(act(alloc, 200_000, Ask::Initial(session, 1, 0))?)?;
     let is_spent = step.is_new() && is_refused(step.outcome());
@@ -49,7 +49,7 @@ fn is_remembered(alloc: Global, account: &Account, session: u8) -> Result<bool, 
 fn account(alloc: Global, hasher: RandomState) -> Result<Account, Fail> {
     let mut account = Account::new(alloc, &TERMS, hasher);
     for session in 0..100 {
-        make(&mut account, top_up(session).ok_or("a top-up")?)?;
+        make(&mut account, top_up(session)?)?;
         live(alloc, &mut account, session)?;
     }
     Ok(account)
