@@ -200,6 +200,17 @@ fn capabilities_refused(rt: HostRuntime) -> Result<(), Fail> {
             "00001396",
             "00000117400000100000010440000008",
         ),
+        // of two numbers that are short, the application's before the security's, and the message's before a group's
+        (
+            "0000012b40000009aa0000000000010240000009bb000000",
+            "00001396",
+            "00000117400000140000010240000009bb000000",
+        ),
+        (
+            "00000104400000140000010240000009bb0000000000012b40000009aa000000",
+            "00001396",
+            "00000117400000140000012b40000009aa000000",
+        ),
         // a security alone that isn't had, and no application either
         (
             "000001024000000cffffffff0000012b4000000c00000001",
@@ -226,25 +237,33 @@ fn capabilities_refused(rt: HostRuntime) -> Result<(), Fail> {
     Ok(())
 }
 
-/// A host without octets, and no product, for which M isn't set.
+/// A host without octets, and one of 256, each before an application that is short; and no product, for which M isn't set.
 #[test]
 fn other_refusals(rt: HostRuntime) -> Result<(), Fail> {
-    let nameless = "0000010840000008000001284000000f6578616d706c6500";
-    check_answer(
-        &rt,
-        &mut Peer::Wait,
-        (ASKED, &[nameless, PRODUCT, APPLICATION]),
-        (
-            ANSWERED,
-            &[
-                "0000010c4000000c00001396",
-                ORIGIN,
-                OWN,
-                "00000117400000100000010840000008",
-            ],
-        ),
-        " close",
-    )?;
+    let mut long = String::new(rt.alloc());
+    long.push_str("0000010840000108")?;
+    for _ in 0..256 {
+        long.push_str("67")?;
+    }
+    for (host, failed) in [
+        ("0000010840000008", "0000011740000010"),
+        (long.as_str(), "0000011740000110"),
+    ] {
+        let short = "0000010240000009bb000000";
+        check_answer(
+            &rt,
+            &mut Peer::Wait,
+            (
+                ASKED,
+                &[host, "000001284000000f6578616d706c6500", PRODUCT, short],
+            ),
+            (
+                ANSWERED,
+                &["0000010c4000000c00001396", ORIGIN, OWN, failed, host],
+            ),
+            " close",
+        )?;
+    }
     let no_product = "000001014000000e00017f00000100000000010a4000000c00000000";
     check_answer(
         &rt,

@@ -6,14 +6,20 @@ use dcc_samples::DEBIT;
 use std::process::Abort;
 use std::test::Fail;
 
-/// Adds the AVPs that a request has to have, one after another: before each it is the first that is missing, and is told
-/// with its flags and the least data of its format.
+/// An AVP that a request has to have: what is told where it is missing, with its flags and the least data of its format, and
+/// what is then added.
+type Needed = (&'static str, &'static str);
+
+/// Adds the AVPs that a request has to have to what it begins with, one after another: before each it is the first that is
+/// missing.
 fn told_missing(
     rt: &(impl Abort + AllocGlobal),
     command: Command,
-    rows: &[(&str, &str)],
+    begun: &str,
+    rows: &[Needed],
 ) -> Result<(), Fail> {
     let mut list = String::new(rt.alloc());
+    list.push_str(begun)?;
     for (missing, added) in rows {
         let want = format!(in rt.alloc(); "5005 {missing}")?;
         check_told(rt, command, list.as_str(), want.as_str())?;
@@ -22,41 +28,69 @@ fn told_missing(
     Ok(())
 }
 
-const HOST: (&str, &str) = ("0000010840000008", "0000010800000008");
+const SESSION_ID: Needed = ("0000010740000008", "0000010700000008");
 
-const REALM: (&str, &str) = ("0000012840000008", "0000012800000008");
+const HOST: Needed = ("0000010840000008", "0000010800000008");
+
+const REALM: Needed = ("0000012840000008", "0000012800000008");
+
+const DESTINATION: Needed = ("0000011b40000008", "0000011b00000008");
+
+const APPLICATION: Needed = ("000001024000000c00000000", "0000010200000008");
+
+const CONTEXT: Needed = ("000001cd40000008", "000001cd00000008");
+
+const NUMBER: Needed = ("0000019f4000000c00000000", "0000019f00000008");
+
+const SUBSCRIPTION: Needed = ("000001bb40000008", "000001bb00000008");
+
+const ACTION: Needed = ("000001b44000000c00000000", "000001b400000008");
+
+const TYPE: Needed = ("000001a04000000c00000000", EVENT);
+
+/// The type of the Subscription-Id, which nothing adds.
+const SUBSCRIPTION_TYPE: Needed = ("000001c24000000c00000000", "");
+
+/// A CC-Request-Type of an update and one of an event.
+const UPDATE: &str = "000001a00000000c00000002";
+
+const EVENT: &str = "000001a00000000c00000004";
 
 #[test]
 fn missing_in_base_requests(rt: HostRuntime) -> Result<(), Fail> {
-    told_missing(&rt, Command::DeviceWatchdog, &[HOST, REALM])?;
+    told_missing(&rt, Command::DeviceWatchdog, "", &[HOST, REALM])?;
     let cause = ("000001114000000c00000000", "0000011100000008");
-    told_missing(&rt, Command::DisconnectPeer, &[HOST, REALM, cause])?;
+    told_missing(&rt, Command::DisconnectPeer, "", &[HOST, REALM, cause])?;
     let vendor = ("0000010a4000000c00000000", "0000010a00000008");
     let product = ("0000010d00000008", "0000010d00000008");
     let address = ("000001014000000e0000000000000000", "0000010100000008");
     told_missing(
         &rt,
         Command::CapabilitiesExchange,
+        "",
         &[HOST, REALM, vendor, product, address],
     )
 }
 
+/// Without a type a request is checked as a session's.
 #[test]
-fn missing_in_an_event(rt: HostRuntime) -> Result<(), Fail> {
-    let rows = [
-        ("0000010740000008", "0000010700000008"),
-        HOST,
-        REALM,
-        ("0000011b40000008", "0000011b00000008"),
-        ("000001024000000c00000000", "0000010200000008"),
-        ("000001cd40000008", "000001cd00000008"),
-        ("000001a04000000c00000000", "000001a00000000c00000004"),
-        ("0000019f4000000c00000000", "0000019f00000008"),
-        ("000001bb40000008", "000001bb00000008"),
-        ("000001b44000000c00000000", "000001b400000008"),
-        ("000001c24000000c00000000", ""),
-    ];
-    told_missing(&rt, Command::CreditControl, &rows)
+fn missing_in_credit_control(rt: HostRuntime) -> Result<(), Fail> {
+    let credit = Command::CreditControl;
+    let named = [SESSION_ID, HOST, REALM, DESTINATION, APPLICATION, CONTEXT];
+    let mut begun = String::new(rt.alloc());
+    for (_, added) in named {
+        begun.push_str(added)?;
+    }
+    for kind in ["", UPDATE, EVENT] {
+        told_missing(&rt, credit, kind, &named)?;
+    }
+    told_missing(&rt, credit, begun.as_str(), &[TYPE])?;
+    let update = format!(in rt.alloc(); "{begun}{UPDATE}")?;
+    let rest = [NUMBER, SUBSCRIPTION, SUBSCRIPTION_TYPE];
+    told_missing(&rt, credit, update.as_str(), &rest)?;
+    let event = format!(in rt.alloc(); "{begun}{EVENT}")?;
+    let rest = [NUMBER, SUBSCRIPTION, ACTION, SUBSCRIPTION_TYPE];
+    told_missing(&rt, credit, event.as_str(), &rest)
 }
 
 /// Adds a second AVP of each code, from the last code to the first: then it is the one told.
