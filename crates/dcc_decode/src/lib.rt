@@ -23,6 +23,3 @@ pub use decoding::decode_run;
 pub use fault::DecodeFault;
 pub use message::decode_message;
 pub use tree::MAX_LEVEL;
-
-#[cfg(test)]
-mod tests;

@@ -26,6 +26,3 @@ pub use plan_file::{plan_from, plan_of};
 pub use process::execute;
 pub use program::run;
 pub use replaying::replay;
-
-#[cfg(test)]
-mod tests;

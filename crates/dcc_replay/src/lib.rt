@@ -16,6 +16,3 @@ pub use names::identity_of;
 pub use printing::printed;
 pub use replay::replay_run;
 pub use script::{ScriptFault, read_script};
-
-#[cfg(test)]
-mod tests;

@@ -1,6 +1,6 @@
 //! How the program ends.
 
-use crate::{Ending, Failure, end};
+use dcc_program::{Ending, Failure, end};
 use std::alloc::AllocError;
 use std::io::{self, Error, ErrorKind, Write};
 use std::test::Fail;

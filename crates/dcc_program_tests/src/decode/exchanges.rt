@@ -1,7 +1,7 @@
 //! Whole messages of a gateway and their answers.
 
 use super::{same, tree_of};
-use crate::{DecodeFault, decode_run};
+use dcc_decode::{DecodeFault, decode_run};
 use dcc_samples::{
     ANSWER, BUSY, CAPABILITIES, CAPABILITIES_ANSWER, DEBIT, WATCHDOG, WATCHDOG_ANSWER,
 };

@@ -1,3 +1,5 @@
+//! Scripts and what is printed of them.
+
 mod corners;
 mod exchanges;
 mod limits;
@@ -8,7 +10,7 @@ mod scripts;
 mod sessions;
 mod streams;
 
-use crate::{ReplayFault, replay_run};
+use dcc_replay::{ReplayFault, replay_run};
 use dcc_samples::PLAN;
 use dcc_tariff::Plan;
 use std::hash::RandomState;

@@ -7,7 +7,7 @@ mod exchanges;
 mod lines;
 mod streams;
 
-use crate::{DecodeFault, decode_message, decode_run};
+use dcc_decode::{DecodeFault, decode_message, decode_run};
 use std::alloc::Global;
 use std::process::Abort;
 use std::test::Fail;

@@ -1,7 +1,7 @@
 //! The forms of a script's lines, and their faults.
 
 use super::replayed;
-use crate::{ReplayFault, replay_run};
+use dcc_replay::{ReplayFault, replay_run};
 use dcc_samples::PLAN;
 use dcc_tariff::Plan;
 use std::alloc::{AllocError, Global};

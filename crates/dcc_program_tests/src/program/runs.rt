@@ -1,6 +1,6 @@
 //! What command lines ask for, and what is judged first.
 
-use crate::{Failure, HELP, Task, VERSION, run, task_of};
+use dcc_program::{Failure, HELP, Task, VERSION, run, task_of};
 use std::alloc::{AllocError, Global};
 use std::io::{self, Error, ErrorKind, Write};
 use std::test::Fail;

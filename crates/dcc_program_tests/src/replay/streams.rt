@@ -1,8 +1,13 @@
 //! Readers and writers that fail in mid-stream.
 
-use crate::{DecodeFault, decode_run};
+use dcc_replay::{ReplayFault, replay_run};
+use dcc_samples::PLAN;
+use dcc_tariff::Plan;
+use std::hash::RandomState;
 use std::io::{self, Error, ErrorKind, Read, Write};
 use std::test::Fail;
+
+const SCRIPT: &[u8] = b"open 1 a\nopen 2 b\n";
 
 /// Gives a text, and then fails.
 #[derive(Drop)]
@@ -49,12 +54,18 @@ impl Write for Narrow {
 }
 
 #[test]
-fn a_text_that_breaks_off_is_a_failure_of_input(rt: HostRuntime) -> Result<(), Fail> {
+fn a_script_that_breaks_off_is_a_failure_of_input(rt: HostRuntime) -> Result<(), Fail> {
     let alloc = rt.alloc();
-    let mut input = Broken { rest: b"1 -\n05" };
+    let mut input = Broken { rest: SCRIPT };
     let mut output = Vec::new(alloc);
-    let result = decode_run(alloc, &mut input, &mut output);
-    assert_eq!(&rt; result, Err(DecodeFault::Input));
+    let result = replay_run(
+        alloc,
+        &Plan::read(alloc, PLAN)?,
+        &mut input,
+        &mut output,
+        RandomState::new(&rt)?,
+    );
+    assert_eq!(&rt; result, Err(ReplayFault::Input));
     assert!(&rt; output.is_empty());
     Ok(())
 }
@@ -62,6 +73,7 @@ fn a_text_that_breaks_off_is_a_failure_of_input(rt: HostRuntime) -> Result<(), F
 #[test]
 fn a_writer_that_fails_has_a_beginning(rt: HostRuntime) -> Result<(), Fail> {
     let alloc = rt.alloc();
+    let plan = Plan::read(alloc, PLAN)?;
     let whole = b"1 -\n2 -\n";
     for (room, sends) in [(0, true), (3, true), (8, false), (8, true)] {
         let mut output = Narrow {
@@ -69,12 +81,13 @@ fn a_writer_that_fails_has_a_beginning(rt: HostRuntime) -> Result<(), Fail> {
             room,
             sends,
         };
-        let mut text = whole.as_slice();
-        let result = decode_run(alloc, &mut text, &mut output);
+        let mut script = SCRIPT;
+        let hasher = RandomState::new(&rt)?;
+        let result = replay_run(alloc, &plan, &mut script, &mut output, hasher);
         let expected = if sends && room == 8 {
             Ok(())
         } else {
-            Err(DecodeFault::Output)
+            Err(ReplayFault::Output)
         };
         assert_eq!(&rt; result, expected, "room for {room}");
         assert_eq!(&rt; output.taken.as_slice(), &whole[..room], "room for {room}");

@@ -2,7 +2,7 @@
 
 use super::octets::refused;
 use super::replayed;
-use crate::ReplayFault;
+use dcc_replay::ReplayFault;
 use dcc_samples::{ANSWER, BUSY, DEBIT, PLAN};
 use dcc_tariff::{Plan, PlanFault};
 use std::process::Abort;

@@ -1,6 +1,6 @@
 //! Plans of files, and their faults.
 
-use crate::{Failure, plan_of, replay};
+use dcc_program::{Failure, plan_of, replay};
 use dcc_samples::PLAN;
 use std::alloc::Global;
 use std::hash::RandomState;

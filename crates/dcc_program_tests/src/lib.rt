@@ -1,0 +1,10 @@
+//! Tests of the crates that read scripts and texts and print what comes of them, which stand apart: a crate with tests of its own
+//! is proved a second time with them.
+#![tactic(auto)]
+
+#[cfg(test)]
+mod decode;
+#[cfg(test)]
+mod program;
+#[cfg(test)]
+mod replay;
