@@ -8,7 +8,6 @@ ghost use Rattle.dcc_base.specs.Capabilities.{is_misshapen, tells, misshapen_in,
 
 use dcc_avp::{Avp, codes};
 use dcc_message::applications;
-use dcc_octets::u32_in;
 use dcc_request::{Cause, Group, Refused, clear, first, name_octets, required};
 
 /// The Inband-Security-Id of a peer that wants no security on the connection (RFC 6733, section 6.10).
@@ -18,16 +17,16 @@ pub const NO_INBAND_SECURITY: u32 = 0;
 fn is_misshapen(avp: &Avp<'_>) -> bool
     ensures { result ≡ is_misshapen avp.now }
 {
-    u32_in(avp.value()).is_none()
+    avp.as_u32().is_err()
 }
 
 /// Whether the data is this number.
 fn tells(n: u32, avp: &Avp<'_>) -> bool
     ensures { result ≡ tells n avp.now }
 {
-    match u32_in(avp.value()) {
-        Some(told) => told == n,
-        None => false,
+    match avp.as_u32() {
+        Ok(told) => told == n,
+        Err(_) => false,
     }
 }
 

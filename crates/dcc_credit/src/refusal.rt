@@ -21,7 +21,6 @@ use dcc_answer::{
 };
 use dcc_avp::{Avp, AvpFault, codes};
 use dcc_message::{HEADER_LENGTH, Header, Identity, MAX_LENGTH, applications};
-use dcc_octets::u32_in;
 use dcc_request::{Refused, first, shown_within, unread};
 use std::alloc::{AllocError, Global};
 use std::marker::Model;
@@ -199,5 +198,5 @@ fn number_of(code: u32, avps: &[Avp<'_>]) -> Option<u32>
     ensures { result ≡ number_of code avps.now }
 {
     let avp = first(avps, code)?;
-    u32_in(avp.value())
+    avp.as_u32().ok()
 }

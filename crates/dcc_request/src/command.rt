@@ -14,7 +14,6 @@ use crate::values::first;
 use crate::walk::{Group, groups_of};
 use dcc_avp::{Avp, codes};
 use dcc_message::{Header, applications, commands};
-use dcc_octets::u32_in;
 use std::alloc::Global;
 
 /// The commands whose requests the server answers.
@@ -68,7 +67,7 @@ fn is_event(avps: &[Avp<'_>]) -> bool
     ensures { result ≡ is_event avps.now }
 {
     match first(avps, codes::CC_REQUEST_TYPE) {
-        Some(avp) => matches!(u32_in(avp.value()), Some(table::EVENT_TYPE)),
+        Some(avp) => matches!(avp.as_u32(), Ok(table::EVENT_TYPE)),
         None => false,
     }
 }

@@ -9,7 +9,7 @@ use crate::cause::Cause;
 use crate::checks::missing_avp;
 use crate::refused::Refused;
 use dcc_avp::Avp;
-use dcc_octets::{is_short, u32_in, u64_in};
+use dcc_octets::is_short;
 
 /// The first AVP of a code and of no vendor.
 pub fn first<'m, 'a>(avps: &'m [Avp<'a>], code: u32) -> Option<&'m Avp<'a>>
@@ -44,9 +44,9 @@ pub fn name_octets<'a>(avp: &Avp<'a>) -> Result<&'a [u8], Refused<'a>>
 pub fn number<'a>(avp: &Avp<'a>) -> Result<u32, Refused<'a>>
     ensures { result ≡ number avp.now }
 {
-    match u32_in(avp.value()) {
-        Some(n) => Ok(n),
-        None => Err(Refused::one(Cause::InvalidAvpLength, avp.copy())),
+    match avp.as_u32() {
+        Ok(n) => Ok(n),
+        Err(_) => Err(Refused::one(Cause::InvalidAvpLength, avp.copy())),
     }
 }
 
@@ -55,9 +55,9 @@ pub fn number<'a>(avp: &Avp<'a>) -> Result<u32, Refused<'a>>
 pub fn long_number<'a>(avp: &Avp<'a>) -> Result<u64, Refused<'a>>
     ensures { result ≡ long_number avp.now }
 {
-    match u64_in(avp.value()) {
-        Some(n) => Ok(n),
-        None => Err(Refused::one(Cause::InvalidAvpLength, avp.copy())),
+    match avp.as_u64() {
+        Ok(n) => Ok(n),
+        Err(_) => Err(Refused::one(Cause::InvalidAvpLength, avp.copy())),
     }
 }
 
