@@ -26,7 +26,7 @@ use Rattle.dcc_account.specs.Accounts.{AccountView}
 use Rattle.dcc_account.specs.declared.indexes.Indexes.{Indexes}
 use Rattle.dcc_account.specs.inner.Indexed.{IsIndexed}
 use Rattle.dcc_account.specs.inner.Kept.{IsKept, IsRunning, MAX_OVERRUN}
-use Rattle.dcc_account.specs.inner.Fits.{HasMemory, HasPlace}
+use Rattle.dcc_account.specs.Fits.{HasMemory, HasPlace}
 use Rattle.dcc_account.specs.Prepared.{StepView, IsPrepared}
 
 map_reverse : (past : List Done) → map act_made (reverse past) ≡ reverse (map act_made past)

@@ -4,7 +4,7 @@ use Rattle.dcc_tariff.specs.Terms.{TermsView}
 use Rattle.dcc_act.specs.declared.act.Act.{Act}
 use Rattle.dcc_model.specs.Outcomes.{funds, free}
 use Rattle.dcc_state.specs.OpenSessions.{SessionView}
-use Rattle.dcc_account.specs.inner.Memory.{Room}
+use Rattle.dcc_account.specs.Memory.{Room}
 
 -- an account is the acts that were made, under the terms by which they are judged, with the sessions that are open after them,
 -- and memory for some more

@@ -11,8 +11,8 @@ use Rattle.dcc_state.specs.Backed.{IsBacked}
 use Rattle.dcc_state.specs.Known.{changed, funds_after, overrun_with}
 use Rattle.dcc_state.specs.OpenSessions.{AreOpen}
 use Rattle.dcc_account.specs.Accounts.{AccountView}
-use Rattle.dcc_account.specs.inner.Memory.{Space}
-use Rattle.dcc_account.specs.inner.Fits.{Fits}
+use Rattle.dcc_account.specs.Memory.{Space}
+use Rattle.dcc_account.specs.Fits.{Fits}
 
 -- an act, what it comes to, whether it is made, its place, the entries that it adds, what it does to the money and to the
 -- sessions that are open, how many live grants were looked at, and the memory for all that

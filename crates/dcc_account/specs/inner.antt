@@ -1,4 +1,2 @@
-pub mod Fits
 pub mod Indexed
 pub mod Kept
-pub mod Memory

@@ -2,7 +2,7 @@
 use Rattle.std.specs.Prelude.{ℕ, ◌+◌, ◌≤◌, length, Option, MatchOption}
 use Rattle.dcc_model.specs.Entries.{entries}
 use Rattle.dcc_account.specs.Accounts.{AccountView}
-use Rattle.dcc_account.specs.inner.Memory.{Held, Space}
+use Rattle.dcc_account.specs.Memory.{Held, Space}
 
 -- there is memory for more: in the room that is left, or in a larger vector or index
 abbrev pub HasMemory : ℕ → ℕ → ℕ → Option ℕ → Type 0
