@@ -1,13 +1,16 @@
-//! Worked examples, answered by the plain program.
+//! Worked examples, answered by the plain program and by an account beside it.
 
 ghost use Rattle.std.specs.Prelude.{◌≤◌};
 ghost use Rattle.std.specs.Option.{ForSome};
 ghost use Rattle.dcc_act.specs.declared.limits.TheConstants.{MAX_SECONDS};
 ghost use Rattle.dcc_tariff.specs.declared.limits.TheConstants.{MAX_UNITS};
 
+mod looks;
+mod mixed;
 mod rows;
 
 use crate::acts::{TERMS, key, moment};
+use dcc_account::Account;
 use dcc_act::{
     Act, Action, Answer, Entry, Form, Kind, MAX_SECONDS, OneTimeEvent, Outcome, Service,
     ServiceAnswer, ServiceIds, Services, SessionRequest, TopUp,
@@ -15,6 +18,7 @@ use dcc_act::{
 use dcc_model::{Done, Judgement, Standing, judge, plain_answer};
 use dcc_tariff::{MAX_UNITS, Tariff, UnitKind};
 use std::alloc::Global;
+use std::hash::RandomState;
 use std::process::Abort;
 use std::test::Fail;
 
@@ -104,7 +108,9 @@ fn tariff_of(group: u32) -> Tariff {
 /// The group of a service in short.
 fn group_of(want: Want) -> u32 {
     match want {
-        Want::Asks(group, _) | Want::Used(group, _) | Want::Both(group, _, _) => group,
+        Want::Asks(group, _) => group,
+        Want::Used(group, _) => group,
+        Want::Both(group, _, _) => group,
     }
 }
 
@@ -260,17 +266,69 @@ fn told(alloc: Global, outcome: &Outcome) -> Result<Vec<Told>, Fail> {
     Ok(told)
 }
 
-/// All acts of a subscriber, and of them those that were made.
+/// Whether two answers say the same.
+fn is_same_answer(one: &Answer, other: &Answer) -> bool {
+    one.request == other.request
+        && one.key == other.key
+        && one.result == other.result
+        && one.services.as_slice() == other.services.as_slice()
+        && one.cost == other.cost
+        && one.balance == other.balance
+}
+
+/// Whether two outcomes say the same.
+fn is_same(one: &Outcome, other: &Outcome) -> bool {
+    match one {
+        Outcome::Unknown { .. } => matches!(other, Outcome::Unknown { .. }),
+        Outcome::Answered(answer) => {
+            matches!(other, Outcome::Answered(other) if is_same_answer(answer, other))
+        }
+        Outcome::Added => matches!(other, Outcome::Added),
+        Outcome::Ceiling => matches!(other, Outcome::Ceiling),
+        Outcome::Expired { sessions } => {
+            matches!(other, Outcome::Expired { sessions: others } if sessions == others)
+        }
+    }
+}
+
+/// The money of an account.
+fn standing_of(account: &Account) -> Standing {
+    Standing {
+        funds: account.funds(),
+        free: account.free(),
+        overrun: account.overrun(),
+    }
+}
+
+/// Judges and makes an act by an account, which has to say what the plain program says.
+fn make_beside(account: &mut Account, act: Act, judgement: &Judgement) -> Result<(), Fail> {
+    let step = account.prepare(act)?;
+    if !is_same(step.outcome(), &judgement.outcome)
+        || step.is_new() != judgement.is_new
+        || step.place() != judgement.place
+        || step.entries() != judgement.entries.as_slice()
+    {
+        return Err("the account judges otherwise".into());
+    }
+    account.install(step);
+    if standing_of(account) != judgement.standing {
+        return Err("the account has other money".into());
+    }
+    Ok(())
+}
+
+/// All acts of a subscriber, of them those that were made, and the account that made them too.
 #[derive(Drop)]
 struct Book {
     all: Vec<Act>,
     made: Vec<Done>,
     standing: Standing,
+    account: Account,
 }
 
 impl Book {
     /// No acts.
-    fn new(alloc: Global) -> Book {
+    fn new(alloc: Global, hasher: RandomState) -> Book {
         Book {
             all: Vec::new(alloc),
             made: Vec::new(alloc),
@@ -279,18 +337,21 @@ impl Book {
                 free: 0,
                 overrun: 0,
             },
+            account: Account::new(alloc, &TERMS, hasher),
         }
     }
 
     /// The entries that one more act adds.
     fn judge(&mut self, alloc: Global, act: &Act) -> Result<Vec<Entry>, Fail> {
+        let judgement = judge(alloc, &TERMS, &self.made, act)?;
+        make_beside(&mut self.account, act.copy()?, &judgement)?;
         let Judgement {
             outcome,
             is_new,
             entries,
             standing,
             ..
-        } = judge(alloc, &TERMS, &self.made, act)?;
+        } = judgement;
         self.standing = standing;
         if is_new {
             let act = act.copy()?;
@@ -323,17 +384,30 @@ impl Book {
     }
 }
 
+/// Funds, what is free and what is overrun after the acts of a row, each of which comes to what it is to.
+fn money_after(
+    rt: &impl Abort,
+    alloc: Global,
+    hasher: RandomState,
+    row: usize,
+    lines: &[Line],
+) -> Result<(i128, i128, i128), Fail> {
+    let mut book = Book::new(alloc, hasher);
+    book.check(rt, alloc, row, lines)?;
+    let Standing {
+        funds,
+        free,
+        overrun,
+    } = book.standing;
+    Ok((funds, free, overrun))
+}
+
 #[test]
 fn lists_of_acts(rt: HostRuntime) -> Result<(), Fail> {
+    let hasher = RandomState::new(&rt)?;
     for (row, (lines, standing)) in rows::ROWS.iter().enumerate() {
-        let mut book = Book::new(rt.alloc());
-        book.check(&rt, rt.alloc(), row, lines)?;
-        let Standing {
-            funds,
-            free,
-            overrun,
-        } = book.standing;
-        assert_eq!(rt; (funds, free, overrun), *standing, "row {row}");
+        let money = money_after(&rt, rt.alloc(), hasher, row, lines)?;
+        assert_eq!(rt; money, *standing, "row {row}");
     }
     Ok(())
 }
@@ -342,7 +416,7 @@ fn lists_of_acts(rt: HostRuntime) -> Result<(), Fail> {
 #[test]
 fn open_sessions(rt: HostRuntime) -> Result<(), Fail> {
     let alloc = rt.alloc();
-    let mut book = Book::new(alloc);
+    let mut book = Book::new(alloc, RandomState::new(&rt)?);
     book.check(&rt, alloc, 0, &[(0, Ask::TopUp(1, 1), &[(ADDED, 0)])])?;
     for session in 0..64u8 {
         let opening = (0, Ask::Initial(session, 0, &[]), OK);
@@ -374,28 +448,35 @@ const ENTRIES: [(&[Line], &[Posted]); 3] = [
     ),
 ];
 
+/// Puts the entries behind those that stand there.
+fn post(posted: &mut Vec<Posted>, entries: &[Entry]) -> Result<(), Fail> {
+    for entry in entries {
+        posted.push((
+            entry.place,
+            entry.group.unwrap_or(0),
+            entry.units,
+            entry.amount,
+        ))?;
+    }
+    Ok(())
+}
+
 /// The entries of a list of acts.
-fn posted(alloc: Global, lines: &[Line]) -> Result<Vec<Posted>, Fail> {
-    let mut book = Book::new(alloc);
+fn posted(alloc: Global, hasher: RandomState, lines: &[Line]) -> Result<Vec<Posted>, Fail> {
+    let mut book = Book::new(alloc, hasher);
     let mut posted = Vec::new(alloc);
     for (after, ask, _) in lines {
         let entries = book.judge(alloc, &act(alloc, *after, *ask)?)?;
-        for entry in &entries {
-            posted.push((
-                entry.place,
-                entry.group.unwrap_or(0),
-                entry.units,
-                entry.amount,
-            ))?;
-        }
+        post(&mut posted, &entries)?;
     }
     Ok(posted)
 }
 
 #[test]
 fn entries(rt: HostRuntime) -> Result<(), Fail> {
+    let hasher = RandomState::new(&rt)?;
     for (row, (lines, expected)) in ENTRIES.iter().enumerate() {
-        let posted = posted(rt.alloc(), lines)?;
+        let posted = posted(rt.alloc(), hasher, lines)?;
         assert_eq!(rt; posted.as_slice(), *expected, "row {row}");
     }
     Ok(())

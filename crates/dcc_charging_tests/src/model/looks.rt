@@ -1,0 +1,41 @@
+//! How many live grants a step looks at.
+
+use super::{Ask, Book, Want, act};
+use dcc_act::{Action, Outcome};
+use std::alloc::Global;
+use std::hash::RandomState;
+use std::test::Fail;
+
+/// 64 sessions of one grant each, of which three are due before the rest.
+fn opened(alloc: Global, hasher: RandomState) -> Result<Book, Fail> {
+    let mut book = Book::new(alloc, hasher);
+    book.judge(alloc, &act(alloc, 0, Ask::TopUp(1, 100_000))?)?;
+    for session in 0..64u8 {
+        let begun = if session < 3 { 0 } else { 100 };
+        let opening = Ask::Initial(session, 0, &[Want::Asks(10, 1000)]);
+        book.judge(alloc, &act(alloc, begun, opening)?)?;
+    }
+    Ok(book)
+}
+
+/// How many grants the account looks at to prepare an act, and how many sessions that ends.
+fn looks(alloc: Global, book: &Book, after: u64, ask: Ask) -> Result<(u64, u64), Fail> {
+    let step = book.account.prepare(act(alloc, after, ask)?)?;
+    let ended = match step.outcome() {
+        Outcome::Expired { sessions } => *sessions,
+        _ => 0,
+    };
+    Ok((step.looks(), ended))
+}
+
+#[test]
+fn looks_do_not_grow_with_sessions(rt: HostRuntime) -> Result<(), Fail> {
+    let alloc = rt.alloc();
+    let book = opened(alloc, RandomState::new(&rt)?)?;
+    let debit = Ask::Event(Action::DirectDebiting, 0, Want::Asks(10, 1000));
+    assert_eq!(rt; looks(alloc, &book, 200, debit)?, (0, 0));
+    let update = Ask::Update(7, 1, &[Want::Both(10, 900, 1000)]);
+    assert_eq!(rt; looks(alloc, &book, 200, update)?, (1, 0));
+    assert_eq!(rt; looks(alloc, &book, 1250, Ask::Expiry)?, (0, 3));
+    Ok(())
+}
