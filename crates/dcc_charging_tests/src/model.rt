@@ -7,6 +7,7 @@ ghost use Rattle.dcc_tariff.specs.declared.limits.TheConstants.{MAX_UNITS};
 
 mod looks;
 mod mixed;
+mod refusals;
 mod rows;
 
 use crate::acts::{TERMS, key, moment};
@@ -79,7 +80,7 @@ type Line = (u64, Ask, &'static [Told]);
 /// What a group counts, where the plan has it.
 fn unit_of(group: u32) -> Option<UnitKind> {
     match group {
-        SINGLE | 10 | 40 => Some(UnitKind::Octets),
+        SINGLE | 10 | 40 | 60..=75 => Some(UnitKind::Octets),
         20 => Some(UnitKind::Time),
         30 => Some(UnitKind::Units),
         _ => None,

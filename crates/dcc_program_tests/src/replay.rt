@@ -9,6 +9,7 @@ mod rows;
 mod scripts;
 mod sessions;
 mod streams;
+mod taken_out;
 
 use dcc_replay::{ReplayFault, replay_run};
 use dcc_samples::PLAN;
