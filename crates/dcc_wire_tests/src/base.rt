@@ -46,6 +46,12 @@ const SESSION_COPIED: &str = "000001074000000978000000";
 
 const PROXY: &str = "0000011c40000014000001184000000970000000";
 
+/// An Origin-Host whose length is below its header's, which makes a list that can't be read.
+const BROKEN: &str = "0000010840000007";
+
+/// An AVP that isn't known, and has to be.
+const UNKNOWN: &str = "0000019d40000008";
+
 /// A message of this header and of these parts of a list, in hex digits.
 fn message(alloc: Global, head: &str, parts: &[&str]) -> Result<String, Fail> {
     let list = joined(alloc, parts)?;
@@ -200,6 +206,29 @@ fn capabilities_refused(rt: HostRuntime) -> Result<(), Fail> {
             "00001396",
             "00000117400000100000010440000008",
         ),
+        // the first one inside a second application is short
+        (
+            "0000010440000014000001024000000c0000000400000104400000140000010240000009bb000000",
+            "00001396",
+            "00000117400000140000010240000009bb000000",
+        ),
+        // a second application and a second security of the message are short
+        (
+            "000001024000000c000000040000010240000009bb000000",
+            "00001396",
+            "00000117400000140000010240000009bb000000",
+        ),
+        (
+            "000001024000000c000000040000012b4000000c000000000000012b40000009aa000000",
+            "00001396",
+            "00000117400000140000012b40000009aa000000",
+        ),
+        // an AVP inside an application that isn't known, and has to be
+        (
+            "000001024000000c0000000400000104400000100000019d40000008",
+            "00001389",
+            "00000117400000100000019d40000008",
+        ),
         // of two numbers that are short, the application's before the security's, and the message's before a group's
         (
             "0000012b40000009aa0000000000010240000009bb000000",
@@ -237,7 +266,8 @@ fn capabilities_refused(rt: HostRuntime) -> Result<(), Fail> {
     Ok(())
 }
 
-/// A host without octets, and one of 256, each before an application that is short; and no product, for which M isn't set.
+/// A host without octets, and one of 256, each before an application that is short; and no product, for which M isn't set,
+/// before a host without octets.
 #[test]
 fn other_refusals(rt: HostRuntime) -> Result<(), Fail> {
     let mut long = String::new(rt.alloc());
@@ -265,21 +295,25 @@ fn other_refusals(rt: HostRuntime) -> Result<(), Fail> {
         )?;
     }
     let no_product = "000001014000000e00017f00000100000000010a4000000c00000000";
-    check_answer(
-        &rt,
-        &mut Peer::Wait,
-        (ASKED, &[PEER, no_product]),
-        (
-            ANSWERED,
-            &[
-                "0000010c4000000c0000138d",
-                ORIGIN,
-                OWN,
-                "00000117400000100000010d00000008",
-            ],
-        ),
-        " close",
-    )
+    let nameless = "0000010840000008000001284000000f6578616d706c6500";
+    for peer in [PEER, nameless] {
+        check_answer(
+            &rt,
+            &mut Peer::Wait,
+            (ASKED, &[peer, no_product]),
+            (
+                ANSWERED,
+                &[
+                    "0000010c4000000c0000138d",
+                    ORIGIN,
+                    OWN,
+                    "00000117400000100000010d00000008",
+                ],
+            ),
+            " close",
+        )?;
+    }
+    Ok(())
 }
 
 /// An application inside a Vendor-Specific-Application-Id, that of relays, and a security that isn't wanted.
@@ -291,6 +325,8 @@ fn capabilities_accepted(rt: HostRuntime) -> Result<(), Fail> {
         "0000010440000014000001024000000cffffffff",
         "000001024000000c00000003000001024000000c00000004",
         "000001024000000c000000040000012b4000000c000000010000012b4000000c00000000",
+        // inside such a group only the first is looked at
+        "0000010440000020000001024000000c000000040000010240000009bb000000",
     ] {
         let mut peer = open(alloc)?;
         check_answer(
@@ -306,33 +342,55 @@ fn capabilities_accepted(rt: HostRuntime) -> Result<(), Fail> {
     Ok(())
 }
 
+/// A host of 255 octets, the longest.
+#[test]
+fn longest_host(rt: HostRuntime) -> Result<(), Fail> {
+    let alloc = rt.alloc();
+    let name = "67".repeat(alloc, 255)?;
+    let host = format!(in alloc; "0000010840000107{name}00")?;
+    let realm = "000001284000000f6578616d706c6500";
+    let mut peer = Peer::Wait;
+    check_answer(
+        &rt,
+        &mut peer,
+        (ASKED, &[host.as_str(), realm, PRODUCT, APPLICATION]),
+        (ANSWERED, &["0000010c4000000c000007d1", ORIGIN, OWN]),
+        "",
+    )?;
+    assert!(rt; is_open_as(&peer, &[0x67; 255]));
+    Ok(())
+}
+
+/// Headers of requests, with the headers and the Result-Codes of the protocol errors that they are told.
+const PROTOCOL_ERRORS: [(&str, &str, &str); 4] = [
+    // both R and E; another application; another command, with P and T
+    (
+        "a0000118000000000000000100000002",
+        "20000118000000000000000100000002",
+        "00000bc0",
+    ),
+    (
+        "80000118000000030000000100000002",
+        "20000118000000030000000100000002",
+        "00000bbf",
+    ),
+    (
+        "d00003e7000000040000000100000002",
+        "600003e7000000040000000100000002",
+        "00000bb9",
+    ),
+    (
+        "80000101000000040000000300000004",
+        "20000101000000040000000300000004",
+        "00000bb9",
+    ),
+];
+
 /// Protocol errors, with the session and the proxies of the request.
 #[test]
 fn protocol_errors(rt: HostRuntime) -> Result<(), Fail> {
     let alloc = rt.alloc();
-    for (head, answer, code) in [
-        // both R and E; another application; another command, with P and T
-        (
-            "a0000118000000000000000100000002",
-            "20000118000000000000000100000002",
-            "00000bc0",
-        ),
-        (
-            "80000118000000030000000100000002",
-            "20000118000000030000000100000002",
-            "00000bbf",
-        ),
-        (
-            "d00003e7000000040000000100000002",
-            "600003e7000000040000000100000002",
-            "00000bb9",
-        ),
-        (
-            "80000101000000040000000300000004",
-            "20000101000000040000000300000004",
-            "00000bb9",
-        ),
-    ] {
+    for (head, answer, code) in PROTOCOL_ERRORS {
         let mut peer = open(alloc)?;
         check_answer(
             &rt,
@@ -349,14 +407,36 @@ fn protocol_errors(rt: HostRuntime) -> Result<(), Fail> {
     Ok(())
 }
 
-/// An exchange of capabilities with both R and E closes the connection, the first and a later one.
+/// A protocol error is told before the list's own, and then nothing is taken over from the list.
 #[test]
-fn exchange_with_the_error_bit(rt: HostRuntime) -> Result<(), Fail> {
-    for mut peer in [Peer::Wait, open(rt.alloc())?] {
+fn protocol_errors_of_broken_lists(rt: HostRuntime) -> Result<(), Fail> {
+    let mut peer = open(rt.alloc())?;
+    for (head, answer, code) in PROTOCOL_ERRORS {
         check_answer(
             &rt,
             &mut peer,
-            ("a0000101000000000000000300000004", &[PEER]),
+            (head, &[SESSION, PROXY, BROKEN]),
+            (answer, &["0000010c4000000c", code, ORIGIN]),
+            "",
+        )?;
+        assert!(rt; is_open_as(&peer, b"gw9.example"));
+    }
+    Ok(())
+}
+
+/// An exchange of capabilities with both R and E closes the connection, the first and a later one, and also where its list
+/// can't be read.
+#[test]
+fn exchange_with_the_error_bit(rt: HostRuntime) -> Result<(), Fail> {
+    for (mut peer, list) in [
+        (Peer::Wait, PEER),
+        (open(rt.alloc())?, PEER),
+        (Peer::Wait, BROKEN),
+    ] {
+        check_answer(
+            &rt,
+            &mut peer,
+            ("a0000101000000000000000300000004", &[list]),
             (
                 "20000101000000000000000300000004",
                 &["0000010c4000000c00000bc0", ORIGIN],
@@ -392,10 +472,59 @@ fn disconnection_refused(rt: HostRuntime) -> Result<(), Fail> {
     Ok(())
 }
 
+/// A cause that there isn't, without a realm: what is missing is told.
+#[test]
+fn disconnection_without_a_realm(rt: HostRuntime) -> Result<(), Fail> {
+    let mut peer = open(rt.alloc())?;
+    let host = "00000108400000136777312e6578616d706c6500";
+    check_answer(
+        &rt,
+        &mut peer,
+        (DISCONNECT, &[host, "000001114000000c00000003"]),
+        (
+            DISCONNECTED,
+            &[
+                "0000010c4000000c0000138d",
+                ORIGIN,
+                "00000117400000100000012840000008",
+            ],
+        ),
+        "",
+    )?;
+    assert!(rt; is_open_as(&peer, b"gw9.example"));
+    Ok(())
+}
+
+/// An AVP that isn't known, and has to be, in a watchdog request and in one to disconnect.
+#[test]
+fn unknown_avps(rt: HostRuntime) -> Result<(), Fail> {
+    let mut peer = open(rt.alloc())?;
+    for (head, answer) in [(WATCHDOG, ALIVE), (DISCONNECT, DISCONNECTED)] {
+        check_answer(
+            &rt,
+            &mut peer,
+            (head, &[PEER, "000001114000000c00000000", UNKNOWN, PROXY]),
+            (
+                answer,
+                &[
+                    "0000010c4000000c00001389",
+                    ORIGIN,
+                    "0000011740000010",
+                    UNKNOWN,
+                    PROXY,
+                ],
+            ),
+            "",
+        )?;
+        assert!(rt; is_open_as(&peer, b"gw9.example"));
+    }
+    Ok(())
+}
+
 /// A list that can't be read: nothing is taken over from it.
 #[test]
 fn broken_lists(rt: HostRuntime) -> Result<(), Fail> {
-    let broken = [PROXY, "0000010840000007"];
+    let broken = [PROXY, BROKEN];
     let code = "0000010c4000000c00001396";
     let shown = "00000117400000100000010840000008";
     let mut peer = open(rt.alloc())?;

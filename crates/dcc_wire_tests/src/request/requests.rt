@@ -34,7 +34,7 @@ fn debit() -> &'static str {
     DEBIT.get(40..).unwrap_or_default()
 }
 
-const LAYOUT: [Case; 9] = [
+const LAYOUT: [Case; 12] = [
     ("", "", "2 groups, 0 inside"),
     // a service with three amounts inside
     (
@@ -60,6 +60,23 @@ const LAYOUT: [Case; 9] = [
         "000001be0000000b01020300000001bb6000000b01020300",
         "5014 000001be00000008",
     ),
+    // three octets in a subscriber, and behind it in the message's list a length below the header
+    (
+        "",
+        "000001bb6000000b010203000000019f60000007",
+        "5014 0000019f6000000c00000000",
+    ),
+    // three octets in a subscriber before an amount of three, and behind a service with such an amount
+    (
+        "",
+        "000001bb6000000b01020300000001be0000000b01020300",
+        "5014 000001bb60000008",
+    ),
+    (
+        "",
+        "000001c840000014000001b50000000b01020300000001bb6000000b01020300",
+        "5014 000001b500000008",
+    ),
     // a length below the header, of a type
     (
         "",
@@ -72,7 +89,7 @@ const LAYOUT: [Case; 9] = [
     ("", "000001174000000b01020300", "2 groups, 0 inside"),
 ];
 
-const UNKNOWN: [Case; 5] = [
+const UNKNOWN: [Case; 7] = [
     ("", "0000019d40000008", "5001 0000019d40000008"),
     // without M, of a vendor, and in Proxy-Info
     ("", "0000019d00000008", "2 groups, 0 inside"),
@@ -84,9 +101,20 @@ const UNKNOWN: [Case; 5] = [
         "000001be400000100000019d40000008000003e740000008",
         "5001 000003e740000008",
     ),
+    // in an amount and in a subscriber, as they stand
+    (
+        "",
+        "000001be400000100000019d40000008000001bb40000010000003e740000008",
+        "5001 0000019d40000008",
+    ),
+    (
+        "",
+        "000001bb40000010000003e740000008000001be400000100000019d40000008",
+        "5001 000003e740000008",
+    ),
 ];
 
-const TOO_MANY: [Case; 8] = [
+const TOO_MANY: [Case; 11] = [
     // the second of three, and one of a vendor
     (
         "",
@@ -129,9 +157,26 @@ const TOO_MANY: [Case; 8] = [
         "000001c840000040000001b540000020000001a44000000c00000001000001a44000000c00000002000001b04000000c00000001000001b04000000c00000002",
         "5009 000001b04000000c00000002",
     ),
+    // two groups in a service, and behind it in the message's list, which comes first, a second number
+    (
+        "",
+        "000001c840000020000001b04000000c00000001000001b04000000c000000020000019f4000000c00000009",
+        "5009 0000019f4000000c00000009",
+    ),
+    // two times in an amount and two types of a subscriber, as they stand
+    (
+        "",
+        "000001be40000020000001a44000000c00000001000001a44000000c00000002000001bb4000002c000001c24000000c00000000000001c24000000c00000001000001bc4000000961000000",
+        "5009 000001a44000000c00000002",
+    ),
+    (
+        "",
+        "000001bb4000002c000001c24000000c00000000000001c24000000c00000001000001bc4000000961000000000001be40000020000001a44000000c00000001000001a44000000c00000002",
+        "5009 000001c24000000c00000001",
+    ),
 ];
 
-const MISSING: [Case; 7] = [
+const MISSING: [Case; 9] = [
     (
         "000001cd4000001464617461406578616d706c65",
         "",
@@ -165,6 +210,17 @@ const MISSING: [Case; 7] = [
         "",
         "000001bb40000014000001c24000000c00000000",
         "5005 000001bc40000008",
+    ),
+    // a subscriber without data and one without a type, as they stand
+    (
+        "000001bb40000028000001c24000000c00000000000001bc40000014343931373030303030303031",
+        "000001bb40000014000001c24000000c00000000000001bb40000014000001bc4000000961000000",
+        "5005 000001bc40000008",
+    ),
+    (
+        "000001bb40000028000001c24000000c00000000000001bc40000014343931373030303030303031",
+        "000001bb40000014000001bc4000000961000000000001bb40000014000001c24000000c00000000",
+        "5005 000001c24000000c00000000",
     ),
 ];
 
@@ -218,6 +274,12 @@ fn services(rt: HostRuntime) -> Result<(), Fail> {
             "000001c800000008000001b500000008",
             "5009 000001b500000008",
         ),
+        // a seventeenth behind a subscriber of two types
+        (
+            "",
+            "000001bb4000002c000001c24000000c00000000000001c24000000c00000001000001bc4000000961000000000001c800000008",
+            "5009 000001c800000008",
+        ),
     ];
     told_as_wanted(&rt, Command::CreditControl, &list, &last)
 }
@@ -227,7 +289,7 @@ const CAPABILITIES: &str =
     "00000108400000136777312e6578616d706c6500000001284000000f6578616d706c6500\
 000001014000000e00017f00000100000000010a4000000c000000000000010d0000000a67770000000001024000000c00000004";
 
-const CAPABILITIES_CASES: [Case; 7] = [
+const CAPABILITIES_CASES: [Case; 11] = [
     ("", "000001014000000e00017f0000020000", "0 groups, 0 inside"),
     (
         "",
@@ -249,12 +311,34 @@ const CAPABILITIES_CASES: [Case; 7] = [
     // three octets in an application, but in a subscriber they aren't looked at
     ("", "000001044000000b01020300", "5014 0000010440000008"),
     ("", "000001bb4000000b01020300", "0 groups, 0 inside"),
+    // an AVP that isn't known, in an application; and, in the message's list, beside an application of three octets
+    (
+        "",
+        "00000104400000100000019d40000008",
+        "5001 0000019d40000008",
+    ),
+    (
+        "",
+        "0000019d40000008000001044000000b01020300",
+        "5014 0000010440000008",
+    ),
+    // a second Vendor-Id, beside an application with such an AVP, and without Product-Name
+    (
+        "",
+        "0000010a4000000c0000000100000104400000100000019d40000008",
+        "5001 0000019d40000008",
+    ),
+    (
+        "0000010d0000000a67770000",
+        "0000010a4000000c00000001",
+        "5009 0000010a4000000c00000001",
+    ),
 ];
 
 /// The list of a Device-Watchdog request.
 const WATCHDOG: &str = "00000108400000136777312e6578616d706c6500000001284000000f6578616d706c6500";
 
-const WATCHDOG_CASES: [Case; 4] = [
+const WATCHDOG_CASES: [Case; 6] = [
     (
         "",
         "000001044000000b01020300000001bb4000000b01020300",
@@ -271,13 +355,35 @@ const WATCHDOG_CASES: [Case; 4] = [
         "5009 000001080000000961000000",
     ),
     ("", "0000010840000007", "5014 0000010840000008"),
+    // a second host, before an AVP that isn't known, and without a realm
+    (
+        "",
+        "0000010840000009610000000000019d40000008",
+        "5001 0000019d40000008",
+    ),
+    (
+        "000001284000000f6578616d706c6500",
+        "000001084000000961000000",
+        "5009 000001084000000961000000",
+    ),
 ];
 
-const DISCONNECT_CASES: [Case; 3] = [
+const DISCONNECT_CASES: [Case; 5] = [
     ("", "", "5005 000001114000000c00000000"),
     ("", "000001114000000c00000001", "0 groups, 0 inside"),
     (
         "",
+        "000001114000000c00000001000001114000000c00000002",
+        "5009 000001114000000c00000002",
+    ),
+    // a second cause, before an AVP that isn't known, and without a realm
+    (
+        "",
+        "000001114000000c00000001000001114000000c000000020000019d40000008",
+        "5001 0000019d40000008",
+    ),
+    (
+        "000001284000000f6578616d706c6500",
         "000001114000000c00000001000001114000000c00000002",
         "5009 000001114000000c00000002",
     ),

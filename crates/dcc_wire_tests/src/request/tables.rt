@@ -3,6 +3,7 @@
 use super::check_told;
 use dcc_request::Command;
 use dcc_samples::DEBIT;
+use std::alloc::Global;
 use std::process::Abort;
 use std::test::Fail;
 
@@ -158,13 +159,28 @@ fn twice_in_credit_control(rt: HostRuntime) -> Result<(), Fail> {
     )
 }
 
-/// The same inside a walked group behind a debit.
+/// A list inside these groups, the outermost first.
+fn inside(alloc: Global, groups: &[u32], list: &str) -> Result<String, Fail> {
+    let mut text = String::from_str(alloc, list)?;
+    for group in groups.iter().rev() {
+        let length = (text.len() / 2).saturating_add(8);
+        text = format!(in alloc; "{group:08x}40{length:06x}{text}")?;
+    }
+    Ok(text)
+}
+
+/// A debit without what it asks for.
+fn amountless() -> &'static str {
+    let list = DEBIT.get(40..).unwrap_or_default();
+    list.split_once("000001b5").map_or("", |parts| parts.0)
+}
+
+/// The same inside walked groups, the outermost first, behind a debit.
 fn told_twice_inside(
     rt: &(impl Abort + AllocGlobal),
-    group: u32,
+    groups: &[u32],
     codes: &[u32],
 ) -> Result<(), Fail> {
-    let debit = DEBIT.get(40..).unwrap_or_default();
     let mut inner = String::new(rt.alloc());
     for code in codes {
         inner.push_str(&format!(in rt.alloc(); "{code:08x}00000008")?)?;
@@ -172,8 +188,8 @@ fn told_twice_inside(
     for code in codes.iter().rev() {
         let second = format!(in rt.alloc(); "{code:08x}00000008")?;
         inner.push_str(&second)?;
-        let length = (inner.len() / 2).saturating_add(8);
-        let list = format!(in rt.alloc(); "{debit}{group:08x}40{length:06x}{inner}")?;
+        let group = inside(rt.alloc(), groups, inner.as_str())?;
+        let list = format!(in rt.alloc(); "{}{group}", amountless())?;
         let want = format!(in rt.alloc(); "5009 {second}")?;
         check_told(rt, Command::CreditControl, list.as_str(), want.as_str())?;
     }
@@ -182,8 +198,12 @@ fn told_twice_inside(
 
 #[test]
 fn twice_in_groups(rt: HostRuntime) -> Result<(), Fail> {
-    told_twice_inside(&rt, 443, &[450, 444])?;
-    told_twice_inside(&rt, 456, &[432, 437])?;
-    // of a message two amounts asked for are too many already, so these were used
-    told_twice_inside(&rt, 446, &[420, 421, 412, 414, 417])
+    told_twice_inside(&rt, &[443], &[450, 444])?;
+    told_twice_inside(&rt, &[456], &[432, 437])?;
+    // what is asked for and what was used, of a message and of a service
+    let amounts = [420, 421, 412, 414, 417];
+    told_twice_inside(&rt, &[437], &amounts)?;
+    told_twice_inside(&rt, &[446], &amounts)?;
+    told_twice_inside(&rt, &[456, 437], &amounts)?;
+    told_twice_inside(&rt, &[456, 446], &amounts)
 }
