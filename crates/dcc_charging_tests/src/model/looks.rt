@@ -6,16 +6,25 @@ use std::alloc::Global;
 use std::hash::RandomState;
 use std::test::Fail;
 
-/// 64 sessions of one grant each, of which three are due before the rest.
-fn opened(alloc: Global, hasher: RandomState) -> Result<Book, Fail> {
-    let mut book = Book::new(alloc, hasher);
-    book.judge(alloc, &act(alloc, 0, Ask::TopUp(1, 100_000))?)?;
+/// Judges an act, which has to be as it is meant.
+fn judge(alloc: Global, book: &mut Book, after: u64, ask: Ask) -> Result<(), Fail> {
+    book.judge(alloc, &act(alloc, after, ask)?)?;
+    Ok(())
+}
+
+/// Opens 64 sessions of one grant each, of which three are due before the rest.
+fn open_all(alloc: Global, book: &mut Book) -> Result<(), Fail> {
+    judge(alloc, book, 0, Ask::TopUp(1, 100_000))?;
     for session in 0..64u8 {
         let begun = if session < 3 { 0 } else { 100 };
-        let opening = Ask::Initial(session, 0, &[Want::Asks(10, 1000)]);
-        book.judge(alloc, &act(alloc, begun, opening)?)?;
+        judge(
+            alloc,
+            book,
+            begun,
+            Ask::Initial(session, 0, &[Want::Asks(10, 1000)]),
+        )?;
     }
-    Ok(book)
+    Ok(())
 }
 
 /// How many grants the account looks at to prepare an act, and how many sessions that ends.
@@ -31,7 +40,8 @@ fn looks(alloc: Global, book: &Book, after: u64, ask: Ask) -> Result<(u64, u64),
 #[test]
 fn looks_do_not_grow_with_sessions(rt: HostRuntime) -> Result<(), Fail> {
     let alloc = rt.alloc();
-    let book = opened(alloc, RandomState::new(&rt)?)?;
+    let mut book = Book::new(alloc, RandomState::new(&rt)?);
+    open_all(alloc, &mut book)?;
     let debit = Ask::Event(Action::DirectDebiting, 0, Want::Asks(10, 1000));
     assert_eq!(rt; looks(alloc, &book, 200, debit)?, (0, 0));
     let update = Ask::Update(7, 1, &[Want::Both(10, 900, 1000)]);

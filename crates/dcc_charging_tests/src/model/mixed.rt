@@ -188,7 +188,39 @@ fn most_ended(book: &Book) -> u64 {
 /// How near funds are to be.
 const NEAR: i128 = MAX_AMOUNT as i128 - 100_000;
 
-/// Judges 250 acts, each by the plain program and by the account beside it.
+/// Judges 250 acts, each by the plain program and by the account beside it, and tells whether funds came near the ceiling, and
+/// near the floor.
+fn judge_all(
+    alloc: Global,
+    book: &mut Book,
+    numbers: &mut Thrown,
+    is_much: bool,
+) -> Result<(bool, bool), Fail> {
+    let mut was_high = false;
+    let mut was_low = false;
+    for turn in 0..250u8 {
+        judge(alloc, book, numbers, turn, is_much)?;
+        was_high |= book.standing.funds > NEAR;
+        was_low |= book.standing.funds < -NEAR;
+    }
+    Ok((was_high, was_low))
+}
+
+/// Judges the act of a turn. Moments go on by half a minute, and back by as much as five.
+fn judge(
+    alloc: Global,
+    book: &mut Book,
+    numbers: &mut Thrown,
+    turn: u8,
+    is_much: bool,
+) -> Result<(), Fail> {
+    let after = (u64::from(turn) * 30 + 300).saturating_sub(numbers.below(300));
+    let ask = ask_of(numbers, turn, is_much);
+    book.judge(alloc, &act(alloc, after, ask)?)?;
+    Ok(())
+}
+
+/// What comes of the acts of a seed.
 fn judge_turns(
     alloc: Global,
     hasher: RandomState,
@@ -197,16 +229,7 @@ fn judge_turns(
 ) -> Result<Turns, Fail> {
     let mut numbers = Thrown { state: seed };
     let mut book = Book::new(alloc, hasher);
-    let mut was_high = false;
-    let mut was_low = false;
-    for turn in 0..250u8 {
-        // Moments go on by half a minute, and back by as much as five.
-        let after = (u64::from(turn) * 30 + 300).saturating_sub(numbers.below(300));
-        let ask = ask_of(&mut numbers, turn, is_much);
-        book.judge(alloc, &act(alloc, after, ask)?)?;
-        was_high |= book.standing.funds > NEAR;
-        was_low |= book.standing.funds < -NEAR;
-    }
+    let (was_high, was_low) = judge_all(alloc, &mut book, &mut numbers, is_much)?;
     Ok(Turns {
         made: book.made.len(),
         most_ended: most_ended(&book),
