@@ -19,6 +19,9 @@ use std::process::Abort;
 use std::random::RandomSource;
 use std::test::Fail;
 
+/// Room for what is printed in the tests of refused allocations, so that their writer never asks for more.
+const ROOM: usize = 65_536;
+
 /// What is written of a script.
 fn replayed<R: RandomSource + AllocGlobal>(
     rt: &R,
@@ -28,7 +31,7 @@ fn replayed<R: RandomSource + AllocGlobal>(
     let alloc = rt.alloc();
     let hasher = RandomState::new(rt).map_err(|_| ReplayFault::Input)?;
     let mut input = script;
-    let mut output = Vec::new(alloc);
+    let mut output = Vec::with_capacity(alloc, ROOM).map_err(|_| ReplayFault::Memory)?;
     replay_run(alloc, &plan, &mut input, &mut output, hasher)?;
     String::from_utf8(output).map_err(|_| ReplayFault::Output)
 }

@@ -220,7 +220,8 @@ fn a_refusal_changes_no_tree(rt: HostRuntime) -> Result<(), Fail> {
 ";
     let expected = format!(in alloc; "{DEBIT_TREE}1 answer 1\n{ANSWER_TREE}2 -\n{broken}")?;
     let mut input = text.as_bytes();
-    let mut output = Vec::new(alloc);
+    // The writer has room for all of it.
+    let mut output = Vec::with_capacity(alloc, 65_536)?;
     match decode_run(alloc, &mut input, &mut output) {
         Ok(()) => same(&rt, str::from_utf8(output.as_slice())?, expected.as_str()),
         Err(fault) => {
