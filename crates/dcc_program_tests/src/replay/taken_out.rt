@@ -59,6 +59,12 @@ fn without_refused(alloc: Global, script: &str, printed: &str) -> Result<String,
     Ok(kept)
 }
 
+/// Whether any event was refused.
+fn is_any_refused(script: &str, printed: &str) -> bool {
+    let mut events = script.lines().zip(printed.lines());
+    events.any(|(event, line)| is_refused(event, line))
+}
+
 /// Whether each event that was not refused is answered as in the other run, and how many were refused.
 fn compare(rt: &impl Abort, script: &str, printed: &str, other: &str) -> usize {
     let mut refused = 0usize;
@@ -102,6 +108,10 @@ fn judge<R: Abort + RandomSource + AllocGlobal>(
     let text = printed(rt, script.as_str())?;
     let rest = without_refused(rt.alloc(), script.as_str(), text.as_str())?;
     let other = printed(rt, rest.as_str())?;
+    if is_any_refused(rest.as_str(), other.as_str()) {
+        // What is refused is refused of the other run.
+        return Err(Fail::from(REFUSED));
+    }
     let refused = compare(rt, script.as_str(), text.as_str(), other.as_str());
     Ok((refused > 0, text.as_str().contains(TOO_BUSY)))
 }
