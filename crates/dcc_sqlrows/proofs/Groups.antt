@@ -1,5 +1,5 @@
 -- Lines in groups, and the pages whose rows they are.
-use Rattle.std.proofs.Common.{◌≡◌, ◌≢◌, inl, inr, ℕ, suc, ◌+◌, ◌<◌, ◌≤◌, ℤ, pos, Bool, true, false, ◌&&◌, ◌↔◌, All, List, [], ◌∷◌, ◌++◌, length, map, take, get_or, refl, sym, ap, ap₂, subst, ◌∙◌, arith, append_assoc, append-nil, length-append, rules}
+use Rattle.std.proofs.Common.{◌≡◌, ◌≢◌, inl, inr, ℕ, suc, ◌+◌, ◌<◌, ◌≤◌, ℤ, pos, Bool, true, false, ◌&&◌, ◌↔◌, All, List, [], ◌∷◌, ◌++◌, length, map, take, get_or, Option, Some, None, IfSome, refl, sym, ap, ap₂, subst, ◌∙◌, arith, append_assoc, append-nil, length-append, rules}
 use Rattle.std.specs.Ordering.{is_eq}
 use Rattle.std.specs.declared.cmp.Ordering.TheVariants.{Less}
 use Rattle.std.specs.Cmp.Rules.{comparing}
@@ -252,3 +252,10 @@ pub only_book : Differ → SameAreEqual → (lines : List Line) (n : ℕ) (found
     → AllByRecursion IsPage pages → AreInOrder pages → map line_row lines ≡ book_act_rows pages → found ≡ pages
 only_book differ same lines n found pages end fit is valid sorted rows =
     is ∙ ap (grouped []) (take_all n lines end) ∙ same_pages differ same pages lines (open_all (λ (l : Line). IsAct l.act) lines fit) valid sorted rows
+
+-- so a book that is found is the only one
+pub found_only : Differ → SameAreEqual → (lines : List Line) (n : ℕ) (pages : List PageView) (found : Option (List PageView)) → length lines ≤ n → All (λ l. IsAct l.act) lines
+    → pages ≡ grouped [] (take n lines) → IfSome found (λ book. book ≡ pages)
+    → IfSome found (λ book. (others : List PageView) → AreInOrder others → AllByRecursion IsPage others → map line_row lines ≡ book_act_rows others → others ≡ book)
+found_only differ same lines n pages None end fit is value = tt
+found_only differ same lines n pages (Some book) end fit is value = λ others sorted valid rows. sym (value ∙ only_book differ same lines n pages others end fit is valid sorted rows)

@@ -14,13 +14,15 @@ use dcc_record::records_differ;
 use dcc_records::{Book, Page};
 use std::alloc::{AllocError, Global};
 
-/// The book whose rows of acts the lines are, or none where there is no such book: a place isn't that of its act, or the
+/// The one book whose rows of acts the lines are, or none where there is no such book: a place isn't that of its act, or the
 /// subscribers aren't in order. The only error is want of memory.
 pub fn book_of(alloc: Global, lines: &[Line]) -> Result<Option<Book>, AllocError>
     requires subs { All (λ line. IsSub line.sub) lines.now }
     requires fit { All (λ line. IsAct line.act) lines.now }
     ensures rows { IfOk result (λ found. IfSome found (λ pages. map line_row lines.now ≡ book_act_rows pages)) }
     ensures valid { IfOk result (λ found. IfSome found (λ pages. AllByRecursion IsPage pages)) }
+    ensures only { IfOk result (λ found. IfSome found (λ pages.
+        (others : List PageView) → AreInOrder others → AllByRecursion IsPage others → map line_row lines.now ≡ book_act_rows others → others ≡ pages)) }
     ensures none { IfOk result (λ found. found ≡ None
         → (pages : List PageView) → AreInOrder pages → AllByRecursion IsPage pages → map line_row lines.now ≢ book_act_rows pages) }
 {

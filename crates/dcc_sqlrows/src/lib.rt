@@ -6,9 +6,9 @@
 //! `specs/Pages.antt`, and what rows say in `specs/Stored.antt`.
 //!
 //! The contract that it gives: [`read_lines`] and [`are_of_subs`] find rows that are no act's or of nobody; [`book_of`] gives
-//! the pages whose rows the lines are, and none where there are none; [`judge`] tells whether the rows are those of a book of
-//! these pages, each of which is what its own acts make, with how many acts and what funds each has; [`are_own`] tells the same
-//! of the acts alone.
+//! the only pages whose rows the lines are, and none where there are none; [`judge`] tells whether the rows are those of a book
+//! of these pages, each of which is what its own acts make, with how many acts and what funds each has; [`are_own`] tells the
+//! same of the acts alone.
 #![tactic(auto)]
 
 mod entries;

@@ -4,7 +4,7 @@ use Rattle.dcc_records.specs.Books.{AreInOrder}
 use Rattle.dcc_sqlrows.specs.Pages.{book_act_rows}
 use Rattle.dcc_sqlrows.specs.Stored.{line_row}
 use Rattle.dcc_sqlrows.specs.inner.Groups.{put_behind, before_it}
-use Rattle.dcc_sqlrows.proofs.Groups.{grouped_next, next_valid, fits_more, only_book}
+use Rattle.dcc_sqlrows.proofs.Groups.{grouped_next, next_valid, fits_more, only_book, found_only}
 use Rattle.dcc_sqlrows.proofs.grouping.book_of.Goals as goal
 
 pub loop-line-preserved : goal.loop-line-preserved
@@ -44,3 +44,8 @@ returns-clause-none c none pages sorted valid rows =
     let same = only_book c.records_differ.ensures.one c.same_subscribers_are_equal.ensures lines n found pages c.loop-line-test.false c.requires.fit it.pages valid sorted rows in
     let some = c.from_vec.ensures.some.1 (subst AreInOrder (sym same) sorted) in
     absurd (let k : false ≡ true = rw none at some in cc)
+
+pub returns-clause-only : goal.returns-clause-only
+returns-clause-only c =
+    found_only c.records_differ.ensures.one c.same_subscribers_are_equal.ensures c.args.lines.now c.loop-line.line-index c.loop-line.pages.items c.from_vec.result c.loop-line-test.false c.requires.fit
+    c.loop-line.invariant.pages c.from_vec.ensures.value
