@@ -13,7 +13,8 @@ use Rattle.dcc_sqlrec.specs.Content.{HoldsBook}
 use Rattle.dcc_sqlrec.specs.inner.Trees.{account_tree, IsKeyed, HasCommitted}
 use Rattle.dcc_sqlrec.specs.inner.Tallies.{AreTallies}
 use Rattle.dcc_sqlrec.specs.inner.Keeping.{Keeps, KeepsBook}
-use Rattle.dcc_sqlrec.specs.inner.Making.{AreEmpty}
+use Rattle.dcc_sqlrec.specs.inner.Making.{AreEmpty, IsFirst}
+use Rattle.dcc_sqlrec.specs.declared.setting.Setting.{Setting}
 
 holds_nothing : (terms : TermsView) (db : Trees) → NoneMade → AreEmpty db → HoldsBook terms db no_acts
 holds_nothing terms db none empty = record {
@@ -28,7 +29,7 @@ no_funds : (terms : TermsView) → EntriesAddUp → funds terms [] ≡ pos 0
 unfolding entries
 no_funds terms add_up = sym (add_up terms [])
 
-no_tallies : (terms : TermsView) → EntriesAddUp → AreTallies terms [] no_acts
+pub no_tallies : (terms : TermsView) → EntriesAddUp → AreTallies terms [] no_acts
 no_tallies terms add_up sub = ap (λ (money : ℤ). let t : Tally = record { acts = 0; funds = money } in t) (sym (no_funds terms add_up))
 
 keyed_nothing : (rows : List Row) → rows ≡ [] → IsKeyed rows
@@ -43,6 +44,10 @@ keeps_nothing terms old new none it = record {
   keyed = keyed_nothing (new.now.trees account_tree) it.changes.2;
   holds = holds_nothing terms new.now.trees none it.changes;
 }
+
+-- what the first transaction says of the rows but for the setting's
+pub without_setting : (setting : Setting) (old new : State) → HasCommitted (λ _. IsFirst setting) old new → HasCommitted (λ _. AreEmpty) old new
+without_setting setting old new it = record { is_open = it.is_open; autocommit = it.autocommit; settled = it.settled; schema = it.schema; changes = it.changes.0 }
 
 pub first_book : (terms : TermsView) (old new : State) → NoneMade → EntriesAddUp → HasCommitted (λ _. AreEmpty) old new → KeepsBook terms new []
 first_book terms old new none add_up it = (no_acts, keeps_nothing terms old new none it, no_tallies terms add_up)

@@ -9,5 +9,10 @@ pub mod Books
 pub mod Stopping
 pub mod Tallying
 pub mod OneMore
+pub mod KeyIndexes
+pub mod Values
+pub mod Rowids
 pub mod Creates
 pub mod First
+pub mod Verdicts
+pub mod Opened

@@ -11,6 +11,7 @@ use Rattle.sqlite.specs.Schema.{Schema}
 use Rattle.sqlite_schema.specs.contracts.schema.Schema.{the_row}
 use Rattle.sqlite.specs.Tree.{Trees}
 use Rattle.sqlite.specs.State.{State, HasCleanDisk, IsUnchanged, Survives}
+use Rattle.sqlite.proofs.StateLemmas.{survives_then}
 use Rattle.dcc_tariff.specs.Terms.{TermsView}
 use Rattle.dcc_act.specs.declared.sub.Sub.{Sub}
 use Rattle.dcc_records.specs.Books.{Held, PageView, AreInOrder, acts_in}
@@ -22,20 +23,23 @@ use Rattle.dcc_sqlrows.specs.Held.{AreJust, IsActRow, PagesHoldTheirActs, PagesF
 use Rattle.dcc_sqlrec.specs.Tables.{layout}
 use Rattle.dcc_sqlrec.specs.Trees.{act_rows, IsUndone}
 use Rattle.dcc_sqlrec.specs.Content.{leaves}
-use Rattle.dcc_sqlrec.specs.inner.Reading.{LeftOrUndone, HasActs}
+use Rattle.dcc_sqlrec.specs.inner.Reading.{LeftOrUndone, IsSettled, HasOtherLayout, HasActs}
 use Rattle.dcc_sqlrec.specs.inner.Keeping.{KeepsBook}
 use Rattle.dcc_sqlrec.proofs.Stopping.{Settles, Differ, content_prop, kept_leaves, only_kept, kept_undone, along}
 use Rattle.dcc_sqlrec.proofs.Books.{same_acts, acts_held}
 
-pub unchanged_still : (old new : State) → new.in_transaction ≡ false → old.now ≡ old.committed → IsUnchanged old new → IsUndone old new
-unchanged_still old new mode settled h = record { is_open = h.0.is_open; autocommit = mode; now_is = h.0.now_is ∙ settled; committed_is = h.0.committed_is }
+pub unchanged_still : (old new : State) → new.in_transaction ≡ false → IsSettled old → IsUnchanged old new → IsUndone old new
+unchanged_still old new mode settled h = record { is_open = h.0.is_open; autocommit = mode; now_is = h.0.now_is ∙ settled h.0.was_open; committed_is = h.0.committed_is }
 
 -- a connection that answers after a failure is open
-pub probed_still : (old mid new : State) → new.in_transaction ≡ false → old.now ≡ old.committed → LeftOrUndone old mid → IsUnchanged mid new → IsUndone old new
-probed_still old mid new mode settled (inl u) p = record { is_open = p.0.is_open; autocommit = mode; now_is = p.0.now_is ∙ u.0.now_is ∙ settled; committed_is = p.0.committed_is ∙ u.0.committed_is }
+pub probed_still : (old mid new : State) → new.in_transaction ≡ false → IsSettled old → LeftOrUndone old mid → IsUnchanged mid new → IsUndone old new
+probed_still old mid new mode settled (inl u) p = record { is_open = p.0.is_open; autocommit = mode; now_is = p.0.now_is ∙ u.0.now_is ∙ settled u.0.was_open; committed_is = p.0.committed_is ∙ u.0.committed_is }
 probed_still old mid new mode settled (inr undone) p =
     let back = undone p.0.was_open in
     record { is_open = p.0.is_open; autocommit = mode; now_is = p.0.now_is ∙ back.0; committed_is = p.0.committed_is ∙ back.1 }
+
+pub probed_crash : (old mid new : State) → Survives old mid (HasOtherLayout old) → Survives mid new (λ _. ⊥) → Survives old new (HasOtherLayout old)
+probed_crash old mid new = survives_then old mid new (HasOtherLayout old) (λ _. ⊥) (HasOtherLayout old) (λ _ db other. other) (λ _ db none. absurd none)
 
 -- rows that are those of pages, in whatever order, are those of their book
 pub just_along : (rows all : List Row) (Says : Row → Type 0) → IsPermutation all rows → AreJust rows Says → AreJust all Says
@@ -63,14 +67,14 @@ module _ (terms : TermsView) (old new : State) (tallies : List (Sub × Tally)) (
   has_layout now = ∥∥₁_elim (kept (was_clean now)) (schema_prop old.now.schema) (λ k. k.1.schema)
 
   -- what a stop leaves it left before
-  pub left_before : (old.now.schema ≡ layout → Survives old new (λ _. ⊥)) → (found : Content) → leaves terms new found → leaves terms old found
+  pub left_before : Survives old new (HasOtherLayout old) → (found : Content) → leaves terms new found → leaves terms old found
   left_before survives found left =
-      let may : old.may_leave left.1.0 ⊎ ⊥ = (survives (has_layout left.0)).crash left.0 left.1.0 left.1.1 in
-      (was_clean left.0, (left.1.0, elim may [ inl it ↦ it | inr none ↦ absurd none ], left.1.2))
+      let may : old.may_leave left.1.0 ⊎ HasOtherLayout old left.1.0 = survives.crash left.0 left.1.0 left.1.1 in
+      (was_clean left.0, (left.1.0, elim may [ inl it ↦ it | inr other ↦ absurd (other (has_layout left.0)) ], left.1.2))
 
-  module _ (still : HasCleanDisk new → old.now.schema ≡ layout → old.now ≡ old.committed → IsUndone old new) where
+  module _ (still : HasCleanDisk new → old.now.schema ≡ layout → IsSettled old → IsUndone old new) where
     pub kept_still : HasCleanDisk new → ∥ KeepsBook terms new tallies ∥₁
-    kept_still now = ∥∥₁_map (kept (was_clean now)) (λ k. (k.0, kept_undone terms old new k.0 k.1 (still now k.1.schema k.1.settled), k.2))
+    kept_still now = ∥∥₁_map (kept (was_clean now)) (λ k. (k.0, kept_undone terms old new k.0 k.1 (still now k.1.schema (λ _. k.1.settled)), k.2))
 
     module _ (differ : Differ) (held : Held) (acts : HasCleanDisk new → old.now.schema ≡ layout → HasActs old.now.trees held) where
       same_as : HasCleanDisk new → (k : KeepsBook terms old tallies) → (sub : Sub) → k.0 sub ≡ held sub
@@ -78,11 +82,11 @@ module _ (terms : TermsView) (old new : State) (tallies : List (Sub × Tally)) (
 
       pub found_only : Settles new → LeavesOnly terms held (leaves terms new)
       found_only settles found left = ∥∥₁_elim (kept (was_clean left.0)) (content_prop terms held found) (λ k.
-          along terms k.0 held found (same_as left.0 k) (only_kept terms new k.0 differ settles (kept_undone terms old new k.0 k.1 (still left.0 k.1.schema k.1.settled)) found left))
+          along terms k.0 held found (same_as left.0 k) (only_kept terms new k.0 differ settles (kept_undone terms old new k.0 k.1 (still left.0 k.1.schema (λ _. k.1.settled))) found left))
 
       pub found_there : (IsTrue new.is_open → new.may_leave new.committed.trees) → HasCleanDisk new → ∥ ((content : Content) × IsContentOf terms held content × leaves terms new content) ∥₁
       found_there stays now = ∥∥₁_map (kept (was_clean now)) (λ k.
-          let next = kept_undone terms old new k.0 k.1 (still now k.1.schema k.1.settled) in
+          let next = kept_undone terms old new k.0 k.1 (still now k.1.schema (λ _. k.1.settled)) in
           (λ sub. kept_by terms (k.0 sub), along terms k.0 held (λ sub. kept_by terms (k.0 sub)) (same_as now k) (λ sub. refl), kept_leaves terms new k.0 (stays next.is_open) now next))
 
 -- ---- a book that was read

@@ -24,6 +24,14 @@ three_columns row = column row 1 ∷ column row 2 ∷ column row 3 ∷ []
 abbrev pub seven_columns : Row → Row
 seven_columns row = column row 1 ∷ column row 2 ∷ column row 3 ∷ column row 4 ∷ column row 5 ∷ column row 6 ∷ column row 7 ∷ []
 
+-- the columns of the row of a setting, whose number is its rowid
+abbrev pub ten_columns : Row → Row
+ten_columns row =
+    column row 0 ∷ column row 2 ∷ column row 3 ∷ column row 4 ∷ column row 5 ∷ column row 6 ∷ column row 7 ∷ column row 8 ∷ column row 9 ∷ column row 10 ∷ []
+
+abbrev pub setting_rows : Trees → List Row
+setting_rows db = map ten_columns (db setting_tree)
+
 abbrev pub act_rows : Trees → List Row
 act_rows db = map three_columns (db act_tree)
 

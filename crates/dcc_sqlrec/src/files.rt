@@ -3,7 +3,11 @@
 ghost use Rattle.std.specs.Prelude.{◌≡◌, false, IfSome};
 ghost use Rattle.sqlite.specs.Files.{file_state};
 ghost use Rattle.sqlite.specs.State.{HasCleanDisk};
+ghost use Rattle.dcc_records.specs.Contents.{Content};
+ghost use Rattle.dcc_sqlrec.specs.Content.{leaves};
 
+use crate::setting::Setting;
+use crate::sql_records::SqlRecords;
 use sqlite::{Connection, FileStore, Options};
 use sqlite_disk::Crash;
 use std::alloc::Global;
@@ -23,6 +27,27 @@ pub fn stop_and_open<D: Crash + Drop>(
     files.db.crash();
     match Connection::open_files(alloc, files, options) {
         Ok(again) => Some(again),
+        Err(_) => None,
+    }
+}
+
+/// The same of records: the process ends at this moment, and what it left of the files is opened again as the store of a setting, or
+/// can't be. What is held then is one of the contents that a stop at this moment leaves, where the disk has returned what was written.
+pub fn stop_and_reopen<D: Crash + Drop>(
+    records: SqlRecords<FileStore<D>>,
+    options: Options,
+    setting: &Setting<'_>,
+) -> Option<SqlRecords<FileStore<D>>>
+    ensures terms { IfSome result (λ again. again.terms ≡ setting.now.terms) }
+    ensures going { IfSome result (λ again. again.stopped ≡ false) }
+    ensures found { HasCleanDisk (file_state records.conn) → setting.now.terms ≡ records.terms → IfSome result (λ again. (found : Content)
+        → leaves again.terms (file_state again.conn) found → ∥ leaves records.terms (file_state records.conn) found ∥₁) }
+{
+    let (alloc, hasher) = (records.alloc, records.hasher);
+    let conn = records.into_connection();
+    let again = stop_and_open(alloc, conn, options)?;
+    match SqlRecords::open(alloc, again, setting, hasher) {
+        Ok(records) => Some(records),
         Err(_) => None,
     }
 }

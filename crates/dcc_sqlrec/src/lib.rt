@@ -12,25 +12,31 @@
 //!   transaction: after Ok a stop leaves the content of the book with the act, after want of memory that of the book before, and
 //!   after any other refusal, or inside the call, the one or the other; then nothing is done any more. A load reads the table
 //!   of acts by one statement, and judges each list of acts by an account of its own.
-//! - [`stop_and_open`] finds one of the databases that a stop leaves.
-//!
-//! It doesn't open a store yet.
+//! - [`SqlRecords::open`] reads each table whole, by one statement, and judges the rows by the acts: Ok with the book that the tables
+//!   hold, or the first fault that applies, with nothing changed.
+//! - [`stop_and_open`] finds one of the databases that a stop leaves, and [`stop_and_reopen`] the records in it: what they hold is one
+//!   of the contents that a stop leaves.
 #![tactic(auto)]
 
 mod adding;
 mod appending;
 mod fault;
 mod files;
+mod judging;
+mod layout;
 mod loading;
 mod making;
+mod opening;
+mod parts;
 mod reading;
 mod records;
+mod rising;
 mod setting;
 mod sql_records;
 mod tally;
 mod transaction;
 
-pub use fault::CreateFault;
-pub use files::stop_and_open;
+pub use fault::{CreateFault, OpenFault};
+pub use files::{stop_and_open, stop_and_reopen};
 pub use setting::Setting;
 pub use sql_records::SqlRecords;

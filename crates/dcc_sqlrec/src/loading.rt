@@ -8,15 +8,14 @@ ghost use Rattle.sqlite.specs.Held.{state};
 ghost use Rattle.dcc_records.specs.Books.{acts_in, IsBook, AreInOrder};
 ghost use Rattle.dcc_sqlrows.specs.Pages.{IsPage, book_act_rows};
 ghost use Rattle.dcc_sqlrec.specs.Tables.{layout};
-ghost use Rattle.dcc_sqlrec.specs.Queries.{acts_query, Shows};
 ghost use Rattle.dcc_sqlrec.specs.inner.Trees.{IsUndone};
-ghost use Rattle.dcc_sqlrec.specs.inner.Reading.{HasActs};
+ghost use Rattle.dcc_sqlrec.specs.inner.Reading.{HasActs, IsSettled, HasOtherLayout};
 
-use crate::reading::read_acts;
+use crate::parts::{Part, rows_of};
 use dcc_records::{Book, StoreFault};
 use dcc_sqlrows::{ReadFault, are_own, book_of, pages_hold_their_rows, read_lines};
 use dcc_tariff::Terms;
-use sqlite::{Alter, Connection, Error, ErrorCode, Row};
+use sqlite::{Alter, Connection, Row};
 use std::alloc::Global;
 use std::hash::RandomState;
 
@@ -34,37 +33,14 @@ pub fn load_book<S: Alter>(
     ensures own { IfOk result (λ book. IsBook terms.now (acts_in book)) }
     ensures acts { HasCleanDisk (state S.Store conn.new) → conn.old.schema ≡ layout
         → IfOk result (λ book. HasActs (state S.Store conn.old).now.trees (acts_in book)) }
-    ensures still { HasCleanDisk (state S.Store conn.new) → conn.old.schema ≡ layout → (state S.Store conn.old).now ≡ (state S.Store conn.old).committed
+    ensures still { HasCleanDisk (state S.Store conn.new) → conn.old.schema ≡ layout → IsSettled (state S.Store conn.old)
         → result ≢ Err StoreFault.Device → IsUndone (state S.Store conn.old) (state S.Store conn.new) }
     ensures fault { OnErr result ((result ≡ Err StoreFault.Memory) ⊎ (result ≡ Err StoreFault.Device)) }
-    ensures crash { conn.old.schema ≡ layout → Survives (state S.Store conn.old) (state S.Store conn.new) (λ _. ⊥) }
+    ensures crash { Survives (state S.Store conn.old) (state S.Store conn.new) (HasOtherLayout (state S.Store conn.old)) }
 {
     pages_hold_their_rows();
-    let rows = rows_of_acts(conn)?;
+    let rows = rows_of(conn, Part::Acts)?;
     book_in(alloc, terms, hasher, &rows)
-}
-
-/// The rows of all acts. Want of memory leaves a store that may be used.
-fn rows_of_acts<S: Alter>(conn: &mut Connection<S>) -> Result<Vec<Row>, StoreFault>
-    requires { conn.old.in_transaction ≡ false }
-    ensures mode { conn.new.in_transaction ≡ false }
-    ensures clean { doubt (state S.Store conn.old).is_clean ≤ doubt (state S.Store conn.new).is_clean }
-    ensures rows { HasCleanDisk (state S.Store conn.new) → conn.old.schema ≡ layout
-        → IfOk result (λ rows. Shows acts_query (state S.Store conn.old).now.trees rows.items) }
-    ensures still { HasCleanDisk (state S.Store conn.new) → conn.old.schema ≡ layout → (state S.Store conn.old).now ≡ (state S.Store conn.old).committed
-        → result ≢ Err StoreFault.Device → IsUndone (state S.Store conn.old) (state S.Store conn.new) }
-    ensures fault { OnErr result ((result ≡ Err StoreFault.Memory) ⊎ (result ≡ Err StoreFault.Device)) }
-    ensures crash { conn.old.schema ≡ layout → Survives (state S.Store conn.old) (state S.Store conn.new) (λ _. ⊥) }
-{
-    let error = match read_acts(conn) {
-        Ok(rows) => return Ok(rows),
-        Err(error) => error,
-    };
-    let answers = conn.prepare("SELECT 1").is_ok();
-    if answers && error == Error::SqliteFailure(ErrorCode::OutOfMemory) {
-        return Err(StoreFault::Memory);
-    }
-    Err(StoreFault::Device)
 }
 
 /// The book whose acts these rows are.

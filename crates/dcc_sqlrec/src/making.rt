@@ -6,7 +6,7 @@ ghost use Rattle.sqlite.specs.State.{HasCleanDisk, Survives, KeepsCommit};
 ghost use Rattle.sqlite.specs.Held.{state};
 ghost use Rattle.dcc_sqlrec.specs.Tables.{no_schema, one_table, two_tables, three_tables, layout};
 ghost use Rattle.dcc_sqlrec.specs.inner.Trees.{HasCommitted, IsUndone};
-ghost use Rattle.dcc_sqlrec.specs.inner.Making.{HasMade, Anything, NoActs, NoEntries, AreEmpty};
+ghost use Rattle.dcc_sqlrec.specs.inner.Making.{HasMade, NoSetting, NoActs, NoEntries, NoRows, IsFirst, AreEmpty};
 
 use crate::setting::Setting;
 use dcc_records::StoreFault;
@@ -31,7 +31,7 @@ pub fn make_store<S: Alter>(
     ensures mode { conn.new.in_transaction ≡ false }
     ensures clean { doubt (state S.Store conn.old).is_clean ≤ doubt (state S.Store conn.new).is_clean }
     ensures made { HasCleanDisk (state S.Store conn.new) → conn.old.schema ≡ no_schema
-        → OnOk result (HasCommitted (λ _. AreEmpty) (state S.Store conn.old) (state S.Store conn.new)) }
+        → OnOk result (HasCommitted (λ _. IsFirst setting.now) (state S.Store conn.old) (state S.Store conn.new)) }
     ensures undone { HasCleanDisk (state S.Store conn.new) → result ≡ Err StoreFault.Memory
         → IsUndone (state S.Store conn.old) (state S.Store conn.new) }
     ensures crash { conn.old.schema ≡ no_schema → Survives (state S.Store conn.old) (state S.Store conn.new) AreEmpty }
@@ -52,7 +52,7 @@ fn commit_tables<S: Alter>(conn: &mut Connection<S>, setting: &Setting<'_>) -> R
     ensures mode { conn.new.in_transaction ≡ false }
     ensures clean { doubt (state S.Store conn.old).is_clean ≤ doubt (state S.Store conn.new).is_clean }
     ensures made { HasCleanDisk (state S.Store conn.new) → conn.old.schema ≡ no_schema
-        → OnOk result (HasCommitted (λ _. AreEmpty) (state S.Store conn.old) (state S.Store conn.new)) }
+        → OnOk result (HasCommitted (λ _. IsFirst setting.now) (state S.Store conn.old) (state S.Store conn.new)) }
     ensures undone { HasCleanDisk (state S.Store conn.new) → IsTrue (state S.Store conn.new).is_open
         → OnErr result (((state S.Store conn.new).now ≡ (state S.Store conn.old).committed) × ((state S.Store conn.new).committed ≡ (state S.Store conn.old).committed)) }
     ensures crash { conn.old.schema ≡ no_schema → Survives (state S.Store conn.old) (state S.Store conn.new) AreEmpty }
@@ -68,7 +68,7 @@ fn make_tables<S: Alter>(tx: &mut Transaction<'_, S>, setting: &Setting<'_>) -> 
     ensures same_reference { tx.new.conn.ghost_name ≡ tx.old.conn.ghost_name }
     ensures made { HasCleanDisk (state S.Store tx.new.conn.now) → IsTrue (state S.Store tx.old.conn.now).in_transaction
         → (state S.Store tx.old.conn.now).now.schema ≡ no_schema
-        → OnOk result (HasMade layout AreEmpty (state S.Store tx.old.conn.now) (state S.Store tx.new.conn.now)) }
+        → OnOk result (HasMade layout (IsFirst setting.now) (state S.Store tx.old.conn.now) (state S.Store tx.new.conn.now)) }
     ensures inside { HasCleanDisk (state S.Store tx.new.conn.now) → IsTrue (state S.Store tx.old.conn.now).in_transaction
         → OnOk result (IsTrue (state S.Store tx.new.conn.now).in_transaction) }
     ensures kept { HasCleanDisk (state S.Store tx.new.conn.now) → IsTrue (state S.Store tx.old.conn.now).in_transaction
@@ -87,7 +87,7 @@ fn make_setting<S: Alter>(tx: &mut Transaction<'_, S>) -> Result<(), Error>
     ensures same_reference { tx.new.conn.ghost_name ≡ tx.old.conn.ghost_name }
     ensures made { HasCleanDisk (state S.Store tx.new.conn.now) → IsTrue (state S.Store tx.old.conn.now).in_transaction
         → (state S.Store tx.old.conn.now).now.schema ≡ no_schema
-        → OnOk result (HasMade one_table Anything (state S.Store tx.old.conn.now) (state S.Store tx.new.conn.now)) }
+        → OnOk result (HasMade one_table NoSetting (state S.Store tx.old.conn.now) (state S.Store tx.new.conn.now)) }
     ensures inside { HasCleanDisk (state S.Store tx.new.conn.now) → IsTrue (state S.Store tx.old.conn.now).in_transaction
         → OnOk result (IsTrue (state S.Store tx.new.conn.now).in_transaction) }
     ensures kept { HasCleanDisk (state S.Store tx.new.conn.now) → IsTrue (state S.Store tx.old.conn.now).in_transaction
@@ -106,6 +106,7 @@ fn make_act<S: Alter>(tx: &mut Transaction<'_, S>) -> Result<(), Error>
     ensures same_reference { tx.new.conn.ghost_name ≡ tx.old.conn.ghost_name }
     ensures made { HasCleanDisk (state S.Store tx.new.conn.now) → IsTrue (state S.Store tx.old.conn.now).in_transaction
         → (state S.Store tx.old.conn.now).now.schema ≡ one_table
+        → NoSetting (state S.Store tx.old.conn.now).now.trees
         → OnOk result (HasMade two_tables NoActs (state S.Store tx.old.conn.now) (state S.Store tx.new.conn.now)) }
     ensures inside { HasCleanDisk (state S.Store tx.new.conn.now) → IsTrue (state S.Store tx.old.conn.now).in_transaction
         → OnOk result (IsTrue (state S.Store tx.new.conn.now).in_transaction) }
@@ -146,7 +147,7 @@ fn make_account<S: Alter>(tx: &mut Transaction<'_, S>) -> Result<(), Error>
     ensures made { HasCleanDisk (state S.Store tx.new.conn.now) → IsTrue (state S.Store tx.old.conn.now).in_transaction
         → (state S.Store tx.old.conn.now).now.schema ≡ three_tables
         → NoEntries (state S.Store tx.old.conn.now).now.trees
-        → OnOk result (HasMade layout AreEmpty (state S.Store tx.old.conn.now) (state S.Store tx.new.conn.now)) }
+        → OnOk result (HasMade layout NoRows (state S.Store tx.old.conn.now) (state S.Store tx.new.conn.now)) }
     ensures inside { HasCleanDisk (state S.Store tx.new.conn.now) → IsTrue (state S.Store tx.old.conn.now).in_transaction
         → OnOk result (IsTrue (state S.Store tx.new.conn.now).in_transaction) }
     ensures kept { HasCleanDisk (state S.Store tx.new.conn.now) → IsTrue (state S.Store tx.old.conn.now).in_transaction
@@ -165,8 +166,8 @@ fn add_setting<S: Alter>(tx: &mut Transaction<'_, S>, setting: &Setting<'_>) -> 
     ensures same_reference { tx.new.conn.ghost_name ≡ tx.old.conn.ghost_name }
     ensures made { HasCleanDisk (state S.Store tx.new.conn.now) → IsTrue (state S.Store tx.old.conn.now).in_transaction
         → (state S.Store tx.old.conn.now).now.schema ≡ layout
-        → AreEmpty (state S.Store tx.old.conn.now).now.trees
-        → OnOk result (HasMade layout AreEmpty (state S.Store tx.old.conn.now) (state S.Store tx.new.conn.now)) }
+        → NoRows (state S.Store tx.old.conn.now).now.trees
+        → OnOk result (HasMade layout (IsFirst setting.now) (state S.Store tx.old.conn.now) (state S.Store tx.new.conn.now)) }
     ensures inside { HasCleanDisk (state S.Store tx.new.conn.now) → IsTrue (state S.Store tx.old.conn.now).in_transaction
         → OnOk result (IsTrue (state S.Store tx.new.conn.now).in_transaction) }
     ensures kept { HasCleanDisk (state S.Store tx.new.conn.now) → IsTrue (state S.Store tx.old.conn.now).in_transaction

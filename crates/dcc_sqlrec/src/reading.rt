@@ -6,7 +6,7 @@ ghost use Rattle.sqlite.specs.State.{HasCleanDisk, Survives, IsUnchanged};
 ghost use Rattle.sqlite.specs.Held.{state};
 ghost use Rattle.dcc_sqlrec.specs.Tables.{layout};
 ghost use Rattle.dcc_sqlrec.specs.Queries.{settings_query, acts_query, entries_query, accounts_query, rowids_query, Shows};
-ghost use Rattle.dcc_sqlrec.specs.inner.Reading.{LeftOrUndone};
+ghost use Rattle.dcc_sqlrec.specs.inner.Reading.{LeftOrUndone, HasOtherLayout};
 
 use sqlite::{Alter, Connection, Error, Row};
 
@@ -21,7 +21,7 @@ pub fn read_setting<S: Alter>(conn: &mut Connection<S>) -> Result<Vec<Row>, Erro
         → OnOk result (IsUnchanged (state S.Store conn.old) (state S.Store conn.new)) }
     ensures failed { HasCleanDisk (state S.Store conn.new) → conn.old.schema ≡ layout
         → OnErr result (LeftOrUndone (state S.Store conn.old) (state S.Store conn.new)) }
-    ensures crash { conn.old.schema ≡ layout → Survives (state S.Store conn.old) (state S.Store conn.new) (λ _. ⊥) }
+    ensures crash { Survives (state S.Store conn.old) (state S.Store conn.new) (HasOtherLayout (state S.Store conn.old)) }
 {
     conn.query_all(
         "SELECT id, layout, shard, shards, host, realm, validity, hold, currency, exponent FROM setting ORDER BY id",
@@ -40,7 +40,7 @@ pub fn read_acts<S: Alter>(conn: &mut Connection<S>) -> Result<Vec<Row>, Error>
         → OnOk result (IsUnchanged (state S.Store conn.old) (state S.Store conn.new)) }
     ensures failed { HasCleanDisk (state S.Store conn.new) → conn.old.schema ≡ layout
         → OnErr result (LeftOrUndone (state S.Store conn.old) (state S.Store conn.new)) }
-    ensures crash { conn.old.schema ≡ layout → Survives (state S.Store conn.old) (state S.Store conn.new) (λ _. ⊥) }
+    ensures crash { Survives (state S.Store conn.old) (state S.Store conn.new) (HasOtherLayout (state S.Store conn.old)) }
 {
     conn.query_all("SELECT sub, place, body FROM act ORDER BY sub, place", &[])
 }
@@ -56,7 +56,7 @@ pub fn read_entries<S: Alter>(conn: &mut Connection<S>) -> Result<Vec<Row>, Erro
         → OnOk result (IsUnchanged (state S.Store conn.old) (state S.Store conn.new)) }
     ensures failed { HasCleanDisk (state S.Store conn.new) → conn.old.schema ≡ layout
         → OnErr result (LeftOrUndone (state S.Store conn.old) (state S.Store conn.new)) }
-    ensures crash { conn.old.schema ≡ layout → Survives (state S.Store conn.old) (state S.Store conn.new) (λ _. ⊥) }
+    ensures crash { Survives (state S.Store conn.old) (state S.Store conn.new) (HasOtherLayout (state S.Store conn.old)) }
 {
     conn.query_all(
         "SELECT sub, place, line, kind, grp, units, amount FROM entry ORDER BY sub, place, line",
@@ -75,7 +75,7 @@ pub fn read_accounts<S: Alter>(conn: &mut Connection<S>) -> Result<Vec<Row>, Err
         → OnOk result (IsUnchanged (state S.Store conn.old) (state S.Store conn.new)) }
     ensures failed { HasCleanDisk (state S.Store conn.new) → conn.old.schema ≡ layout
         → OnErr result (LeftOrUndone (state S.Store conn.old) (state S.Store conn.new)) }
-    ensures crash { conn.old.schema ≡ layout → Survives (state S.Store conn.old) (state S.Store conn.new) (λ _. ⊥) }
+    ensures crash { Survives (state S.Store conn.old) (state S.Store conn.new) (HasOtherLayout (state S.Store conn.old)) }
 {
     conn.query_all("SELECT sub, acts, funds FROM account ORDER BY sub", &[])
 }
@@ -91,7 +91,7 @@ pub fn read_rowids<S: Alter>(conn: &mut Connection<S>) -> Result<Vec<Row>, Error
         → OnOk result (IsUnchanged (state S.Store conn.old) (state S.Store conn.new)) }
     ensures failed { HasCleanDisk (state S.Store conn.new) → conn.old.schema ≡ layout
         → OnErr result (LeftOrUndone (state S.Store conn.old) (state S.Store conn.new)) }
-    ensures crash { conn.old.schema ≡ layout → Survives (state S.Store conn.old) (state S.Store conn.new) (λ _. ⊥) }
+    ensures crash { Survives (state S.Store conn.old) (state S.Store conn.new) (HasOtherLayout (state S.Store conn.old)) }
 {
     conn.query_all("SELECT rowid FROM account ORDER BY rowid", &[])
 }

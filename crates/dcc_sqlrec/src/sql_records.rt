@@ -1,17 +1,21 @@
 //! Records over a database.
 
-ghost use Rattle.std.specs.Prelude.{◌≡◌, ◌≢◌, false, IfOk, IfErr};
+ghost use Rattle.std.specs.Prelude.{◌≡◌, ◌≢◌, ◌⊎◌, false, [], ◌∷◌, IfOk, IfErr};
 ghost use Rattle.sqlite.specs.State.{HasCleanDisk, Survives};
 ghost use Rattle.sqlite.specs.Held.{state};
 ghost use Rattle.dcc_records.specs.Books.{no_acts};
 ghost use Rattle.dcc_records.specs.Stops.{LeavesOnly};
-ghost use Rattle.dcc_sqlrec.specs.Tables.{no_schema};
+ghost use Rattle.dcc_sqlrec.specs.Tables.{no_schema, layout};
 ghost use Rattle.dcc_sqlrec.specs.Content.{leaves};
-ghost use Rattle.dcc_sqlrec.specs.Trees.{IsUndone, AreEmpty};
+ghost use Rattle.dcc_sqlrec.specs.Opening.{FindsBook, HasOtherSetting, IsDamagedIn, DisagreeIn};
+ghost use Rattle.dcc_sqlrec.specs.Trees.{IsUndone, AreEmpty, setting_rows};
+ghost use Rattle.dcc_sqlrec.specs.Setting.{setting_row};
 ghost use Rattle.dcc_sqlrec.specs.inner.Keeping.{KeepsBook};
 
-use crate::fault::CreateFault;
+use crate::fault::{CreateFault, OpenFault};
+use crate::layout::has_layout;
 use crate::making::{is_blank, make_store};
+use crate::opening::open_store;
 use crate::setting::Setting;
 use dcc_act::Sub;
 use dcc_model::{funds_are_accounted_for, leaving_out_changes_nothing};
@@ -50,8 +54,8 @@ impl<S: Alter + Drop> Drop for SqlRecords<S> {
 }
 
 impl<S: Alter> SqlRecords<S> {
-    /// Makes the tables in a database that has nothing in it, and records without acts over them. It is one transaction: a
-    /// stop inside leaves the database as it was, or with empty tables.
+    /// Makes the tables in a database that has nothing in it, with the row of the setting, and records without acts over them.
+    /// It is one transaction: a stop inside leaves the database as it was, or with tables that hold no acts.
     ///
     /// Errors, each with the connection: [`CreateFault::Memory`], nothing changed; [`CreateFault::Device`], the database
     /// failed, or a transaction was open; [`CreateFault::Layout`], there is something in the database, and nothing changed.
@@ -64,6 +68,7 @@ impl<S: Alter> SqlRecords<S> {
         ensures terms { IfOk result (λ records. records.terms ≡ setting.now.terms) }
         ensures going { IfOk result (λ records. records.stopped ≡ false) }
         ensures empty { IfOk result (λ records. LeavesOnly records.terms no_acts (leaves records.terms (state S.Store records.conn))) }
+        ensures setting { IfOk result (λ records. HasCleanDisk (state S.Store records.conn) → setting_rows (state S.Store records.conn).now.trees ≡ setting_row setting.now ∷ []) }
         ensures crash { IfOk result (λ records. Survives (state S.Store conn) (state S.Store records.conn) AreEmpty) }
         ensures undone { IfErr result (λ failed. failed.0 ≡ CreateFault.Memory → HasCleanDisk (state S.Store failed.1) → IsUndone (state S.Store conn) (state S.Store failed.1)) }
         ensures blank { IfErr result (λ failed. failed.0 ≡ CreateFault.Layout → (conn.schema ≢ no_schema) × (failed.1 ≡ conn)) }
@@ -90,6 +95,62 @@ impl<S: Alter> SqlRecords<S> {
             }),
             Err(StoreFault::Memory) => Err((CreateFault::Memory, conn)),
             Err(_) => Err((CreateFault::Device, conn)),
+        }
+    }
+
+    /// Records over the tables of a database that were made for this setting, with the acts that stand there. Nothing is
+    /// written, and a stop inside leaves the database as it was.
+    ///
+    /// Errors, each with the connection, judged in this order: [`OpenFault::Device`], a transaction was open; [`OpenFault::Empty`]
+    /// and [`OpenFault::Layout`], there is nothing in the database, or its schema isn't that of a store; [`OpenFault::Memory`] or
+    /// [`OpenFault::Device`], a table was not read; [`OpenFault::Layout`], the store is of another setting; [`OpenFault::Damaged`];
+    /// [`OpenFault::Disagree`]. After any but [`OpenFault::Device`] the connection may be used.
+    pub fn open(
+        alloc: Global,
+        conn: Connection<S>,
+        setting: &Setting<'_>,
+        hasher: RandomState,
+    ) -> Result<SqlRecords<S>, (OpenFault, Connection<S>)>
+        ensures terms { IfOk result (λ records. records.terms ≡ setting.now.terms) }
+        ensures going { IfOk result (λ records. records.stopped ≡ false) }
+        // The tables are those of a store, and it is of this setting.
+        ensures schema { IfOk result (λ records. conn.schema ≡ layout) }
+        ensures setting { IfOk result (λ records. HasCleanDisk (state S.Store records.conn) → setting_rows (state S.Store conn).now.trees ≡ setting_row setting.now ∷ []) }
+        // The records hold the book that was in the tables, and nothing changed.
+        ensures found { IfOk result (λ records. HasCleanDisk (state S.Store records.conn) → ∥ FindsBook records.terms (state S.Store conn).committed.trees (leaves records.terms (state S.Store records.conn)) ∥₁) }
+        ensures still { IfOk result (λ records. HasCleanDisk (state S.Store records.conn) → IsUndone (state S.Store conn) (state S.Store records.conn)) }
+        ensures crash { IfOk result (λ records. Survives (state S.Store conn) (state S.Store records.conn) (λ _. ⊥)) }
+        ensures empty { IfErr result (λ failed. failed.0 ≡ OpenFault.Empty → (conn.schema ≡ no_schema) × (failed.1 ≡ conn)) }
+        ensures other { IfErr result (λ failed. failed.0 ≡ OpenFault.Layout
+            → ((conn.schema ≢ no_schema) × (conn.schema ≢ layout) × (failed.1 ≡ conn))
+            ⊎ ((conn.schema ≡ layout) × (HasCleanDisk (state S.Store failed.1) → HasOtherSetting setting.now (state S.Store conn).now.trees))) }
+        ensures damaged { IfErr result (λ failed. failed.0 ≡ OpenFault.Damaged → HasCleanDisk (state S.Store failed.1) → IsDamagedIn (state S.Store conn).now.trees) }
+        ensures disagree { IfErr result (λ failed. failed.0 ≡ OpenFault.Disagree → HasCleanDisk (state S.Store failed.1) → DisagreeIn setting.now.terms (state S.Store conn).now.trees) }
+        ensures undone { IfErr result (λ failed. failed.0 ≢ OpenFault.Device → HasCleanDisk (state S.Store failed.1)
+            → (failed.1 ≡ conn) ⊎ IsUndone (state S.Store conn) (state S.Store failed.1)) }
+        ensures left { IfErr result (λ failed. Survives (state S.Store conn) (state S.Store failed.1) (λ _. ⊥)) }
+    {
+        records_differ();
+        if !conn.is_autocommit() {
+            return Err((OpenFault::Device, conn));
+        }
+        if is_blank(conn.schema()) {
+            return Err((OpenFault::Empty, conn));
+        }
+        if !has_layout(conn.schema()) {
+            return Err((OpenFault::Layout, conn));
+        }
+        let mut conn = conn;
+        match open_store(alloc, &mut conn, setting, hasher) {
+            Ok(tallies) => Ok(SqlRecords {
+                alloc,
+                conn,
+                terms: setting.terms,
+                hasher,
+                tallies,
+                stopped: false,
+            }),
+            Err(fault) => Err((fault, conn)),
         }
     }
 

@@ -1,16 +1,20 @@
 //! What records know of each subscriber without asking the database.
 
-ghost use Rattle.std.specs.Prelude.{◌≡◌, ◌+◌, ◌+ℤ◌, if◌then◌else◌, IsSome, IfSome, OnOk};
+ghost use Rattle.std.specs.Prelude.{◌≡◌, ◌+◌, ◌+ℤ◌, if◌then◌else◌, length, map, IsSome, IfSome, IfOk, OnOk};
 ghost use Rattle.std.specs.Map.{lookup};
 ghost use Rattle.std.specs.Ordering.{is_eq};
+ghost use Rattle.dcc_tariff.specs.Terms.{TermsView};
 ghost use Rattle.dcc_act.specs.declared.sub.Sub.{Sub};
 ghost use Rattle.dcc_model.specs.Entries.{sum_of};
-ghost use Rattle.dcc_records.specs.Books.{sub_order};
-ghost use Rattle.dcc_sqlrec.specs.inner.Tallies.{tally_in, no_tally};
+ghost use Rattle.dcc_records.specs.Books.{acts_in, sub_order};
+ghost use Rattle.dcc_sqlrows.specs.Tallies.{tally_of};
+ghost use Rattle.dcc_sqlrec.specs.inner.Tallies.{tally_in, no_tally, AreTallies};
 
 use dcc_act::{Entry, Sub, same_subscribers_are_equal};
+use dcc_model::funds_are_accounted_for;
+use dcc_records::Page;
 use dcc_sqlrows::Tally;
-use std::alloc::AllocError;
+use std::alloc::{AllocError, Global};
 use std::collections::BTreeMap;
 
 /// The tally with one act more, which adds these entries, or none where it passes what a row can hold.
@@ -64,4 +68,32 @@ pub fn set_tally(tallies: &mut BTreeMap<Sub, Tally>, sub: Sub, tally: Tally)
     if let Some(place) = tallies.get_mut(&sub) {
         *place = tally;
     }
+}
+
+/// The tallies of pages whose counts these are, in the same order. The only error is want of memory.
+pub fn tallies_of(
+    alloc: Global,
+    pages: &[Page],
+    counts: &[Tally],
+) -> Result<BTreeMap<Sub, Tally>, AllocError>
+    requires { length counts.now ≡ length pages.now }
+    ensures { IfOk result (λ tallies. (terms : TermsView) → counts.now ≡ map (tally_of terms) pages.now
+        → AreTallies terms tallies.entries (acts_in pages.now)) }
+{
+    funds_are_accounted_for();
+    let mut tallies = BTreeMap::new(alloc);
+    // From the last page on, so that of pages of one subscriber the first decides.
+    for i in (0..pages.len()).rev() {
+        put_tally(&mut tallies, pages[i].sub(), counts[i])?;
+    }
+    Ok(tallies)
+}
+
+/// Puts the tally of a subscriber in place of what is there. The only error is want of memory.
+fn put_tally(tallies: &mut BTreeMap<Sub, Tally>, sub: Sub, tally: Tally) -> Result<(), AllocError>
+    ensures { OnOk result ((other : Sub)
+        → tally_in tallies.new.entries other ≡ (if is_eq (sub_order sub other) then tally else tally_in tallies.old.entries other)) }
+{
+    tallies.insert(sub, tally)?;
+    Ok(())
 }

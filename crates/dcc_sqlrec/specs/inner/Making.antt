@@ -1,20 +1,29 @@
 -- The tables as they are made.
-use Rattle.std.specs.Prelude.{◌≡◌, IsTrue, []}
+use Rattle.std.specs.Prelude.{◌≡◌, IsTrue, [], ◌∷◌}
 use Rattle.sqlite.specs.Schema.{Schema}
 use Rattle.sqlite.specs.Tree.{Trees}
 use Rattle.sqlite.specs.State.{State}
 pub use Rattle.dcc_sqlrec.specs.Trees.{AreEmpty}
-use Rattle.dcc_sqlrec.specs.Trees.{act_tree, entry_tree}
+use Rattle.dcc_sqlrec.specs.Trees.{setting_tree, act_tree, entry_tree, setting_rows}
+use Rattle.dcc_sqlrec.specs.Setting.{setting_row}
+use Rattle.dcc_sqlrec.specs.declared.setting.Setting.{Setting}
 
--- nothing is said of the trees
-abbrev pub Anything : Trees → Type 0
-Anything db = db ≡ db
+-- the tables that are there have no rows
+abbrev pub NoSetting : Trees → Type 0
+NoSetting db = db setting_tree ≡ []
 
 abbrev pub NoActs : Trees → Type 0
-NoActs db = db act_tree ≡ []
+NoActs db = (db setting_tree ≡ []) × (db act_tree ≡ [])
 
 abbrev pub NoEntries : Trees → Type 0
-NoEntries db = (db act_tree ≡ []) × (db entry_tree ≡ [])
+NoEntries db = (db setting_tree ≡ []) × (db act_tree ≡ []) × (db entry_tree ≡ [])
+
+abbrev pub NoRows : Trees → Type 0
+NoRows db = (db setting_tree ≡ []) × AreEmpty db
+
+-- there are no acts, entries and accounts, and this is the setting
+abbrev pub IsFirst : Setting → Trees → Type 0
+IsFirst setting db = AreEmpty db × (setting_rows db ≡ setting_row setting ∷ [])
 
 -- A statement of a transaction was run: the transaction goes on with this schema, and this holds of the trees.
 pub record HasMade (after : Schema) (Says : Trees → Type 0) (old new : State) : Type 0 where

@@ -1,5 +1,5 @@
 -- What reading leaves.
-use Rattle.std.specs.Prelude.{◌≡◌, ◌⊎◌, ℕ, IsTrue, Some, slice_get}
+use Rattle.std.specs.Prelude.{◌≡◌, ◌≢◌, ◌⊎◌, ℕ, IsTrue, Some, slice_get}
 use Rattle.sqlite.specs.Tree.{Trees}
 use Rattle.sqlite.specs.State.{State, IsUnchanged}
 use Rattle.dcc_act.specs.declared.act.Act.{Act}
@@ -7,11 +7,32 @@ use Rattle.dcc_act.specs.declared.sub.Sub.{Sub}
 use Rattle.dcc_record.specs.Limits.{IsAct}
 use Rattle.dcc_records.specs.Books.{Held}
 use Rattle.dcc_sqlrows.specs.Held.{AreJust, IsActRow}
+use Rattle.sqlite.specs.Query.{Query}
+use Rattle.dcc_sqlrec.specs.Tables.{layout}
 use Rattle.dcc_sqlrec.specs.Trees.{act_rows}
+use Rattle.dcc_sqlrec.specs.Queries.{settings_query, acts_query, entries_query, accounts_query, rowids_query}
+use Rattle.dcc_sqlrec.specs.declared.parts.Part.{Part}
+use Rattle.dcc_sqlrec.specs.declared.parts.Part.TheVariants.{Setting, Acts, Entries, Accounts, Rowids}
+
+-- what is read of a part
+abbrev pub query_of : Part → Query
+query_of Setting = settings_query
+query_of Acts = acts_query
+query_of Entries = entries_query
+query_of Accounts = accounts_query
+query_of Rowids = rowids_query
 
 -- nothing is changed, or the connection went back to the last commit where it is still open
 abbrev pub LeftOrUndone : State → State → Type 0
 LeftOrUndone old new = IsUnchanged old new ⊎ (IsTrue new.is_open → (new.now ≡ old.committed) × (new.committed ≡ old.committed))
+
+-- where the connection is open, all that it sees is committed
+abbrev pub IsSettled : State → Type 0
+IsSettled s = IsTrue s.is_open → s.now ≡ s.committed
+
+-- a statement that reads commits nothing over the layout; of another schema nothing is said
+abbrev pub HasOtherLayout : State → Trees → Type 0
+HasOtherLayout s _ = s.now.schema ≢ layout
 
 -- the acts of this book are within their limits, and the rows are theirs
 abbrev pub HasActs : Trees → Held → Type 0

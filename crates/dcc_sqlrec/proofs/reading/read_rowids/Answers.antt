@@ -18,4 +18,4 @@ returns-clause-failed g c clean has =
     IfErr-weaker c.query_all.result _ _ (λ e h. failed_back all_rowids all_rowids_plain (state g.S.Store c.args.conn.now) (state g.S.Store c.query_all.new.self) e has h) (c.query_all.ensures.err clean)
 
 pub returns-clause-crash : goal.returns-clause-crash
-returns-clause-crash g c has = commits_nothing all_rowids all_rowids_plain (state g.S.Store c.args.conn.now) (state g.S.Store c.query_all.new.self) has c.query_all.ensures.survives
+returns-clause-crash g c = commits_nothing all_rowids all_rowids_plain (state g.S.Store c.args.conn.now) (state g.S.Store c.query_all.new.self) c.query_all.ensures.survives

@@ -3,7 +3,7 @@ use Rattle.sqlite.specs.Held.{state}
 use Rattle.dcc_records.specs.Books.{no_acts}
 use Rattle.dcc_sqlrec.specs.Tables.{no_schema}
 use Rattle.dcc_sqlrec.proofs.Stopping.{Settles, only_kept}
-use Rattle.dcc_sqlrec.proofs.First.{keeps_nothing, first_book}
+use Rattle.dcc_sqlrec.proofs.First.{keeps_nothing, first_book, without_setting}
 use Rattle.dcc_sqlrec.proofs.sql_records.SqlRecords.create.Goals as goal
 
 pub invariant_of-result : goal.invariant_of-result
@@ -14,7 +14,7 @@ invariant_of-result g c =
     let terms = c.args.setting.now.terms in
     record {
       idle = c.in-Ok.ensures.mode;
-      kept = λ _ clean. rw c.new.ensures.empty (∣ first_book terms old new c.leaving_out_changes_nothing.ensures.none c.funds_are_accounted_for.ensures.entries (c.in-Ok.ensures.made clean blank) ∣₁);
+      kept = λ _ clean. rw c.new.ensures.empty (∣ first_book terms old new c.leaving_out_changes_nothing.ensures.none c.funds_are_accounted_for.ensures.entries (without_setting c.args.setting.now old new (c.in-Ok.ensures.made clean blank)) ∣₁);
     }
 
 pub returns-in-Ok-clause-empty : goal.returns-in-Ok-clause-empty
@@ -25,4 +25,4 @@ returns-in-Ok-clause-empty g c =
     let blank : c.args.conn.schema ≡ no_schema = search rules in
     let settled : Settles new = λ is_open db may. g.met.S.Store.settled conn.store db is_open may in
     let terms = c.args.setting.now.terms in
-    λ found left. only_kept terms new no_acts c.records_differ.ensures.one settled (keeps_nothing terms old new c.leaving_out_changes_nothing.ensures.none (c.in-Ok.ensures.made left.0 blank)) found left
+    λ found left. only_kept terms new no_acts c.records_differ.ensures.one settled (keeps_nothing terms old new c.leaving_out_changes_nothing.ensures.none (without_setting c.args.setting.now old new (c.in-Ok.ensures.made left.0 blank))) found left

@@ -1,0 +1,43 @@
+use Rattle.std.proofs.Common.{◌≡◌}
+use Rattle.std.proofs.lemmas.Result.{IfOk-weaker}
+use Rattle.sqlite.specs.Held.{state}
+use Rattle.dcc_sqlrec.specs.Setting.{setting_row}
+use Rattle.dcc_sqlrec.specs.inner.Opening.{rows_in}
+use Rattle.dcc_sqlrec.proofs.Answering.{setting_shown, setting_there}
+use Rattle.dcc_sqlrec.proofs.Opened.{keeps_pages}
+use Rattle.dcc_sqlrec.proofs.Rowids.{keyed_where_rising}
+use Rattle.dcc_sqlrec.proofs.opening.open_store.Goals as goal
+
+pub returns-clause-kept : goal.returns-clause-kept
+returns-clause-kept g c clean has =
+    let old = state g.S.Store c.args.conn.now in
+    let law = c.pages_hold_their_rows.ensures in
+    let it = c.in-Ok.ensures in
+    let shown = it.rows clean has in
+    IfOk-weaker c.judge_store.result _ _
+    (λ tallies book.
+    keeps_pages law.acts law.entries law.accounts law.book law.fit c.args.setting.now.terms old (state g.S.Store c.read_store.new.conn) (rows_in c.in-Ok.found) book.pages tallies.entries
+    (it.still clean has c.requires.settled (λ e. absurd cc)) c.requires.settled (it.same clean has).0.was_open has (keyed_where_rising old.now.trees c.in-Ok.found.rowids.items shown.rowids book.rising) shown.rows book.rows book.tallied)
+    c.judge_store.ensures.book
+
+pub returns-clause-still : goal.returns-clause-still
+returns-clause-still g c clean has other = c.in-Ok.ensures.still clean has c.requires.settled (λ e. absurd cc)
+
+pub returns-clause-other : goal.returns-clause-other
+returns-clause-other g c clean has is there =
+    let shown = (c.in-Ok.ensures.rows clean has).setting in
+    c.judge_store.ensures.other is (setting_there (state g.S.Store c.args.conn.now).now.trees c.in-Ok.found.setting.items (setting_row c.args.setting.now) shown there)
+
+pub returns-clause-set : goal.returns-clause-set
+returns-clause-set g c clean has =
+    let shown = (c.in-Ok.ensures.rows clean has).setting in
+    IfOk-weaker c.judge_store.result _ _
+    (λ tallies is. setting_shown (state g.S.Store c.args.conn.now).now.trees c.in-Ok.found.setting.items (setting_row c.args.setting.now) shown is) c.judge_store.ensures.set
+
+pub returns-clause-damaged : goal.returns-clause-damaged
+returns-clause-damaged g c clean has is = (rows_in c.in-Ok.found, (c.in-Ok.ensures.rows clean has).rows, c.judge_store.ensures.damaged is)
+
+pub returns-clause-disagree : goal.returns-clause-disagree
+returns-clause-disagree g c clean has is =
+    let no = c.judge_store.ensures.disagree is in
+    (rows_in c.in-Ok.found, (c.in-Ok.ensures.rows clean has).rows, no.0, no.1)

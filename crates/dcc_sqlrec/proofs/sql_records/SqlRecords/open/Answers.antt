@@ -1,0 +1,59 @@
+use Rattle.std.proofs.Common.{◌≡◌, inl, inr, Err, ap, rules}
+use Rattle.sqlite.specs.Held.{state}
+use Rattle.dcc_sqlrec.specs.Tables.{layout}
+use Rattle.dcc_sqlrec.proofs.Stopping.{Settles}
+use Rattle.dcc_sqlrec.proofs.Opened.{finds_book, no_commit}
+use Rattle.dcc_sqlrec.proofs.sql_records.SqlRecords.open.Goals as goal
+
+pub invariant_of-result : goal.invariant_of-result
+invariant_of-result g c =
+    let has : c.args.conn.schema ≡ layout = search rules in
+    record { idle = c.in-Ok.ensures.mode; kept = λ _ clean. ∣ c.in-Ok.ensures.kept clean has ∣₁ }
+
+pub returns-in-Ok-clause-found : goal.returns-in-Ok-clause-found
+returns-in-Ok-clause-found g c clean =
+    let has : c.args.conn.schema ≡ layout = search rules in
+    let old = state g.S.Store c.args.conn in
+    let conn = c.open_store.new.conn in
+    let settles : Settles (state g.S.Store conn) = λ is_open db may. g.met.S.Store.settled conn.store db is_open may in
+    ∣ finds_book c.args.setting.now.terms old (state g.S.Store conn) c.in-Ok.tallies.entries c.records_differ.ensures.one settles (c.in-Ok.ensures.still clean has (λ e. absurd cc)) (c.in-Ok.ensures.kept clean has) ∣₁
+
+pub returns-in-Ok-clause-setting : goal.returns-in-Ok-clause-setting
+returns-in-Ok-clause-setting g c clean =
+    let has : c.args.conn.schema ≡ layout = search rules in
+    c.in-Ok.ensures.set clean has
+
+pub returns-in-Ok-clause-still : goal.returns-in-Ok-clause-still
+returns-in-Ok-clause-still g c clean =
+    let has : c.args.conn.schema ≡ layout = search rules in
+    c.in-Ok.ensures.still clean has (λ e. absurd cc)
+
+pub returns-in-Ok-clause-crash : goal.returns-in-Ok-clause-crash
+returns-in-Ok-clause-crash g c =
+    let has : c.args.conn.schema ≡ layout = search rules in
+    no_commit (state g.S.Store c.args.conn) (state g.S.Store c.open_store.new.conn) has c.in-Ok.ensures.crash
+
+pub returns-in-Err-clause-other : goal.returns-in-Err-clause-other
+returns-in-Err-clause-other g c is =
+    let has : c.args.conn.schema ≡ layout = search rules in
+    inr (has, λ clean. c.in-Err.ensures.other clean has (ap Err is))
+
+pub returns-in-Err-clause-damaged : goal.returns-in-Err-clause-damaged
+returns-in-Err-clause-damaged g c is clean =
+    let has : c.args.conn.schema ≡ layout = search rules in
+    c.in-Err.ensures.damaged clean has (ap Err is)
+
+pub returns-in-Err-clause-disagree : goal.returns-in-Err-clause-disagree
+returns-in-Err-clause-disagree g c is clean =
+    let has : c.args.conn.schema ≡ layout = search rules in
+    c.in-Err.ensures.disagree clean has (ap Err is)
+
+pub returns-in-Err-clause-undone : goal.returns-in-Err-clause-undone
+returns-in-Err-clause-undone g c other clean =
+    let has : c.args.conn.schema ≡ layout = search rules in
+    inr (c.in-Err.ensures.still clean has (λ e. other (let same = e in cc)))
+
+pub returns-in-Err-clause-left : goal.returns-in-Err-clause-left
+returns-in-Err-clause-left g c =
+    let has : c.args.conn.schema ≡ layout = search rules in
+    no_commit (state g.S.Store c.args.conn) (state g.S.Store c.open_store.new.conn) has c.in-Err.ensures.crash

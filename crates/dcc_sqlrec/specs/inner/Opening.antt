@@ -1,0 +1,29 @@
+-- What is read when a store is opened.
+use Rattle.std.specs.Prelude.{List}
+use Rattle.sqlite.specs.Tree.{Trees}
+use Rattle.dcc_tariff.specs.Terms.{TermsView}
+use Rattle.dcc_act.specs.declared.sub.Sub.{Sub}
+use Rattle.dcc_records.specs.Books.{PageView, acts_in}
+use Rattle.dcc_sqlrows.specs.declared.tally.Tally.{Tally}
+use Rattle.dcc_sqlrows.specs.Stored.{Rows, AreOfBook}
+use Rattle.dcc_sqlrec.specs.Queries.{settings_query, rowids_query, Shows}
+use Rattle.dcc_sqlrec.specs.Opening.{ShowsRows}
+use Rattle.dcc_sqlrec.specs.declared.opening.Found.{Found}
+use Rattle.dcc_sqlrec.specs.inner.Rowids.{AreRising}
+use Rattle.dcc_sqlrec.specs.inner.Tallies.{AreTallies}
+
+abbrev pub rows_in : Found → Rows
+rows_in found = record { acts = found.acts.items; entries = found.entries.items; accounts = found.accounts.items }
+
+-- it is what the tables show
+pub record ShowsStore (db : Trees) (found : Found) : Type 0 where
+  pub setting : Shows settings_query db found.setting.items
+  pub rowids : Shows rowids_query db found.rowids.items
+  pub rows : ShowsRows db (rows_in found)
+
+-- the rowids rise, and the rows are those of a book that has these tallies
+pub record IsOfBook (terms : TermsView) (found : Found) (tallies : List (Sub × Tally)) : Type 0 where
+  pub rising : AreRising found.rowids.items
+  pub pages : List PageView
+  pub rows : AreOfBook terms pages (rows_in found)
+  pub tallied : AreTallies terms tallies (acts_in pages)
