@@ -1,3 +1,4 @@
 pub mod Texts
 pub mod Ledgers
 pub mod TopUps
+pub mod Commands

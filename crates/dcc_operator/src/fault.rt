@@ -3,6 +3,7 @@
 ghost use Rattle.std.specs.Prelude.{◌≡◌};
 ghost use Rattle.dcc_operator.specs.declared.fault.OperatorFault.TheVariants as fault;
 
+use crate::stores::StoreRefusal;
 use dcc_streams::WriteFault;
 use std::alloc::{AllocError, AllocFailed};
 use thiserror::Error;
@@ -16,6 +17,9 @@ pub enum OperatorFault {
     /// The writer failed.
     #[error("the output failed")]
     Output,
+    /// The store has the fault with this number, 50 to 56, and nothing was written.
+    #[error("store fault {0}")]
+    Store(u8),
 }
 
 impl From<AllocError> for OperatorFault {
@@ -39,5 +43,13 @@ impl From<WriteFault> for OperatorFault {
 
     fn from(_fault: WriteFault) -> OperatorFault {
         OperatorFault::Output
+    }
+}
+
+impl From<StoreRefusal> for OperatorFault {
+    ghost from_gives = { λ refusal given. given ≡ fault.Store refusal.0 };
+
+    fn from(refusal: StoreRefusal) -> OperatorFault {
+        OperatorFault::Store(refusal.0)
     }
 }

@@ -26,9 +26,10 @@ impl From<StoreFault> for StoreRefusal {
     }
 }
 
-/// Where the records of shards are kept: a store for each, in a folder. What opening does to files has no contract here.
+/// Where the records of shards are kept: a store for each, in a folder. What opening does to files has no contract here, but that
+/// records are under the plan's terms.
 pub trait Stores {
-    type Records: Records;
+    type Records: Records + Drop;
 
     /// The records of a shard, by its index, of a server under this plan, or none where there is no store yet. No store is made.
     fn open(
@@ -37,7 +38,8 @@ pub trait Stores {
         plan: &Plan,
         shard: usize,
         hasher: RandomState,
-    ) -> Result<Option<Self::Records>, StoreRefusal>;
+    ) -> Result<Option<Self::Records>, StoreRefusal>
+        ensures terms { IfOk result (λ found. IfSome found (λ records. Self.Records.terms records ≡ plan.now.terms)) };
 
     /// The same, and an empty store is made where there is none.
     fn open_or_make(
@@ -46,7 +48,8 @@ pub trait Stores {
         plan: &Plan,
         shard: usize,
         hasher: RandomState,
-    ) -> Result<Self::Records, StoreRefusal>;
+    ) -> Result<Self::Records, StoreRefusal>
+        ensures terms { IfOk result (λ records. Self.Records.terms records ≡ plan.now.terms) };
 }
 
 /// The shard of these records, whose subscribers have to be those that `dcc_shard::shard_of` gives the shard of this index, of so many. The

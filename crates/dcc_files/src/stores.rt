@@ -1,0 +1,143 @@
+//! Stores in files.
+
+ghost use Rattle.std.specs.Prelude.{◌≡◌, IfOk, IfSome};
+
+use dcc_operator::{StoreRefusal, Stores};
+use dcc_sqlrec::{OpenFault, Setting, SqlRecords};
+use dcc_tariff::Plan;
+use sqlite::{Alter, Connection, Error, ErrorCode, FileStore};
+use sqlite_std_file::File;
+use std::alloc::{AllocError, Global};
+use std::fs;
+use std::hash::RandomState;
+
+/// The fault of memory, and that of a database that failed.
+const MEMORY: StoreRefusal = StoreRefusal(50);
+
+const DEVICE: StoreRefusal = StoreRefusal(51);
+
+/// The fault of a setting that no store has.
+const LAYOUT: StoreRefusal = StoreRefusal(53);
+
+/// The stores of shards in the files of this process's system.
+#[derive(Clone, Copy)]
+pub struct FileStores<'r> {
+    rt: &'r HostRuntime,
+}
+
+impl<'r> FileStores<'r> {
+    /// The stores in the files that this process may open.
+    pub fn new(rt: &'r HostRuntime) -> FileStores<'r> {
+        FileStores { rt }
+    }
+
+    /// A connection to the database at a path, which is made where there is none.
+    fn connect(&self, path: &str) -> Result<Connection<FileStore<File>>, StoreRefusal> {
+        match Connection::open(self.rt, path) {
+            Ok(conn) => Ok(conn),
+            Err(Error::SqliteFailure(ErrorCode::OutOfMemory)) => Err(MEMORY),
+            Err(_) => Err(DEVICE),
+        }
+    }
+}
+
+impl Stores for FileStores<'_> {
+    type Records = SqlRecords<FileStore<File>>;
+
+    fn open(
+        &self,
+        folder: &str,
+        plan: &Plan,
+        shard: usize,
+        hasher: RandomState,
+    ) -> Result<Option<SqlRecords<FileStore<File>>>, StoreRefusal> {
+        let alloc = self.rt.alloc();
+        let path = path_of(alloc, folder, shard).map_err(|_| MEMORY)?;
+        if !fs::exists(self.rt, path.as_str()).map_err(|_| DEVICE)? {
+            return Ok(None);
+        }
+        let conn = self.connect(path.as_str())?;
+        opened(alloc, conn, plan, shard, hasher)
+    }
+
+    fn open_or_make(
+        &self,
+        folder: &str,
+        plan: &Plan,
+        shard: usize,
+        hasher: RandomState,
+    ) -> Result<SqlRecords<FileStore<File>>, StoreRefusal> {
+        let alloc = self.rt.alloc();
+        let path = path_of(alloc, folder, shard).map_err(|_| MEMORY)?;
+        let conn = self.connect(path.as_str())?;
+        opened_or_made(alloc, conn, plan, shard, hasher)
+    }
+}
+
+/// The records over a database, or none where there is nothing in it.
+fn opened<S: Alter + Drop>(
+    alloc: Global,
+    conn: Connection<S>,
+    plan: &Plan,
+    shard: usize,
+    hasher: RandomState,
+) -> Result<Option<SqlRecords<S>>, StoreRefusal>
+    ensures terms { IfOk result (λ found. IfSome found (λ records. records.terms ≡ plan.now.terms)) }
+{
+    let Some(setting) = setting_of(plan, shard) else {
+        return Err(LAYOUT);
+    };
+    match SqlRecords::open(alloc, conn, &setting, hasher) {
+        Ok(records) => Ok(Some(records)),
+        Err((OpenFault::Empty, _)) => Ok(None),
+        Err((fault, _)) => Err(StoreRefusal(fault.number())),
+    }
+}
+
+/// The same, and a store is made where there is nothing.
+fn opened_or_made<S: Alter + Drop>(
+    alloc: Global,
+    conn: Connection<S>,
+    plan: &Plan,
+    shard: usize,
+    hasher: RandomState,
+) -> Result<SqlRecords<S>, StoreRefusal>
+    ensures terms { IfOk result (λ records. records.terms ≡ plan.now.terms) }
+{
+    let Some(setting) = setting_of(plan, shard) else {
+        return Err(LAYOUT);
+    };
+    let conn = match SqlRecords::open(alloc, conn, &setting, hasher) {
+        Ok(records) => return Ok(records),
+        Err((OpenFault::Empty, conn)) => conn,
+        Err((fault, _)) => return Err(StoreRefusal(fault.number())),
+    };
+    match SqlRecords::create(alloc, conn, &setting, hasher) {
+        Ok(records) => Ok(records),
+        Err((fault, _)) => Err(StoreRefusal(fault.number())),
+    }
+}
+
+/// The path of a shard's store.
+fn path_of(alloc: Global, folder: &str, shard: usize) -> Result<String, AllocError> {
+    format!(in alloc; "{folder}/shard-{shard}.db")
+}
+
+/// What the store of a shard is of, under a plan: names of visible ASCII are text, and shards are few, so that it is there.
+fn setting_of(plan: &Plan, shard: usize) -> Option<Setting<'_>>
+    ensures terms { IfSome result (λ setting. setting.terms ≡ plan.now.terms) }
+{
+    let (Ok(host), Ok(realm)) = (str::from_utf8(plan.host()), str::from_utf8(plan.realm())) else {
+        return None;
+    };
+    let Ok(shard) = u32::try_from(shard) else {
+        return None;
+    };
+    Some(Setting {
+        shard,
+        shards: u32::from(plan.shards()),
+        host,
+        realm,
+        terms: *plan.terms(),
+    })
+}

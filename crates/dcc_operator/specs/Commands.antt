@@ -1,0 +1,50 @@
+-- What a command does over the store of one shard.
+use Rattle.std.specs.Prelude.{⊤, ◌≡◌, ◌≢◌, ℕ, List, [], Option, Some, None}
+use Rattle.std.specs.Io.KnownBytes.{Appends}
+use Rattle.dcc_tariff.specs.Plans.{PlanView}
+use Rattle.dcc_message.specs.declared.identity.Identity.{Identity}
+use Rattle.dcc_act.specs.declared.sub.Sub.{Sub}
+use Rattle.dcc_shard.specs.declared.answers.TopUpAnswer.{TopUpAnswer}
+use Rattle.dcc_shard.specs.Answers.{IsTold, is_judged_top_up, top_up_act}
+use Rattle.dcc_shard.specs.Routes.{shard_of}
+use Rattle.dcc_shard.specs.Shards.{ShardView, held, AreOwn, IsStep}
+use Rattle.dcc_operator.specs.declared.commands.TopUpAsk.{TopUpAsk}
+use Rattle.dcc_operator.specs.Ledgers.{page_of, unknown_line}
+use Rattle.dcc_operator.specs.Texts.{IsBegun}
+use Rattle.dcc_operator.specs.TopUps.{line_of}
+
+-- a shard as it was opened for a subscriber: under the plan's terms, of acts that are their own, of subscribers of its shard alone
+pub record IsOpenedFor (plan : PlanView) (identity : Identity) (sub : Sub) (shard : ShardView) : Type 0 where
+  pub terms : shard.terms ≡ plan.terms
+  pub identity_is : shard.identity ≡ identity
+  pub own : AreOwn shard
+  pub placed : (other : Sub) → held shard other ≢ [] → shard_of other plan.shards ≡ shard_of sub plan.shards
+
+-- a top-up was told what its definition gives from what was held, and what is held since is that with the top-up where it was judged
+pub record IsMade (plan : PlanView) (identity : Identity) (ask : TopUpAsk) (answer : TopUpAnswer) (after : ShardView) : Type 0 where
+  pub before : ShardView
+  pub opened : IsOpenedFor plan identity ask.sub before
+  pub told : IsTold before ask.sub ask.moment ask.ticket ask.amount answer
+  pub step : IsStep before after (is_judged_top_up answer) ask.sub (top_up_act ask.moment ask.ticket ask.amount)
+
+-- and its word was written, or the first octets of that
+abbrev pub IsToppedUp : PlanView → Identity → TopUpAsk → ShardView → (old new : Option (List ℕ)) → Type 0
+IsToppedUp plan identity ask after old new = (answer : TopUpAnswer) × IsMade plan identity ask answer after × Appends old new (line_of answer)
+
+abbrev pub IsToppedUpBegun : PlanView → Identity → TopUpAsk → (old new : Option (List ℕ)) → Type 0
+IsToppedUpBegun plan identity ask old new = (answer : TopUpAnswer) × (after : ShardView) × IsMade plan identity ask answer after × IsBegun (line_of answer) old new
+
+-- what is written of a subscriber: its ledger by the shard that was opened, or that its account is unknown where there was none
+abbrev pub shown_of : Option ShardView → Sub → List ℕ
+shown_of None sub = unknown_line sub
+shown_of (Some shard) sub = page_of shard.terms sub (held shard sub)
+
+abbrev pub IsOpenedIfAny : PlanView → Identity → Sub → Option ShardView → Type 0
+IsOpenedIfAny plan identity sub None = ⊤
+IsOpenedIfAny plan identity sub (Some shard) = IsOpenedFor plan identity sub shard
+
+abbrev pub IsShown : PlanView → Identity → Sub → Option ShardView → (old new : Option (List ℕ)) → Type 0
+IsShown plan identity sub shard old new = IsOpenedIfAny plan identity sub shard × Appends old new (shown_of shard sub)
+
+abbrev pub IsShownBegun : PlanView → Identity → Sub → (old new : Option (List ℕ)) → Type 0
+IsShownBegun plan identity sub old new = (shard : Option ShardView) × IsOpenedIfAny plan identity sub shard × IsBegun (shown_of shard sub) old new
