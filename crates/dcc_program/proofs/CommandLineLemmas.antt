@@ -1,19 +1,24 @@
 -- What the reader of command lines gives, in the words of a use.
-use Rattle.std.proofs.Common.{◌⊎◌, ℕ, arith, slice_index, ◌≡◌, ◌∙◌, true, List, [], Option, Some, None, codes, refl, sym, ap, ap₂, subst, inl, inr, option_map, Result, IfOk, IfErr}
-use Rattle.clap.specs.Words.{App, Row, Text, HasKind, IsAmong, Kinds, fault_of, first_of, first_value, found_of, is_simple, is_simple_and_free, kind_of}
-use Rattle.clap.specs.Words.{matches_of, rows_of, subcommand_name_of, subcommand_rows, subcommand_of, subcommand_rows_of}
+use Rattle.std.proofs.Common.{◌⊎◌, ◌≡◌, ◌∙◌, true, false, List, [], Option, Some, None, codes, refl, sym, ap, ap₂, subst, inl, inr, option_map, Result, IfOk, IfErr, slice_index, nat_eq, eq-eqb}
+use Rattle.clap.specs.Words.{App, Row, Text, HasKind, IsAmong, fault_of, first_of, found_of, is_simple, is_simple_and_free, kind_of}
+use Rattle.clap.specs.Words.{app_of, matches_of, rows_of, subcommand_name_of, subcommand_of, subcommand_rows, subcommand_rows_of}
 use Rattle.clap.specs.declared.Error.{Error}
 use Rattle.clap.specs.declared.ArgMatches.{ArgMatches}
 use Rattle.clap.specs.declared.error.ErrorKind.{ErrorKind}
 use Rattle.clap.specs.declared.error.ErrorKind.TheVariants.{OutOfMemory, DisplayHelp, DisplayVersion}
 use Rattle.clap.specs.declared.parser.matches.ArgMatches.TheViews.{out-ArgMatches, out-SubCommand}
 use Rattle.std.specs.Box.{box_value}
-use Rattle.std.specs.Borrow.{Bor}
-use Rattle.clap.specs.declared.parser.matches.Found.{Found}
 use Rattle.clap.proofs.OnLiterals.{clap_on_literals}
-use Rattle.clap.proofs.WalkLemmas.{first_value-rows}
-use Rattle.dcc_program.specs.CommandLines.{dcc_command, wish_of, Asks, IsUse, IsSomeUse, IsDecodeCommand, IsHelpCommand, IsTaskFailure}
+use Rattle.std.specs.Borrow.{Bor}
+use Rattle.std.proofs.lemmas.Bool.{and_parts, not-true}
+use Rattle.clap.specs.declared.builder.command.Command.{Command}
+use Rattle.clap.specs.declared.builder.command.Command.TheViews.{out-Command}
+use Rattle.dcc_program.specs.CommandLines.{dcc_command, wish_of, name_of, Asks, AsksWith, IsTaskOf, IsPlace, IsAsk, sub_in, IsAsked, IsNoUse, IsTaskFailure}
+use Rattle.dcc_program.specs.declared.command_line.Task.TheVariants.{Replay, TopUp, Ledger, Decode, Help, Version}
 use Rattle.dcc_program.specs.declared.failure.Failure.{Failure}
+use Rattle.dcc_act.specs.declared.sub.Sub.{Sub}
+use Rattle.dcc_operator.specs.declared.commands.TopUpAsk.{TopUpAsk}
+use Rattle.dcc_program.specs.declared.command_line.Place.{Place}
 use Rattle.dcc_program.specs.declared.command_line.Task.{Task}
 
 is_simple_command : is_simple dcc_command ≡ true
@@ -23,9 +28,6 @@ is_simple_command = refl
 is_free_command : is_simple_and_free dcc_command ≡ true
 unfolding dcc_command clap_on_literals
 is_free_command = refl
-
-among_none : (kind : ErrorKind) (kinds : Kinds) → kinds ≡ [] → IsAmong kind kinds → ⊥
-among_none kind kinds none among = subst (IsAmong kind) none among
 
 -- what is asked for where the reader refuses the words by a fault of this kind
 wished_by : (words : List Text) (kind : ErrorKind) → (kind ≡ OutOfMemory) ⊎ IsAmong kind (fault_of dcc_command words)
@@ -47,31 +49,26 @@ wished words app error r is kinds says =
     subst (λ (a : App). HasKind (fault_of a words) error) is (kinds (ap is_simple_and_free is ∙ is_free_command)) in
     rw says (wished_by words (kind_of error) kind)
 
--- a parse that entered no `replay` was of no use
+-- a command that is read plainly has no argument for its subcommands
+pub plain_local : (c : Command) (app : App) → app_of c ≡ app → app.top.is_plain ≡ true → (out-Command c).has_globals ≡ false
+plain_local c app is plain =
+    let mine : (app_of c).top.is_plain ≡ true = ap (λ (a : App). a.top.is_plain) is ∙ plain in
+    not-true (out-Command c).has_globals (and_parts _ _ (and_parts _ _ (and_parts _ _ mine).1).1).0
+
+pub accepted_words : (words : List Text) (app : App) → app ≡ dcc_command → (is_simple_and_free app ≡ true → fault_of app words ≡ [])
+    → fault_of dcc_command words ≡ []
+accepted_words words app is none = ap (λ (a : App). fault_of a words) (sym is) ∙ none (ap is_simple_and_free is ∙ is_free_command)
+
+-- the command that a parse entered, with what it found
+entered_rows : (words : List Text) (app : App) (m : ArgMatches) → app ≡ dcc_command
+    → (is_simple app ≡ true → (rows_of (found_of m) ≡ matches_of app words) × (subcommand_rows_of m ≡ subcommand_of app words))
+    → subcommand_rows_of m ≡ subcommand_of dcc_command words
+entered_rows words app m is matches = (matches (ap is_simple is ∙ is_simple_command)).1 ∙ ap (λ (a : App). subcommand_of a words) is
+
 name_of_rows : (m : ArgMatches) → subcommand_name_of m ≡ option_map (λ p. p.0) (subcommand_rows_of m)
 name_of_rows m = elim (out-ArgMatches m).subcommand as
     (λ o. option_map (λ b. (out-SubCommand (box_value b)).name.now) o ≡ option_map (λ p. p.0) (subcommand_rows o))
     [ None ↦ refl | Some found ↦ refl ]
-
-named_other : (words : List Text) (app : App) (m : ArgMatches) (name : Text) (found : List Row) → app ≡ dcc_command
-    → (is_simple app ≡ true → (rows_of (found_of m) ≡ matches_of app words) × (subcommand_rows_of m ≡ subcommand_of app words))
-    → (subcommand_name_of m ≡ Some name → ⊥) → subcommand_of dcc_command words ≡ Some (name, found) → ⊥
-named_other words app m name found is matches other named =
-    let rows : subcommand_rows_of m ≡ subcommand_of dcc_command words =
-    (matches (ap is_simple is ∙ is_simple_command)).1 ∙ ap (λ (a : App). subcommand_of a words) is in
-    other (name_of_rows m ∙ ap (option_map (λ p. p.0)) (rows ∙ named))
-
--- a parse that entered no command was of no use
-pub other_words : (words : List Text) (app : App) (m : ArgMatches) → app ≡ dcc_command
-    → (is_simple app ≡ true → (rows_of (found_of m) ≡ matches_of app words) × (subcommand_rows_of m ≡ subcommand_of app words))
-    → (subcommand_name_of m ≡ Some (codes "replay") → ⊥) → (subcommand_name_of m ≡ Some (codes "decode") → ⊥)
-    → (subcommand_name_of m ≡ Some (codes "help") → ⊥)
-    → (IsSomeUse words → ⊥) × (IsDecodeCommand words → ⊥) × (IsHelpCommand words → ⊥)
-other_words words app m is matches other another none = (
-  λ given. named_other words app m (codes "replay") given.1.found is matches other given.1.named,
-  λ given. named_other words app m (codes "decode") given.found is matches another given.named,
-  λ given. named_other words app m (codes "help") given.found is matches none given.named,
-)
 
 pair_of : {A B : Type 0} (o : Option (A × B)) (a : A) (b : B) → option_map (λ p. p.0) o ≡ Some a → option_map (λ p. p.1) o ≡ Some b → o ≡ Some (a, b)
 pair_of None a b first second = cc
@@ -80,66 +77,89 @@ pair_of (Some p) a b first second =
     let two : p.1 ≡ b = cc in
     ap₂ (λ x y. Some (x, y)) one two
 
--- what a parse found under a command
-pub found_rows : (words : List Text) (app : App) (m sub : ArgMatches) (name : Text) → app ≡ dcc_command
+pub found_rows : (words : List Text) (app : App) (m : ArgMatches) (r : Option (Bor Text × Bor ArgMatches)) (name : Bor Text) (found : Bor ArgMatches)
+    → app ≡ dcc_command
     → (is_simple app ≡ true → (rows_of (found_of m) ≡ matches_of app words) × (subcommand_rows_of m ≡ subcommand_of app words))
-    → subcommand_name_of m ≡ Some name → option_map (λ p. p.1) (subcommand_rows_of m) ≡ Some (rows_of (found_of sub))
-    → subcommand_of dcc_command words ≡ Some (name, rows_of (found_of sub))
-found_rows words app m sub name is matches named rows =
-    let same : subcommand_rows_of m ≡ subcommand_of dcc_command words =
-    (matches (ap is_simple is ∙ is_simple_command)).1 ∙ ap (λ (a : App). subcommand_of a words) is in
-    sym same ∙ pair_of (subcommand_rows_of m) name (rows_of (found_of sub)) (sym (name_of_rows m) ∙ named) rows
+    → option_map (λ p. p.0.now) r ≡ subcommand_name_of m → option_map (λ p. rows_of (found_of p.1.now)) r ≡ option_map (λ p. p.1) (subcommand_rows_of m)
+    → r ≡ Some (name, found) → subcommand_of dcc_command words ≡ Some (name.now, rows_of (found_of found.now))
+found_rows words app m r name found is matches named rows whole =
+    let name_is : subcommand_name_of m ≡ Some name.now = rw whole at (sym named) in
+    let rows_are : option_map (λ p. p.1) (subcommand_rows_of m) ≡ Some (rows_of (found_of found.now)) = rw whole at (sym rows) in
+    sym (entered_rows words app m is matches) ∙ pair_of (subcommand_rows_of m) name.now (rows_of (found_of found.now)) (sym (name_of_rows m) ∙ name_is) rows_are
 
-pub accepted_words : (words : List Text) (app : App) → app ≡ dcc_command → (is_simple_and_free app ≡ true → fault_of app words ≡ [])
-    → fault_of dcc_command words ≡ []
-accepted_words words app is none = ap (λ (a : App). fault_of a words) (sym is) ∙ none (ap is_simple_and_free is ∙ is_free_command)
+-- words that name no command ask for nothing
+pub no_command : (words : List Text) (app : App) (m : ArgMatches) (r : Option (Bor Text × Bor ArgMatches)) → app ≡ dcc_command
+    → (is_simple app ≡ true → (rows_of (found_of m) ≡ matches_of app words) × (subcommand_rows_of m ≡ subcommand_of app words))
+    → option_map (λ p. p.0.now) r ≡ subcommand_name_of m → r ≡ None → (task : Task) → IsAsked words task → ⊥
+no_command words app m r is matches name none task asked =
+    let rows = entered_rows words app m is matches in
+    let named : subcommand_name_of m ≡ Some (name_of task) = name_of_rows m ∙ ap (option_map (λ p. p.0)) (rows ∙ asked.1.named) in
+    let nothing : subcommand_name_of m ≡ None = rw none at (sym name) in
+    cc
 
--- the value that stands for PLAN is the path of a use
-pub path_given : (words : List Text) (f : Found) (path : Bor Text) (r : Option (Bor Text)) → fault_of dcc_command words ≡ []
-    → subcommand_of dcc_command words ≡ Some (codes "replay", rows_of f) → option_map (λ s. s.now) r ≡ first_value f (codes "PLAN")
-    → r ≡ Some path → IsUse words path.now
-path_given words f path r accepted named value is =
-    let given : Some path.now ≡ first_value f (codes "PLAN") = rw is at value in
-    record { accepted = accepted; found = rows_of f; named = named; path_is = sym (first_value-rows f (codes "PLAN")) ∙ sym given }
-
-same_second : {A B : Type 0} (a : A) (x y : B) → ◌≡◌ {A = Option (A × B)} (Some (a, x)) (Some (a, y)) → x ≡ y
-same_second {A} {B} a x y same =
-    let pair : ◌≡◌ {A = A × B} (a, x) (a, y) = cc in
-    ap (λ (p : A × B). p.1) pair
-
-first_same : {A B : Type 0} (a c : A) (b d : B) → ◌≡◌ {A = Option (A × B)} (Some (a, b)) (Some (c, d)) → a ≡ c
+first_same : {A B : Type 0} (a c : A) (b d : B) → ◌≡◌ {A = Option (A × B)} (Some (a, b)) (Some (c, d)) → (a ≡ c) × (b ≡ d)
 first_same {A} {B} a c b d same =
     let pair : ◌≡◌ {A = A × B} (a, b) (c, d) = cc in
-    ap (λ (p : A × B). p.0) pair
+    (ap (λ (p : A × B). p.0) pair, ap (λ (p : A × B). p.1) pair)
 
-help_not_replay : codes "help" ≡ codes "replay" → ⊥
-help_not_replay same =
-    let first : ◌≡◌ {A = ℕ} (slice_index (codes "help") 0) (slice_index (codes "replay") 0) = ap (λ (t : List ℕ). slice_index t 0) same in
-    let bad : ◌≡◌ {A = ℕ} 104 114 = first in
-    absurd (omega arith)
+asked : (words : List Text) (task : Task) → IsAsked words task → Asks words task
+asked words (Replay path) given = given
+asked words (TopUp place ask) given = given
+asked words (Ledger place of) given = given
+asked words Decode given = given
+asked words Help given = inr given
+asked words Version given = absurd given.2
 
-decode_not_replay : codes "decode" ≡ codes "replay" → ⊥
-decode_not_replay same =
-    let first : ◌≡◌ {A = ℕ} (slice_index (codes "decode") 0) (slice_index (codes "replay") 0) = ap (λ (t : List ℕ). slice_index t 0) same in
-    let bad : ◌≡◌ {A = ℕ} 100 114 = first in
-    absurd (omega arith)
+-- what a command that was entered asks for with what was found
+pub named_task : (words : List Text) (name : Text) (found : List Row) (o : Option Task) (task : Task) → fault_of dcc_command words ≡ []
+    → subcommand_of dcc_command words ≡ Some (name, found) → IsTaskOf name found o → o ≡ Some task → Asks words task
+named_task words name found o task accepted named given is =
+    let of : IsTaskOf name found (Some task) = subst (λ (t : Option Task). IsTaskOf name found t) is given in
+    asked words task (found, record { accepted = accepted; named = named ∙ ap (λ (t : Text). Some (t, found)) of.0 }, of.1)
 
--- without one there is no use
-pub no_path : (words : List Text) (f : Found) (r : Option (Bor Text))
-    → subcommand_of dcc_command words ≡ Some (codes "replay", rows_of f) → option_map (λ s. s.now) r ≡ first_value f (codes "PLAN")
-    → r ≡ None → (IsSomeUse words → ⊥) × (IsDecodeCommand words → ⊥) × (IsHelpCommand words → ⊥)
-no_path words f r named value is = (
-  λ given.
-      (let same : given.1.found ≡ rows_of f = same_second (codes "replay") given.1.found (rows_of f) (sym given.1.named ∙ named) in
-      let none : first_of (codes "PLAN") (rows_of f) ≡ None = sym (first_value-rows f (codes "PLAN")) ∙ sym value ∙ ap (option_map (λ s. s.now)) is in
-      let some : first_of (codes "PLAN") (rows_of f) ≡ Some given.0 = ap (first_of (codes "PLAN")) (sym same) ∙ given.1.path_is in
-      cc),
-  λ given.
-      (let same : ◌≡◌ {A = Option (Text × List Row)} (Some (codes "decode", given.found)) (Some (codes "replay", rows_of f)) = sym given.named ∙ named in
-      let name : codes "decode" ≡ codes "replay" = first_same _ _ _ _ same in
-      absurd (decode_not_replay name)),
-  λ given.
-      (let same : ◌≡◌ {A = Option (Text × List Row)} (Some (codes "help", given.found)) (Some (codes "replay", rows_of f)) = sym given.named ∙ named in
-      let name : codes "help" ≡ codes "replay" = first_same _ _ _ _ same in
-      absurd (help_not_replay name)),
-)
+-- or that this is nothing
+pub no_task : (words : List Text) (name : Text) (found : List Row) (o : Option Task) → fault_of dcc_command words ≡ []
+    → subcommand_of dcc_command words ≡ Some (name, found) → IsTaskOf name found o → o ≡ None → IsNoUse words
+no_task words name found o accepted named given is =
+    let none : IsTaskOf name found None = subst (λ (t : Option Task). IsTaskOf name found t) is given in
+    inr (
+      accepted,
+      λ task asks. (
+          let same = first_same _ _ _ _ (sym named ∙ asks.1.named) in
+          none task same.0 (subst (λ (rows : List Row). AsksWith rows task) (sym same.1) asks.2)),
+    )
+
+-- texts are told apart by their first octets
+apart : (a b : Text) → nat_eq (slice_index a 0) (slice_index b 0) ≡ false → a ≡ b → ⊥
+apart a b differ same =
+    let alike : nat_eq (slice_index a 0) (slice_index b 0) ≡ nat_eq (slice_index b 0) (slice_index b 0) = ap (λ (t : Text). nat_eq (slice_index t 0) (slice_index b 0)) same in
+    let true_is : nat_eq (slice_index b 0) (slice_index b 0) ≡ true = eq-eqb (slice_index b 0) (slice_index b 0) refl in
+    cc
+
+-- where a command's arguments don't say what it needs, there is no task of its name
+pub no_replay : (found : List Row) → first_of (codes "PLAN") found ≡ None → IsTaskOf (codes "replay") found None
+no_replay found none (Replay path) named given = cc
+no_replay found none (TopUp place ask) named given = absurd (apart (codes "replay") (codes "topup") refl named)
+no_replay found none (Ledger place of) named given = absurd (apart (codes "replay") (codes "ledger") refl named)
+no_replay found none Decode named given = absurd (apart (codes "replay") (codes "decode") refl named)
+no_replay found none Help named given = absurd (apart (codes "replay") (codes "help") refl named)
+no_replay found none Version named given = given
+
+pub no_top_up : (found : List Row) → ((place : Place) (ask : TopUpAsk) → IsPlace found place → IsAsk found ask → ⊥) → IsTaskOf (codes "topup") found None
+no_top_up found none (Replay path) named given = absurd (apart (codes "topup") (codes "replay") refl named)
+no_top_up found none (TopUp place ask) named given = none place ask given.0 given.1
+no_top_up found none (Ledger place of) named given = absurd (apart (codes "topup") (codes "ledger") refl named)
+no_top_up found none Decode named given = absurd (apart (codes "topup") (codes "decode") refl named)
+no_top_up found none Help named given = absurd (apart (codes "topup") (codes "help") refl named)
+no_top_up found none Version named given = given
+
+pub no_ledger : (found : List Row) → ((place : Place) (of : Sub) → IsPlace found place → sub_in found ≡ Some of → ⊥) → IsTaskOf (codes "ledger") found None
+no_ledger found none (Replay path) named given = absurd (apart (codes "ledger") (codes "replay") refl named)
+no_ledger found none (TopUp place ask) named given = absurd (apart (codes "ledger") (codes "topup") refl named)
+no_ledger found none (Ledger place of) named given = none place of given.0 given.1
+no_ledger found none Decode named given = absurd (apart (codes "ledger") (codes "decode") refl named)
+no_ledger found none Help named given = absurd (apart (codes "ledger") (codes "help") refl named)
+no_ledger found none Version named given = given
+
+pub none_or_some : {A : Type 0} (o : Option A) (a : A) → o ≡ None → o ≡ Some a → ⊥
+none_or_some o a none some = cc

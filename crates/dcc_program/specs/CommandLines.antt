@@ -1,23 +1,36 @@
 -- The command lines of the program, as the reader of command lines is told of them and reads them.
-use Rattle.std.specs.Prelude.{◌≡◌, ◌⊎◌, ⊤, true, List, [], codes, Some, Result, Ok, Err}
+use Rattle.std.specs.Prelude.{◌≡◌, ◌⊎◌, ⊤, ℕ, true, List, [], codes, Option, Some, None, Result, Ok, Err}
 use Rattle.clap.specs.Words.{App, IsAmong, Row, Rule, Text, fault_of, first_of, new_app, new_rule, subcommand_of, with_rule, with_subcommand}
 use Rattle.clap.specs.declared.builder.ArgAction.TheVariants.{Set}
 use Rattle.clap.specs.declared.error.ErrorKind.{ErrorKind}
 use Rattle.clap.specs.declared.error.ErrorKind.TheVariants as kind
+use Rattle.dcc_act.specs.declared.sub.Sub.{Sub}
+use Rattle.dcc_words.specs.Words.{◌>>=◌, any_u64, moment, sub}
+use Rattle.dcc_operator.specs.declared.commands.TopUpAsk.{TopUpAsk}
+use Rattle.dcc_program.specs.declared.command_line.Place.{Place}
 use Rattle.dcc_program.specs.declared.command_line.Task.{Task}
-use Rattle.dcc_program.specs.declared.command_line.Task.TheVariants.{Replay, Decode, Help, Version}
+use Rattle.dcc_program.specs.declared.command_line.Task.TheVariants.{Replay, TopUp, Ledger, Decode, Help, Version}
 use Rattle.dcc_program.specs.declared.failure.Failure.{Failure}
-use Rattle.dcc_program.specs.declared.failure.Failure.TheVariants.{Usage, Memory, Io, Plan, Script}
+use Rattle.dcc_program.specs.declared.failure.Failure.TheVariants.{Usage, Memory, Io, Plan, Store, Script}
 
 -- an argument that has to be there, by its place
-abbrev pub plan_argument : Rule
-plan_argument = record (new_rule (codes "PLAN")) { required = true; action = Some Set }
+abbrev pub argument : Text → Rule
+argument name = record (new_rule name) { required = true; action = Some Set }
 
--- a command with this one argument
+-- commands, each with its arguments
 abbrev pub replay_command : App
-replay_command = with_rule (new_app (codes "replay")) plan_argument
+replay_command = with_rule (new_app (codes "replay")) (argument (codes "PLAN"))
 
--- commands without arguments
+-- a command with the two by which a store is found
+abbrev pub store_command : Text → App
+store_command name = with_rule (with_rule (with_rule (new_app name) (argument (codes "PLAN"))) (argument (codes "DIR"))) (argument (codes "SUB"))
+
+abbrev pub topup_command : App
+topup_command = with_rule (with_rule (with_rule (store_command (codes "topup")) (argument (codes "TICKET"))) (argument (codes "AMOUNT"))) (argument (codes "MOMENT"))
+
+abbrev pub ledger_command : App
+ledger_command = store_command (codes "ledger")
+
 abbrev pub decode_command : App
 decode_command = new_app (codes "decode")
 
@@ -35,31 +48,63 @@ abbrev pub without_help_command : App → App
 without_help_command app = record app { top = record app.top { disable_help_subcommand = true } }
 
 unfoldable pub dcc_command : App
-dcc_command = with_subcommand (with_subcommand (with_subcommand
-    (without_help_command (needing_command (with_version (new_app (codes "dcc"))))) replay_command.top) decode_command.top) help_command.top
+dcc_command = with_subcommand (with_subcommand (with_subcommand (with_subcommand (with_subcommand
+    (without_help_command (needing_command (with_version (new_app (codes "dcc"))))) replay_command.top) topup_command.top) ledger_command.top)
+    decode_command.top) help_command.top
 
--- the words, of which the first is the program's name, have no fault and name `replay`, and this path stands for PLAN
-pub record IsUse (words : List Text) (path : Text) : Type 0 where
+-- the words, of which the first is the program's name, have no fault and name this command, with these arguments
+pub record IsCommand (name : Text) (found : List Row) (words : List Text) : Type 0 where
   pub accepted : fault_of dcc_command words ≡ []
-  pub found : List Row
-  pub named : subcommand_of dcc_command words ≡ Some (codes "replay", found)
-  pub path_is : first_of (codes "PLAN") found ≡ Some path
-
--- the words are such a use, with some path
-abbrev pub IsSomeUse : List Text → Type 0
-IsSomeUse words = (path : Text) × IsUse words path
-
--- the words have no fault and name this command
-pub record IsCommand (name : Text) (words : List Text) : Type 0 where
-  pub accepted : fault_of dcc_command words ≡ []
-  pub found : List Row
   pub named : subcommand_of dcc_command words ≡ Some (name, found)
 
-abbrev pub IsDecodeCommand : List Text → Type 0
-IsDecodeCommand words = IsCommand (codes "decode") words
+-- the command that a task is asked for by; the version has none
+abbrev pub name_of : Task → Text
+name_of (Replay path) = codes "replay"
+name_of (TopUp place ask) = codes "topup"
+name_of (Ledger place sub) = codes "ledger"
+name_of Decode = codes "decode"
+name_of Help = codes "help"
+name_of Version = []
 
-abbrev pub IsHelpCommand : List Text → Type 0
-IsHelpCommand words = IsCommand (codes "help") words
+-- where PLAN and DIR are
+pub record IsPlace (found : List Row) (place : Place) : Type 0 where
+  pub plan_is : first_of (codes "PLAN") found ≡ Some place.plan.now
+  pub folder_is : first_of (codes "DIR") found ≡ Some place.folder.now
+
+-- what the other arguments say, as scripts say it
+abbrev pub sub_in : List Row → Option Sub
+sub_in found = first_of (codes "SUB") found >>= sub
+
+abbrev pub number_in : Text → List Row → Option ℕ
+number_in name found = first_of name found >>= any_u64
+
+abbrev pub moment_in : List Row → Option ℕ
+moment_in found = first_of (codes "MOMENT") found >>= moment
+
+-- SUB, TICKET, AMOUNT and MOMENT are those of a top-up
+pub record IsAsk (found : List Row) (ask : TopUpAsk) : Type 0 where
+  pub sub_is : sub_in found ≡ Some ask.sub
+  pub ticket_is : number_in (codes "TICKET") found ≡ Some ask.ticket
+  pub amount_is : number_in (codes "AMOUNT") found ≡ Some ask.amount
+  pub moment_is : moment_in found ≡ Some ask.moment
+
+-- the arguments say what a task needs
+abbrev pub AsksWith : List Row → Task → Type 0
+AsksWith found (Replay path) = first_of (codes "PLAN") found ≡ Some path.now
+AsksWith found (TopUp place ask) = IsPlace found place × IsAsk found ask
+AsksWith found (Ledger place of) = IsPlace found place × (sub_in found ≡ Some of)
+AsksWith found Decode = ⊤
+AsksWith found Help = ⊤
+AsksWith found Version = ⊥
+
+-- what a command with these arguments asks for, or that there is no such task
+abbrev pub IsTaskOf : Text → List Row → Option Task → Type 0
+IsTaskOf name found (Some task) = (name ≡ name_of task) × AsksWith found task
+IsTaskOf name found None = (task : Task) → name ≡ name_of task → AsksWith found task → ⊥
+
+-- the words name a task's command, with what it needs
+abbrev pub IsAsked : List Text → Task → Type 0
+IsAsked words task = (found : List Row) × IsCommand (name_of task) found words × AsksWith found task
 
 -- what is asked for where the words have a fault of this kind: an option for help or for the version is one
 abbrev pub wish_of : ErrorKind → Result Task Failure
@@ -70,15 +115,41 @@ wish_of _ = Err Usage
 
 -- what the words ask for
 abbrev pub Asks : List Text → Task → Type 0
-Asks words (Replay path) = IsUse words path.now
-Asks words Decode = IsDecodeCommand words
-Asks words Help = IsAmong kind.DisplayHelp (fault_of dcc_command words) ⊎ IsHelpCommand words
+Asks words Help = IsAmong kind.DisplayHelp (fault_of dcc_command words) ⊎ IsAsked words Help
 Asks words Version = IsAmong kind.DisplayVersion (fault_of dcc_command words)
+Asks words task = IsAsked words task
+
+-- the words ask for a task that needs a plan
+abbrev pub IsUnderPlan : Task → Type 0
+IsUnderPlan (Replay path) = ⊤
+IsUnderPlan (TopUp place ask) = ⊤
+IsUnderPlan (Ledger place of) = ⊤
+IsUnderPlan Decode = ⊥
+IsUnderPlan Help = ⊥
+IsUnderPlan Version = ⊥
+
+-- or a script
+abbrev pub IsOverScript : Task → Type 0
+IsOverScript (Replay path) = ⊤
+IsOverScript (TopUp place ask) = ⊥
+IsOverScript (Ledger place of) = ⊥
+IsOverScript Decode = ⊥
+IsOverScript Help = ⊥
+IsOverScript Version = ⊥
+
+-- or a store
+abbrev pub IsOverStore : Task → Type 0
+IsOverStore (Replay path) = ⊥
+IsOverStore (TopUp place ask) = ⊤
+IsOverStore (Ledger place of) = ⊤
+IsOverStore Decode = ⊥
+IsOverStore Help = ⊥
+IsOverStore Version = ⊥
 
 -- the words have a fault that asks for nothing, or have none and name no command with what it needs
 abbrev pub IsNoUse : List Text → Type 0
 IsNoUse words = ((other : ErrorKind) × IsAmong other (fault_of dcc_command words) × (wish_of other ≡ Err Usage))
-    ⊎ ((fault_of dcc_command words ≡ []) × (IsSomeUse words → ⊥) × (IsDecodeCommand words → ⊥) × (IsHelpCommand words → ⊥))
+    ⊎ ((fault_of dcc_command words ≡ []) × ((task : Task) → IsAsked words task → ⊥))
 
 -- the words ask for nothing, or memory was short
 abbrev pub IsTaskFailure : List Text → Failure → Type 0
@@ -86,4 +157,5 @@ IsTaskFailure words Usage = IsNoUse words
 IsTaskFailure words Memory = ⊤
 IsTaskFailure words Io = ⊥
 IsTaskFailure words (Plan number) = ⊥
+IsTaskFailure words (Store number) = ⊥
 IsTaskFailure words (Script line) = ⊥

@@ -7,12 +7,14 @@ use Rattle.std.specs.declared.io.ErrorKind as io
 use Rattle.std.specs.declared.io.ErrorKind.TheVariants as io_kind
 use Rattle.dcc_streams.specs.declared.reading.ReadFault.{ReadFault}
 use Rattle.dcc_streams.specs.declared.reading.ReadFault.TheVariants as read
+use Rattle.dcc_operator.specs.declared.fault.OperatorFault.{OperatorFault}
+use Rattle.dcc_operator.specs.declared.fault.OperatorFault.TheVariants as operator
 use Rattle.dcc_replay.specs.declared.fault.ReplayFault.{ReplayFault}
 use Rattle.dcc_replay.specs.declared.fault.ReplayFault.TheVariants as replay
 use Rattle.dcc_decode.specs.declared.fault.DecodeFault.{DecodeFault}
 use Rattle.dcc_decode.specs.declared.fault.DecodeFault.TheVariants as decode
 use Rattle.dcc_program.specs.declared.failure.Failure.{Failure}
-use Rattle.dcc_program.specs.declared.failure.Failure.TheVariants.{Usage, Memory, Io, Plan, Script}
+use Rattle.dcc_program.specs.declared.failure.Failure.TheVariants.{Usage, Memory, Io, Plan, Store, Script}
 
 -- the exit status
 abbrev pub status_of : Failure → ℕ
@@ -20,14 +22,16 @@ status_of Memory = 1
 status_of Io = 1
 status_of Usage = 2
 status_of (Plan number) = 3
+status_of (Store number) = 4
 status_of (Script line) = 5
 
 -- the line on standard error
 abbrev pub line_of : Failure → List ℕ
 line_of Memory = codes "dcc: memory"
 line_of Io = codes "dcc: io"
-line_of Usage = codes "dcc: usage: dcc replay PLAN, or dcc decode"
+line_of Usage = codes "dcc: usage: dcc replay PLAN, dcc topup PLAN DIR SUB TICKET AMOUNT MOMENT, dcc ledger PLAN DIR SUB, or dcc decode"
 line_of (Plan number) = codes "dcc: plan fault " ++ decimal number
+line_of (Store number) = codes "dcc: store fault " ++ decimal number
 line_of (Script line) = codes "dcc: script line " ++ decimal line
 
 -- the exit status of a program that did its work, or failed
@@ -57,6 +61,11 @@ abbrev pub of_read : ReadFault → Failure
 of_read read.Memory = Memory
 of_read read.Io = Io
 
+abbrev pub of_operator : OperatorFault → Failure
+of_operator operator.Memory = Memory
+of_operator operator.Output = Io
+of_operator (operator.Store number) = Store number
+
 abbrev pub of_replay : ReplayFault → Failure
 of_replay (replay.Line line) = Script line
 of_replay replay.Memory = Memory
@@ -74,4 +83,5 @@ IsDecodeFailure Usage = ⊥
 IsDecodeFailure Memory = ⊤
 IsDecodeFailure Io = ⊤
 IsDecodeFailure (Plan number) = ⊥
+IsDecodeFailure (Store number) = ⊥
 IsDecodeFailure (Script line) = ⊥

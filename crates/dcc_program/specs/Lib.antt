@@ -2,4 +2,5 @@ pub mod Failures
 pub mod Plans
 pub mod CommandLines
 pub mod Replays
+pub mod Stores
 pub mod Runs

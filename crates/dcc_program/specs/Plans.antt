@@ -7,7 +7,7 @@ use Rattle.dcc_tariff.specs.Faults.{fault_number}
 use Rattle.dcc_tariff.specs.declared.fault.PlanFault.{PlanFault}
 use Rattle.dcc_tariff.specs.declared.fault.PlanFault.TheVariants.{NotToml}
 use Rattle.dcc_program.specs.declared.failure.Failure.{Failure}
-use Rattle.dcc_program.specs.declared.failure.Failure.TheVariants.{Usage, Memory, Io, Plan, Script}
+use Rattle.dcc_program.specs.declared.failure.Failure.TheVariants.{Usage, Memory, Io, Plan, Store, Script}
 use Rattle.dcc_program.specs.Failures.{of_plan}
 
 -- octets that are no text are no TOML document
@@ -29,4 +29,5 @@ IsPlanFailure file Memory = ⊤
 IsPlanFailure file Io = ⊤
 IsPlanFailure file (Plan number) = (fault : PlanFault) × (fault_number fault ≡ Some number)
     × IfSome file (λ octets. plan_of_octets octets ≡ Err fault)
+IsPlanFailure file (Store number) = ⊥
 IsPlanFailure file (Script line) = ⊥

@@ -7,16 +7,19 @@ use Rattle.dcc_replay.specs.Scripts.{script_of}
 use Rattle.dcc_replay.specs.Replays as replay
 use Rattle.dcc_decode.specs.Decodings as decode
 use Rattle.dcc_program.specs.declared.command_line.Task.{Task}
-use Rattle.dcc_program.specs.declared.command_line.Task.TheVariants.{Replay, Decode, Help, Version}
+use Rattle.dcc_program.specs.declared.command_line.Task.TheVariants.{Replay, TopUp, Ledger, Decode, Help, Version}
 use Rattle.dcc_program.specs.declared.help.TheConstants.{HELP, VERSION}
 use Rattle.dcc_program.specs.declared.failure.Failure.{Failure}
-use Rattle.dcc_program.specs.declared.failure.Failure.TheVariants.{Usage, Memory, Io, Plan, Script}
-use Rattle.dcc_program.specs.CommandLines.{Asks, IsSomeUse, IsNoUse}
+use Rattle.dcc_program.specs.declared.failure.Failure.TheVariants.{Usage, Memory, Io, Plan, Store, Script}
+use Rattle.dcc_program.specs.CommandLines.{Asks, IsUnderPlan, IsOverStore, IsOverScript, IsNoUse}
+use Rattle.dcc_program.specs.Stores.{IsTopUp, IsTopUpBegun, IsLedger, IsLedgerBegun}
 use Rattle.dcc_program.specs.Plans.{IsPlanFailure}
 
 -- a task is done: the input before and after, and the writer. A text is printed without a look at the input
 abbrev pub IsDone : Task → (unread left old new : Option (List ℕ)) → Type 0
 IsDone (Replay path) unread left old new = (plan : PlanView) × replay.IsWritten plan unread old new
+IsDone (TopUp place ask) unread left old new = Keeps unread left × IsTopUp None ask old new
+IsDone (Ledger place sub) unread left old new = Keeps unread left × IsLedger None sub old new
 IsDone Decode unread left old new = decode.IsWritten unread old new
 IsDone Help unread left old new = Keeps unread left × Appends old new HELP.now
 IsDone Version unread left old new = Keeps unread left × Appends old new VERSION.now
@@ -24,6 +27,8 @@ IsDone Version unread left old new = Keeps unread left × Appends old new VERSIO
 -- of what a task writes, the first octets are written
 abbrev pub IsBegun : Task → (unread old new : Option (List ℕ)) → Type 0
 IsBegun (Replay path) unread old new = (plan : PlanView) × replay.IsBegun plan unread old new
+IsBegun (TopUp place ask) unread old new = IsTopUpBegun None ask old new
+IsBegun (Ledger place sub) unread old new = IsLedgerBegun None sub old new
 IsBegun Decode unread old new = decode.IsBegun unread old new
 IsBegun Help unread old new = (n : ℕ) × Appends old new (take n HELP.now)
 IsBegun Version unread old new = (n : ℕ) × Appends old new (take n VERSION.now)
@@ -34,6 +39,7 @@ IsBeforeScript Usage = ⊤
 IsBeforeScript Memory = ⊥
 IsBeforeScript Io = ⊥
 IsBeforeScript (Plan number) = ⊤
+IsBeforeScript (Store number) = ⊤
 IsBeforeScript (Script line) = ⊥
 
 -- the failures that the program comes to: usage where the words ask for nothing, and the others where they do
@@ -41,5 +47,6 @@ abbrev pub IsRunFailure : List Text → Option (List ℕ) → Failure → Type 0
 IsRunFailure words script Usage = IsNoUse words
 IsRunFailure words script Memory = ⊤
 IsRunFailure words script Io = (task : Task) × Asks words task
-IsRunFailure words script (Plan number) = IsSomeUse words × IsPlanFailure None (Plan number)
-IsRunFailure words script (Script line) = IsSomeUse words × IfSome script (λ text. script_of text ≡ Err line)
+IsRunFailure words script (Plan number) = (task : Task) × Asks words task × IsUnderPlan task × IsPlanFailure None (Plan number)
+IsRunFailure words script (Store number) = (task : Task) × Asks words task × IsOverStore task
+IsRunFailure words script (Script line) = (task : Task) × Asks words task × IsOverScript task × IfSome script (λ text. script_of text ≡ Err line)

@@ -1,23 +1,38 @@
 //! What a command line asks for.
 
-ghost use Rattle.std.specs.Prelude.{◌≡◌, ◌⊎◌, IfErr, IfOk, map, string_bytes};
-ghost use Rattle.clap.specs.Words.{app_of};
-ghost use Rattle.dcc_program.specs.CommandLines.{dcc_command, wish_of, Asks, IsTaskFailure};
+ghost use Rattle.std.specs.Prelude.{◌≡◌, ◌⊎◌, codes, None, IfErr, IfOk, IfSome, map, option_map, string_bytes};
+ghost use Rattle.clap.specs.Words.{app_of, first_of, found_of, rows_of, with_rule};
+ghost use Rattle.dcc_program.specs.CommandLines.{dcc_command, topup_command, store_command, argument, wish_of, Asks, IsTaskOf, IsTaskFailure};
+ghost use Rattle.dcc_program.specs.CommandLines.{IsPlace, IsAsk, sub_in, number_in, moment_in};
 ghost use Rattle.dcc_program.specs.declared.failure.Failure.TheVariants.{Memory, Usage};
 
 use crate::failure::Failure;
 use crate::help::VERSION;
 use clap::error::ErrorKind;
-use clap::{Arg, ArgAction, Command};
+use clap::{Arg, ArgAction, ArgMatches, Command};
+use dcc_act::{Moment, Sub};
+use dcc_operator::TopUpAsk;
+use dcc_words::{any_u64, moment};
 use std::alloc::{AllocError, Global};
 use std::rt::Env;
 use std::{env, io};
+
+/// Where a command finds the plan's file, and the folder with the stores of the shards.
+#[derive(Clone, Copy, Debug, PartialEq, Eq)]
+pub struct Place<'a> {
+    pub plan: &'a str,
+    pub folder: &'a str,
+}
 
 /// What a command line asks for.
 #[derive(Clone, Copy, Debug, PartialEq, Eq)]
 pub enum Task<'a> {
     /// To replay a script under the plan of the file at this path.
     Replay(&'a str),
+    /// To make a top-up in the store of its subscriber's shard.
+    TopUp(Place<'a>, TopUpAsk),
+    /// To print the ledger of a subscriber from that store.
+    Ledger(Place<'a>, Sub),
     /// To show the messages of a text.
     Decode,
     /// To print what the command lines are.
@@ -46,19 +61,100 @@ pub fn task_of<'a>(alloc: Global, words: &'a [String]) -> Result<Task<'a>, Failu
         Ok(matches) => matches,
         Err(error) => return wish_of(error.kind()),
     };
-    if let Some(replay) = matches.subcommand_matches("replay") {
-        return match replay.get_str("PLAN") {
-            Some(path) => Ok(Task::Replay(path)),
-            None => Err(Failure::Usage),
-        };
-    }
-    if let Some(_) = matches.subcommand_matches("decode") {
-        return Ok(Task::Decode);
-    }
-    match matches.subcommand_matches("help") {
-        Some(_) => Ok(Task::Help),
+    let Some((name, found)) = matches.subcommand() else {
+        return Err(Failure::Usage);
+    };
+    match task_named(name, found) {
+        Some(task) => Ok(task),
         None => Err(Failure::Usage),
     }
+}
+
+/// What a command asks for with the arguments that were found.
+fn task_named<'a>(name: &str, found: &ArgMatches<'a>) -> Option<Task<'a>>
+    ensures { IsTaskOf name.now (rows_of (found_of found.now)) result }
+{
+    match name {
+        "replay" => replay_of(found),
+        "topup" => top_up_of(found),
+        "ledger" => ledger_of(found),
+        "decode" => Some(Task::Decode),
+        "help" => Some(Task::Help),
+        _ => None,
+    }
+}
+
+/// The replay.
+fn replay_of<'a>(found: &ArgMatches<'a>) -> Option<Task<'a>>
+    ensures { IsTaskOf (codes "replay") (rows_of (found_of found.now)) result }
+{
+    Some(Task::Replay(text_of(found, "PLAN")?))
+}
+
+/// The top-up in a store.
+fn top_up_of<'a>(found: &ArgMatches<'a>) -> Option<Task<'a>>
+    ensures { IsTaskOf (codes "topup") (rows_of (found_of found.now)) result }
+{
+    Some(Task::TopUp(place_of(found)?, ask_of(found)?))
+}
+
+/// The ledger from a store.
+fn ledger_of<'a>(found: &ArgMatches<'a>) -> Option<Task<'a>>
+    ensures { IsTaskOf (codes "ledger") (rows_of (found_of found.now)) result }
+{
+    Some(Task::Ledger(place_of(found)?, sub_of(found)?))
+}
+
+/// Where the plan and the folder are.
+fn place_of<'a>(found: &ArgMatches<'a>) -> Option<Place<'a>>
+    ensures some { IfSome result (IsPlace (rows_of (found_of found.now))) }
+    ensures none { result ≡ None → (place : Place) → IsPlace (rows_of (found_of found.now)) place → ⊥ }
+{
+    Some(Place {
+        plan: text_of(found, "PLAN")?,
+        folder: text_of(found, "DIR")?,
+    })
+}
+
+/// The top-up.
+fn ask_of(found: &ArgMatches<'_>) -> Option<TopUpAsk>
+    ensures some { IfSome result (IsAsk (rows_of (found_of found.now))) }
+    ensures none { result ≡ None → (ask : TopUpAsk) → IsAsk (rows_of (found_of found.now)) ask → ⊥ }
+{
+    Some(TopUpAsk {
+        sub: sub_of(found)?,
+        ticket: number_of(found, "TICKET")?,
+        amount: number_of(found, "AMOUNT")?,
+        moment: moment_of(found)?,
+    })
+}
+
+/// The subscriber.
+fn sub_of(found: &ArgMatches<'_>) -> Option<Sub>
+    ensures { result ≡ sub_in (rows_of (found_of found.now)) }
+{
+    dcc_words::sub(text_of(found, "SUB")?.as_bytes())
+}
+
+/// A number.
+fn number_of(found: &ArgMatches<'_>, name: &str) -> Option<u64>
+    ensures { result ≡ number_in name.now (rows_of (found_of found.now)) }
+{
+    any_u64(text_of(found, name)?.as_bytes())
+}
+
+/// The moment.
+fn moment_of(found: &ArgMatches<'_>) -> Option<Moment>
+    ensures { result ≡ moment_in (rows_of (found_of found.now)) }
+{
+    moment(text_of(found, "MOMENT")?.as_bytes())
+}
+
+/// What stands for an argument.
+fn text_of<'a>(found: &ArgMatches<'a>, name: &str) -> Option<&'a str>
+    ensures { option_map (λ text. text.now) result ≡ first_of name.now (rows_of (found_of found.now)) }
+{
+    found.get_str(name)
 }
 
 /// What is asked for where the reader of command lines refuses the words: help and the version are asked for so.
@@ -77,10 +173,9 @@ fn wish_of<'a>(kind: ErrorKind) -> Result<Task<'a>, Failure>
 fn command<'a>(alloc: Global) -> Result<Command<'a>, AllocError>
     ensures { IfOk result (λ command. app_of command ≡ dcc_command) }
 {
-    let plan = Arg::new(alloc, "PLAN")
-        .required(true)
-        .action(ArgAction::Set);
-    let replay = Command::new(alloc, "replay").arg(plan)?;
+    let replay = with_argument(alloc, Command::new(alloc, "replay"), "PLAN")?;
+    let topup = topup_command(alloc)?;
+    let ledger = store_command(alloc, "ledger")?;
     let decode = Command::new(alloc, "decode");
     let help = Command::new(alloc, "help");
     Command::new(alloc, "dcc")
@@ -88,6 +183,38 @@ fn command<'a>(alloc: Global) -> Result<Command<'a>, AllocError>
         .subcommand_required(true)
         .disable_help_subcommand(true)
         .subcommand(replay)?
+        .subcommand(topup)?
+        .subcommand(ledger)?
         .subcommand(decode)?
         .subcommand(help)
+}
+
+/// A command with the arguments of a top-up behind those by which its subscriber's store is found.
+fn topup_command<'a>(alloc: Global) -> Result<Command<'a>, AllocError>
+    ensures { IfOk result (λ command. app_of command ≡ topup_command) }
+{
+    let with_ticket = with_argument(alloc, store_command(alloc, "topup")?, "TICKET")?;
+    let with_amount = with_argument(alloc, with_ticket, "AMOUNT")?;
+    with_argument(alloc, with_amount, "MOMENT")
+}
+
+/// A command of this name with the arguments by which a subscriber's store is found.
+fn store_command<'a>(alloc: Global, name: &'a str) -> Result<Command<'a>, AllocError>
+    ensures { IfOk result (λ command. app_of command ≡ store_command name.now) }
+{
+    let with_plan = with_argument(alloc, Command::new(alloc, name), "PLAN")?;
+    let with_folder = with_argument(alloc, with_plan, "DIR")?;
+    with_argument(alloc, with_folder, "SUB")
+}
+
+/// A command with one more argument, that has to be there, by its place.
+fn with_argument<'a>(
+    alloc: Global,
+    command: Command<'a>,
+    name: &'a str,
+) -> Result<Command<'a>, AllocError>
+    ensures { IfOk result (λ given. app_of given ≡ with_rule (app_of command.entry) (argument name.now)) }
+{
+    let argument = Arg::new(alloc, name).required(true).action(ArgAction::Set);
+    command.arg(argument)
 }

@@ -2,10 +2,11 @@
 
 ghost use Rattle.std.specs.Prelude.{◌≡◌, Some};
 ghost use Rattle.std.specs.IoError.{error_kind};
-ghost use Rattle.dcc_program.specs.Failures.{status_of, line_of, of_plan, of_read, of_replay, of_decode, of_io_kind};
+ghost use Rattle.dcc_program.specs.Failures.{status_of, line_of, of_plan, of_read, of_operator, of_replay, of_decode, of_io_kind};
 ghost use Rattle.dcc_program.specs.declared.failure.Failure.TheVariants as failure;
 
 use dcc_decode::DecodeFault;
+use dcc_operator::OperatorFault;
 use dcc_replay::ReplayFault;
 use dcc_streams::{ReadFault, WriteFault};
 use dcc_tariff::PlanFault;
@@ -23,13 +24,15 @@ pub enum Failure {
     Io,
     /// The plan file has the fault with this number.
     Plan(u8),
+    /// The store of a shard has the fault with this number.
+    Store(u8),
     /// The line of the script with this number has none of the forms.
     Script(u64),
 }
 
 impl Failure {
-    /// The exit status of the program: 1 for memory and input or output, 2 for the command line, 3 for the plan, 5 for the
-    /// script.
+    /// The exit status of the program: 1 for memory and input or output, 2 for the command line, 3 for the plan, 4 for the store,
+    /// 5 for the script.
     pub fn status(&self) -> u8
         ensures { result ≡ status_of self.now }
     {
@@ -37,6 +40,7 @@ impl Failure {
             Failure::Memory | Failure::Io => 1,
             Failure::Usage => 2,
             Failure::Plan(_) => 3,
+            Failure::Store(_) => 4,
             Failure::Script(_) => 5,
         }
     }
@@ -48,10 +52,14 @@ impl fmt::Display for Failure {
 
     fn fmt<W: fmt::Write>(&self, f: &mut fmt::Formatter<W>) -> fmt::Result {
         match self {
-            Failure::Usage => write!(f, "dcc: usage: dcc replay PLAN, or dcc decode"),
+            Failure::Usage => write!(
+                f,
+                "dcc: usage: dcc replay PLAN, dcc topup PLAN DIR SUB TICKET AMOUNT MOMENT, dcc ledger PLAN DIR SUB, or dcc decode"
+            ),
             Failure::Memory => write!(f, "dcc: memory"),
             Failure::Io => write!(f, "dcc: io"),
             Failure::Plan(number) => write!(f, "dcc: plan fault {number}"),
+            Failure::Store(number) => write!(f, "dcc: store fault {number}"),
             Failure::Script(line) => write!(f, "dcc: script line {line}"),
         }
     }
@@ -111,6 +119,18 @@ impl From<WriteFault> for Failure {
 
     fn from(_fault: WriteFault) -> Failure {
         Failure::Io
+    }
+}
+
+impl From<OperatorFault> for Failure {
+    ghost from_gives = { λ fault given. given ≡ of_operator fault };
+
+    fn from(fault: OperatorFault) -> Failure {
+        match fault {
+            OperatorFault::Memory => Failure::Memory,
+            OperatorFault::Output => Failure::Io,
+            OperatorFault::Store(number) => Failure::Store(number),
+        }
     }
 }
 

@@ -5,17 +5,25 @@ pub const HELP: &str = "\
 dcc is a Diameter credit-control server (RFC 8506) on prepaid balances.
 
 usage: dcc replay PLAN
+       dcc topup PLAN DIR SUB TICKET AMOUNT MOMENT
+       dcc ledger PLAN DIR SUB
        dcc decode
        dcc help
 
 dcc replay PLAN   reads a script of events from standard input, and prints what each event is answered under the
                   plan of the file PLAN. A path that begins with a hyphen stands behind --
-dcc decode        reads what a replay printed, a script, or messages in hex from standard input, and prints each message
-                  as a tree of names and values, and each line without one as it is
+dcc topup         makes one top-up under the plan of the file PLAN, in the store of the subscriber's shard in the
+                  folder DIR, which is made where it is missing, and prints done, ceiling, refused or bad. SUB is a
+                  type and data, as 0:491700000001, TICKET tells the top-up from the others, AMOUNT is in minor
+                  units, MOMENT in seconds since 1970
+dcc ledger        prints the ledger of the subscriber SUB from the store of its shard in the folder DIR
+dcc decode        reads what a replay printed, a script, or messages in hex from standard input, and prints each
+                  message as a tree of names and values, and each line without one as it is
 dcc help          prints this text, as dcc --help and dcc -h do
 dcc --version     prints the version, as dcc -V does
 
-exit status: 0; 1 where memory, input or output failed; 2 at another command line; 3 at a faulty plan; 5 at a faulty script.
+exit status: 0; 1 where memory, input or output failed; 2 at another command line; 3 at a faulty plan; 4 at a faulty
+store; 5 at a faulty script.
 A failure has one line on standard error.
 ";
 

@@ -1,10 +1,11 @@
 //! The program `dcc`: its command line, its plan file, how it ends, and its work over any files, reader and writers.
 //!
-//! Stands on `dcc_replay` for scripts, on `dcc_decode` for messages as a person reads them, and on `dcc_tariff` for plans. The
-//! contract that it gives: [`replay`] is `dcc replay PLAN` over the plan's reader, the script's reader and a writer, and
-//! [`decode`] is `dcc decode`; [`task_of`] is what the words of a command line ask for; [`run`] judges the words, opens the
-//! plan's file and replays, or decodes, or prints a text; [`end`] is the line on standard error and the status. [`execute`] is
-//! all of it, for a `main` of one line.
+//! Stands on `dcc_replay` for scripts, on `dcc_operator` for an operator's commands over stores, on `dcc_decode` for messages as a
+//! person reads them, and on `dcc_tariff` for plans. The contract that it gives: [`replay`] is `dcc replay PLAN` over the plan's
+//! reader, the script's reader and a writer, [`top_up`] and [`ledger`] are `dcc topup` and `dcc ledger` over the plan's reader, the
+//! stores of a folder and a writer, and [`decode`] is `dcc decode`; [`task_of`] is what the words of a command line ask for; [`run`]
+//! judges the words, opens the plan's file and does one of these, or prints a text; [`end`] is the line on standard error and the
+//! status. [`execute`] is all of it, for a `main` of one line.
 #![tactic(auto)]
 
 mod command_line;
@@ -16,8 +17,9 @@ mod plan_file;
 mod process;
 mod program;
 mod replaying;
+mod storing;
 
-pub use command_line::{Task, given_words, task_of};
+pub use command_line::{Place, Task, given_words, task_of};
 pub use decoding::decode;
 pub use ending::{Ending, end};
 pub use failure::Failure;
@@ -26,3 +28,4 @@ pub use plan_file::{plan_from, plan_of};
 pub use process::execute;
 pub use program::run;
 pub use replaying::replay;
+pub use storing::{ledger, top_up};

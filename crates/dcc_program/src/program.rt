@@ -12,6 +12,8 @@ use crate::decoding::decode;
 use crate::failure::Failure;
 use crate::help::{HELP, VERSION};
 use crate::replaying::replay;
+use crate::storing::{ledger, top_up};
+use dcc_operator::Stores;
 use dcc_streams::write_all;
 use std::fs;
 use std::hash::RandomState;
@@ -19,13 +21,14 @@ use std::io::{Read, Write};
 use std::random::RandomSource;
 use std::rt::Files;
 
-/// Does what the words of a command line ask for: replays the script of the input under the plan of the file, shows the messages
-/// of the input, or prints a text.
+/// Does what the words of a command line ask for: replays the script of the input under the plan of the file, makes a top-up or
+/// prints a ledger over the stores, shows the messages of the input, or prints a text.
 ///
-/// The words are judged first, then the plan, then the script. A text is printed before anything is opened or read.
-pub fn run<F: Files + RandomSource + AllocGlobal, R: Read, W: Write>(
+/// The words are judged first, then the plan, then the script or the store. A text is printed before anything is opened or read.
+pub fn run<F: Files + RandomSource + AllocGlobal, S: Stores, R: Read, W: Write>(
     rt: &F,
     words: &[String],
+    stores: &S,
     input: &mut R,
     output: &mut W,
 ) -> Result<(), Failure>
@@ -38,13 +41,43 @@ pub fn run<F: Files + RandomSource + AllocGlobal, R: Read, W: Write>(
         ⊎ ((task : Task) × Asks (map string_bytes words.now) task
         × IsBegun task (R.remaining input.old) (W.contents output.old) (W.contents output.new))) }
 {
-    match task_of(rt.alloc(), words)? {
+    let task = match task_of(rt.alloc(), words) {
+        Ok(task) => task,
+        Err(failure) => return Err(failure),
+    };
+    match task {
         Task::Help => Ok(write_all(output, HELP.as_bytes())?),
         Task::Version => Ok(write_all(output, VERSION.as_bytes())?),
         Task::Replay(path) => {
             let hasher = RandomState::new(rt)?;
             let mut file = fs::open(rt, path)?;
             replay(rt.alloc(), &mut file, input, output, hasher)
+        }
+        Task::TopUp(place, ask) => {
+            let hasher = RandomState::new(rt)?;
+            let mut file = fs::open(rt, place.plan)?;
+            top_up(
+                rt.alloc(),
+                &mut file,
+                stores,
+                place.folder,
+                ask,
+                output,
+                hasher,
+            )
+        }
+        Task::Ledger(place, sub) => {
+            let hasher = RandomState::new(rt)?;
+            let mut file = fs::open(rt, place.plan)?;
+            ledger(
+                rt.alloc(),
+                &mut file,
+                stores,
+                place.folder,
+                sub,
+                output,
+                hasher,
+            )
         }
         Task::Decode => decode(rt.alloc(), input, output),
     }

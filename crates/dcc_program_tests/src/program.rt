@@ -3,3 +3,4 @@
 mod endings;
 mod plans;
 mod runs;
+mod storing;

@@ -3,9 +3,10 @@
 //! What it does stands in `dcc_program`, with its contracts; here it is given the process.
 #![tactic(auto)]
 
+use dcc_files::FileStores;
 use dcc_program::execute;
 use std::process::ExitCode;
 
 fn main(rt: HostRuntime) -> ExitCode {
-    execute(&rt, &mut rt.stderr())
+    execute(&rt, &FileStores::new(&rt), &mut rt.stderr())
 }

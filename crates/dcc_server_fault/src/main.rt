@@ -2,9 +2,10 @@
 //! and with nothing printed.
 #![tactic(auto)]
 
+use dcc_files::FileStores;
 use dcc_program::execute;
 use std::process::ExitCode;
 
 fn main(rt: HostRuntime) -> ExitCode {
-    execute(&rt, &mut rt.stderr())
+    execute(&rt, &FileStores::new(&rt), &mut rt.stderr())
 }

@@ -1,0 +1,65 @@
+//! `dcc topup` and `dcc ledger`, over the reader of the plan, the stores of a folder and a writer.
+
+ghost use Rattle.std.specs.Prelude.{◌≡◌, ◌≢◌, ◌⊎◌, IfErr, OnOk};
+ghost use Rattle.std.specs.Io.KnownBytes.{Keeps};
+ghost use Rattle.dcc_program.specs.Stores.{IsTopUp, IsTopUpBegun, IsLedger, IsLedgerBegun, IsStoreFailure};
+ghost use Rattle.dcc_program.specs.declared.failure.Failure.TheVariants.{Io};
+
+use crate::failure::Failure;
+use crate::plan_file::plan_from;
+use dcc_act::Sub;
+use dcc_operator::{Stores, TopUpAsk, ledger_in, top_up_in};
+use dcc_replay::identity_of;
+use std::alloc::Global;
+use std::hash::RandomState;
+use std::io::{Read, Write};
+
+/// Makes a top-up under the plan that the file gives, in the store of its subscriber's shard, and writes what it was told.
+///
+/// The plan is judged first, then the store, and both before anything is written; where the writer fails, a beginning is, and the
+/// top-up stands.
+pub fn top_up<P: Read, S: Stores, W: Write>(
+    alloc: Global,
+    file: &mut P,
+    stores: &S,
+    folder: &str,
+    ask: TopUpAsk,
+    output: &mut W,
+    hasher: RandomState,
+) -> Result<(), Failure>
+    ensures whole { OnOk result (IsTopUp (P.remaining file.old) ask (W.contents output.old) (W.contents output.new)) }
+    ensures failure { IfErr result (IsStoreFailure (P.remaining file.old)) }
+    ensures silent { IfErr result (λ failure. failure ≢ Io → Keeps (W.contents output.old) (W.contents output.new)) }
+    ensures part { IfErr result (λ failure. failure ≡ Io → Keeps (W.contents output.old) (W.contents output.new)
+        ⊎ IsTopUpBegun (P.remaining file.old) ask (W.contents output.old) (W.contents output.new)) }
+{
+    let plan = plan_from(alloc, file)?;
+    let identity = identity_of(alloc, &plan)?;
+    let _shard = top_up_in(alloc, stores, folder, &plan, &identity, ask, output, hasher)?;
+    Ok(())
+}
+
+/// Writes the ledger of a subscriber under the plan that the file gives, from the store of its shard, or that its account is unknown
+/// where there is none.
+///
+/// The plan is judged first, then the store, and both before anything is written; where the writer fails, a beginning is.
+pub fn ledger<P: Read, S: Stores, W: Write>(
+    alloc: Global,
+    file: &mut P,
+    stores: &S,
+    folder: &str,
+    sub: Sub,
+    output: &mut W,
+    hasher: RandomState,
+) -> Result<(), Failure>
+    ensures whole { OnOk result (IsLedger (P.remaining file.old) sub (W.contents output.old) (W.contents output.new)) }
+    ensures failure { IfErr result (IsStoreFailure (P.remaining file.old)) }
+    ensures silent { IfErr result (λ failure. failure ≢ Io → Keeps (W.contents output.old) (W.contents output.new)) }
+    ensures part { IfErr result (λ failure. failure ≡ Io → Keeps (W.contents output.old) (W.contents output.new)
+        ⊎ IsLedgerBegun (P.remaining file.old) sub (W.contents output.old) (W.contents output.new)) }
+{
+    let plan = plan_from(alloc, file)?;
+    let identity = identity_of(alloc, &plan)?;
+    let _shard = ledger_in(alloc, stores, folder, &plan, &identity, sub, output, hasher)?;
+    Ok(())
+}
