@@ -1,15 +1,48 @@
 //! Records in memory, and those that fail once; pages and books.
 
-ghost use Rattle.std.specs.Prelude.{◌≡◌, false};
+ghost use Rattle.std.specs.Prelude.{◌≡◌, ◌∷◌, [], false};
 ghost use Rattle.dcc_act.specs.Subs.{same_sub};
 ghost use Rattle.dcc_records.specs.Books.{no_acts};
 ghost use Rattle.dcc_records.specs.Stops.{LeavesOnly};
+ghost use Rattle.dcc_serving_tests.specs.TopUps.{top_up_act, top_up_entry};
 
 use crate::top_ups::{TERMS, posted, subscriber, top_up};
-use dcc_act::{Kind, Sub};
+use dcc_act::{Act, Entry, Kind, Sub};
 use dcc_records::{Book, MemoryRecords, OnceRecords, Page, Records, StoreFault, acts_stand_apart};
 use std::alloc::Global;
+use std::process::Abort;
 use std::test::Fail;
+
+/// A top-up of each subscriber, and then another of the later, until one isn't appended: how many were. It owns nothing.
+fn append_three<R: Records>(
+    records: &mut R,
+    later: Sub,
+    earlier: Sub,
+    act: &Act,
+    entries: &[Entry],
+    next: &Act,
+    next_entries: &[Entry],
+) -> u8
+    requires nothing { R.is_stopped records.old ≡ false → LeavesOnly (R.terms records.old) no_acts (R.may_leave records.old) }
+    requires apart { same_sub later earlier ≡ false }
+    requires apart_back { same_sub earlier later ≡ false }
+    requires act { act.now ≡ top_up_act 1 1000 }
+    requires entries { entries.now ≡ top_up_entry 1 1 1000 ∷ [] }
+    requires next { next.now ≡ top_up_act 2 500 }
+    requires next_entries { next_entries.now ≡ top_up_entry 2 2 500 ∷ [] }
+{
+    acts_stand_apart();
+    let Ok(()) = records.append(later, act, entries) else {
+        return 0;
+    };
+    let Ok(()) = records.append(earlier, act, entries) else {
+        return 1;
+    };
+    let Ok(()) = records.append(later, next, next_entries) else {
+        return 2;
+    };
+    3
+}
 
 /// Two top-ups of the later subscriber, and one of the earlier between them, until one isn't appended: how many were.
 fn fill<R: Records>(records: &mut R, later: Sub, earlier: Sub) -> Result<u8, Fail>
@@ -18,20 +51,18 @@ fn fill<R: Records>(records: &mut R, later: Sub, earlier: Sub) -> Result<u8, Fai
     requires apart_back { same_sub earlier later ≡ false }
 {
     let act = top_up(1, 1000)?;
-    let entry = posted(1, 1, 1000)?;
     let next = top_up(2, 500)?;
+    let entry = posted(1, 1, 1000)?;
     let next_entry = posted(2, 2, 500)?;
-    acts_stand_apart();
-    let Ok(()) = records.append(later, &act, &[entry.copy()?]) else {
-        return Ok(0);
-    };
-    let Ok(()) = records.append(earlier, &act, &[entry]) else {
-        return Ok(1);
-    };
-    let Ok(()) = records.append(later, &next, &[next_entry]) else {
-        return Ok(2);
-    };
-    Ok(3)
+    Ok(append_three(
+        records,
+        later,
+        earlier,
+        &act,
+        &[entry],
+        &next,
+        &[next_entry],
+    ))
 }
 
 /// The tickets of a page's top-ups.
@@ -45,6 +76,28 @@ fn tickets(alloc: Global, page: &Page) -> Result<Vec<u64>, Fail> {
     Ok(tickets)
 }
 
+/// The book of the records.
+fn loaded<R: Records>(records: &mut R) -> Result<Book, Fail> {
+    Ok(records.load()?)
+}
+
+/// Asserts that these are the pages of two subscribers, the earlier with a top-up and the later with two.
+fn assert_in_order(
+    rt: &(impl Abort + AllocGlobal),
+    pages: &[Page],
+    earlier: Sub,
+    later: Sub,
+) -> Result<(), Fail> {
+    assert_eq!(rt; pages.len(), 2);
+    assert!(rt; pages[0].sub() == earlier && pages[1].sub() == later);
+    assert_eq!(rt; tickets(rt.alloc(), &pages[0])?.as_slice(), [1].as_slice());
+    assert_eq!(rt;
+        tickets(rt.alloc(), &pages[1])?.as_slice(),
+        [1, 2].as_slice()
+    );
+    Ok(())
+}
+
 #[test]
 fn two_subscribers_are_read_in_their_order(rt: HostRuntime) -> Result<(), Fail> {
     let later = subscriber(b"491700000002")?;
@@ -52,18 +105,35 @@ fn two_subscribers_are_read_in_their_order(rt: HostRuntime) -> Result<(), Fail> 
     assert!(rt; later != earlier && earlier != later);
     let mut records = MemoryRecords::new(rt.alloc(), &TERMS);
     assert_eq!(rt; fill(&mut records, later, earlier)?, 3);
-    let book = records.load()?;
-    assert_eq!(rt; book.as_slice().len(), 2);
-    assert!(rt; book.as_slice()[0].sub() == earlier && book.as_slice()[1].sub() == later);
-    assert_eq!(rt;
-        tickets(rt.alloc(), &book.as_slice()[0])?.as_slice(),
-        [1].as_slice()
-    );
-    assert_eq!(rt;
-        tickets(rt.alloc(), &book.as_slice()[1])?.as_slice(),
-        [1, 2].as_slice()
-    );
+    let book = loaded(&mut records)?;
+    assert_in_order(&rt, book.as_slice(), earlier, later)?;
     assert!(rt; *records.terms() == TERMS && records.faults() == 0 && !records.is_stopped());
+    Ok(())
+}
+
+/// Whether the records are stopped, and an act is refused so.
+fn refuses<R: Records>(records: &mut R, sub: Sub) -> Result<bool, Fail> {
+    if !records.is_stopped() {
+        return Ok(false);
+    }
+    let again = records.append(sub, &top_up(1, 1000)?, &[]);
+    Ok(matches!(again, Err(StoreFault::Stopped)))
+}
+
+/// Asserts that the records are stopped: nothing is read, and nothing is added.
+fn assert_stopped<R: Records>(rt: &impl Abort, records: &mut R, sub: Sub) -> Result<(), Fail> {
+    assert!(rt; records.is_stopped() && records.faults() == 1 && *records.terms() == TERMS);
+    assert!(rt; matches!(records.load(), Err(StoreFault::Stopped)));
+    assert!(rt; refuses(records, sub)?);
+    Ok(())
+}
+
+/// Asserts that there is one page: of this subscriber, with one act.
+fn assert_one(rt: &impl Abort, book: Book, sub: Sub) -> Result<(), Fail> {
+    assert_eq!(rt; book.as_slice().len(), 1);
+    let mut pages = book.into_vec();
+    let (found, acts) = pages.pop().ok_or("a page")?.into_parts();
+    assert!(rt; found == sub && acts.len() == 1);
     Ok(())
 }
 
@@ -74,30 +144,25 @@ fn the_second_append_fails(rt: HostRuntime) -> Result<(), Fail> {
     assert!(rt; later != earlier && earlier != later);
     let mut records = OnceRecords::new(MemoryRecords::new(rt.alloc(), &TERMS), 2);
     assert_eq!(rt; fill(&mut records, later, earlier)?, 1);
-    assert!(rt; records.is_stopped() && records.faults() == 1 && *records.terms() == TERMS);
-    assert!(rt; matches!(records.load(), Err(StoreFault::Stopped)));
-    let again = records.append(earlier, &top_up(1, 1000)?, &[]);
-    assert!(rt; matches!(again, Err(StoreFault::Stopped)));
-    let mut healed = records.healed();
-    let book = healed.load()?;
-    assert_eq!(rt; book.as_slice().len(), 1);
-    let mut pages = book.into_vec();
-    let (sub, acts) = pages.pop().ok_or("a page")?.into_parts();
-    assert!(rt; sub == later && acts.len() == 1);
-    Ok(())
+    assert_stopped(&rt, &mut records, earlier)?;
+    assert_one(&rt, loaded(&mut records.healed())?, later)
 }
 
-/// How many acts are held. A load that memory refuses is tried once more.
-fn count<R: Records>(records: &mut R) -> Result<usize, Fail> {
-    let book = match records.load() {
-        Err(StoreFault::Memory) => records.load()?,
-        loaded => loaded?,
-    };
+/// The book of the records. A load that memory refuses is tried once more.
+fn loaded_again<R: Records>(records: &mut R) -> Result<Book, Fail> {
+    match records.load() {
+        Err(StoreFault::Memory) => loaded(records),
+        book => Ok(book?),
+    }
+}
+
+/// How many acts these pages have.
+fn count(pages: &[Page]) -> usize {
     let mut count = 0_usize;
-    for page in book.as_slice() {
+    for page in pages {
         count = count.saturating_add(page.acts().len());
     }
-    Ok(count)
+    count
 }
 
 /// Where one growth is refused, just what was appended before it is held.
@@ -108,7 +173,10 @@ fn a_refused_growth_leaves_what_was_held(rt: HostRuntime) -> Result<(), Fail> {
     assert!(rt; later != earlier && earlier != later);
     let mut records = MemoryRecords::new(rt.alloc(), &TERMS);
     let appended = fill(&mut records, later, earlier)?;
-    assert_eq!(rt; count(&mut records)?, usize::from(appended));
+    assert_eq!(rt;
+        count(loaded_again(&mut records)?.as_slice()),
+        usize::from(appended)
+    );
     assert!(rt; !records.is_stopped());
     Ok(())
 }
@@ -120,7 +188,7 @@ fn none_of_the_appends_fails(rt: HostRuntime) -> Result<(), Fail> {
     assert!(rt; later != earlier && earlier != later);
     let mut records = OnceRecords::new(MemoryRecords::new(rt.alloc(), &TERMS), 0);
     assert_eq!(rt; fill(&mut records, later, earlier)?, 3);
-    assert_eq!(rt; records.load()?.as_slice().len(), 2);
+    assert_eq!(rt; loaded(&mut records)?.as_slice().len(), 2);
     Ok(())
 }
 
@@ -130,16 +198,22 @@ fn page(alloc: Global, name: &[u8]) -> Result<Page, Fail> {
     Ok(Page::new(subscriber(name)?, acts).ok_or("a page")?)
 }
 
+/// Pages of one top-up each, of these subscribers.
+fn pages(alloc: Global, names: &[&[u8]]) -> Result<Vec<Page>, Fail> {
+    let mut pages = Vec::new(alloc);
+    for name in names {
+        pages.push(page(alloc, name)?)?;
+    }
+    Ok(pages)
+}
+
 #[test]
 fn a_book_has_its_pages_in_order(rt: HostRuntime) -> Result<(), Fail> {
     let alloc = rt.alloc();
-    let ordered = vec![in alloc; page(alloc, b"1")?, page(alloc, b"10")?, page(alloc, b"2")?]?;
-    let book = Book::from_vec(ordered).ok_or("a book")?;
+    let book = Book::from_vec(pages(alloc, &[b"1", b"10", b"2"])?).ok_or("a book")?;
     assert_eq!(rt; book.as_slice().len(), 3);
-    let twice = vec![in alloc; page(alloc, b"1")?, page(alloc, b"1")?]?;
-    assert!(rt; Book::from_vec(twice).is_none());
-    let fallen = vec![in alloc; page(alloc, b"1")?, page(alloc, b"3")?, page(alloc, b"2")?]?;
-    assert!(rt; Book::from_vec(fallen).is_none());
+    assert!(rt; Book::from_vec(pages(alloc, &[b"1", b"1"])?).is_none());
+    assert!(rt; Book::from_vec(pages(alloc, &[b"1", b"3", b"2"])?).is_none());
     assert!(rt; Page::new(subscriber(b"1")?, Vec::new(alloc)).is_none());
     Ok(())
 }

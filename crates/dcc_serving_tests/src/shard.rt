@@ -14,7 +14,7 @@ use dcc_message::{Header, read_header};
 use dcc_records::{MemoryRecords, OnceRecords, Records};
 use dcc_samples::{ANSWER, BUSY, DEBIT, PLAN};
 use dcc_shard::{ExpiryAnswer, RequestAnswer, Shard, TopUpAnswer, shard_of};
-use dcc_tariff::{Plan, Tariff, UnitKind};
+use dcc_tariff::{Plan, Tariff, Terms, UnitKind};
 use std::alloc::Global;
 use std::hash::RandomState;
 use std::process::Abort;
@@ -32,8 +32,15 @@ fn shard_over<R: RandomSource + AllocGlobal, S: Records + Drop>(
     Shard::new(alloc, &identity, records, hasher).map_err(|_| Fail::from("a shard"))
 }
 
-fn shard<R: RandomSource + AllocGlobal>(rt: &R, plan: &Plan) -> Result<Shard<MemoryRecords>, Fail> {
-    shard_over(rt, MemoryRecords::new(rt.alloc(), plan.terms()))
+/// The terms of the sample's plan.
+fn terms(alloc: Global) -> Result<Terms, Fail> {
+    let plan = Plan::read(alloc, PLAN)?;
+    Ok(*plan.terms())
+}
+
+fn shard<R: RandomSource + AllocGlobal>(rt: &R) -> Result<Shard<MemoryRecords>, Fail> {
+    let terms = terms(rt.alloc())?;
+    shard_over(rt, MemoryRecords::new(rt.alloc(), &terms))
 }
 
 /// The header of the sample's request.
@@ -96,55 +103,95 @@ fn parts_of(alloc: Global, answer: &RequestAnswer) -> Result<(String, u64, bool)
     Ok((hex::encode(alloc, octets)?, place, fresh))
 }
 
+/// What a request is answered under the header of the sample's.
+fn answer_to<R: Records>(
+    alloc: Global,
+    shard: &mut Shard<R>,
+    sub: Sub,
+    act: Act,
+) -> Result<RequestAnswer, Fail> {
+    let header = header(alloc)?;
+    if !matches!(act.kind, Kind::Event(_) | Kind::Initial(_)) {
+        return Err("a request".into());
+    }
+    Ok(shard.step(alloc, sub, act, &header, &Proxies::none(alloc)))
+}
+
 /// The debit of a subscriber, answered.
 fn step<R: Records>(
     alloc: Global,
     shard: &mut Shard<R>,
     sub: Sub,
 ) -> Result<(String, u64, bool), Fail> {
-    let header = header(alloc)?;
-    let act = debit(alloc)?;
-    if !matches!(act.kind, Kind::Event(_)) {
-        return Err("a request".into());
-    }
-    let answer = shard.step(alloc, sub, act, &header, &Proxies::none(alloc));
+    let answer = answer_to(alloc, shard, sub, debit(alloc)?)?;
     parts_of(alloc, &answer)
+}
+
+fn funds<R: Records>(shard: &Shard<R>, sub: Sub) -> Result<i128, Fail> {
+    Ok(shard.account(sub).ok_or("an account")?.funds())
+}
+
+/// Asserts that the sample's request is answered as the second act, fresh or not.
+fn assert_debited<R: Records>(
+    rt: &(impl Abort + AllocGlobal),
+    shard: &mut Shard<R>,
+    sub: Sub,
+    fresh: bool,
+) -> Result<(), Fail> {
+    let (octets, place, is_fresh) = step(rt.alloc(), shard, sub)?;
+    assert_eq!(rt; octets.as_str(), ANSWER);
+    assert_eq!(rt; (place, is_fresh), (2, fresh));
+    Ok(())
+}
+
+fn assert_unknown<R: Records>(
+    rt: &(impl Abort + AllocGlobal),
+    shard: &mut Shard<R>,
+    sub: Sub,
+) -> Result<(), Fail> {
+    let (unknown, place, _) = step(rt.alloc(), shard, sub)?;
+    assert!(rt; unknown.as_str().contains("000013a6"));
+    assert_eq!(rt; place, 0);
+    Ok(())
+}
+
+/// Asserts that a top-up of the sample's subscriber is told so.
+fn assert_told<R: Records>(
+    rt: &(impl Abort + AllocGlobal),
+    shard: &mut Shard<R>,
+    ticket: u64,
+    amount: u64,
+    wanted: TopUpAnswer,
+) -> Result<(), Fail> {
+    assert_eq!(rt; told(rt.alloc(), shard, ticket, amount)?, wanted);
+    Ok(())
+}
+
+/// A top-up that was added as the first act, fresh or not.
+fn added(fresh: bool) -> TopUpAnswer {
+    TopUpAnswer::Done { place: 1, fresh }
+}
+
+fn debit_once<R: Records>(
+    rt: &(impl Abort + AllocGlobal),
+    shard: &mut Shard<R>,
+) -> Result<(), Fail> {
+    let sub = subscriber(b"491700000001")?;
+    assert_unknown(rt, shard, sub)?;
+    assert_told(rt, shard, 1, 1000, added(true))?;
+    for fresh in [true, false] {
+        assert_debited(rt, shard, sub, fresh)?;
+    }
+    assert_told(rt, shard, 1, 5, added(false))?;
+    assert_told(rt, shard, 2, 0, TopUpAnswer::BadAmount)?;
+    assert_eq!(rt; funds(shard, sub)?, 990);
+    Ok(())
 }
 
 #[test]
 fn a_debit_is_made_once(rt: HostRuntime) -> Result<(), Fail> {
-    let alloc = rt.alloc();
-    let plan = Plan::read(alloc, PLAN)?;
-    let mut shard = shard(&rt, &plan)?;
-    let sub = subscriber(b"491700000001")?;
-    let (unknown, place, _) = step(alloc, &mut shard, sub)?;
-    assert!(rt; unknown.as_str().contains("000013a6"));
-    assert_eq!(rt; place, 0);
-    let added = told(alloc, &mut shard, 1, 1000)?;
-    assert_eq!(rt;
-        added,
-        TopUpAnswer::Done {
-            place: 1,
-            fresh: true
-        }
-    );
-    for fresh in [true, false] {
-        let (octets, place, is_fresh) = step(alloc, &mut shard, sub)?;
-        assert_eq!(rt; octets.as_str(), ANSWER);
-        assert_eq!(rt; (place, is_fresh), (2, fresh));
-    }
-    let again = told(alloc, &mut shard, 1, 5)?;
-    assert_eq!(rt;
-        again,
-        TopUpAnswer::Done {
-            place: 1,
-            fresh: false
-        }
-    );
-    assert_eq!(rt; told(alloc, &mut shard, 2, 0)?, TopUpAnswer::BadAmount);
-    let account = shard.account(sub).ok_or("an account")?;
-    assert_eq!(rt; account.funds(), 990);
-    Ok(())
+    let mut shard = shard(&rt)?;
+    debit_once(&rt, &mut shard)
 }
 
 /// What opens the sample's session.
@@ -162,13 +209,14 @@ fn opening(alloc: Global) -> Result<Act, Fail> {
 /// What the opening of the sample's session is answered.
 fn opened<R: Records>(alloc: Global, shard: &mut Shard<R>) -> Result<(u64, bool), Fail> {
     let sub = subscriber(b"491700000001")?;
-    let (header, act) = (header(alloc)?, opening(alloc)?);
-    if !matches!(act.kind, Kind::Initial(_)) {
-        return Err("a request".into());
-    }
-    let answer = shard.step(alloc, sub, act, &header, &Proxies::none(alloc));
+    let answer = answer_to(alloc, shard, sub, opening(alloc)?)?;
     let (_, place, fresh) = parts_of(alloc, &answer)?;
     Ok((place, fresh))
+}
+
+/// How many subscribers have acts.
+fn count<R: Records>(alloc: Global, shard: &Shard<R>) -> Result<usize, Fail> {
+    Ok(shard.subs(alloc)?.len())
 }
 
 /// What an expiry comes to that is made so many seconds after the opening.
@@ -182,25 +230,31 @@ fn expired<R: Records>(
     Ok(shard.expire(alloc, sub, later))
 }
 
-/// The plan holds a session for 1,200 seconds. The moment after which it does no more ends it, once.
-#[test]
-fn a_session_expires_once(rt: HostRuntime) -> Result<(), Fail> {
+fn open_and_expire<R: Records>(
+    rt: &(impl Abort + AllocGlobal),
+    shard: &mut Shard<R>,
+) -> Result<(), Fail> {
     let alloc = rt.alloc();
-    let plan = Plan::read(alloc, PLAN)?;
-    let mut shard = shard(&rt, &plan)?;
-    assert!(rt; shard.subs(alloc)?.is_empty());
-    told(alloc, &mut shard, 1, 1000)?;
-    assert_eq!(rt; opened(alloc, &mut shard)?, (2, true));
-    assert_eq!(rt; shard.subs(alloc)?.len(), 1);
+    assert_eq!(rt; count(alloc, shard)?, 0);
+    told(alloc, shard, 1, 1000)?;
+    assert_eq!(rt; opened(alloc, shard)?, (2, true));
+    assert_eq!(rt; count(alloc, shard)?, 1);
     let closed = ExpiryAnswer::Closed {
         sessions: 1,
         place: 3,
     };
     let nothing = ExpiryAnswer::Nothing;
     for (seconds, wanted) in [(1199, nothing), (1200, closed), (1200, nothing)] {
-        assert_eq!(rt; expired(alloc, &mut shard, seconds)?, wanted);
+        assert_eq!(rt; expired(alloc, shard, seconds)?, wanted);
     }
     Ok(())
+}
+
+/// The plan holds a session for 1,200 seconds. The moment after which it does no more ends it, once.
+#[test]
+fn a_session_expires_once(rt: HostRuntime) -> Result<(), Fail> {
+    let mut shard = shard(&rt)?;
+    open_and_expire(&rt, &mut shard)
 }
 
 /// What a top-up of the sample's subscriber is told.
@@ -223,29 +277,34 @@ fn answered<R: Records>(alloc: Global, shard: &mut Shard<R>) -> Result<String, F
 }
 
 /// What is opened again of records that failed, once the act that they refused is asked for again.
-fn reopened(rt: &HostRuntime, shard: Shard<OnceRecords>) -> Result<String, Fail> {
+fn reopened(
+    rt: &(impl RandomSource + AllocGlobal),
+    shard: Shard<OnceRecords>,
+) -> Result<String, Fail> {
     let mut again = shard_over(rt, shard.into_records().healed())?;
     answered(rt.alloc(), &mut again)
+}
+
+fn debit_and_stop<R: Records>(
+    rt: &(impl Abort + AllocGlobal),
+    shard: &mut Shard<R>,
+) -> Result<(), Fail> {
+    assert_told(rt, shard, 1, 1000, added(true))?;
+    for _ in 0..2 {
+        assert_eq!(rt; answered(rt.alloc(), shard)?.as_str(), BUSY);
+    }
+    assert_told(rt, shard, 1, 1000, TopUpAnswer::Refused)?;
+    assert_told(rt, shard, 2, 0, TopUpAnswer::BadAmount)
 }
 
 /// The second append fails: its debit is answered busy, and so is all else but a bad amount. What is opened again has the money,
 /// and makes the debit.
 #[test]
 fn a_store_that_fails_stops_its_shard(rt: HostRuntime) -> Result<(), Fail> {
-    let alloc = rt.alloc();
-    let plan = Plan::read(alloc, PLAN)?;
-    let records = OnceRecords::new(MemoryRecords::new(alloc, plan.terms()), 2);
+    let terms = terms(rt.alloc())?;
+    let records = OnceRecords::new(MemoryRecords::new(rt.alloc(), &terms), 2);
     let mut shard = shard_over(&rt, records)?;
-    let added = TopUpAnswer::Done {
-        place: 1,
-        fresh: true,
-    };
-    assert_eq!(rt; told(alloc, &mut shard, 1, 1000)?, added);
-    for _ in 0..2 {
-        assert_eq!(rt; answered(alloc, &mut shard)?.as_str(), BUSY);
-    }
-    assert_eq!(rt; told(alloc, &mut shard, 1, 1000)?, TopUpAnswer::Refused);
-    assert_eq!(rt; told(alloc, &mut shard, 2, 0)?, TopUpAnswer::BadAmount);
+    debit_and_stop(&rt, &mut shard)?;
     assert_eq!(rt; reopened(&rt, shard)?.as_str(), ANSWER);
     Ok(())
 }

@@ -1,6 +1,7 @@
 //! Top-ups for the tests of records, and who makes them under which terms.
 
-ghost use Rattle.std.specs.Prelude.{◌≡◌, pos, None, IfOk};
+ghost use Rattle.std.specs.Prelude.{◌≡◌, IfOk};
+ghost use Rattle.dcc_serving_tests.specs.TopUps.{top_up_act, top_up_entry};
 
 use dcc_act::{Act, Entry, EntryKind, EntryName, Kind, Moment, Sub, TopUp};
 use dcc_tariff::Terms;
@@ -28,8 +29,7 @@ pub(crate) fn moment(seconds: u64) -> Result<Moment, Fail>
 
 /// A top-up at 2025-06-01T00:00:00Z.
 pub(crate) fn top_up(ticket: u64, amount: u64) -> Result<Act, Fail>
-    ensures { IfOk result (λ act. act
-        ≡ record { moment = 1748736000; kind = Kind.TopUp (record { ticket = ticket; amount = amount }) }) }
+    ensures { IfOk result (λ act. act ≡ top_up_act ticket amount) }
 {
     Ok(Act {
         moment: moment(1_748_736_000)?,
@@ -39,15 +39,7 @@ pub(crate) fn top_up(ticket: u64, amount: u64) -> Result<Act, Fail>
 
 /// Its entry.
 pub(crate) fn posted(place: u64, ticket: u64, amount: u32) -> Result<Entry, Fail>
-    ensures { IfOk result (λ entry. entry ≡ record {
-      place = place;
-      moment = 1748736000;
-      kind = EntryKind.TopUp;
-      group = None;
-      units = 0;
-      amount = pos amount;
-      name = EntryName.Ticket ticket;
-    }) }
+    ensures { IfOk result (λ entry. entry ≡ top_up_entry place ticket amount) }
 {
     Ok(Entry {
         place,
