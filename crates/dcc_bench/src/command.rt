@@ -11,6 +11,8 @@ pub enum Command {
     Framer { octets: u32, piece: u32 },
     /// A plan of so many tariffs, in which they are looked up.
     Plan { count: u32 },
+    /// Steps of so many accounts, which hold so many acts each.
+    Account { accounts: u32, held: u32 },
     /// A run of so many subscribers' debits.
     Replay { subscribers: u32, requests: u32 },
     /// A little of each.
@@ -52,6 +54,10 @@ fn command_with_two(name: &str, first: u32, second: u32) -> Option<Command> {
         "framer" => Some(Command::Framer {
             octets: first,
             piece: second,
+        }),
+        "account" => Some(Command::Account {
+            accounts: first,
+            held: second,
         }),
         "replay" => Some(Command::Replay {
             subscribers: first,

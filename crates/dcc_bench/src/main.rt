@@ -1,11 +1,12 @@
 //! The program that measures the path of a direct debit, and the reader of requests: `codec N`, `request N`,
-//! `framer OCTETS PIECE`, `plan N`, `replay SUBSCRIBERS REQUESTS`, and `sample`, a little of each.
+//! `framer OCTETS PIECE`, `plan N`, `account ACCOUNTS HELD`, `replay SUBSCRIBERS REQUESTS`, and `sample`, a little of each.
 //!
 //! It stands on the crates of that path, and calls them as the server does. Standard output has only what the arguments
 //! determine: counts, and a checksum of what was answered. Times go to standard error, one line for each thing that is
 //! measured: the processor time for one item in nanoseconds, the median of the rounds, the least and the most.
 #![tactic(auto)]
 
+mod account;
 mod checksum;
 mod codec;
 mod command;
@@ -28,6 +29,7 @@ fn main(rt: HostRuntime) -> Result<()> {
         Some(Command::Request { count }) => requests::measure(&rt, count),
         Some(Command::Framer { octets, piece }) => stream::measure(&rt, octets, piece),
         Some(Command::Plan { count }) => tariffs::measure(&rt, count),
+        Some(Command::Account { accounts, held }) => account::measure(&rt, accounts, held),
         Some(
             Command::Replay {
                 subscribers,
@@ -35,7 +37,7 @@ fn main(rt: HostRuntime) -> Result<()> {
             },
         ) => replay::measure(&rt, subscribers, requests),
         None => bail!(
-            "usage: codec N | request N | framer OCTETS PIECE | plan N | replay SUBSCRIBERS REQUESTS | sample"
+            "usage: codec N | request N | framer OCTETS PIECE | plan N | account ACCOUNTS HELD | replay SUBSCRIBERS REQUESTS | sample"
         ),
     }
 }
@@ -46,5 +48,6 @@ fn sample(rt: &HostRuntime) -> Result<()> {
     requests::measure(rt, 10)?;
     stream::measure(rt, 10_000, 7)?;
     tariffs::measure(rt, 30)?;
+    account::measure(rt, 2, 100)?;
     replay::measure(rt, 3, 30)
 }

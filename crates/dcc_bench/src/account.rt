@@ -1,0 +1,245 @@
+//! Steps of accounts that hold many acts: a direct debit, an update of one of 64 open sessions, a repeat, and a top-up.
+
+ghost use Rattle.std.specs.Prelude.{◌≡◌, ◌≤◌, true, is_some};
+ghost use Rattle.std.specs.Option.{ForSome};
+
+use crate::rounds::timed;
+use crate::tariffs::plan_text;
+use anyhow::{Context, Result};
+use dcc_account::Account;
+use dcc_act::{
+    Act, Action, Form, Kind, Moment, OneTimeEvent, RequestKey, Service, ServiceIds, Services,
+    SessionId, SessionRequest, TopUp,
+};
+use dcc_tariff::{Plan, Tariff, UnitKind};
+use std::alloc::Global;
+use std::hash::RandomState;
+use std::random::RandomSource;
+use std::time::CpuClock;
+
+/// When everything happens, in seconds since 1970.
+const MOMENT: u64 = 1_751_328_000;
+
+/// The sessions that each account has open, each with one service.
+const SESSIONS: u32 = 64;
+
+/// The group of all services.
+const GROUP: u32 = 10;
+
+/// The steps of one round.
+const STEPS: u32 = 1_000;
+
+/// The money that each account is given, in minor units.
+const MONEY: u64 = 1_000_000_000_000;
+
+/// What all acts have in common.
+#[derive(Clone, Copy)]
+struct Setting {
+    alloc: Global,
+    moment: Moment,
+    tariff: Tariff,
+}
+
+/// Measures each kind of step on accounts that hold so many acts each, taken in turn.
+pub fn measure<R: AllocGlobal + RandomSource + Print + Eprint + CpuClock>(
+    rt: &R,
+    accounts: u32,
+    held: u32,
+) -> Result<()> {
+    let alloc = rt.alloc();
+    let hasher = RandomState::new(rt)?;
+    let plan = Plan::read(alloc, plan_text(alloc, 1)?.as_str())?;
+    let moment = Moment::new(MOMENT).context("a moment")?;
+    let (_unit, tariff) = plan.at(GROUP, MOMENT).context("a tariff")?;
+    let setting = Setting {
+        alloc,
+        moment,
+        tariff,
+    };
+    let mut all = Vec::new(alloc);
+    for _ in 0..accounts {
+        let mut account = Account::new(alloc, plan.terms(), hasher);
+        fill(&setting, &mut account, held)?;
+        all.push(account)?;
+    }
+    let mut next = held;
+    let steps = u64::from(STEPS);
+    let debits = timed(rt, "account debit", steps, || {
+        debit_all(&setting, &mut all, &mut next)
+    })?;
+    let updates = timed(rt, "account update", steps, || {
+        update_all(&setting, &mut all, &mut next)
+    })?;
+    let repeats = timed(rt, "account repeat", steps, || {
+        repeat_all(&setting, &mut all, held)
+    })?;
+    let top_ups = timed(rt, "account top-up", steps, || {
+        top_up_all(&setting, &mut all, &mut next)
+    })?;
+    println!(rt;
+        "account {accounts} {held} new {debits} {updates} {repeats} {top_ups} funds {}",
+        funds_of(&all)
+    )?;
+    Ok(())
+}
+
+/// Gives an account its money, opens its sessions, and makes direct debits up to so many acts.
+fn fill(setting: &Setting, account: &mut Account, held: u32) -> Result<()> {
+    step(account, top_up(setting, 0)?)?;
+    for session in 0..SESSIONS {
+        step(account, first(setting, session)?)?;
+    }
+    for number in SESSIONS + 1..held {
+        step(account, debit(setting, number)?)?;
+    }
+    Ok(())
+}
+
+/// Makes an act, and says whether it was new.
+fn step(account: &mut Account, act: Act) -> Result<u64> {
+    let step = account.prepare(act)?;
+    let is_new = step.is_new();
+    account.install(step);
+    Ok(u64::from(is_new))
+}
+
+fn debit_all(setting: &Setting, all: &mut [Account], next: &mut u32) -> Result<u64> {
+    let mut made = 0u64;
+    for i in 0..STEPS as usize {
+        *next = next.wrapping_add(1);
+        made = made.wrapping_add(stepped(all, i, debit(setting, *next)?)?);
+    }
+    Ok(made)
+}
+
+fn update_all(setting: &Setting, all: &mut [Account], next: &mut u32) -> Result<u64> {
+    let mut made = 0u64;
+    for i in 0..STEPS as usize {
+        *next = next.wrapping_add(1);
+        made = made.wrapping_add(stepped(all, i, update(setting, *next % SESSIONS, *next)?)?);
+    }
+    Ok(made)
+}
+
+fn repeat_all(setting: &Setting, all: &mut [Account], held: u32) -> Result<u64> {
+    let mut made = 0u64;
+    for i in 0..STEPS {
+        // Steps that are far from one another, so that they aren't in the caches.
+        let number = i.wrapping_mul(7_919) % held.saturating_sub(SESSIONS + 1).max(1);
+        made = made.wrapping_add(stepped(all, i as usize, debit(setting, SESSIONS + 1 + number)?)?);
+    }
+    Ok(made)
+}
+
+fn top_up_all(setting: &Setting, all: &mut [Account], next: &mut u32) -> Result<u64> {
+    let mut made = 0u64;
+    for i in 0..STEPS as usize {
+        *next = next.wrapping_add(1);
+        made = made.wrapping_add(stepped(all, i, top_up(setting, u64::from(*next))?)?);
+    }
+    Ok(made)
+}
+
+/// Makes an act of one of the accounts, in turn.
+fn stepped(all: &mut [Account], turn: usize, act: Act) -> Result<u64> {
+    let count = all.len().max(1);
+    match all.get_mut(turn % count) {
+        Some(account) => step(account, act),
+        None => Ok(0),
+    }
+}
+
+fn top_up(setting: &Setting, ticket: u64) -> Result<Act> {
+    let top_up = TopUp::new(ticket, MONEY).context("a top-up")?;
+    Ok(Act {
+        moment: setting.moment,
+        kind: Kind::TopUp(top_up),
+    })
+}
+
+/// A direct debit of 1,000 octets.
+fn debit(setting: &Setting, number: u32) -> Result<Act> {
+    let event = OneTimeEvent {
+        key: key(setting, SESSIONS, number)?,
+        action: Action::DirectDebiting,
+        service: service(setting, false),
+    };
+    Ok(Act {
+        moment: setting.moment,
+        kind: Kind::Event(event),
+    })
+}
+
+/// The first request of a session.
+fn first(setting: &Setting, session: u32) -> Result<Act> {
+    let request = SessionRequest {
+        key: key(setting, session, 0)?,
+        services: services(setting, false)?,
+    };
+    Ok(Act {
+        moment: setting.moment,
+        kind: Kind::Initial(request),
+    })
+}
+
+/// A further request of a session, which reports what it was granted.
+fn update(setting: &Setting, session: u32, number: u32) -> Result<Act> {
+    let request = SessionRequest {
+        key: key(setting, session, number)?,
+        services: services(setting, true)?,
+    };
+    Ok(Act {
+        moment: setting.moment,
+        kind: Kind::Update(request),
+    })
+}
+
+/// One service.
+fn services(setting: &Setting, reports: bool) -> Result<Services> {
+    let mut items = Vec::new(setting.alloc);
+    items.push(service(setting, reports))?;
+    Services::from_vec(items).context("services")
+}
+
+/// A service that asks for 1,000 octets, and where it is to reports as many.
+fn service(setting: &Setting, reports: bool) -> Service
+    ensures { is_some result.asked ≡ true }
+{
+    Service {
+        group: Some(GROUP),
+        ids: ServiceIds::new(setting.alloc),
+        form: Form::Single,
+        asked: Some(1_000),
+        used: used(reports),
+        unit: Some(UnitKind::Octets),
+        tariff: Some(setting.tariff),
+    }
+}
+
+/// What a service reports.
+fn used(reports: bool) -> Option<u64>
+    ensures { ForSome result (λ units. units ≤ 1_000) }
+{
+    match reports {
+        true => Some(1_000),
+        false => None,
+    }
+}
+
+/// The key of a request, under a Session-Id as long as the sample debit's.
+fn key(setting: &Setting, session: u32, number: u32) -> Result<RequestKey> {
+    let name = format!(in setting.alloc; "gw1.example;1;{session}")?;
+    let sid = SessionId::from_vec(Vec::from_slice(setting.alloc, name.as_bytes())?).context(
+        "a name",
+    )?;
+    Ok(RequestKey { sid, number })
+}
+
+/// What is left in all accounts, in minor units.
+fn funds_of(all: &[Account]) -> i128 {
+    let mut funds = 0i128;
+    for account in all {
+        funds = funds.saturating_add(account.funds());
+    }
+    funds
+}
