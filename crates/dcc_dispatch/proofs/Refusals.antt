@@ -3,7 +3,7 @@ use Rattle.std.proofs.Common.{◌≡◌, ℕ, ◌≤◌, ◌==◌, true, false, 
 use Rattle.std.proofs.lemmas.Bool.{eqb-true, false_from_ne_true}
 use Rattle.dcc_answer.specs.Results.{is_busy}
 use Rattle.dcc_message.specs.declared.length.TheConstants.{HEADER_LENGTH}
-use Rattle.dcc_engine.specs.Asks.{is_refusal}
+use Rattle.dcc_dispatch.specs.Refusals.{is_refusal}
 
 some_length : (n : ℕ) → HEADER_LENGTH ≤ n → (n == 0) ≡ false
 some_length n le = false_from_ne_true (n == 0) (λ h. let e = eqb-true n 0 h in absurd (omega arith))

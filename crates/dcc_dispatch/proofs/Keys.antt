@@ -7,10 +7,10 @@ use Rattle.dcc_ccr.specs.declared.request_type.RequestType.{RequestType}
 use Rattle.dcc_ccr.specs.declared.request_type.RequestType.TheVariants.{Initial, Update, Termination, Event}
 use Rattle.dcc_credit.specs.Acts.{act_of, key_of, kind_of}
 use Rattle.dcc_model.specs.Keys.{request_key}
-use Rattle.dcc_engine.specs.Messages as messages
-use Rattle.dcc_engine.specs.Messages.{MessageView}
-use Rattle.dcc_engine.specs.declared.verdict.Verdict.TheVariants.{Asks}
-use Rattle.dcc_engine.specs.inner.Turns.{IsVerdict}
+use Rattle.dcc_dispatch.specs.Messages as messages
+use Rattle.dcc_dispatch.specs.Messages.{MessageView}
+use Rattle.dcc_dispatch.specs.declared.verdict.Verdict.TheVariants.{Asks}
+use Rattle.dcc_dispatch.specs.inner.Known.{IsVerdict}
 
 -- what a request asks for has the request's key, whatever its type
 key_is : (plan : PlanView) (moment : ℕ) (request : RequestView) (type : RequestType) → request_key (kind_of plan moment request type) ≡ Some (key_of request)

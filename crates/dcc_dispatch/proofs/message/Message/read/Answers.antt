@@ -3,10 +3,10 @@ use Rattle.std.proofs.lemmas.List.{length-drop}
 use Rattle.dcc_avp.specs.Spelling.{AvpView}
 use Rattle.dcc_avp.specs.Reading.{FaultView, Tells, avps_of}
 use Rattle.dcc_request.specs.Layout.{layout_fault}
-use Rattle.dcc_engine.specs.Messages.{MessageView, message_view}
-use Rattle.dcc_engine.specs.inner.Headings.{fault_of}
-use Rattle.dcc_engine.proofs.Lists.{layout_told, read_where, read_fits, rest_of}
-use Rattle.dcc_engine.proofs.message.Message.read.Goals as goal
+use Rattle.dcc_dispatch.specs.Messages.{MessageView, message_view}
+use Rattle.dcc_dispatch.specs.inner.Headings.{fault_of}
+use Rattle.dcc_dispatch.proofs.Lists.{layout_told, read_where, read_fits, rest_of}
+use Rattle.dcc_dispatch.proofs.message.Message.read.Goals as goal
 
 pub invariant_of-result : goal.invariant_of-result
 invariant_of-result c =

@@ -1,14 +1,14 @@
 use Rattle.std.proofs.Common.{◌≡◌, Ok, Some, sym, ap, subst, ◌∙◌}
 use Rattle.std.proofs.lemmas.Result.{IfOk-weaker}
 use Rattle.dcc_credit.specs.Acts.{act_of}
-use Rattle.dcc_engine.specs.declared.verdict.Verdict.TheVariants.{Asks}
+use Rattle.dcc_dispatch.specs.declared.verdict.Verdict.TheVariants.{Asks}
 use Rattle.dcc_request.specs.Sessions.{session_of}
-use Rattle.dcc_engine.specs.Asks.{is_refusal}
-use Rattle.dcc_engine.specs.Messages.{MessageView, session}
-use Rattle.dcc_engine.specs.inner.Turns.{IsVerdict}
-use Rattle.dcc_engine.proofs.Refusals.{answer_counts}
-use Rattle.dcc_engine.proofs.Keys.{known_of}
-use Rattle.dcc_engine.proofs.message.Message.verdict.Goals as goal
+use Rattle.dcc_dispatch.specs.Refusals.{is_refusal}
+use Rattle.dcc_dispatch.specs.Messages.{MessageView, session}
+use Rattle.dcc_dispatch.specs.inner.Known.{IsVerdict}
+use Rattle.dcc_dispatch.proofs.Refusals.{answer_counts}
+use Rattle.dcc_dispatch.proofs.Keys.{known_of}
+use Rattle.dcc_dispatch.proofs.message.Message.verdict.Goals as goal
 
 pub returns-in-Err-clause-known : goal.returns-in-Err-clause-known
 returns-in-Err-clause-known c =

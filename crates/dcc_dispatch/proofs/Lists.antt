@@ -11,7 +11,7 @@ use Rattle.dcc_avp.specs.declared.fault.AvpFault.{AvpFault}
 use Rattle.dcc_avp.specs.declared.fault.AvpFault.TheVariants as faults
 use Rattle.dcc_message.specs.declared.length.TheConstants.{HEADER_LENGTH, MAX_LENGTH}
 use Rattle.dcc_request.specs.Layout.{layout_fault}
-use Rattle.dcc_engine.specs.inner.Headings.{fault_of, IsWhole}
+use Rattle.dcc_dispatch.specs.inner.Headings.{fault_of, IsWhole}
 
 word : (n : ℕ) → next_multiple_of n 4 % 4 ≡ 0
 word n = omega arith

@@ -1,12 +1,12 @@
 use Rattle.std.proofs.Common.{◌≡◌, true, [], refl, sym, ap, subst, ◌∙◌, inr}
 use Rattle.dcc_base.specs.Peers.{hears}
 use Rattle.dcc_base.specs.declared.reply.Reply.{Reply}
-use Rattle.dcc_engine.specs.Asks.{is_refusal}
-use Rattle.dcc_engine.specs.Messages.{MessageView, message_view}
-use Rattle.dcc_engine.specs.inner.Turns.{IsReplied}
-use Rattle.dcc_engine.proofs.Refusals.{nothing_is_one}
-use Rattle.dcc_engine.proofs.Replies.{passed_over, answered, refused}
-use Rattle.dcc_engine.proofs.reply.reply_to.Goals as goal
+use Rattle.dcc_dispatch.specs.Refusals.{is_refusal}
+use Rattle.dcc_dispatch.specs.Messages.{MessageView, message_view}
+use Rattle.dcc_dispatch.specs.Dispatches.{IsReplied}
+use Rattle.dcc_dispatch.proofs.Refusals.{nothing_is_one}
+use Rattle.dcc_dispatch.proofs.Replies.{passed_over, answered, refused}
+use Rattle.dcc_dispatch.proofs.reply.reply_to.Goals as goal
 
 pub returns-then-not-hears : goal.returns-then-not-hears
 returns-then-not-hears c =
@@ -14,9 +14,9 @@ returns-then-not-hears c =
 
 pub returns-in_default : goal.returns-in_default
 returns-in_default c =
-    let octets_are : c.refusing.result.octets ≡ [] = ap (λ (r : Reply). r.octets) c.refusing.ensures ∙ c.new.ensures in
-    refused c.args.identity.now c.args.peer.now c.args.peer.now (message_view c.args.header c.args.octets.now) c.refusing.result (sym c.hears.ensures ∙ c.if-not-hears.false)
-    (ap is_refusal octets_are ∙ nothing_is_one) (inr octets_are) (ap (λ (r : Reply). r.close) c.refusing.ensures) refl
+    let octets_are : c.staying.result.octets ≡ [] = ap (λ (r : Reply). r.octets) c.staying.ensures ∙ c.new.ensures in
+    refused c.args.identity.now c.args.peer.now c.args.peer.now (message_view c.args.header c.args.octets.now) c.staying.result (sym c.hears.ensures ∙ c.if-not-hears.false)
+    (ap is_refusal octets_are ∙ nothing_is_one) (inr octets_are) (ap (λ (r : Reply). r.close) c.staying.ensures) refl
 
 pub returns-in-Ok-put_to : goal.returns-in-Ok-put_to
 returns-in-Ok-put_to c =

@@ -2,9 +2,9 @@
 
 ghost use Rattle.std.specs.Prelude.{◌≡◌, IfOk};
 ghost use Rattle.dcc_credit.specs.Acts.{act_of};
-ghost use Rattle.dcc_engine.specs.Verdicts.{verdict_of};
-ghost use Rattle.dcc_engine.specs.declared.verdict.Verdict.TheVariants.{Asks};
-ghost use Rattle.dcc_engine.specs.inner.Turns.{IsVerdict};
+ghost use Rattle.dcc_dispatch.specs.Verdicts.{verdict_of};
+ghost use Rattle.dcc_dispatch.specs.declared.verdict.Verdict.TheVariants.{Asks};
+ghost use Rattle.dcc_dispatch.specs.inner.Known.{IsVerdict};
 
 use crate::message::Message;
 use dcc_act::{Act, Moment, Sub};

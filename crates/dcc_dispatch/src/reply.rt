@@ -1,9 +1,10 @@
 //! What a peer is replied to a message of the base protocol.
 
 ghost use Rattle.std.specs.Prelude.{◌≡◌, false};
-ghost use Rattle.dcc_engine.specs.Messages.{message_view};
-ghost use Rattle.dcc_engine.specs.inner.Headings.{IsWhole};
-ghost use Rattle.dcc_engine.specs.inner.Turns.{IsReplied};
+ghost use Rattle.dcc_dispatch.specs.Messages.{message_view};
+ghost use Rattle.dcc_dispatch.specs.inner.Headings.{IsWhole};
+ghost use Rattle.dcc_base.specs.Peers.{shut};
+ghost use Rattle.dcc_dispatch.specs.Dispatches.{IsReplied};
 
 use crate::message::Message;
 use dcc_base::{Peer, Reply};
@@ -27,20 +28,30 @@ pub(crate) fn reply_to(
         return peer.pass_over(alloc);
     }
     let Ok(message) = Message::read(alloc, header, octets) else {
-        return refusing(OctetString::new(alloc));
+        return staying(OctetString::new(alloc));
     };
     match message.put_to(alloc, identity, peer) {
         Ok(reply) => reply,
-        Err(_) => refusing(message.busy(alloc, identity)),
+        Err(_) => staying(message.busy(alloc, identity)),
     }
 }
 
-/// The reply of a busy answer, or of nothing, behind which the connection stays.
-fn refusing(octets: OctetString) -> Reply
+/// A reply of these octets, or of nothing, behind which the connection stays.
+pub(crate) fn staying(octets: OctetString) -> Reply
     ensures { result ≡ record { octets = octets; close = false } }
 {
     Reply {
         octets,
         close: false,
+    }
+}
+
+/// No answer, and the connection is closed.
+pub(crate) fn closing(alloc: Global) -> Reply
+    ensures { result ≡ shut }
+{
+    Reply {
+        octets: OctetString::new(alloc),
+        close: true,
     }
 }

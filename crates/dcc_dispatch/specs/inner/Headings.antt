@@ -9,10 +9,10 @@ use Rattle.dcc_avp.specs.declared.fault.AvpFault.TheVariants as faults
 use Rattle.dcc_message.specs.declared.length.TheConstants.{HEADER_LENGTH, MAX_LENGTH}
 use Rattle.dcc_request.specs.Layout.{layout_fault}
 use Rattle.dcc_base.specs.declared.peer.Peer.{Peer}
-use Rattle.dcc_engine.specs.Messages.{Received, message_view}
-use Rattle.dcc_engine.specs.Messages.Received.{Ignored, Broken, Charging, Base}
-use Rattle.dcc_engine.specs.declared.message.Heading.{Heading}
-use Rattle.dcc_engine.specs.declared.message.Heading.TheVariants as headings
+use Rattle.dcc_dispatch.specs.Messages.{Received, message_view}
+use Rattle.dcc_dispatch.specs.Messages.Received.{Ignored, Broken, Charging, Base}
+use Rattle.dcc_dispatch.specs.declared.message.Heading.{Heading}
+use Rattle.dcc_dispatch.specs.declared.message.Heading.TheVariants as headings
 
 -- the message to a peer that it heads
 abbrev pub received_as : Peer → Heading → List ℕ → Received

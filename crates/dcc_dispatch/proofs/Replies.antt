@@ -6,10 +6,10 @@ use Rattle.dcc_answer.specs.Results.{is_busy}
 use Rattle.dcc_base.specs.Peers.{hears, unheard, replied}
 use Rattle.dcc_base.specs.declared.peer.Peer.{Peer}
 use Rattle.dcc_base.specs.declared.reply.Reply.{Reply}
-use Rattle.dcc_engine.specs.Asks.{is_refusal, IsBusyOrNothing}
-use Rattle.dcc_engine.specs.Messages.{MessageView}
-use Rattle.dcc_engine.specs.inner.Turns.{IsReplied}
-use Rattle.dcc_engine.proofs.Refusals.{answer_counts}
+use Rattle.dcc_dispatch.specs.Refusals.{is_refusal, IsBusyOrNothing}
+use Rattle.dcc_dispatch.specs.Messages.{MessageView}
+use Rattle.dcc_dispatch.specs.Dispatches.{IsReplied}
+use Rattle.dcc_dispatch.proofs.Refusals.{answer_counts}
 
 unheard_is : (identity : Identity) (old : Peer) (message : MessageView) → hears old message.header ≡ false → unheard old ≡ replied identity old message.header message.list
 unfolding replied

@@ -8,10 +8,10 @@ use Rattle.dcc_answer.specs.Proxies.{proxies_of}
 use Rattle.dcc_ccr.specs.Requests.{RequestView, request_of}
 use Rattle.dcc_credit.specs.Acts.{act_of}
 use Rattle.dcc_credit.specs.Refusals.{taken_from, refusal_octets, unread_octets}
-use Rattle.dcc_engine.specs.Engines.{Setting}
-use Rattle.dcc_engine.specs.Messages.{MessageView}
-use Rattle.dcc_engine.specs.declared.verdict.Verdict.{Verdict}
-use Rattle.dcc_engine.specs.declared.verdict.Verdict.TheVariants.{Asks, Refused}
+use Rattle.dcc_dispatch.specs.Settings.{Setting}
+use Rattle.dcc_dispatch.specs.Messages.{MessageView}
+use Rattle.dcc_dispatch.specs.declared.verdict.Verdict.{Verdict}
+use Rattle.dcc_dispatch.specs.declared.verdict.Verdict.TheVariants.{Asks, Refused}
 
 -- a request asks its subscriber's account for its act; or what its list says is refused
 abbrev pub judged : Setting → ℕ → HeaderView → List AvpView → Result RequestView Refusal → Verdict

@@ -1,4 +1,4 @@
--- What the octets of a message are to the engine.
+-- What the octets of a message are to a peer.
 use Rattle.std.specs.Prelude.{ℕ, Bool, false, ◌&&◌, if◌then◌else◌, List, [], drop, Option, Some, None, Result, Ok, Err}
 use Rattle.dcc_avp.specs.Spelling.{AvpView}
 use Rattle.dcc_avp.specs.Reading.{FaultView, avps_of}

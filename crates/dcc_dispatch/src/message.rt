@@ -4,10 +4,10 @@ ghost use Rattle.std.specs.Prelude.{◌≡◌, ◌≤◌, ◌&&◌, [], true, fa
 ghost use Rattle.dcc_message.specs.declared.length.TheConstants.{HEADER_LENGTH};
 ghost use Rattle.dcc_answer.specs.Results.{is_busy};
 ghost use Rattle.dcc_base.specs.Peers.{hears, replied};
-ghost use Rattle.dcc_engine.specs.Asks.{IsBusyOrNothing, is_refusal};
-ghost use Rattle.dcc_engine.specs.Messages.{message_view, session, received, is_charging};
+ghost use Rattle.dcc_dispatch.specs.Refusals.{IsBusyOrNothing, is_refusal};
+ghost use Rattle.dcc_dispatch.specs.Messages.{message_view, session, received, is_charging};
 ghost use Rattle.dcc_request.specs.Layout.{layout_fault};
-ghost use Rattle.dcc_engine.specs.inner.Headings.{received_as, IsHeaded, IsWhole, fault_of};
+ghost use Rattle.dcc_dispatch.specs.inner.Headings.{received_as, IsHeaded, IsWhole, fault_of};
 
 use dcc_answer::{Proxies, Session, session_id, write_busy};
 use dcc_avp::{Avp, AvpFault, read_list};
@@ -62,8 +62,8 @@ pub(crate) struct Message<'a> {
 
 impl<'a> Model for Message<'a> {
     ghost use Rattle.std.specs.Prelude.{◌≡◌};
-    ghost use Rattle.dcc_engine.specs.Messages.{MessageView, proxies_of_list};
-    ghost use Rattle.dcc_engine.specs.inner.Headings.{list_with, IsListed};
+    ghost use Rattle.dcc_dispatch.specs.Messages.{MessageView, proxies_of_list};
+    ghost use Rattle.dcc_dispatch.specs.inner.Headings.{list_with, IsListed};
 
     ghost Value = { MessageView };
 

@@ -1,0 +1,5 @@
+pub mod Refusals
+pub mod Lists
+pub mod Keys
+pub mod Replies
+pub mod Charges

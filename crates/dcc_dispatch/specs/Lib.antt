@@ -1,0 +1,6 @@
+pub mod Settings
+pub mod Messages
+pub mod Verdicts
+pub mod Refusals
+pub mod Dispatches
+pub mod inner
