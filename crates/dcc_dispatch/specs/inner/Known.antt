@@ -1,5 +1,5 @@
 -- What is known of a credit-control message by what it comes to.
-use Rattle.std.specs.Prelude.{◌≡◌, ℕ, true, false, List, is_some}
+use Rattle.std.specs.Prelude.{◌≡◌, ℕ, true, false, is_some}
 use Rattle.dcc_model.specs.Keys.{request_key}
 use Rattle.dcc_dispatch.specs.Dispatches.{IsAsked, IsRefused, session_of_key}
 use Rattle.dcc_dispatch.specs.Messages as messages
