@@ -6,8 +6,9 @@ use Rattle.dcc_act.specs.declared.act.Act.{Act}
 use Rattle.dcc_act.specs.declared.sub.Sub.{Sub}
 use Rattle.dcc_model.specs.Laws.{LaterChangesNothing, LastComesAfter}
 use Rattle.dcc_model.specs.Outcomes.{acts}
+use Rattle.dcc_dispatch.specs.Settings.{Setting}
 use Rattle.dcc_engine.specs.Asks.{Turn, Ask, Said, ask_for, is_refused_for, own_with, moved_by, said_by}
-use Rattle.dcc_engine.specs.Engines.{EngineView, Setting}
+use Rattle.dcc_engine.specs.Engines.{EngineView}
 use Rattle.dcc_engine.specs.Isolation.{before_of, asked, own, peers, IsRun, Follows, with_own, asks_after, answers_after, own_asks, answers}
 use Rattle.dcc_engine.specs.inner.Turns.{IsNext}
 use Rattle.dcc_engine.specs.declared.event.Out.{Out}

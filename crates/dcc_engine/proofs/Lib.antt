@@ -6,10 +6,8 @@ pub mod Runs
 pub mod OwnAnswers
 pub mod InTurn
 pub mod Refusals
-pub mod Lists
-pub mod Keys
 pub mod Requests
+pub mod Hearing
 pub mod TopUps
-pub mod Replies
 pub mod Sweeps
 pub mod Refusing

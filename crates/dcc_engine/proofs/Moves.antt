@@ -9,11 +9,11 @@ use Rattle.dcc_act.specs.declared.sub.Sub.{Sub}
 use Rattle.dcc_model.specs.Laws.{AfterStays, NewStays, PlaceStays, ActsStay, ActsAreActs}
 use Rattle.dcc_model.specs.Outcomes.{acts, after, place, is_new}
 use Rattle.dcc_shard.specs.Answers.{told}
+use Rattle.dcc_dispatch.specs.Settings.{Setting}
+use Rattle.dcc_dispatch.specs.Messages.{received_on}
 use Rattle.dcc_engine.specs.Asks.{Turn, Before, Ask, Source, Said, ask_for, received_ask, is_refused_for, IsAnsweredFor, IsOut, IsMessageOut, said_from}
 use Rattle.dcc_engine.specs.Asks.Said.{Told}
 use Rattle.dcc_engine.specs.Asks.Source.{Message, TopUp, Sweep}
-use Rattle.dcc_engine.specs.Engines.{Setting}
-use Rattle.dcc_engine.specs.Messages.{received_on}
 use Rattle.dcc_engine.specs.inner.Turns.{IsNext}
 use Rattle.dcc_engine.specs.declared.event.Event.{Event}
 use Rattle.dcc_engine.specs.declared.event.Event.TheVariants as events

@@ -8,8 +8,9 @@ use Rattle.dcc_act.specs.declared.act.Act.{Act}
 use Rattle.dcc_act.specs.declared.sub.Sub.{Sub}
 use Rattle.dcc_model.specs.Laws.{LaterChangesNothing, LastComesAfter}
 use Rattle.dcc_model.specs.Outcomes.{outcome, after}
+use Rattle.dcc_dispatch.specs.Settings.{Setting}
 use Rattle.dcc_engine.specs.Asks.{Turn, Ask, Said, is_refused_for, IsAnsweredFor, IsOut, said_of, said_by, own_with}
-use Rattle.dcc_engine.specs.Engines.{EngineView, Setting, held_of}
+use Rattle.dcc_engine.specs.Engines.{EngineView, held_of}
 use Rattle.dcc_engine.specs.Isolation.{before_of, asked, own, IsAnswered, IsRun, with_own, asks_after, answers_after, own_asks, answers}
 use Rattle.dcc_engine.specs.inner.Turns.{IsNext}
 use Rattle.dcc_engine.specs.declared.event.Out.{Out}

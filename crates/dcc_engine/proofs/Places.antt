@@ -1,5 +1,5 @@
 -- Where a peer stands among the rows.
-use Rattle.std.proofs.Common.{◌≡◌, ℕ, zero, suc, ◌<◌, ◌≤◌, false, ◌==◌, cond, List, [], ◌∷◌, length, get_or, set, Option, Some, None, refl, arith}
+use Rattle.std.proofs.Common.{◌≡◌, ℕ, zero, suc, ◌<◌, ◌≤◌, false, ◌==◌, cond, List, [], ◌∷◌, length, get_or, set, Option, Some, None, refl, sym, ap, ◌∙◌, arith}
 use Rattle.std.proofs.lemmas.Bool.{eq-eqb}
 use Rattle.std.proofs.lemmas.Bool.Decides.{nat_tests}
 use Rattle.dcc_base.specs.declared.peer.Peer.{Peer}
@@ -45,3 +45,13 @@ is_at (row ∷ rows) id (suc i) none lt before here =
       named = λ n. later.named n;
       changed = λ given q. changed_later row (peer_in rows q) (peer_in (set rows i (record { id = id; peer = given })) q) id q given apart (later.changed given q);
     }
+
+-- what is read where a peer stands, and who is there once it is written
+pub there : (rows : List PeerRow) (id i : ℕ) (row : PeerRow) → IsAt rows id i → row ≡ get_or rows i row → peer_in rows id ≡ Some row.peer
+there rows id i row at reads = at.here row ∙ ap (λ (r : PeerRow). Some r.peer) (sym reads)
+
+pub written : (rows : List PeerRow) (id i : ℕ) (row : PeerRow) (to : Peer) → IsAt rows id i → row ≡ get_or rows i row
+    → (q : ℕ) → peer_in (set rows i (record { id = row.id; peer = to })) q ≡ cond (id == q) (Some to) (peer_in rows q)
+written rows id i row to at reads q =
+    let named : row.id ≡ id = ap (λ (r : PeerRow). r.id) reads ∙ at.named row in
+    ap (λ (n : ℕ). peer_in (set rows i (record { id = n; peer = to })) q) named ∙ at.changed to q

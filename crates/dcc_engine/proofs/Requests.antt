@@ -13,22 +13,36 @@ use Rattle.dcc_answer.specs.Answers.{busy_octets}
 use Rattle.dcc_answer.specs.Results.{is_busy}
 use Rattle.dcc_credit.specs.Answers.{answer_octets}
 use Rattle.dcc_shard.specs.Shards.{ShardView, held, held_after, AreOwn, IsStep}
-use Rattle.dcc_shard.specs.Answers.{answer_at, answer_after, busy_answer, session_of_act, IsToldApart, is_judged, octets_of}
+use Rattle.dcc_shard.specs.Answers.{IsAnswer, answer_at, answer_after, busy_answer, session_of_act, IsToldApart, is_judged, octets_of}
 use Rattle.dcc_shard.specs.declared.answers.RequestAnswer.{RequestAnswer}
 use Rattle.dcc_shard.specs.declared.answers.RequestAnswer.TheVariants.{Silent}
-use Rattle.dcc_engine.specs.Asks.{Ask, request_ask, is_refusal, answer_to, busy_to, IsBusyOrNothing, IsOfNobody, out_octets, own_with, moved_by}
+use Rattle.dcc_dispatch.specs.Refusals.{is_refusal, busy_to, IsBusyOrNothing}
+use Rattle.dcc_dispatch.specs.Settings.{Setting}
+use Rattle.dcc_dispatch.specs.Messages as messages
+use Rattle.dcc_dispatch.specs.Messages.{MessageView, Received, received_on}
+use Rattle.dcc_dispatch.specs.Verdicts.{verdict_of}
+use Rattle.dcc_dispatch.specs.Dispatches.{IsRefused}
+use Rattle.dcc_dispatch.specs.declared.verdict.Verdict.{Verdict}
+use Rattle.dcc_dispatch.specs.declared.verdict.Verdict.TheVariants as verdicts
+use Rattle.dcc_engine.specs.Asks.{Ask, request_ask, answer_to, IsOfNobody, out_octets, own_with, moved_by}
 use Rattle.dcc_engine.specs.Asks.Said.{Octets}
 use Rattle.dcc_engine.specs.Asks.Source.{Message}
-use Rattle.dcc_engine.specs.Engines.{EngineView, Setting, peer_of}
-use Rattle.dcc_engine.specs.Messages as messages
-use Rattle.dcc_engine.specs.Messages.{MessageView, Received, received_on}
-use Rattle.dcc_engine.specs.Verdicts.{verdict_of}
-use Rattle.dcc_engine.specs.inner.Turns.{IsJudged, IsTurnDone, IsHandedOn, IsRefused, IsServed}
+use Rattle.dcc_engine.specs.Engines.{EngineView, PeersView, peer_in, peer_of}
+use Rattle.dcc_engine.specs.inner.Turns.{IsJudged, IsTurnDone}
 use Rattle.dcc_engine.specs.declared.event.Event.TheVariants as events
 use Rattle.dcc_engine.specs.declared.event.Out.{Out}
-use Rattle.dcc_engine.specs.declared.verdict.Verdict.{Verdict}
-use Rattle.dcc_engine.specs.declared.verdict.Verdict.TheVariants as verdicts
 use Rattle.dcc_engine.proofs.Refusals.{refusal_of, nothing_is_one}
+
+-- the request was handed to the shard, whose answer this is
+pub record IsHandedOn
+    (setting : Setting) (old new : ShardView) (moment : ℕ) (message : MessageView) (octets : List ℕ) (sub : Sub) (act : Act) (answer : RequestAnswer)
+    : Type 0 where
+  pub verdict_is : verdict_of setting moment message ≡ verdicts.Asks sub act
+  pub session_is : messages.session message ≡ session_of_act act
+  pub answer_is : IsAnswer old sub act message.header (messages.proxies message) answer
+  pub step : IsStep old new (is_judged answer) sub act
+  pub apart : IsToldApart answer
+  pub octets_are : octets ≡ octets_of answer
 
 -- the request was answered by what its act comes to, and its act was made
 record IsMade (setting : Setting) (old new : ShardView) (moment : ℕ) (message : MessageView) (octets : List ℕ) (sub : Sub) (act : Act) : Type 0 where
@@ -125,33 +139,6 @@ taken_silent law setting old new moment message octets sub act answer taken is =
       stays = stays_unjudged law old new (is_judged answer) sub act (ap is_judged is) taken.step;
     }
 
--- an act was made, or the request was refused for what it says, or it was turned away
-Served : (setting : Setting) (old new : ShardView) (moment : ℕ) (message : MessageView) (octets : List ℕ) → Type 0
-Served setting old new moment message octets =
-    ((sub : Sub) × (act : Act) × IsMade setting old new moment message octets sub act) ⊎ (IsRefused setting old new moment message octets ⊎ IsAway setting old new message octets)
-
-either : SameAreEqual → (setting : Setting) (old new : ShardView) (moment : ℕ) (message : MessageView) (octets : List ℕ) → old.identity ≡ setting.identity → old.terms ≡ setting.plan.terms
-    → IsServed setting old new moment message octets → Served setting old new moment message octets
-unfolding Served
-either law setting old new moment message octets identity terms (inr (inl refused)) = inr (inl refused)
-either law setting old new moment message octets identity terms (inr (inr turned)) = inr (inr (record {
-  busy = turned.answer_is;
-  refused = turned.refused;
-  stays = λ sub. ap (λ (s : ShardView). held s sub) turned.same;
-}))
-either law setting old new moment message octets identity terms (inl served) =
-    let sub = served.0 in
-    let act = served.1 in
-    let answer = served.2 in
-    let taken = served.3 in
-    elim taken.answer_is [
-      | inl is ↦ inl (sub, act, taken_made setting old new moment message octets sub act answer identity terms taken is)
-      | inr refused ↦ (elim refused [
-        | inl busy ↦ inr (inr (taken_busy law setting old new moment message octets sub act answer identity taken busy))
-        | inr silent ↦ inr (inr (taken_silent law setting old new moment message octets sub act answer taken silent))
-      ])
-    ]
-
 -- whose the ask is, and that it is the request's
 request_asks : SameAreEqual → (message : MessageView) (owner : Sub) (act : Act) (sub : Sub) (ask : Ask) → request_ask message (verdicts.Asks owner act) sub ≡ Some ask
     → (owner ≡ sub) × (ask ≡ record { act = act; source = Message message })
@@ -169,6 +156,10 @@ source_is message (verdicts.Asks owner act) sub ask is =
       | inr f ↦ (let e = rw f at is in absurd cc)
     ]
 source_is message (verdicts.Refused octets) sub ask is = absurd cc
+
+-- the acts that are held are those that they make under the setting's terms
+pub of_terms : (setting : Setting) (old : ShardView) → old.terms ≡ setting.plan.terms → AreOwn old → (s : Sub) → acts setting.plan.terms (held old s) ≡ held old s
+of_terms setting old terms own = subst (λ (t : TermsView). (s : Sub) → acts t (held old s) ≡ held old s) terms own
 
 -- one turn of a request, with peers as they were before it
 abbrev pub Judged : Setting → (ℕ → Option Peer) → ShardView → ShardView → ℕ → ℕ → List ℕ → List ℕ → Type 0
@@ -203,21 +194,20 @@ made_judged law setting peers old new id moment octets message given owner act o
           ∙ ap (λ (v : Verdict). acts terms (own_with (request_ask message v sub) out sub (held old sub))) (sym made.verdict_is));
     }
 
-refused_judged : (setting : Setting) (peers : ℕ → Option Peer) (old new : ShardView) (id moment : ℕ) (octets : List ℕ) (message : MessageView) (given : List ℕ)
-    → ((s : Sub) → acts setting.plan.terms (held old s) ≡ held old s) → received_on (peers id) octets ≡ Received.Charging message → IsRefused setting old new moment message given
-    → Judged setting peers old new id moment octets given
-refused_judged setting peers old new id moment octets message given own received refused =
+refused_judged : (setting : Setting) (peers : ℕ → Option Peer) (held_there : ShardView) (id moment : ℕ) (octets : List ℕ) (message : MessageView) (given : List ℕ)
+    → ((s : Sub) → acts setting.plan.terms (held held_there s) ≡ held held_there s) → received_on (peers id) octets ≡ Received.Charging message
+    → verdict_of setting moment message ≡ verdicts.Refused given → is_refusal given ≡ false → Judged setting peers held_there held_there id moment octets given
+refused_judged setting peers held_there id moment octets message given own received verdict answered =
     let out = out_octets (Some id) given in
     let terms = setting.plan.terms in
     record {
       next = record {
         subscribers = λ sub ask is.
             let here : request_ask message (verdict_of setting moment message) sub ≡ Some ask = rw received at is in
-            let none : None ≡ Some ask = ap (λ (v : Verdict). request_ask message v sub) (sym refused.verdict_is) ∙ here in absurd cc;
-        whole = rw received (refl, subst (λ (v : Verdict). IsOfNobody setting.identity message v given) (sym refused.verdict_is) (rw refused.answered refl));
+            let none : None ≡ Some ask = ap (λ (v : Verdict). request_ask message v sub) (sym verdict) ∙ here in absurd cc;
+        whole = rw received (refl, subst (λ (v : Verdict). IsOfNobody setting.identity message v given) (sym verdict) (rw answered refl));
       };
-      held = λ sub. rw received (ap (λ (s : ShardView). held s sub) refused.same ∙ sym (own sub)
-          ∙ ap (λ (v : Verdict). acts terms (own_with (request_ask message v sub) out sub (held old sub))) (sym refused.verdict_is));
+      held = λ sub. rw received (sym (own sub) ∙ ap (λ (v : Verdict). acts terms (own_with (request_ask message v sub) out sub (held held_there sub))) (sym verdict));
     }
 
 of_nobody : (identity : Identity) (message : MessageView) (verdict : Verdict) (octets : List ℕ) → is_refusal octets ≡ true → IsBusyOrNothing identity message octets → IsOfNobody identity message verdict octets
@@ -248,18 +238,31 @@ away_judged setting peers old new id moment octets message given own received aw
       held = λ sub. rw received (away.stays sub ∙ sym (ap (acts setting.plan.terms) (refused_own message verdict sub out (held old sub) away.refused) ∙ own sub));
     }
 
-pub served_judged : SameAreEqual → (setting : Setting) (peers : ℕ → Option Peer) (old new : ShardView) (id moment : ℕ) (octets : List ℕ) (message : MessageView) (given : List ℕ)
-    → old.identity ≡ setting.identity → old.terms ≡ setting.plan.terms → AreOwn old → received_on (peers id) octets ≡ Received.Charging message → IsServed setting old new moment message given
-    → Judged setting peers old new id moment octets given
-unfolding Served
-served_judged law setting peers old new id moment octets message given identity terms own received served =
-    let own_acts : (s : Sub) → acts setting.plan.terms (held old s) ≡ held old s = subst (λ (t : TermsView). (s : Sub) → acts t (held old s) ≡ held old s) terms own in
-    elim (either law setting old new moment message given identity terms served) [
-      | inl made ↦ made_judged law setting peers old new id moment octets message given made.0 made.1 own_acts received made.2
-      | inr other ↦ (elim other [
-        | inl refused ↦ refused_judged setting peers old new id moment octets message given own_acts received refused
-        | inr away ↦ away_judged setting peers old new id moment octets message given own_acts received away
+-- handed to the shard, its act was made, or it was turned away
+pub handed_judged : SameAreEqual → (setting : Setting) (peers : ℕ → Option Peer) (old new : ShardView) (id moment : ℕ) (octets : List ℕ) (message : MessageView) (given : List ℕ)
+    (sub : Sub) (act : Act) (answer : RequestAnswer) → old.identity ≡ setting.identity → old.terms ≡ setting.plan.terms → AreOwn old → received_on (peers id) octets ≡ Received.Charging message
+    → IsHandedOn setting old new moment message given sub act answer → Judged setting peers old new id moment octets given
+handed_judged law setting peers old new id moment octets message given sub act answer identity terms own received taken =
+    let own_acts = of_terms setting old terms own in
+    let away = away_judged setting peers old new id moment octets message given own_acts received in
+    elim taken.answer_is [
+      | inl is ↦ made_judged law setting peers old new id moment octets message given sub act own_acts received
+          (taken_made setting old new moment message given sub act answer identity terms taken is)
+      | inr refused ↦ (elim refused [
+        | inl busy ↦ away (taken_busy law setting old new moment message given sub act answer identity taken busy)
+        | inr silent ↦ away (taken_silent law setting old new moment message given sub act answer taken silent)
       ])
+    ]
+
+-- replied at once, it was refused for what it says, or it was turned away
+pub refused_at_once : (setting : Setting) (peers : ℕ → Option Peer) (held_there : ShardView) (id moment : ℕ) (octets : List ℕ) (message : MessageView) (given : List ℕ)
+    → held_there.terms ≡ setting.plan.terms → AreOwn held_there → received_on (peers id) octets ≡ Received.Charging message → IsRefused setting moment message given
+    → Judged setting peers held_there held_there id moment octets given
+refused_at_once setting peers held_there id moment octets message given terms own received refused =
+    let own_acts = of_terms setting held_there terms own in
+    elim (cases_Bool (is_refusal given)) [
+      | inl t ↦ away_judged setting peers held_there held_there id moment octets message given own_acts received (record { busy = rw t at refused; refused = t; stays = λ sub. refl })
+      | inr f ↦ refused_judged setting peers held_there id moment octets message given own_acts received (rw f at refused) f
     ]
 
 -- refused or not
@@ -279,8 +282,9 @@ request_moves_nothing setting rows id moment octets message out received q =
     ]
 
 -- one turn of a request, whose engine keeps its setting and its peers
-pub stays_put : (old : EngineView) (new : ShardView) (shards id moment : ℕ) (octets : List ℕ) (message : MessageView) (given : List ℕ) → received_on (peer_of old id) octets ≡ Received.Charging message
+pub stays_put : (old : EngineView) (peers : PeersView) (new : ShardView) (shards id moment : ℕ) (octets : List ℕ) (message : MessageView) (given : List ℕ)
+    → received_on (peer_of old id) octets ≡ Received.Charging message → ((q : ℕ) → peer_in peers.rows q ≡ peer_of old q)
     → Judged old.setting (peer_of old) old.shard new id moment octets given
-    → IsTurnDone old (record { setting = old.setting; peers = old.peers; shard = new; shards = shards }) (record { event = events.Message id moment octets; out = out_octets (Some id) given })
-stays_put old new shards id moment octets message given received judged =
-    record { judged = judged; peers = request_moves_nothing old.setting (peer_of old) id moment octets message (out_octets (Some id) given) received; setting = refl }
+    → IsTurnDone old (record { setting = old.setting; peers = peers; shard = new; shards = shards }) (record { event = events.Message id moment octets; out = out_octets (Some id) given })
+stays_put old peers new shards id moment octets message given received same judged =
+    record { judged = judged; peers = λ q. same q ∙ request_moves_nothing old.setting (peer_of old) id moment octets message (out_octets (Some id) given) received q; setting = refl }

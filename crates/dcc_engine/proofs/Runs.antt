@@ -10,8 +10,9 @@ use Rattle.dcc_act.specs.declared.sub.Sub.{Sub}
 use Rattle.dcc_tariff.specs.Terms.{TermsView}
 use Rattle.dcc_model.specs.Laws.{LaterChangesNothing, LastComesAfter}
 use Rattle.dcc_model.specs.Outcomes.{acts, outcome, after}
+use Rattle.dcc_dispatch.specs.Settings.{Setting}
 use Rattle.dcc_engine.specs.Asks.{Turn, Ask, ask_for, is_refused_for, IsAnsweredFor, said_of, own_with, moved_by}
-use Rattle.dcc_engine.specs.Engines.{EngineView, Setting, held_of, peer_of}
+use Rattle.dcc_engine.specs.Engines.{EngineView, held_of, peer_of}
 use Rattle.dcc_engine.specs.Isolation.{turns, before_of, asked, own, entry_place, IsRun}
 use Rattle.dcc_engine.specs.inner.Turns.{IsNext, IsTurnDone, now_of}
 use Rattle.dcc_engine.specs.declared.event.Event.{Event}

@@ -10,9 +10,9 @@ use Rattle.dcc_act.specs.declared.sub.Sub.{Sub}
 use Rattle.dcc_model.specs.Outcomes.{acts}
 use Rattle.dcc_shard.specs.Answers.{expiry_act}
 use Rattle.dcc_shard.specs.Shards.{ShardView, held, held_after, AreOwn, is_among, are_apart}
+use Rattle.dcc_dispatch.specs.Settings.{Setting}
 use Rattle.dcc_engine.specs.Asks.{out_sweep}
 use Rattle.dcc_engine.specs.Asks.Source.{Sweep}
-use Rattle.dcc_engine.specs.Engines.{Setting}
 use Rattle.dcc_engine.specs.inner.Sweeps.{IsSwept, IsOneSwept}
 use Rattle.dcc_engine.specs.inner.Turns.{IsJudged}
 use Rattle.dcc_engine.specs.declared.event.Event.TheVariants as events

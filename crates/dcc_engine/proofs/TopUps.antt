@@ -13,10 +13,10 @@ use Rattle.dcc_shard.specs.Shards.{ShardView, held, held_after, AreOwn, IsStep}
 use Rattle.dcc_shard.specs.Answers.{told, told_after, top_up_act, is_judged_top_up, IsTold}
 use Rattle.dcc_shard.specs.declared.answers.TopUpAnswer.{TopUpAnswer}
 use Rattle.dcc_shard.specs.declared.answers.TopUpAnswer.TheVariants.{Done, Ceiling, Refused, BadAmount}
+use Rattle.dcc_dispatch.specs.Settings.{Setting}
 use Rattle.dcc_engine.specs.Asks.{Ask, out_top_up, is_refused_top_up}
 use Rattle.dcc_engine.specs.Asks.Said.{Told}
 use Rattle.dcc_engine.specs.Asks.Source.{TopUp}
-use Rattle.dcc_engine.specs.Engines.{Setting}
 use Rattle.dcc_engine.specs.inner.Turns.{IsJudged}
 use Rattle.dcc_engine.specs.declared.event.Event.TheVariants as events
 use Rattle.dcc_base.specs.declared.peer.Peer.{Peer}

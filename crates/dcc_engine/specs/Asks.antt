@@ -1,6 +1,6 @@
 -- What an event asks of a subscriber, what is told of it, and where it leaves its peer.
-use Rattle.std.specs.Prelude.{◌≡◌, ℕ, Bool, true, false, ◌&&◌, ◌||◌, ◌==◌, if◌then◌else◌, List, [], ◌∷◌, ◌++◌, length}
-use Rattle.std.specs.Prelude.{Option, Some, None, option_map, MatchBool, ◌⊎◌}
+use Rattle.std.specs.Prelude.{◌≡◌, ℕ, Bool, true, false, ◌&&◌, ◌||◌, ◌==◌, if◌then◌else◌, List, [], ◌∷◌, ◌++◌}
+use Rattle.std.specs.Prelude.{Option, Some, None, option_map, MatchBool}
 use Rattle.dcc_message.specs.declared.identity.Identity.{Identity}
 use Rattle.dcc_act.specs.declared.act.Act.{Act}
 use Rattle.dcc_act.specs.declared.outcome.Outcome.{Outcome}
@@ -8,8 +8,6 @@ use Rattle.dcc_act.specs.declared.sub.Sub.{Sub}
 use Rattle.dcc_act.specs.Subs.{same_sub}
 use Rattle.dcc_act.specs.TopUps.{is_amount}
 use Rattle.dcc_model.specs.Outcomes.{place, is_new}
-use Rattle.dcc_answer.specs.Answers.{busy_octets}
-use Rattle.dcc_answer.specs.Results.{is_busy}
 use Rattle.dcc_credit.specs.Answers.{answer_octets}
 use Rattle.dcc_base.specs.Peers.{hears, replied}
 use Rattle.dcc_base.specs.declared.peer.Peer.{Peer}
@@ -19,15 +17,16 @@ use Rattle.dcc_shard.specs.Answers.{top_up_act, expiry_act, told}
 use Rattle.dcc_shard.specs.Shards.{is_among, are_apart}
 use Rattle.dcc_shard.specs.declared.answers.TopUpAnswer.{TopUpAnswer}
 use Rattle.dcc_shard.specs.declared.answers.TopUpAnswer.TheVariants.{Done, Ceiling, Refused, BadAmount}
-use Rattle.dcc_engine.specs.Engines.{Setting}
-use Rattle.dcc_engine.specs.Messages as messages
-use Rattle.dcc_engine.specs.Messages.{MessageView, Received, received_on}
-use Rattle.dcc_engine.specs.Verdicts.{verdict_of}
+use Rattle.dcc_dispatch.specs.Settings.{Setting}
+use Rattle.dcc_dispatch.specs.Refusals.{is_refusal, IsBusyOrNothing}
+use Rattle.dcc_dispatch.specs.Messages as messages
+use Rattle.dcc_dispatch.specs.Messages.{MessageView, Received, received_on}
+use Rattle.dcc_dispatch.specs.Verdicts.{verdict_of}
+use Rattle.dcc_dispatch.specs.declared.verdict.Verdict.{Verdict}
+use Rattle.dcc_dispatch.specs.declared.verdict.Verdict.TheVariants as verdicts
 use Rattle.dcc_engine.specs.declared.event.Event.{Event}
 use Rattle.dcc_engine.specs.declared.event.Event.TheVariants as events
 use Rattle.dcc_engine.specs.declared.event.Out.{Out}
-use Rattle.dcc_engine.specs.declared.verdict.Verdict.{Verdict}
-use Rattle.dcc_engine.specs.declared.verdict.Verdict.TheVariants as verdicts
 
 -- an event with its out
 pub record Turn : Type 0 where
@@ -74,9 +73,6 @@ ask_for setting before (events.TopUp moment owner ticket amount) sub =
 ask_for setting before (events.Sweep moment) sub = Some (record { act = expiry_act moment; source = Sweep })
 
 -- a message is refused by the busy answer or by nothing, a top-up by being told so, an expiry by telling of whom it was refused
-unfoldable pub is_refusal : List ℕ → Bool
-is_refusal octets = (length octets == 0) || is_busy octets
-
 abbrev pub is_refused_top_up : Option TopUpAnswer → Bool
 is_refused_top_up (Some Refused) = true
 is_refused_top_up (Some BadAmount) = false
@@ -93,13 +89,10 @@ is_refused_by Sweep out sub = out.refused_all || is_among sub out.refused
 abbrev pub is_refused_for : Ask → Out → Sub → Bool
 is_refused_for ask out sub = is_refused_by ask.source out sub
 
--- the octets under a message: of an outcome, and of the busy answer
+-- the octets under a message, of an outcome
 abbrev pub answer_to : Setting → MessageView → Outcome → List ℕ
 answer_to setting message outcome =
     answer_octets setting.identity setting.plan.terms message.header (messages.proxies message) outcome
-
-abbrev pub busy_to : Identity → MessageView → List ℕ
-busy_to identity message = busy_octets identity (messages.session message) message.header (messages.proxies message)
 
 -- What an out says to one subscriber: the octets of its answer, or what its top-up is told; of a sweep it says nothing.
 pub data Said : Type 0 where
@@ -121,10 +114,6 @@ said_from setting before act Sweep outcome = Nothing
 
 abbrev pub said_of : Setting → List Act → Ask → Outcome → Said
 said_of setting before ask outcome = said_from setting before ask.act ask.source outcome
-
--- the busy answer, or nothing
-abbrev pub IsBusyOrNothing : Identity → MessageView → List ℕ → Type 0
-IsBusyOrNothing identity message octets = (octets ≡ busy_to identity message) ⊎ (octets ≡ [])
 
 -- what a refusal is: the busy answer or nothing of a request, and of a top-up that it's told so; of an expiry nothing more
 abbrev pub IsRefusalOfAsk : Identity → Source → Out → Type 0

@@ -1,17 +1,11 @@
 -- What an engine holds: by what events are answered, its peers, and the accounts.
 use Rattle.std.specs.Prelude.{◌≡◌, ℕ, ◌==◌, ◌∷◌, List, [], Option, Some, None, if◌then◌else◌}
-use Rattle.dcc_tariff.specs.Plans.{PlanView}
-use Rattle.dcc_message.specs.declared.identity.Identity.{Identity}
 use Rattle.dcc_base.specs.declared.peer.Peer.{Peer}
 use Rattle.dcc_act.specs.declared.act.Act.{Act}
 use Rattle.dcc_act.specs.declared.sub.Sub.{Sub}
 use Rattle.dcc_shard.specs.Shards.{ShardView, held}
+use Rattle.dcc_dispatch.specs.Settings.{Setting}
 use Rattle.dcc_engine.specs.declared.peers.PeerRow.{PeerRow}
-
--- by what events are answered: the plan, and who answers
-pub record Setting : Type 0 where
-  pub plan : PlanView
-  pub identity : Identity
 
 -- the peers, and for how many more memory is there
 pub record PeersView : Type 0 where

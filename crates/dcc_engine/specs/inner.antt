@@ -1,5 +1,4 @@
 pub mod Turns
-pub mod Headings
 pub mod Hosts
 pub mod Rows
 pub mod Sweeps

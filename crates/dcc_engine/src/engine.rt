@@ -15,12 +15,13 @@ ghost use Rattle.dcc_engine.specs.inner.Turns.{IsTurnDone};
 ghost use Rattle.dcc_engine.specs.declared.event.Event.TheVariants.{Message};
 
 use crate::event::{Event, Out};
-use crate::message::{Heading, receive};
-use crate::outs::{closing, quiet, replying, sending, telling};
+use crate::outs::{quiet, replying, sending, telling};
 use crate::peers::Peers;
+use crate::respond::octets_of;
 use dcc_account::Account;
 use dcc_act::{Moment, Sub, same_subscribers_are_equal};
 use dcc_base::{Host, Peer};
+use dcc_dispatch::Dispatched;
 use dcc_message::Identity;
 use dcc_model::{
     acts_come_to_their_own, later_acts_change_no_outcome, leaving_out_changes_nothing,
@@ -182,30 +183,26 @@ impl<R: Records> Engine<R> {
 
     /// Answers a message of a peer.
     fn hear(&mut self, alloc: Global, peer: u32, moment: Moment, octets: &OctetString) -> Out
-        requires room { 0 < self.old.peers.room }
         ensures done { IsTurnDone self.old self.new (record { event = Message peer moment octets.now; out = result }) }
         ensures quiet { result.refused ≡ [] }
         ensures shards { self.new.shards ≡ self.old.shards }
-        ensures room { self.old.peers.room ≤ self.new.peers.room + 1 }
+        ensures room { self.new.peers.room ≡ self.old.peers.room }
     {
         same_subscribers_are_equal();
-        let Some(from) = self.peers.get(peer) else {
+        let (peers, plan, identity) = (&mut self.peers, &self.plan, &self.identity);
+        let Some(made) = peers.hear(alloc, plan, identity, peer, moment, octets.as_slice()) else {
             return quiet(alloc, peer);
         };
-        match receive(from, octets.as_slice()) {
-            Heading::Ignored => quiet(alloc, peer),
-            Heading::Broken => {
-                self.peers.set(peer, Peer::Closed);
-                closing(alloc, peer)
-            }
-            Heading::Charging(header) => {
-                let answer = self.respond(alloc, moment, header, octets.as_slice());
-                sending(alloc, peer, answer)
-            }
-            Heading::Base(header) => {
-                let (peers, identity) = (&mut self.peers, &self.identity);
-                let reply = peers.reply(alloc, identity, peer, header, octets.as_slice());
-                replying(alloc, peer, reply)
+        match made {
+            Dispatched::Replied(reply) => replying(alloc, peer, reply),
+            Dispatched::Asked {
+                sub,
+                act,
+                header,
+                proxies,
+            } => {
+                let answer = self.shards.step(alloc, sub, act, &header, &proxies);
+                sending(alloc, peer, octets_of(alloc, answer))
             }
         }
     }

@@ -1,7 +1,7 @@
 //! The engine: events in, answers out, each subscriber as if alone.
 //!
-//! Stands on `dcc_shard` for a subscriber's step, on `dcc_base` for what peers are replied, on `dcc_ccr` and `dcc_credit` for
-//! requests and their refusals, and on the crates below them. The contract that it gives is that of `Engine::run`: for every list of
+//! Stands on `dcc_dispatch` for what a message to a peer comes to, on `dcc_shard` for a subscriber's step, and on the crates below
+//! them. The contract that it gives is that of `Engine::run`: for every list of
 //! events, a subscriber's request is answered with the octets of the outcome at its place in that subscriber's own entries, or
 //! refused with nothing changed; afterwards the subscriber's acts and money are those of the own entries. A message of no
 //! subscriber is answered by its definition, from the message and its peer's own events, or refused with nothing changed. A
@@ -12,14 +12,11 @@
 mod engine;
 mod event;
 mod laws;
-mod message;
 mod outs;
 mod peers;
-mod reply;
 mod respond;
 mod subs;
 mod sweep;
-mod verdict;
 
 pub use engine::Engine;
 pub use event::{Event, Out};

@@ -1,7 +1,7 @@
 //! Outs.
 
 ghost use Rattle.std.specs.Prelude.{◌≡◌, [], true, false, Some};
-ghost use Rattle.dcc_engine.specs.Asks.{out_octets, out_reply, out_close, out_top_up, out_sweep};
+ghost use Rattle.dcc_engine.specs.Asks.{out_octets, out_reply, out_top_up, out_sweep};
 
 use crate::event::Out;
 use crate::subs::Subs;
@@ -39,20 +39,6 @@ pub(crate) fn replying(alloc: Global, peer: u32, reply: Reply) -> Out
         peer: Some(peer),
         octets: reply.octets,
         close: reply.close,
-        top_up: None,
-        refused: Subs::new(alloc),
-        refused_all: false,
-    }
-}
-
-/// An out that closes a connection.
-pub(crate) fn closing(alloc: Global, peer: u32) -> Out
-    ensures { result ≡ out_close peer }
-{
-    Out {
-        peer: Some(peer),
-        octets: OctetString::new(alloc),
-        close: true,
         top_up: None,
         refused: Subs::new(alloc),
         refused_all: false,

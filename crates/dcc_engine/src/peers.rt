@@ -1,16 +1,15 @@
 //! The peers that are connected.
 
-ghost use Rattle.std.specs.Prelude.{◌≡◌, ◌==◌, ◌+◌, ◌<◌, ◌≤◌, ℕ, [], true, is_some, OnOk, OnErr, IfSome, IfNone, if◌then◌else◌, option_map};
-ghost use Rattle.dcc_base.specs.declared.peer.Peer.{Peer};
+ghost use Rattle.std.specs.Prelude.{◌≡◌, ◌==◌, ◌+◌, ◌<◌, ◌≤◌, ℕ, [], OnOk, IfSome, IfNone, if◌then◌else◌};
 ghost use Rattle.dcc_engine.specs.Engines.{peer_in};
-ghost use Rattle.dcc_engine.specs.Messages.{message_view};
-ghost use Rattle.dcc_engine.specs.inner.Headings.{IsWhole};
 ghost use Rattle.dcc_engine.specs.inner.Rows.{IsAt};
-ghost use Rattle.dcc_engine.specs.inner.Turns.{IsPeerReplied};
+ghost use Rattle.dcc_engine.specs.inner.Turns.{IsHeard};
 
-use crate::reply::reply_to;
-use dcc_base::{Peer, Reply};
-use dcc_message::{Header, Identity};
+use dcc_act::Moment;
+use dcc_base::Peer;
+use dcc_dispatch::{Dispatched, dispatch};
+use dcc_message::Identity;
+use dcc_tariff::Plan;
 use std::alloc::{AllocError, Global};
 use std::marker::Model;
 
@@ -46,14 +45,6 @@ impl Peers {
         }
     }
 
-    /// A peer, where it is connected.
-    pub fn get(&self, id: u32) -> Option<&Peer>
-        ensures { option_map (λ peer. peer.now) result ≡ peer_in self.now.rows id }
-    {
-        let i = find(&self.rows, id)?;
-        Some(&self.rows[i].peer)
-    }
-
     /// Makes room for more peers. Refused, the peers are as before.
     pub fn reserve(&mut self, more: usize) -> Result<(), AllocError>
         ensures rows { self.new.rows ≡ self.old.rows }
@@ -80,24 +71,25 @@ impl Peers {
         self.rows.retain(|row| row.id != id);
     }
 
-    /// What a peer that is there replies to a message of the base protocol, of all its octets.
-    pub(crate) fn reply(
+    /// What a message comes to, of all its octets, where its peer is connected.
+    pub(crate) fn hear(
         &mut self,
         alloc: Global,
+        plan: &Plan,
         identity: &Identity,
         id: u32,
-        header: Header,
+        moment: Moment,
         octets: &[u8],
-    ) -> Reply
-        requires there { is_some (peer_in self.old.rows id) ≡ true }
-        requires whole { IsWhole octets.now }
-        ensures replied { (from : Peer) → peer_in self.old.rows id ≡ Some from →
-            IsPeerReplied identity.now self.old.rows self.new.rows id from (message_view header octets.now) result }
+    ) -> Option<Dispatched>
+        ensures heard { IfSome result (λ made. IsHeard (record { plan = plan.now; identity = identity.now })
+            self.old.rows self.new.rows id moment octets.now made) }
+        ensures none { IfNone result (peer_in self.old.rows id ≡ None) }
+        ensures stay { IfNone result (self.new.rows ≡ self.old.rows) }
         ensures room { self.new.room ≡ self.old.room }
     {
-        let i = find(&self.rows, id).unwrap();
+        let i = find(&self.rows, id)?;
         let row = &mut self.rows[i];
-        reply_to(alloc, identity, &mut row.peer, header, octets)
+        Some(dispatch(alloc, plan, identity, &mut row.peer, moment, octets))
     }
 }
 

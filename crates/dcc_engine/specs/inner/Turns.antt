@@ -1,24 +1,17 @@
 -- One turn: an event, its out, and what both left of the engine.
-use Rattle.std.specs.Prelude.{◌≡◌, ℕ, true, false, ◌&&◌, ◌==◌, if◌then◌else◌, List, Some, ◌⊎◌, is_some, MatchBool}
-use Rattle.dcc_message.specs.declared.identity.Identity.{Identity}
-use Rattle.dcc_base.specs.Peers.{hears, replied}
+use Rattle.std.specs.Prelude.{◌≡◌, ℕ, ◌==◌, if◌then◌else◌, List, Some}
 use Rattle.dcc_base.specs.declared.peer.Peer.{Peer}
-use Rattle.dcc_base.specs.declared.reply.Reply.{Reply}
 use Rattle.dcc_act.specs.declared.act.Act.{Act}
 use Rattle.dcc_act.specs.declared.sub.Sub.{Sub}
 use Rattle.dcc_model.specs.Outcomes.{after, acts}
-use Rattle.dcc_model.specs.Keys.{request_key}
-use Rattle.dcc_shard.specs.Shards.{ShardView, IsStep}
-use Rattle.dcc_shard.specs.Answers.{IsAnswer, IsToldApart, is_judged, octets_of, session_of_act}
-use Rattle.dcc_shard.specs.declared.answers.RequestAnswer.{RequestAnswer}
+use Rattle.dcc_dispatch.specs.Dispatches.{IfAsked, IfReplied, IsAsked, IsRepliedTo}
+use Rattle.dcc_dispatch.specs.Messages.{message_view, received}
+use Rattle.dcc_dispatch.specs.Messages.Received.{Charging}
+use Rattle.dcc_dispatch.specs.Settings.{Setting}
+use Rattle.dcc_dispatch.specs.declared.decide.Dispatched.{Dispatched}
 use Rattle.dcc_engine.specs.declared.peers.PeerRow.{PeerRow}
-use Rattle.dcc_engine.specs.Engines.{EngineView, Setting, peer_in, peer_of, held_of}
-use Rattle.dcc_engine.specs.Messages as messages
-use Rattle.dcc_engine.specs.Messages.{MessageView}
-use Rattle.dcc_engine.specs.Verdicts.{verdict_of}
-use Rattle.dcc_engine.specs.declared.verdict.Verdict.{Verdict}
-use Rattle.dcc_engine.specs.declared.verdict.Verdict.TheVariants.{Asks, Refused}
-use Rattle.dcc_engine.specs.Asks.{Turn, Before, Ask, ask_for, own_with, moved_by, IsAnsweredFor, IsBusyOrNothing, IsOut, is_refusal}
+use Rattle.dcc_engine.specs.Engines.{EngineView, peer_in, peer_of, held_of}
+use Rattle.dcc_engine.specs.Asks.{Turn, Before, Ask, ask_for, own_with, moved_by, IsAnsweredFor, IsOut}
 
 -- what an engine holds is what was before its next event
 abbrev pub now_of : EngineView → Before
@@ -42,49 +35,13 @@ pub record IsTurnDone (old new : EngineView) (turn : Turn) : Type 0 where
   pub peers : (id : ℕ) → peer_of new id ≡ moved_by old.setting id turn (peer_of old id)
   pub setting : new.setting ≡ old.setting
 
--- what is known of a message by what it comes to: of an act that it asks for its session and that it is a request's; that its refusal is
--- no busy answer
-abbrev pub IsVerdict : MessageView → Verdict → Type 0
-IsVerdict message (Asks sub act) = (messages.session message ≡ session_of_act act) × (is_some (request_key act.kind) ≡ true)
-IsVerdict message (Refused octets) = is_refusal octets ≡ false
-
--- the request was handed to the shard, whose answer this is
-pub record IsHandedOn
-    (setting : Setting) (old new : ShardView) (moment : ℕ) (message : MessageView) (octets : List ℕ) (sub : Sub) (act : Act) (answer : RequestAnswer)
-    : Type 0 where
-  pub verdict_is : verdict_of setting moment message ≡ Asks sub act
-  pub session_is : messages.session message ≡ session_of_act act
-  pub answer_is : IsAnswer old sub act message.header (messages.proxies message) answer
-  pub step : IsStep old new (is_judged answer) sub act
-  pub apart : IsToldApart answer
-  pub octets_are : octets ≡ octets_of answer
-
--- the request was refused for what it says, and nothing changed
-pub record IsRefused (setting : Setting) (old new : ShardView) (moment : ℕ) (message : MessageView) (octets : List ℕ) : Type 0 where
-  pub verdict_is : verdict_of setting moment message ≡ Refused octets
-  pub answered : is_refusal octets ≡ false
-  pub same : new ≡ old
-
--- it was answered busy or not at all, and nothing changed
-pub record IsTurnedAway (setting : Setting) (old new : ShardView) (message : MessageView) (octets : List ℕ) : Type 0 where
-  pub answer_is : IsBusyOrNothing setting.identity message octets
-  pub refused : is_refusal octets ≡ true
-  pub same : new ≡ old
-
-abbrev pub IsServed : Setting → ShardView → ShardView → ℕ → MessageView → List ℕ → Type 0
-IsServed setting old new moment message octets =
-    ((sub : Sub) × (act : Act) × (answer : RequestAnswer) × IsHandedOn setting old new moment message octets sub act answer)
-    ⊎ (IsRefused setting old new moment message octets ⊎ IsTurnedAway setting old new message octets)
-
--- A peer was replied by its definition, and is what that leaves; or the message was refused, and the peer is as it was.
-abbrev pub IsReplied : Identity → (old new : Peer) → MessageView → Reply → Type 0
-IsReplied identity old new message reply =
-    MatchBool (hears old message.header && is_refusal reply.octets)
-    (IsBusyOrNothing identity message reply.octets × (reply.close ≡ false) × (new ≡ old))
-    ((reply, new) ≡ replied identity old message.header message.list)
-
--- the same of a peer among others, who stay
-pub record IsPeerReplied (identity : Identity) (old new : List PeerRow) (id : ℕ) (from : Peer) (message : MessageView) (reply : Reply) : Type 0 where
+-- a message was heard by a peer among others, who stay
+pub record IsHeard (setting : Setting) (old new : List PeerRow) (id moment : ℕ) (octets : List ℕ) (made : Dispatched) : Type 0 where
+  pub from : Peer
   pub to : Peer
-  pub replied : IsReplied identity from to message reply
+  pub from_is : peer_in old id ≡ Some from
+  pub charging : IfAsked made (λ sub act header proxies. received from octets ≡ Charging (message_view header octets))
+  pub asked : IfAsked made (λ sub act header proxies. IsAsked setting moment (message_view header octets) sub act header proxies)
+  pub kept : IfAsked made (λ sub act header proxies. to ≡ from)
+  pub replied : IfReplied made (λ reply. IsRepliedTo setting moment (received from octets) from to reply)
   pub rows : (q : ℕ) → peer_in new q ≡ (if id == q then Some to else peer_in old q)

@@ -1,6 +1,7 @@
 use Rattle.std.proofs.Common.{rules, ◌≡◌, length, refl, sym, subst}
+use Rattle.dcc_dispatch.specs.Settings.{Setting}
 use Rattle.dcc_engine.specs.Asks.{out_top_up}
-use Rattle.dcc_engine.specs.Engines.{EngineView, Setting, peer_in}
+use Rattle.dcc_engine.specs.Engines.{EngineView, peer_in}
 use Rattle.dcc_engine.specs.inner.Turns.{IsTurnDone}
 use Rattle.dcc_engine.specs.declared.event.Event.TheVariants.{TopUp}
 use Rattle.dcc_engine.proofs.Refusing.{none_in_order}

@@ -1,8 +1,9 @@
 use Rattle.std.proofs.Common.{rules, false, length, List, refl, subst}
 use Rattle.dcc_act.specs.declared.sub.Sub.{Sub}
 use Rattle.dcc_shard.specs.Answers.{expiry_act}
+use Rattle.dcc_dispatch.specs.Settings.{Setting}
 use Rattle.dcc_engine.specs.Asks.{out_sweep}
-use Rattle.dcc_engine.specs.Engines.{EngineView, Setting, peer_in}
+use Rattle.dcc_engine.specs.Engines.{EngineView, peer_in}
 use Rattle.dcc_engine.specs.inner.Sweeps.{IsSwept}
 use Rattle.dcc_engine.specs.inner.Turns.{IsTurnDone}
 use Rattle.dcc_engine.specs.declared.event.Event.TheVariants.{Sweep}
