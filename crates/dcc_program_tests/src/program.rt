@@ -1,6 +1,3 @@
-//! The program's faults, lines and statuses, and what its command lines ask for.
+//! How the program ends: what no row of tests/rows says.
 
 mod endings;
-mod plans;
-mod runs;
-mod storing;

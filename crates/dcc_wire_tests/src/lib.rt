@@ -1,5 +1,5 @@
 //! Tests of the crates that read and write messages, which stand apart: a crate with tests of its own is proved a second
-//! time with them.
+//! time with them. What requests are refused for and what is answered to them stands in tests/rows, and is run by the program.
 #![tactic(auto)]
 
 #[cfg(test)]
@@ -7,16 +7,6 @@ mod answer;
 #[cfg(test)]
 mod avp;
 #[cfg(test)]
-mod base;
-#[cfg(test)]
-mod ccr;
-#[cfg(test)]
-mod credit;
-#[cfg(test)]
 mod message;
 #[cfg(test)]
 mod octets;
-#[cfg(test)]
-mod request;
-#[cfg(test)]
-mod told;
