@@ -15,9 +15,8 @@ ghost use Rattle.dcc_engine.specs.inner.Turns.{IsTurnDone};
 ghost use Rattle.dcc_engine.specs.declared.event.Event.TheVariants.{Message};
 
 use crate::event::{Event, Out};
-use crate::outs::{quiet, replying, sending, telling};
+use crate::outs::{octets_of, quiet, replying, sending, telling};
 use crate::peers::Peers;
-use crate::respond::octets_of;
 use dcc_account::Account;
 use dcc_act::{Moment, Sub, same_subscribers_are_equal};
 use dcc_base::{Host, Peer};

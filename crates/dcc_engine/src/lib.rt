@@ -14,7 +14,6 @@ mod event;
 mod laws;
 mod outs;
 mod peers;
-mod respond;
 mod subs;
 mod sweep;
 

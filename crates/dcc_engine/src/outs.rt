@@ -1,13 +1,14 @@
-//! Outs.
+//! Outs, and the octets that an answer puts into one.
 
 ghost use Rattle.std.specs.Prelude.{◌≡◌, [], true, false, Some};
+ghost use Rattle.dcc_shard.specs.Answers.{octets_of};
 ghost use Rattle.dcc_engine.specs.Asks.{out_octets, out_reply, out_top_up, out_sweep};
 
 use crate::event::Out;
 use crate::subs::Subs;
 use dcc_base::Reply;
 use dcc_octets::OctetString;
-use dcc_shard::TopUpAnswer;
+use dcc_shard::{RequestAnswer, TopUpAnswer};
 use std::alloc::Global;
 
 /// An out that sends a peer an answer, or nothing where there are no octets.
@@ -70,5 +71,17 @@ pub(crate) fn sweeping(alloc: Global, refused: Subs, refused_all: bool) -> Out
         top_up: None,
         refused,
         refused_all,
+    }
+}
+
+/// The octets of an answer; none where it is silent.
+pub(crate) fn octets_of(alloc: Global, answer: RequestAnswer) -> OctetString
+    ensures { result ≡ octets_of answer }
+{
+    match answer {
+        RequestAnswer::Done { octets, .. }
+        | RequestAnswer::Unknown { octets }
+        | RequestAnswer::Busy { octets } => octets,
+        RequestAnswer::Silent => OctetString::new(alloc),
     }
 }
