@@ -52,11 +52,11 @@ EndsWithSenders (Some (Header fault)) senders turns items out = ⊥
 EndsWithSenders (Some Memory) senders turns items out = ⊥
 
 pub record IsWritten (end : WriteEnd) (senders turns : ℕ) (items : List Item) (out : List ℕ) : Type 0 where
-  pub out : GoesOut end.fault items out
-  pub ends : EndsWithSenders end.fault senders turns items out
+  pub sent : GoesOut end.fault items out
+  pub ended : EndsWithSenders end.fault senders turns items out
   pub answers : end.answers ≡ whole_in (length out) items
-  pub within : length items ≤ turns
-  pub senders : ends_in items ≤ senders
+  pub turned : length items ≤ turns
+  pub few : ends_in items ≤ senders
 
 -- items were taken, and of their octets just these went out
 abbrev pub TakesAndWrites : WriteEnd → (senders turns : ℕ) → Option (List ℕ) → Option (List ℕ) → List (Tagged Item) → List (Tagged Item) → Type 0

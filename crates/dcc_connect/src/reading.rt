@@ -33,7 +33,8 @@ pub fn read_side<W: Wait, I: Read, C: Clock, S: Submitter>(
 {
     stream_laws();
     let mut framer = Framer::new(alloc);
-    for _ in 0..turns {
+    for turn in 0..turns {
+        prove!(turn < turns);
         match read_turn(input, &mut framer) {
             Err(fault) => return ConnectionEnd::Fault(fault),
             Ok(Turn::End) => return ConnectionEnd::End,
