@@ -1,3 +1,5 @@
 pub mod Cuts
 pub mod Nexting
 pub mod Passing
+pub mod Turning
+pub mod Octets

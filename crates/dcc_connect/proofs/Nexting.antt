@@ -9,7 +9,10 @@ use Rattle.dcc_message.specs.declared.length.LengthFault.{LengthFault}
 use Rattle.dcc_message.specs.declared.header.HeaderFault.{HeaderFault}
 use Rattle.dcc_message.specs.declared.header.HeaderFault.TheVariants.{Length}
 use Rattle.dcc_connect.specs.Streams.{fault_of_message, fault_in_header, before_fault, first_fault, heard, stream_fault}
-use Rattle.dcc_connect.specs.inner.Steps.{StreamLaws}
+use Rattle.std.specs.Result.{IsErrAnd}
+use Rattle.dcc_connect.specs.declared.fault.ConnectFault.{ConnectFault}
+use Rattle.dcc_connect.specs.declared.fault.ConnectFault.TheVariants.{Header}
+use Rattle.dcc_connect.specs.inner.Steps.{StreamLaws, Nexts}
 use Rattle.std.proofs.lemmas.Bool.Decides.{nat_tests}
 use Rattle.std.proofs.Common.{arith}
 
@@ -83,3 +86,9 @@ next_unread laws s t m f h e bad =
 pub next_read : StreamLaws → (s t m : List ℕ) (v : HeaderView) → first_message s ≡ Some m → t ≡ after_first s → header_of m ≡ Ok v
     → (fault_of_message m ≡ None) × (messages s ≡ m ∷ messages t) × (rest s ≡ rest t)
 next_read laws s t m v h e good = let is = next_in laws s t m h e in (ap fault_in_header good, is.0, is.1)
+
+-- an error that was made of a fault
+pub nexts_err : (r : Result (Option (List ℕ)) ConnectFault) (f : HeaderFault) (s t : List ℕ) → IsErrAnd r (λ e. e ≡ Header f)
+    → (heard s ≡ []) × (stream_fault s ≡ Some f) → Nexts r s t
+nexts_err (Ok x) f s t h k = absurd h
+nexts_err (Err e) f s t h k = rw h k

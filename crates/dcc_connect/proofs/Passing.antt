@@ -1,5 +1,5 @@
 -- How passing messages on goes on.
-use Rattle.std.proofs.Common.{◌≡◌, ℕ, List, [], ◌∷◌, ◌++◌, refl, sym, ap, ◌∙◌, subst, append_assoc, None, Some, Option, ◌⊎◌, inl, inr}
+use Rattle.std.proofs.Common.{◌≡◌, ℕ, List, [], ◌∷◌, ◌++◌, refl, sym, ap, ◌∙◌, subst, append_assoc, None, Some, Option, ◌⊎◌, inl, inr, Result, Ok, Err}
 use Rattle.std.specs.List.{AllByRecursion, FoldsTo}
 use Rattle.std.specs.Option.{option_map}
 use Rattle.std.proofs.lemmas.List.{append-nil}
@@ -7,7 +7,12 @@ use Rattle.dcc_message.specs.Streams.{messages, rest, fault_at}
 use Rattle.dcc_message.specs.declared.header.HeaderFault.{HeaderFault}
 use Rattle.dcc_message.specs.declared.header.HeaderFault.TheVariants.{Length}
 use Rattle.dcc_connect.specs.Streams.{fault_of_message, before_fault, first_fault, heard, stream_fault, PassesAll, PassesBefore, PassesUpTo, PassesBeginning}
-use Rattle.dcc_connect.specs.inner.Steps.{StreamLaws, AreSound, HasPassed}
+use Rattle.std.specs.Result.{IsErrAnd}
+use Rattle.dcc_connect.specs.declared.fault.ConnectFault.{ConnectFault}
+use Rattle.dcc_connect.specs.declared.fault.ConnectFault.TheVariants.{Read, Write, TooManyTurns, Header, Memory}
+use Rattle.dcc_connect.specs.declared.fault.ConnectionEnd.{ConnectionEnd}
+use Rattle.dcc_connect.specs.declared.fault.ConnectionEnd.TheVariants.{Fault}
+use Rattle.dcc_connect.specs.inner.Steps.{StreamLaws, AreSound, HasPassed, Nexts, HandsReady}
 
 -- behind messages that are read the others decide
 sound_before : (front more : List (List ℕ)) → AreSound front → before_fault (front ++ more) ≡ front ++ before_fault more
@@ -104,3 +109,13 @@ module _ {S : Type 0} (R : S → List ℕ → S → Type 0) where
     left = laws.append_rest read piece ∙ ap (λ r. rest (r ++ piece)) (sym e);
     passed = p.1;
   }
+
+  -- an end that was made of the fault of what is held
+  pub hands_err : (L : S → List ℕ → S → Type 0) (r : Result (Unit {0}) ConnectionEnd) (f : ConnectFault) (stream held now : List ℕ) (s t : S)
+      → HasPassed R stream held s t → Nexts (Err f) held now → IsErrAnd r (λ e. e ≡ Fault f) → HandsReady R L r stream now s t
+  hands_err L (Ok done) f stream held now s t h p k = absurd k
+  hands_err L (Err e) (Header f) stream held now s t h p k = rw k (pass_before f stream held s t t h (before_none f held t p))
+  hands_err L (Err e) Read stream held now s t h p k = absurd p
+  hands_err L (Err e) Memory stream held now s t h p k = absurd p
+  hands_err L (Err e) TooManyTurns stream held now s t h p k = absurd p
+  hands_err L (Err e) (Write w) stream held now s t h p k = absurd p

@@ -1,6 +1,6 @@
 -- What the reader's side of a connection does.
-use Rattle.std.specs.Prelude.{◌≡◌, ℕ, ◌≤◌, ◌<◌, ◌≢◌, List, [], ◌++◌, length, Option}
-use Rattle.std.specs.List.{All, concat}
+use Rattle.std.specs.Prelude.{◌≡◌, ℕ, ◌≤◌, ◌<◌, List, [], ◌++◌, length, Option}
+use Rattle.std.specs.List.{AllByRecursion, concat}
 use Rattle.std.specs.Io.KnownBytes.{Consumes, IsAtEnd}
 use Rattle.dcc_connect.specs.declared.handing.Handed.{Handed}
 use Rattle.dcc_connect.specs.declared.handing.Handed.TheVariants.{Stays, Closes}
@@ -31,7 +31,7 @@ module _ {S : Type 0} (hands : S → ℕ → List ℕ → Handed → S → Type 
 
 -- pieces were read, none of them empty, and their octets are what the reader gave
 abbrev pub ReadsPieces : Option (List ℕ) → Option (List ℕ) → List (List ℕ) → Type 0
-ReadsPieces before after pieces = Consumes before after (concat pieces) × All (λ piece. 0 < length piece) pieces
+ReadsPieces before after pieces = Consumes before after (concat pieces) × AllByRecursion (λ piece. 0 < length piece) pieces
 
 -- each piece is a turn, and so is the call that ended or failed; the bound is a fault just where it was used up
 abbrev pub UsesTurns : ConnectionEnd → ℕ → ℕ → Type 0

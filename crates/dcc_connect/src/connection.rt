@@ -2,11 +2,16 @@
 
 ghost use Rattle.dcc_connect.specs.Reading.{EndsAtEnd};
 ghost use Rattle.dcc_connect.specs.Serving.{ReadsAndServes};
+ghost use Rattle.dcc_connect.specs.inner.Answering.{AnswersReady};
 
-use crate::fault::ConnectionEnd;
+use crate::fault::{ConnectFault, ConnectionEnd};
 use crate::handing::Clock;
+use crate::laws::stream_laws;
+use crate::sending::{Tally, send};
+use crate::turns::{Turn, next_message, read_turn};
 use dcc_act::Moment;
 use dcc_base::Reply;
+use dcc_message::Framer;
 use std::alloc::Global;
 use std::io::{Read, Write};
 
@@ -46,6 +51,43 @@ pub fn serve_connection<I: Read, O: Write, C: Clock, A: Answerer>(
         (O.contents output.old) (O.contents output.new) answerer.old answerer.new }
     ensures end { EndsAtEnd result (I.remaining input.new) }
 {
-    let _ = (alloc, input, output, clock, answerer, turns);
-    ConnectionEnd::End
+    stream_laws();
+    let mut framer = Framer::new(alloc);
+    let mut tally = Tally::new(turns);
+    for turn in 0..turns {
+        prove!(turn < turns);
+        if !tally.spend() {
+            break;
+        }
+        match read_turn(input, &mut framer) {
+            Err(fault) => return ConnectionEnd::Fault(fault),
+            Ok(Turn::End) => return ConnectionEnd::End,
+            Ok(Turn::Fed) => {}
+        }
+        if let Err(end) = answer_ready(output, &mut framer, clock, answerer, &mut tally) {
+            return end;
+        }
+    }
+    ConnectionEnd::Fault(ConnectFault::TooManyTurns)
+}
+
+/// Answers the whole messages that the framer holds, each once the answer before it is out.
+fn answer_ready<O: Write, C: Clock, A: Answerer>(
+    output: &mut O,
+    framer: &mut Framer,
+    clock: &C,
+    answerer: &mut A,
+    tally: &mut Tally,
+) -> Result<(), ConnectionEnd>
+    ensures { AnswersReady A.answers result framer.old framer.new answerer.old answerer.new (O.contents output.old) (O.contents output.new)
+        (record { left = tally.old.left; written = tally.old.written }) (record { left = tally.new.left; written = tally.new.written }) }
+{
+    while let Some(message) = next_message(framer)? {
+        let reply = answerer.answer(clock.moment(), message.as_slice());
+        send(output, reply.octets.as_slice(), tally)?;
+        if reply.close {
+            return Err(ConnectionEnd::Closed);
+        }
+    }
+    Ok(())
 }

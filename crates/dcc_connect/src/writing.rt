@@ -1,9 +1,12 @@
 //! The writer's side of a connection.
 
+ghost use Rattle.std.specs.Prelude.{◌≡◌, ◌+◌, ◌<◌, ◌^◌, None};
 ghost use Rattle.dcc_lane.specs.Ends.{senders_of, taken_of, IsSameReceiver};
 ghost use Rattle.dcc_connect.specs.Writing.{TakesAndWrites};
+ghost use Rattle.dcc_connect.specs.inner.Items.{WritesItem};
 
 use crate::fault::ConnectFault;
+use crate::sending::{Tally, send};
 use dcc_lane::Receiver;
 use dcc_octets::OctetString;
 use std::io::Write;
@@ -44,6 +47,60 @@ pub fn write_side<W: Wait, O: Write>(
     ensures same { IsSameReceiver from.old from.new }
     ensures written { TakesAndWrites result (senders_of from.old) turns (O.contents output.old) (O.contents output.new) (taken_of from.old) (taken_of from.new) }
 {
-    let _ = (rt, output, from, turns);
-    WriteEnd { fault: None, answers: 0 }
+    let senders = from.senders();
+    let mut tally = Tally::new(turns);
+    let mut progress = Progress::new();
+    while progress.ended < senders && tally.spend() {
+        let item = from.take(rt);
+        write_item(output, item, &mut tally, &mut progress);
+    }
+    if progress.fault.is_none() && progress.ended < senders {
+        progress.fault = Some(ConnectFault::TooManyTurns);
+    }
+    WriteEnd {
+        fault: progress.fault,
+        answers: progress.answers,
+    }
+}
+
+/// How far a writer has come.
+#[derive(Drop)]
+struct Progress {
+    /// So many senders have ended.
+    ended: usize,
+    /// So many items of octets went out whole.
+    answers: u64,
+    fault: Option<ConnectFault>,
+}
+
+impl Progress {
+    fn new() -> Progress
+        ensures { result ≡ record { ended = 0; answers = 0; fault = None } }
+    {
+        Progress {
+            ended: 0,
+            answers: 0,
+            fault: None,
+        }
+    }
+}
+
+/// Writes an item's octets, or drops them where there was a fault before.
+fn write_item<O: Write>(output: &mut O, item: Item, tally: &mut Tally, progress: &mut Progress)
+    requires ended { progress.old.ended + 1 < 2 ^ 64 }
+    requires answers { progress.old.answers + 1 < 2 ^ 64 }
+    ensures { WritesItem item progress.old progress.new (O.contents output.old) (O.contents output.new)
+        (record { left = tally.old.left; written = tally.old.written }) (record { left = tally.new.left; written = tally.new.written }) }
+{
+    match item {
+        Item::End => progress.ended += 1,
+        Item::Octets(octets) => {
+            if progress.fault.is_none() {
+                match send(output, octets.as_slice(), tally) {
+                    Ok(()) => progress.answers += 1,
+                    Err(fault) => progress.fault = Some(fault),
+                }
+            }
+        }
+    }
 }

@@ -1,6 +1,6 @@
 -- How the reading of a stream goes on.
 use Rattle.std.specs.Prelude.{◌≡◌, ℕ, ◌<◌, true, false, List, [], ◌∷◌, ◌++◌, length, take, drop, Option, Some, None, Result, Ok, Err}
-use Rattle.std.specs.List.{AllByRecursion, FoldsTo}
+use Rattle.std.specs.List.{AllByRecursion, FoldsTo, concat}
 use Rattle.std.specs.Io.KnownBytes.{Consumes, IsAtEnd}
 use Rattle.dcc_message.specs.Streams.{length_field, begins_whole, messages, rest, fault_at}
 use Rattle.dcc_connect.specs.declared.turns.Turn.{Turn}
@@ -9,6 +9,7 @@ use Rattle.dcc_connect.specs.declared.fault.ConnectFault.{ConnectFault}
 use Rattle.dcc_connect.specs.declared.fault.ConnectFault.TheVariants.{Read, Write, TooManyTurns, Header, Memory}
 use Rattle.dcc_connect.specs.declared.fault.ConnectionEnd.{ConnectionEnd}
 use Rattle.dcc_connect.specs.declared.fault.ConnectionEnd.TheVariants.{End, Closed, Fault}
+use Rattle.dcc_connect.specs.Reading.{ReadsPieces}
 use Rattle.dcc_connect.specs.Streams.{fault_of_message, heard, stream_fault, PassesAll, PassesBefore, PassesUpTo}
 
 -- one turn of the reader: what it gave, and what is held then
@@ -61,3 +62,18 @@ HandsReady stays closes (Err (Fault Read)) held now s t = ⊥
 HandsReady stays closes (Err (Fault Memory)) held now s t = ⊥
 HandsReady stays closes (Err (Fault (Write written))) held now s t = ⊥
 HandsReady stays closes (Err (Fault TooManyTurns)) held now s t = ⊥
+
+-- pieces were read, so many, and of their octets this holds the messages that weren't passed on
+pub record HasFed {S : Type 0} (stays : S → List ℕ → S → Type 0) (count : ℕ) (before now : Option (List ℕ)) (held : List ℕ) (s t : S) : Type 0 where
+  pub pieces : List (List ℕ)
+  pub given : ReadsPieces before now pieces
+  pub counted : length pieces ≡ count
+  pub passed : HasPassed stays (concat pieces) held s t
+
+-- and all whole ones were
+pub record HasRead {S : Type 0} (stays : S → List ℕ → S → Type 0) (count : ℕ) (before now : Option (List ℕ)) (held : List ℕ) (s t : S) : Type 0 where
+  pub pieces : List (List ℕ)
+  pub given : ReadsPieces before now pieces
+  pub counted : length pieces ≡ count
+  pub passed : PassesAll stays (concat pieces) s t
+  pub left : held ≡ rest (concat pieces)
