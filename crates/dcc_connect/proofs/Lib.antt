@@ -3,3 +3,4 @@ pub mod Nexting
 pub mod Passing
 pub mod Turning
 pub mod Octets
+pub mod Items

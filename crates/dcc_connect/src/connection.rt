@@ -57,7 +57,7 @@ pub fn serve_connection<I: Read, O: Write, C: Clock, A: Answerer>(
     for turn in 0..turns {
         prove!(turn < turns);
         if !tally.spend() {
-            break;
+            return ConnectionEnd::Fault(ConnectFault::TooManyTurns);
         }
         match read_turn(input, &mut framer) {
             Err(fault) => return ConnectionEnd::Fault(fault),

@@ -1,9 +1,9 @@
 //! The writer's side of a connection.
 
-ghost use Rattle.std.specs.Prelude.{◌≡◌, ◌+◌, ◌<◌, ◌^◌, None};
+ghost use Rattle.std.specs.Prelude.{◌≡◌, ◌+◌, ◌<◌, ◌^◌, nat_lt, None};
 ghost use Rattle.dcc_lane.specs.Ends.{senders_of, taken_of, IsSameReceiver};
 ghost use Rattle.dcc_connect.specs.Writing.{TakesAndWrites};
-ghost use Rattle.dcc_connect.specs.inner.Items.{WritesItem};
+ghost use Rattle.dcc_connect.specs.inner.Items.{WritesItem, last_fault};
 
 use crate::fault::ConnectFault;
 use crate::sending::{Tally, send};
@@ -50,17 +50,18 @@ pub fn write_side<W: Wait, O: Write>(
     let senders = from.senders();
     let mut tally = Tally::new(turns);
     let mut progress = Progress::new();
-    while progress.ended < senders && tally.spend() {
+    for turn in 0..turns {
+        prove!(turn < turns);
+        if progress.ended >= senders {
+            return progress.end(senders);
+        }
+        if !tally.spend() {
+            return progress.end(senders);
+        }
         let item = from.take(rt);
         write_item(output, item, &mut tally, &mut progress);
     }
-    if progress.fault.is_none() && progress.ended < senders {
-        progress.fault = Some(ConnectFault::TooManyTurns);
-    }
-    WriteEnd {
-        fault: progress.fault,
-        answers: progress.answers,
-    }
+    progress.end(senders)
 }
 
 /// How far a writer has come.
@@ -81,6 +82,22 @@ impl Progress {
             ended: 0,
             answers: 0,
             fault: None,
+        }
+    }
+
+    /// How it ended, where it takes nothing more of a lane with so many senders.
+    fn end(self, senders: usize) -> WriteEnd
+        ensures fault { result.fault ≡ last_fault self.fault (nat_lt self.ended senders) }
+        ensures answers { result.answers ≡ self.answers }
+    {
+        let fault = match self.fault {
+            Some(fault) => Some(fault),
+            None if self.ended < senders => Some(ConnectFault::TooManyTurns),
+            None => None,
+        };
+        WriteEnd {
+            fault,
+            answers: self.answers,
         }
     }
 }
