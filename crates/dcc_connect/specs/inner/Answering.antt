@@ -10,6 +10,7 @@ use Rattle.dcc_connect.specs.declared.fault.ConnectionEnd.TheVariants.{End, Clos
 use Rattle.dcc_connect.specs.Streams.{PassesAll, PassesBefore, PassesUpTo}
 use Rattle.dcc_connect.specs.Serving.{Answers, AnswersOn, AnswersLast}
 use Rattle.dcc_connect.specs.inner.Sends.{Counts}
+use Rattle.dcc_connect.specs.inner.Steps.{HasPassed, HasRead}
 
 module _ {A : Type 0} (answers : A → ℕ → List ℕ → Reply → A → Type 0) where
   -- of what is due all went out
@@ -38,3 +39,21 @@ module _ {A : Type 0} (answers : A → ℕ → List ℕ → Reply → A → Type
   AnswersReady result held now a b sent after old new =
       (due out : List ℕ) × Appends sent after out × (new.written ≡ old.written + length out) × (new.left ≤ old.left)
       × Answered result held now a b due out old new
+
+  -- some messages were answered, and all that was due for them went out
+  pub record HasAnswered (held now : List ℕ) (a b : A) (sent after : Option (List ℕ)) (old new : Counts) : Type 0 where
+    pub due : List ℕ
+    pub passed : (before : List ℕ) → HasPassed (AnswersOn answers) held now (a, before) (b, before ++ due)
+    pub out : Appends sent after due
+    pub written : new.written ≡ old.written + length due
+    pub fewer : new.left ≤ old.left
+    pub turned : old.left ≤ new.left + length due
+
+  -- so far has a connection come: pieces were read, and the answers to their messages went out
+  pub record HasServed (turn turns : ℕ) (before now : Option (List ℕ)) (sent after : Option (List ℕ)) (held : List ℕ) (a b : A) (counts : Counts) : Type 0 where
+    pub due : List ℕ
+    pub reading : HasRead (AnswersOn answers) turn before now held (a, []) (b, due)
+    pub out : Appends sent after due
+    pub written : counts.written ≡ length due
+    pub turned : turns ≤ counts.left + turn + length due
+    pub spent : turn + counts.left ≤ turns
