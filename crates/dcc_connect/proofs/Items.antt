@@ -350,3 +350,21 @@ stops senders turns a b old new p end cs h few why fault answers =
       turned = omega arith;
       few = omega arith;
     })
+
+octets_ended : (f : Option ConnectFault) (octets : List ℕ) (p q : Progress) (b c : Option (List ℕ)) (ds es : Counts) → WritesOctets f octets p q b c ds es → q.ended ≤ p.ended + 1
+octets_ended (Some f) octets p q b c ds es k = let e = ap (λ (x : Progress). x.ended) k.0 in omega arith
+octets_ended None octets p q b c ds es k = let e = k.5 in omega arith
+
+octets_left : (f : Option ConnectFault) (octets : List ℕ) (p q : Progress) (b c : Option (List ℕ)) (ds es : Counts) → WritesOctets f octets p q b c ds es → es.left ≤ ds.left
+octets_left (Some f) octets p q b c ds es k = let e = k.1.2 in omega arith
+octets_left None octets p q b c ds es k = k.4
+
+-- one more at most has ended
+pub ended_by : (item : Item) (p q : Progress) (b c : Option (List ℕ)) (ds es : Counts) → WritesItem item p q b c ds es → q.ended ≤ p.ended + 1
+ended_by End p q b c ds es k = let e = ap (λ (x : Progress). x.ended) k.0 in omega arith
+ended_by (Octets octets) p q b c ds es k = octets_ended p.fault octets p q b c ds es k
+
+-- turns only go
+pub left_by : (item : Item) (p q : Progress) (b c : Option (List ℕ)) (ds es : Counts) → WritesItem item p q b c ds es → es.left ≤ ds.left
+left_by End p q b c ds es k = let e = k.1.2 in omega arith
+left_by (Octets octets) p q b c ds es k = octets_left p.fault octets p q b c ds es k

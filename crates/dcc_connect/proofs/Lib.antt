@@ -4,3 +4,4 @@ pub mod Passing
 pub mod Turning
 pub mod Octets
 pub mod Items
+pub mod Replying

@@ -17,10 +17,10 @@ use Rattle.dcc_connect.specs.Reading.{HandsOn, HandsLast, Hands, ReadsPieces, Us
 use Rattle.dcc_connect.specs.inner.Steps.{StreamLaws, TakesPiece, HasFed, HasRead, HandsReady}
 use Rattle.dcc_connect.proofs.Passing.{grows, all_none, pass_all, pass_before, pass_up_to}
 
-snoc : (pieces : List (List ℕ)) (piece : List ℕ) → concat (pieces ++ piece ∷ []) ≡ concat pieces ++ piece
+pub snoc : (pieces : List (List ℕ)) (piece : List ℕ) → concat (pieces ++ piece ∷ []) ≡ concat pieces ++ piece
 snoc pieces piece = concat-append pieces (piece ∷ []) ∙ ap (λ x. concat pieces ++ x) (append-nil piece)
 
-longer : (pieces : List (List ℕ)) (piece : List ℕ) (n : ℕ) → length pieces ≡ n → length (pieces ++ piece ∷ []) ≡ n + 1
+pub longer : (pieces : List (List ℕ)) (piece : List ℕ) (n : ℕ) → length pieces ≡ n → length (pieces ++ piece ∷ []) ≡ n + 1
 longer pieces piece n h = length-append pieces (piece ∷ []) ∙ ap (λ k. k + 1) h
 
 filled : (pieces : List (List ℕ)) (piece : List ℕ) → AllByRecursion (λ p. 0 < length p) pieces → 0 < length piece → AllByRecursion (λ p. 0 < length p) (pieces ++ piece ∷ [])

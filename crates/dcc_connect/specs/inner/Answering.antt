@@ -27,7 +27,7 @@ module _ {A : Type 0} (answers : A → ℕ → List ℕ → Reply → A → Type
       ((before : List ℕ) → PassesBefore (AnswersOn answers) fault held (a, before) (b, before ++ due)) × AllSent due out old new
   Answered (Err (Fault (Write written))) held now a b due out old new =
       ((before : List ℕ) → PassesUpTo (AnswersOn answers) (Answers answers) held (a, before) (b, before ++ due))
-      × (length out < length due) × (out ≡ take (length out) due) × (written ≡ new.written)
+      × (length out < length due) × (out ≡ take (length out) due) × (written ≡ new.written) × (new.left < old.left)
   Answered (Err (Fault TooManyTurns)) held now a b due out old new =
       ((before : List ℕ) → PassesUpTo (AnswersOn answers) (Answers answers) held (a, before) (b, before ++ due))
       × (length out < length due) × (out ≡ take (length out) due) × (old.left ≤ length out)

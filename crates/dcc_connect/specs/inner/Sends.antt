@@ -24,7 +24,7 @@ WritesOnce (Err Memory) before after octets old new = ⊥
 -- how sending so many of the octets ended
 abbrev pub StopsAt : Result (Unit {0}) ConnectFault → (count all : ℕ) → Counts → Counts → Type 0
 StopsAt (Ok done) count all old new = (count ≡ all) × (old.left ≤ new.left + count)
-StopsAt (Err (Write written)) count all old new = (count < all) × (written ≡ new.written) × (old.left ≤ new.left + count + 1)
+StopsAt (Err (Write written)) count all old new = (count < all) × (written ≡ new.written) × (old.left ≤ new.left + count + 1) × (new.left < old.left)
 StopsAt (Err TooManyTurns) count all old new = (count < all) × (new.left ≡ 0) × (old.left ≤ count)
 StopsAt (Err Read) count all old new = ⊥
 StopsAt (Err (Header fault)) count all old new = ⊥
