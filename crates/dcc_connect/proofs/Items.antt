@@ -107,9 +107,11 @@ drop_sent (Write w) senders turns items octets sent cs es h l =
     let turned = h.2 in
     let cut = h.0 in
     let less : w < length (octets_in items ++ octets) = omega arith in
-    let within : w ≤ length (octets_in items) = omega arith in
-    (subst (λ o. w < length o) (sym (octets_more items octets)) less,
-     h.1 ∙ sym (take-append-le w (octets_in items) octets within) ∙ ap (take w) (sym (octets_more items octets)), omega arith)
+    let within : w ≤ length (octets_in items) = omega arith in (
+      subst (λ o. w < length o) (sym (octets_more items octets)) less,
+      h.1 ∙ sym (take-append-le w (octets_in items) octets within) ∙ ap (take w) (sym (octets_more items octets)),
+      omega arith,
+    )
 drop_sent TooManyTurns senders turns items octets sent cs es h l = let none = h.3 in absurd (omega arith)
 drop_sent Read senders turns items octets sent cs es h l = absurd h
 drop_sent (Header f) senders turns items octets sent cs es h l = absurd h
@@ -149,10 +151,11 @@ go_out (Some (Write written)) senders turns count items octets sent cs ds es h l
     let told = k.1 in
     let left = k.2 in
     let size : length sent ≡ length (octets_in items) = ap length h.0 in
-    let at : written ≡ length (octets_in items) + count = omega arith in
-    (subst (λ o. written < length o) (sym (octets_more items octets)) (omega arith),
-     ap (λ s. s ++ take count octets) h.0 ∙ sym (take-append-add (octets_in items) octets count) ∙ ap (λ n. take n (octets_in items ++ octets)) (sym at) ∙ ap (take written) (sym (octets_more items octets)),
-     omega arith)
+    let at : written ≡ length (octets_in items) + count = omega arith in (
+      subst (λ o. written < length o) (sym (octets_more items octets)) (omega arith),
+      ap (λ s. s ++ take count octets) h.0 ∙ sym (take-append-add (octets_in items) octets count) ∙ ap (λ n. take n (octets_in items ++ octets)) (sym at) ∙ ap (take written) (sym (octets_more items octets)),
+      omega arith,
+    )
 go_out (Some TooManyTurns) senders turns count items octets sent cs ds es h l w v within fewer k =
     let long = length-append items (Octets octets ∷ []) in
     let more = length-append sent (take count octets) in
@@ -164,10 +167,13 @@ go_out (Some TooManyTurns) senders turns count items octets sent cs ds es h l w 
     let left = k.2 in
     let ends = ends_more items octets in
     let size : length sent ≡ length (octets_in items) = ap length h.0 in
-    let at : length (sent ++ take count octets) ≡ length (octets_in items) + count = omega arith in
-    (omega arith, subst (λ o. length (sent ++ take count octets) < length o) (sym (octets_more items octets)) (omega arith),
-     ap (λ s. s ++ take count octets) h.0 ∙ sym (take-append-add (octets_in items) octets count) ∙ ap (λ n. take n (octets_in items ++ octets)) (sym at) ∙ ap (take (length (sent ++ take count octets))) (sym (octets_more items octets)),
-     none, omega arith)
+    let at : length (sent ++ take count octets) ≡ length (octets_in items) + count = omega arith in (
+      omega arith,
+      subst (λ o. length (sent ++ take count octets) < length o) (sym (octets_more items octets)) (omega arith),
+      ap (λ s. s ++ take count octets) h.0 ∙ sym (take-append-add (octets_in items) octets count) ∙ ap (λ n. take n (octets_in items ++ octets)) (sym at) ∙ ap (take (length (sent ++ take count octets))) (sym (octets_more items octets)),
+      none,
+      omega arith,
+    )
 go_out (Some Read) senders turns count items octets sent cs ds es h l w v within fewer k = absurd k
 go_out (Some (Header f)) senders turns count items octets sent cs ds es h l w v within fewer k = absurd k
 go_out (Some Memory) senders turns count items octets sent cs ds es h l w v within fewer k = absurd k
@@ -212,16 +218,18 @@ octets_item senders turns items octets (Some f) p q sent a b c cs ds es e h fewe
     let ends = ends_more items octets in
     let count = h.ended in
     let few = h.few in
-    let spent = h.spent in
-    (sent, subst (Appends a c) (append-nil sent) (Appends-trans a b c sent [] out dropped.1.0),
-     subst (λ q. HasWritten senders turns (items ++ Octets octets ∷ []) q sent es) (sym is) (record {
-       went = subst (λ g. HasSent g senders turns (items ++ Octets octets ∷ []) sent es) (sym e) (drop_sent f senders turns items octets sent cs es went (omega arith));
-       written = omega arith;
-       answers = h.answers ∙ sym (drop_whole f senders turns items octets sent cs es went (omega arith));
-       few = omega arith;
-       ended = omega arith;
-       spent = omega arith;
-     }))
+    let spent = h.spent in (
+      sent,
+      subst (Appends a c) (append-nil sent) (Appends-trans a b c sent [] out dropped.1.0),
+      subst (λ q. HasWritten senders turns (items ++ Octets octets ∷ []) q sent es) (sym is) (record {
+        went = subst (λ g. HasSent g senders turns (items ++ Octets octets ∷ []) sent es) (sym e) (drop_sent f senders turns items octets sent cs es went (omega arith));
+        written = omega arith;
+        answers = h.answers ∙ sym (drop_whole f senders turns items octets sent cs es went (omega arith));
+        few = omega arith;
+        ended = omega arith;
+        spent = omega arith;
+      }),
+    )
 octets_item senders turns items octets None p q sent a b c cs ds es e h fewer l w out k =
     let gone : WritesOctets None octets p q b c ds es = subst (λ g. WritesOctets g octets p q b c ds es) e k in
     let went : HasSent None senders turns items sent cs = subst (λ g. HasSent g senders turns items sent cs) e h.went in
@@ -239,15 +247,18 @@ octets_item senders turns items octets None p q sent a b c cs ds es e h fewer l 
     let spent = h.spent in
     let one = at_most_one q.fault p.answers in
     let more = length-append sent (take count octets) in
-    let some = length-take count octets in
-    (sent ++ take count octets, Appends-trans a b c sent (take count octets) out gone.2, record {
-       went = go_out q.fault senders turns count items octets sent cs ds es went l (w ∙ was) written within (omega arith) gone.7;
-       written = omega arith;
-       answers = answers ∙ go_whole q.fault count p.answers items octets sent ds es went.0 within h.answers gone.7;
-       few = omega arith;
-       ended = omega arith;
-       spent = omega arith;
-     })
+    let some = length-take count octets in (
+      sent ++ take count octets,
+      Appends-trans a b c sent (take count octets) out gone.2,
+      record {
+        went = go_out q.fault senders turns count items octets sent cs ds es went l (w ∙ was) written within (omega arith) gone.7;
+        written = omega arith;
+        answers = answers ∙ go_whole q.fault count p.answers items octets sent ds es went.0 within h.answers gone.7;
+        few = omega arith;
+        ended = omega arith;
+        spent = omega arith;
+      },
+    )
 
 -- what is known of the items then
 next_item : (senders turns : ℕ) (items : List Item) (item : Item) (p q : Progress) (sent : List ℕ) (a b c : Option (List ℕ)) (cs ds es : Counts)
@@ -262,16 +273,18 @@ next_item senders turns items End p q sent a b c cs ds es h fewer l w out k =
     let ends = ends_end items in
     let count = h.ended in
     let few = h.few in
-    let spent = h.spent in
-    (sent, subst (Appends a c) (append-nil sent) (Appends-trans a b c sent [] out k.1.0),
-     subst (λ q. HasWritten senders turns (items ++ End ∷ []) q sent es) (sym is) (record {
-       went = end_sent p.fault senders turns items sent cs es h.went (omega arith);
-       written = omega arith;
-       answers = h.answers ∙ sym (whole_end (length sent) items);
-       few = omega arith;
-       ended = omega arith;
-       spent = omega arith;
-     }))
+    let spent = h.spent in (
+      sent,
+      subst (Appends a c) (append-nil sent) (Appends-trans a b c sent [] out k.1.0),
+      subst (λ q. HasWritten senders turns (items ++ End ∷ []) q sent es) (sym is) (record {
+        went = end_sent p.fault senders turns items sent cs es h.went (omega arith);
+        written = omega arith;
+        answers = h.answers ∙ sym (whole_end (length sent) items);
+        few = omega arith;
+        ended = omega arith;
+        spent = omega arith;
+      }),
+    )
 next_item senders turns items (Octets octets) p q sent a b c cs ds es h fewer l w out k =
     octets_item senders turns items octets p.fault p q sent a b c cs ds es refl h fewer l w out k
 
@@ -341,15 +354,20 @@ stops senders turns a b old new p end cs h few why fault answers =
     let missing : nat_lt p.ended senders ≡ true → (ends_in (items_of h.more) < senders) × (cs.left ≡ 0) =
     λ t. (let less : p.ended < senders = grind (arith, nat_tests) in elim why [ inl k ↦ absurd (omega arith) | inr k ↦ (omega arith, k) ]) in
     let all : nat_lt p.ended senders ≡ false → senders ≤ ends_in (items_of h.more) =
-    λ f. (let most : senders ≤ p.ended = grind (arith, nat_tests) in omega arith) in
-    (h.more, h.sent, h.taken, h.out, record {
-      sent = subst (λ g. GoesOut g (items_of h.more) h.sent) (sym fault) (last_out p.fault (nat_lt p.ended senders) senders turns (items_of h.more) h.sent cs h.so.went);
-      ended = subst (λ g. EndsWithSenders g senders turns (items_of h.more) h.sent) (sym fault)
-        (last_ends p.fault (nat_lt p.ended senders) senders turns (items_of h.more) h.sent cs h.so.went (omega arith) missing all);
-      answers = answers ∙ h.so.answers;
-      turned = omega arith;
-      few = omega arith;
-    })
+    λ f. (let most : senders ≤ p.ended = grind (arith, nat_tests) in omega arith) in (
+      h.more,
+      h.sent,
+      h.taken,
+      h.out,
+      record {
+        sent = subst (λ g. GoesOut g (items_of h.more) h.sent) (sym fault) (last_out p.fault (nat_lt p.ended senders) senders turns (items_of h.more) h.sent cs h.so.went);
+        ended = subst (λ g. EndsWithSenders g senders turns (items_of h.more) h.sent) (sym fault)
+            (last_ends p.fault (nat_lt p.ended senders) senders turns (items_of h.more) h.sent cs h.so.went (omega arith) missing all);
+        answers = answers ∙ h.so.answers;
+        turned = omega arith;
+        few = omega arith;
+      },
+    )
 
 octets_ended : (f : Option ConnectFault) (octets : List ℕ) (p q : Progress) (b c : Option (List ℕ)) (ds es : Counts) → WritesOctets f octets p q b c ds es → q.ended ≤ p.ended + 1
 octets_ended (Some f) octets p q b c ds es k = let e = ap (λ (x : Progress). x.ended) k.0 in omega arith

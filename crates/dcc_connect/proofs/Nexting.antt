@@ -68,9 +68,10 @@ next_none laws s t h e never =
 next_in : StreamLaws → (s t m : List ℕ) → first_message s ≡ Some m → t ≡ after_first s → (messages s ≡ m ∷ messages t) × (rest s ≡ rest t)
 next_in laws s t m h e =
     let whole = stands s m h in
-    let is = e ∙ after_whole s whole.whole in
-    (laws.first s whole.whole ∙ ap (λ x. x ∷ messages (drop (length_field s) s)) (sym whole.front) ∙ ap (λ r. m ∷ messages r) (sym is),
-     laws.first_rest s whole.whole ∙ ap rest (sym is))
+    let is = e ∙ after_whole s whole.whole in (
+      laws.first s whole.whole ∙ ap (λ x. x ∷ messages (drop (length_field s) s)) (sym whole.front) ∙ ap (λ r. m ∷ messages r) (sym is),
+      laws.first_rest s whole.whole ∙ ap rest (sym is),
+    )
 
 -- its header isn't read
 pub next_unread : StreamLaws → (s t m : List ℕ) (f : HeaderFault) → first_message s ≡ Some m → t ≡ after_first s → header_of m ≡ Err f

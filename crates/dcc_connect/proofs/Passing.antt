@@ -65,10 +65,15 @@ module _ {S : Type 0} (R : S → List ℕ → S → Type 0) where
       (fault_over stream held s t h ∙ p.0, subst (λ ms. FoldsTo R s ms u) (sym (heard_over stream held s t h)) (folds h.front (heard held) s t u h.passed p.1))
 
   pub pass_up_to : (L : S → List ℕ → S → Type 0) (stream held : List ℕ) (s t u : S) → HasPassed R stream held s t → PassesUpTo R L held t u → PassesUpTo R L stream s u
-  pass_up_to L stream held s t u h p =
-      (h.front ++ p.0, p.1, p.2, p.3,
-       heard_over stream held s t h ∙ ap (λ ms. h.front ++ ms) p.4 ∙ sym (append_assoc h.front p.0 (p.1 ∷ p.2)),
-       folds h.front p.0 s t p.3 h.passed p.5, p.6)
+  pass_up_to L stream held s t u h p = (
+    h.front ++ p.0,
+    p.1,
+    p.2,
+    p.3,
+    heard_over stream held s t h ∙ ap (λ ms. h.front ++ ms) p.4 ∙ sym (append_assoc h.front p.0 (p.1 ∷ p.2)),
+    folds h.front p.0 s t p.3 h.passed p.5,
+    p.6,
+  )
 
   pub pass_on : (stream held now : List ℕ) (s t u : S) → HasPassed R stream held s t → HasPassed R held now t u → HasPassed R stream now s u
   pass_on stream held now s t u h k = record {
@@ -86,9 +91,10 @@ module _ {S : Type 0} (R : S → List ℕ → S → Type 0) where
   pass_one held now m s t h r = record { front = m ∷ []; sound = (h.0, tt); others = h.1; left = h.2; passed = (t, r, refl) }
 
   pub all_none : (held : List ℕ) (s : S) → messages held ≡ [] → rest held ≡ held → fault_at held ≡ None → PassesAll R held s s
-  all_none held s none left fine =
-      (ap (λ ms. first_fault ms (option_map Length (fault_at (rest held)))) none ∙ ap (λ r. option_map Length (fault_at r)) left ∙ ap (option_map Length) fine,
-       subst (λ ms. FoldsTo R s ms s) (sym none) refl)
+  all_none held s none left fine = (
+    ap (λ ms. first_fault ms (option_map Length (fault_at (rest held)))) none ∙ ap (λ r. option_map Length (fault_at r)) left ∙ ap (option_map Length) fine,
+    subst (λ ms. FoldsTo R s ms s) (sym none) refl,
+  )
 
   pub before_none : (f : HeaderFault) (held : List ℕ) (s : S) → (heard held ≡ []) × (stream_fault held ≡ Some f) → PassesBefore R f held s s
   before_none f held s h = (h.1, subst (λ ms. FoldsTo R s ms s) (sym h.0) refl)

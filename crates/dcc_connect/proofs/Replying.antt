@@ -50,7 +50,7 @@ module _ {A : Type 0} (answers : A → ℕ → List ℕ → Reply → A → Type
       record {
         due = h.due ++ reply.octets;
         passed = λ before. pass_on (AnswersOn answers) held mid now _ _ _ (h.passed before)
-          (pass_one (AnswersOn answers) mid now m _ _ next (moment, reply, ans, sym (append_assoc before h.due reply.octets), stays));
+            (pass_one (AnswersOn answers) mid now m _ _ next (moment, reply, ans, sym (append_assoc before h.due reply.octets), stays));
         out = Appends-trans x y z h.due reply.octets h.out (subst (Appends y z) same s.2);
         written = omega arith;
         fewer = omega arith;
@@ -70,11 +70,18 @@ module _ {A : Type 0} (answers : A → ℕ → List ℕ → Reply → A → Type
       let long = length-append h.due reply.octets in
       let was = h.written in
       let few = h.fewer in
-      let turned = h.turned in
-      (h.due ++ reply.octets, h.due ++ reply.octets, Appends-trans x y z h.due reply.octets h.out (subst (Appends y z) same s.2), omega arith, omega arith,
-       (λ before. pass_up_to (AnswersOn answers) (AnswersLast answers) held mid _ _ _ (h.passed before)
-         (last_one (AnswersOn answers) (AnswersLast answers) mid now m _ _ next (moment, reply, ans, sym (append_assoc before h.due reply.octets), closes)),
-        (refl, omega arith)))
+      let turned = h.turned in (
+        h.due ++ reply.octets,
+        h.due ++ reply.octets,
+        Appends-trans x y z h.due reply.octets h.out (subst (Appends y z) same s.2),
+        omega arith,
+        omega arith,
+        (
+          λ before. pass_up_to (AnswersOn answers) (AnswersLast answers) held mid _ _ _ (h.passed before)
+              (last_one (AnswersOn answers) (AnswersLast answers) mid now m _ _ next (moment, reply, ans, sym (append_assoc before h.due reply.octets), closes)),
+          (refl, omega arith),
+        ),
+      )
 
   stopped : (f : ConnectFault) (held mid now m : List ℕ) (a b c : A) (x y z : Option (List ℕ)) (old cs new : Counts) (moment : ℕ) (reply : Reply)
       → HasAnswered answers held mid a b x y old cs → Nexts (Ok (Some m)) mid now → answers b moment m reply c → Sends (Err f) y z reply.octets cs new
@@ -92,11 +99,21 @@ module _ {A : Type 0} (answers : A → ℕ → List ℕ → Reply → A → Type
       let out = length-append h.due (take count reply.octets) in
       let at : length (h.due ++ take count reply.octets) ≡ length h.due + count = omega arith in
       let was = h.written in
-      let few = h.fewer in
-      (h.due ++ reply.octets, h.due ++ take count reply.octets, Appends-trans x y z h.due _ h.out s.2, omega arith, omega arith,
-       (λ before. pass_up_to (AnswersOn answers) (Answers answers) held mid _ _ _ (h.passed before)
-         (last_one (AnswersOn answers) (Answers answers) mid now m _ _ next (moment, reply, ans, sym (append_assoc before h.due reply.octets))),
-        omega arith, sym (take-append-add h.due reply.octets count) ∙ ap (λ n. take n (h.due ++ reply.octets)) (sym at), omega arith, omega arith))
+      let few = h.fewer in (
+        h.due ++ reply.octets,
+        h.due ++ take count reply.octets,
+        Appends-trans x y z h.due _ h.out s.2,
+        omega arith,
+        omega arith,
+        (
+          λ before. pass_up_to (AnswersOn answers) (Answers answers) held mid _ _ _ (h.passed before)
+              (last_one (AnswersOn answers) (Answers answers) mid now m _ _ next (moment, reply, ans, sym (append_assoc before h.due reply.octets))),
+          omega arith,
+          sym (take-append-add h.due reply.octets count) ∙ ap (λ n. take n (h.due ++ reply.octets)) (sym at),
+          omega arith,
+          omega arith,
+        ),
+      )
   stopped TooManyTurns held mid now m a b c x y z old cs new moment reply h next ans s =
       let count = s.0 in
       let within = s.1 in
@@ -111,11 +128,20 @@ module _ {A : Type 0} (answers : A → ℕ → List ℕ → Reply → A → Type
       let at : length (h.due ++ take count reply.octets) ≡ length h.due + count = omega arith in
       let was = h.written in
       let few = h.fewer in
-      let turned = h.turned in
-      (h.due ++ reply.octets, h.due ++ take count reply.octets, Appends-trans x y z h.due _ h.out s.2, omega arith, omega arith,
-       (λ before. pass_up_to (AnswersOn answers) (Answers answers) held mid _ _ _ (h.passed before)
-         (last_one (AnswersOn answers) (Answers answers) mid now m _ _ next (moment, reply, ans, sym (append_assoc before h.due reply.octets))),
-        omega arith, sym (take-append-add h.due reply.octets count) ∙ ap (λ n. take n (h.due ++ reply.octets)) (sym at), omega arith))
+      let turned = h.turned in (
+        h.due ++ reply.octets,
+        h.due ++ take count reply.octets,
+        Appends-trans x y z h.due _ h.out s.2,
+        omega arith,
+        omega arith,
+        (
+          λ before. pass_up_to (AnswersOn answers) (Answers answers) held mid _ _ _ (h.passed before)
+              (last_one (AnswersOn answers) (Answers answers) mid now m _ _ next (moment, reply, ans, sym (append_assoc before h.due reply.octets))),
+          omega arith,
+          sym (take-append-add h.due reply.octets count) ∙ ap (λ n. take n (h.due ++ reply.octets)) (sym at),
+          omega arith,
+        ),
+      )
   stopped Read held mid now m a b c x y z old cs new moment reply h next ans s = absurd s.5
   stopped Memory held mid now m a b c x y z old cs new moment reply h next ans s = absurd s.5
   stopped (Header f) held mid now m a b c x y z old cs new moment reply h next ans s = absurd s.5
@@ -129,16 +155,29 @@ module _ {A : Type 0} (answers : A → ℕ → List ℕ → Reply → A → Type
 
   pub reply_none : (held mid now : List ℕ) (a b : A) (x y : Option (List ℕ)) (old cs : Counts) → HasAnswered answers held mid a b x y old cs → Nexts (Ok None) mid now
       → AnswersReady answers (Ok tt) held now a b x y old cs
-  reply_none held mid now a b x y old cs h next =
-      (h.due, h.due, h.out, h.written, h.fewer,
-       (λ before. pass_all (AnswersOn answers) held mid _ _ _ (h.passed before) (all_none (AnswersOn answers) mid _ next.0 next.1 next.2),
-        next.3 ∙ sym next.1 ∙ sym (h.passed []).left, (refl, h.turned)))
+  reply_none held mid now a b x y old cs h next = (
+    h.due,
+    h.due,
+    h.out,
+    h.written,
+    h.fewer,
+    (
+      λ before. pass_all (AnswersOn answers) held mid _ _ _ (h.passed before) (all_none (AnswersOn answers) mid _ next.0 next.1 next.2),
+      next.3 ∙ sym next.1 ∙ sym (h.passed []).left,
+      (refl, h.turned),
+    ),
+  )
 
   unread : (f : ConnectFault) (held mid now : List ℕ) (a b : A) (x y : Option (List ℕ)) (old cs : Counts) → HasAnswered answers held mid a b x y old cs → Nexts (Err f) mid now
       → AnswersReady answers (Err (Fault f)) held now a b x y old cs
-  unread (Header f) held mid now a b x y old cs h next =
-      (h.due, h.due, h.out, h.written, h.fewer,
-       (λ before. pass_before (AnswersOn answers) f held mid _ _ _ (h.passed before) (before_none (AnswersOn answers) f mid _ next), (refl, h.turned)))
+  unread (Header f) held mid now a b x y old cs h next = (
+    h.due,
+    h.due,
+    h.out,
+    h.written,
+    h.fewer,
+    (λ before. pass_before (AnswersOn answers) f held mid _ _ _ (h.passed before) (before_none (AnswersOn answers) f mid _ next), (refl, h.turned)),
+  )
   unread Read held mid now a b x y old cs h next = absurd next
   unread Memory held mid now a b x y old cs h next = absurd next
   unread TooManyTurns held mid now a b x y old cs h next = absurd next
@@ -196,9 +235,15 @@ module _ {A : Type 0} (answers : A → ℕ → List ℕ → Reply → A → Type
       (read.pieces, h.due, h.due, no_more i j k read.pieces read.given p, h.out, omega arith, (read.passed, refl))
   serve_fault Memory n turns i j k x y held mid a b cs h few p =
       let read = h.reading in
-      let counted = longer read.pieces p.0 n read.counted in
-      (read.pieces ++ p.0 ∷ [], h.due, h.due, one_more i j k read.pieces p.0 read.given p.1 p.2, h.out, omega arith,
-       ((concat read.pieces, p.0, snoc read.pieces p.0, read.passed), refl))
+      let counted = longer read.pieces p.0 n read.counted in (
+        read.pieces ++ p.0 ∷ [],
+        h.due,
+        h.due,
+        one_more i j k read.pieces p.0 read.given p.1 p.2,
+        h.out,
+        omega arith,
+        ((concat read.pieces, p.0, snoc read.pieces p.0, read.passed), refl),
+      )
   serve_fault (Write w) n turns i j k x y held mid a b cs h few p = absurd p
   serve_fault (Header f) n turns i j k x y held mid a b cs h few p = absurd p
   serve_fault TooManyTurns n turns i j k x y held mid a b cs h few p = absurd p
@@ -224,14 +269,26 @@ module _ {A : Type 0} (answers : A → ℕ → List ℕ → Reply → A → Type
       → AnswersReady answers (Err end) mid now b c y z ds es → ReadsAndServes answers end turns i k x z a c
   serve_stops Closed laws n turns i j k x y z held mid now a b c cs ds es h few l w p r =
       let on = fed (AnswersOn answers) laws n i j k held mid (a, []) (b, h.due) h.reading p in
-      let counted = on.counted in
-      (on.pieces, h.due ++ r.0, h.due ++ r.1, on.given, Appends-trans x y z h.due r.1 h.out r.2, omega arith,
-       (pass_up_to (AnswersOn answers) (AnswersLast answers) (concat on.pieces) mid _ _ _ on.passed (r.5.0 h.due), ap (λ o. h.due ++ o) r.5.1.0))
+      let counted = on.counted in (
+        on.pieces,
+        h.due ++ r.0,
+        h.due ++ r.1,
+        on.given,
+        Appends-trans x y z h.due r.1 h.out r.2,
+        omega arith,
+        (pass_up_to (AnswersOn answers) (AnswersLast answers) (concat on.pieces) mid _ _ _ on.passed (r.5.0 h.due), ap (λ o. h.due ++ o) r.5.1.0),
+      )
   serve_stops (Fault (Header f)) laws n turns i j k x y z held mid now a b c cs ds es h few l w p r =
       let on = fed (AnswersOn answers) laws n i j k held mid (a, []) (b, h.due) h.reading p in
-      let counted = on.counted in
-      (on.pieces, h.due ++ r.0, h.due ++ r.1, on.given, Appends-trans x y z h.due r.1 h.out r.2, omega arith,
-       (pass_before (AnswersOn answers) f (concat on.pieces) mid _ _ _ on.passed (r.5.0 h.due), ap (λ o. h.due ++ o) r.5.1.0))
+      let counted = on.counted in (
+        on.pieces,
+        h.due ++ r.0,
+        h.due ++ r.1,
+        on.given,
+        Appends-trans x y z h.due r.1 h.out r.2,
+        omega arith,
+        (pass_before (AnswersOn answers) f (concat on.pieces) mid _ _ _ on.passed (r.5.0 h.due), ap (λ o. h.due ++ o) r.5.1.0),
+      )
   serve_stops (Fault (Write written)) laws n turns i j k x y z held mid now a b c cs ds es h few l w p r =
       let on = fed (AnswersOn answers) laws n i j k held mid (a, []) (b, h.due) h.reading p in
       let counted = on.counted in
@@ -243,20 +300,37 @@ module _ {A : Type 0} (answers : A → ℕ → List ℕ → Reply → A → Type
       let was = h.written in
       let long = length-append h.due r.0 in
       let out = length-append h.due r.1 in
-      let at : written ≡ length h.due + length r.1 = omega arith in
-      (on.pieces, h.due ++ r.0, h.due ++ r.1, on.given, Appends-trans x y z h.due r.1 h.out r.2, omega arith,
-       (pass_up_to (AnswersOn answers) (Answers answers) (concat on.pieces) mid _ _ _ on.passed (r.5.0 h.due), omega arith,
-        ap (λ o. h.due ++ o) r.5.2 ∙ sym (take-append-add h.due r.0 (length r.1)) ∙ ap (λ n. take n (h.due ++ r.0)) (sym at)))
+      let at : written ≡ length h.due + length r.1 = omega arith in (
+        on.pieces,
+        h.due ++ r.0,
+        h.due ++ r.1,
+        on.given,
+        Appends-trans x y z h.due r.1 h.out r.2,
+        omega arith,
+        (
+          pass_up_to (AnswersOn answers) (Answers answers) (concat on.pieces) mid _ _ _ on.passed (r.5.0 h.due),
+          omega arith,
+          ap (λ o. h.due ++ o) r.5.2 ∙ sym (take-append-add h.due r.0 (length r.1)) ∙ ap (λ n. take n (h.due ++ r.0)) (sym at),
+        ),
+      )
   serve_stops (Fault TooManyTurns) laws n turns i j k x y z held mid now a b c cs ds es h few l w p r =
       let on = fed (AnswersOn answers) laws n i j k held mid (a, []) (b, h.due) h.reading p in
       let counted = on.counted in
       let used = r.5.3 in
       let turned = h.turned in
       let out = length-append h.due r.1 in
-      let front : h.due ++ r.1 ≡ take (length h.due + length r.1) (h.due ++ r.0) = ap (λ o. h.due ++ o) r.5.2 ∙ sym (take-append-add h.due r.0 (length r.1)) in
-      (on.pieces, h.due ++ r.0, h.due ++ r.1, on.given, Appends-trans x y z h.due r.1 h.out r.2, (omega arith, omega arith),
-       inr (pass_up_to (AnswersOn answers) (Answers answers) (concat on.pieces) mid _ _ _ on.passed (r.5.0 h.due),
-        subst (λ s. IsPrefix s (h.due ++ r.0)) (sym front) (drop (length h.due + length r.1) (h.due ++ r.0), take-append-drop (length h.due + length r.1) (h.due ++ r.0))))
+      let front : h.due ++ r.1 ≡ take (length h.due + length r.1) (h.due ++ r.0) = ap (λ o. h.due ++ o) r.5.2 ∙ sym (take-append-add h.due r.0 (length r.1)) in (
+        on.pieces,
+        h.due ++ r.0,
+        h.due ++ r.1,
+        on.given,
+        Appends-trans x y z h.due r.1 h.out r.2,
+        (omega arith, omega arith),
+        inr (
+          pass_up_to (AnswersOn answers) (Answers answers) (concat on.pieces) mid _ _ _ on.passed (r.5.0 h.due),
+          subst (λ s. IsPrefix s (h.due ++ r.0)) (sym front) (drop (length h.due + length r.1) (h.due ++ r.0), take-append-drop (length h.due + length r.1) (h.due ++ r.0)),
+        ),
+      )
   serve_stops End laws n turns i j k x y z held mid now a b c cs ds es h few l w p r = absurd r.5
   serve_stops (Fault Read) laws n turns i j k x y z held mid now a b c cs ds es h few l w p r = absurd r.5
   serve_stops (Fault Memory) laws n turns i j k x y z held mid now a b c cs ds es h few l w p r = absurd r.5

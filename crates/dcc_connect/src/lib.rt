@@ -16,11 +16,10 @@ mod handing;
 mod laws;
 mod reading;
 mod sending;
-mod turns;
-mod writing;
-
 #[cfg(test)]
 mod tests;
+mod turns;
+mod writing;
 
 pub use connection::{Answerer, serve_connection};
 pub use fault::{ConnectFault, ConnectionEnd, ReadEnd};

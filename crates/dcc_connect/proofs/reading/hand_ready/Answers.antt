@@ -20,6 +20,7 @@ loop-message-preserved g c =
 
 pub returns : goal.returns
 returns g c =
-    let none : Nexts (Ok None) c.loop-message.framer c.next_message.new.framer = rw c.in_default.is at c.in_ok-message.ensures in
-    (pass_all (HandsOn g.S.Submitter.hands) _ _ _ _ _ c.loop-message.invariant (all_none (HandsOn g.S.Submitter.hands) _ _ none.0 none.1 none.2),
-     none.3 ∙ sym none.1 ∙ sym c.loop-message.invariant.left)
+    let none : Nexts (Ok None) c.loop-message.framer c.next_message.new.framer = rw c.in_default.is at c.in_ok-message.ensures in (
+      pass_all (HandsOn g.S.Submitter.hands) _ _ _ _ _ c.loop-message.invariant (all_none (HandsOn g.S.Submitter.hands) _ _ none.0 none.1 none.2),
+      none.3 ∙ sym none.1 ∙ sym c.loop-message.invariant.left,
+    )

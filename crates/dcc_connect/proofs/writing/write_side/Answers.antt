@@ -34,7 +34,7 @@ loop-turn-preserved g c =
       few = omega arith;
       turned = omega arith;
       taken = goes_on _ _ _ _ _ _ _ _ _ _ _ _ _ _ c.loop-turn.invariant.taken c.if-progress-senders.false c.if-not-spend.ensures.left c.if-not-spend.ensures.written
-        c.take-item.ensures.taken.2 c.write_item.ensures;
+          c.take-item.ensures.taken.2 c.write_item.ensures;
     }
 
 pub returns-clause-written : goal.returns-clause-written

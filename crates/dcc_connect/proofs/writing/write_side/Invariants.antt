@@ -9,5 +9,5 @@ invariant-loop-turn g l = record {
   few : l.progress.ended ≤ l.senders;
   turned : l.turn + l.tally.left ≤ l.turns;
   taken : HasTaken l.senders l.turns (g.O.Write.contents l.fn.output) (g.O.Write.contents l.output) (taken_of l.fn.from) (taken_of l.from) l.progress
-    (record { left = l.tally.left; written = l.tally.written });
+      (record { left = l.tally.left; written = l.tally.written });
 }
