@@ -332,16 +332,13 @@ fn an_interrupted_read_is_made_again(rt: HostRuntime) -> Result<(), Fail> {
 }
 
 /// Puts so many items, and then that it ends.
-fn put_all<W: Wait>(rt: &W, alloc: Global, mut sender: Sender<Item>, count: u32) -> u32 {
-    let mut put = 0;
+fn put_all<W: Wait>(rt: &W, alloc: Global, mut sender: Sender<Item>, count: u32) {
     for _ in 0..count {
         if let Ok(octets) = Vec::from_slice(alloc, FIRST) {
             sender.put(rt, Item::Octets(OctetString::from_vec(octets)));
-            put += 1;
         }
     }
     sender.put(rt, Item::End);
-    put
 }
 
 /// Writes what a sender puts in a thread of its own.
@@ -355,7 +352,7 @@ fn write_all_of<W: Wait + std::thread::Threads + Sync>(
     let Some(sender) = senders.pop() else {
         return Err("no sender".into());
     };
-    let (_put, end) = join(
+    let ((), end) = join(
         rt,
         || put_all(rt, alloc, sender, count),
         || write_side(rt, output, &mut receiver, ENOUGH),
