@@ -1,5 +1,5 @@
 -- What went out of items, one item later.
-use Rattle.std.proofs.Common.{◌≡◌, ℕ, zero, suc, ◌+◌, ◌-◌, ◌≤◌, ◌<◌, nat_le, nat_lt, Bool, true, false, List, [], ◌∷◌, ◌++◌, length, take, drop, take-append-drop, refl, sym, ap, ◌∙◌, subst, append_assoc, None, Some, Option, ◌⊎◌, inl, inr, arith, length-append, length-take, zero-add}
+use Rattle.std.proofs.Common.{◌≡◌, ℕ, ◌+◌, ◌-◌, ◌≤◌, ◌<◌, nat_le, nat_lt, Bool, true, false, List, [], ◌∷◌, ◌++◌, length, take, drop, take-append-drop, refl, sym, ap, ◌∙◌, subst, append_assoc, None, Some, Option, ◌⊎◌, inl, inr, arith, length-append, length-take, zero-add}
 use Rattle.std.specs.Io.KnownBytes.{Appends}
 use Rattle.std.proofs.KnownBytes.{Appends-nil, Appends-trans}
 use Rattle.std.proofs.lemmas.Bool.{cases_Bool}
@@ -14,9 +14,9 @@ use Rattle.dcc_connect.specs.declared.writing.Progress.{Progress}
 use Rattle.dcc_connect.specs.declared.writing.WriteEnd.{WriteEnd}
 use Rattle.dcc_connect.specs.declared.fault.ConnectFault.{ConnectFault}
 use Rattle.dcc_connect.specs.declared.fault.ConnectFault.TheVariants.{Read, Write, TooManyTurns, Header, Memory}
-use Rattle.dcc_connect.specs.Writing.{items_of, octets_in, ends_in, whole_in, GoesOut, EndsWithSenders, IsWritten, TakesAndWrites}
+use Rattle.dcc_connect.specs.Writing.{items_of, octets_in, ends_in, whole_in, GoesOut, EndsWithSenders, TakesAndWrites}
 use Rattle.dcc_connect.specs.inner.Sends.{Counts}
-use Rattle.dcc_connect.specs.inner.Items.{Stays, FirstFault, answers_with, WritesOctets, WritesItem, HasSent, HasWritten, HasTaken, last_fault}
+use Rattle.dcc_connect.specs.inner.Items.{FirstFault, answers_with, WritesOctets, WritesItem, HasSent, HasWritten, HasTaken, last_fault}
 
 cases_le : (m n : ℕ) → (m ≤ n) ⊎ (n < m)
 cases_le m n = elim (cases_Bool (nat_le m n)) [ inl t ↦ inl (grind (arith, nat_tests)) | inr f ↦ inr (grind (arith, nat_tests)) ]

@@ -1,5 +1,5 @@
 -- The next message of a stream, or its fault.
-use Rattle.std.proofs.Common.{◌≡◌, ℕ, true, false, Bool, List, [], ◌∷◌, ◌++◌, take, drop, refl, sym, ap, ◌∙◌, inl, inr, None, Some, Option, Result, Ok, Err}
+use Rattle.std.proofs.Common.{◌≡◌, ℕ, true, false, List, [], ◌∷◌, take, drop, refl, sym, ap, ◌∙◌, inl, inr, None, Some, Option, Result, Ok, Err}
 use Rattle.std.specs.Option.{option_map, unwrap_or}
 use Rattle.std.proofs.lemmas.Bool.{cases_Bool}
 use Rattle.dcc_message.specs.HeaderView.{HeaderView}

@@ -1,12 +1,11 @@
 -- How passing messages on goes on.
 use Rattle.std.proofs.Common.{◌≡◌, ℕ, List, [], ◌∷◌, ◌++◌, refl, sym, ap, ◌∙◌, subst, append_assoc, None, Some, Option, ◌⊎◌, inl, inr, Result, Ok, Err}
-use Rattle.std.specs.List.{AllByRecursion, FoldsTo}
+use Rattle.std.specs.List.{FoldsTo}
 use Rattle.std.specs.Option.{option_map}
-use Rattle.std.proofs.lemmas.List.{append-nil}
 use Rattle.dcc_message.specs.Streams.{messages, rest, fault_at}
 use Rattle.dcc_message.specs.declared.header.HeaderFault.{HeaderFault}
 use Rattle.dcc_message.specs.declared.header.HeaderFault.TheVariants.{Length}
-use Rattle.dcc_connect.specs.Streams.{fault_of_message, before_fault, first_fault, heard, stream_fault, PassesAll, PassesBefore, PassesUpTo, PassesBeginning}
+use Rattle.dcc_connect.specs.Streams.{fault_of_message, before_fault, first_fault, heard, stream_fault, PassesAll, PassesBefore, PassesUpTo}
 use Rattle.std.specs.Result.{IsErrAnd}
 use Rattle.dcc_connect.specs.declared.fault.ConnectFault.{ConnectFault}
 use Rattle.dcc_connect.specs.declared.fault.ConnectFault.TheVariants.{Read, Write, TooManyTurns, Header, Memory}

@@ -1,23 +1,21 @@
 -- How answering goes on.
-use Rattle.std.proofs.Common.{◌≡◌, ℕ, ◌+◌, ◌≤◌, ◌<◌, true, false, List, [], ◌∷◌, ◌++◌, length, take, drop, take-append-drop, refl, sym, ap, ◌∙◌, subst, append_assoc, None, Some, Option, inl, inr, Result, Ok, Err, arith, length-append, length-take}
-use Rattle.std.specs.Io.KnownBytes.{Appends, Consumes}
+use Rattle.std.proofs.Common.{◌≡◌, ℕ, ◌+◌, ◌<◌, true, false, List, [], ◌∷◌, ◌++◌, length, take, drop, take-append-drop, refl, sym, ap, ◌∙◌, subst, append_assoc, None, Some, Option, inl, inr, Result, Ok, Err, arith, length-append, length-take}
+use Rattle.std.specs.Io.KnownBytes.{Appends}
 use Rattle.std.specs.List.{concat}
 use Rattle.std.specs.Result.{IsErrAnd}
 use Rattle.std.proofs.KnownBytes.{Appends-nil, Appends-trans}
 use Rattle.std.proofs.lemmas.List.{append-nil, take_all}
 use Rattle.std.proofs.Math.Seq.{take-append-add}
 use mathlib.Core.List.{IsPrefix}
-use Rattle.dcc_message.specs.Streams.{messages, rest}
 use Rattle.dcc_base.specs.declared.reply.Reply.{Reply}
 use Rattle.dcc_connect.specs.declared.turns.Turn.TheVariants as turn
 use Rattle.dcc_connect.specs.declared.fault.ConnectFault.{ConnectFault}
 use Rattle.dcc_connect.specs.declared.fault.ConnectFault.TheVariants.{Read, Write, TooManyTurns, Header, Memory}
 use Rattle.dcc_connect.specs.declared.fault.ConnectionEnd.{ConnectionEnd}
 use Rattle.dcc_connect.specs.declared.fault.ConnectionEnd.TheVariants.{End, Closed, Fault}
-use Rattle.dcc_connect.specs.Streams.{PassesAll, PassesBefore, PassesUpTo}
 use Rattle.dcc_connect.specs.Serving.{Answers, AnswersOn, AnswersLast, ReadsAndServes}
 use Rattle.dcc_connect.specs.inner.Sends.{Counts, Sends}
-use Rattle.dcc_connect.specs.inner.Steps.{StreamLaws, TakesPiece, Nexts, HasPassed, HasFed, HasRead}
+use Rattle.dcc_connect.specs.inner.Steps.{StreamLaws, TakesPiece, Nexts, HasPassed}
 use Rattle.dcc_connect.specs.inner.Answering.{AnswersReady, HasAnswered, HasServed}
 use Rattle.dcc_connect.proofs.Passing.{pass_all, pass_before, pass_up_to, pass_on, pass_none, pass_one, all_none, before_none, last_one}
 use Rattle.dcc_connect.proofs.Turning.{begun, fed, drained, one_more, no_more, longer, snoc}

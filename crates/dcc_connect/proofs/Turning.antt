@@ -1,19 +1,19 @@
 -- How reading goes on, turn by turn.
-use Rattle.std.proofs.Common.{◌≡◌, ℕ, suc, ◌+◌, ◌≤◌, ◌<◌, List, [], ◌∷◌, ◌++◌, length, refl, sym, ap, ◌∙◌, subst, None, Some, Option, Result, Ok, Err, arith, length-append}
+use Rattle.std.proofs.Common.{◌≡◌, ℕ, ◌+◌, ◌<◌, List, [], ◌∷◌, ◌++◌, length, refl, sym, ap, ◌∙◌, subst, Option, Ok, Err, arith, length-append}
 use Rattle.std.specs.List.{AllByRecursion, concat}
-use Rattle.std.specs.Io.KnownBytes.{Consumes, IsAtEnd}
+use Rattle.std.specs.Io.KnownBytes.{Consumes}
 use Rattle.std.proofs.KnownBytes.{Consumes-nil, Consumes-trans}
 use Rattle.std.proofs.lemmas.List.{append-nil}
 use Rattle.std.proofs.lemmas.List.Folds.{concat-append}
-use Rattle.dcc_message.specs.Streams.{messages, rest, fault_at}
+use Rattle.dcc_message.specs.Streams.{rest}
 use Rattle.dcc_connect.specs.declared.turns.Turn.TheVariants as turn
 use Rattle.dcc_connect.specs.declared.handing.Handed.{Handed}
 use Rattle.dcc_connect.specs.declared.fault.ConnectFault.{ConnectFault}
 use Rattle.dcc_connect.specs.declared.fault.ConnectFault.TheVariants.{Read, Write, TooManyTurns, Header, Memory}
 use Rattle.dcc_connect.specs.declared.fault.ConnectionEnd.{ConnectionEnd}
 use Rattle.dcc_connect.specs.declared.fault.ConnectionEnd.TheVariants.{End, Closed, Fault}
-use Rattle.dcc_connect.specs.Streams.{PassesAll, PassesBefore, PassesUpTo, PassesBeginning}
-use Rattle.dcc_connect.specs.Reading.{HandsOn, HandsLast, Hands, ReadsPieces, UsesTurns, ReadsAndHands}
+use Rattle.dcc_connect.specs.Streams.{PassesAll}
+use Rattle.dcc_connect.specs.Reading.{HandsOn, HandsLast, ReadsPieces, ReadsAndHands}
 use Rattle.dcc_connect.specs.inner.Steps.{StreamLaws, TakesPiece, HasFed, HasRead, HandsReady}
 use Rattle.dcc_connect.proofs.Passing.{grows, all_none, pass_all, pass_before, pass_up_to}
 

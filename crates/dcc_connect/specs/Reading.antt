@@ -1,10 +1,9 @@
 -- What the reader's side of a connection does.
-use Rattle.std.specs.Prelude.{◌≡◌, ℕ, ◌≤◌, ◌<◌, List, [], ◌++◌, length, Option}
+use Rattle.std.specs.Prelude.{◌≡◌, ℕ, ◌≤◌, ◌<◌, List, length, Option}
 use Rattle.std.specs.List.{AllByRecursion, concat}
 use Rattle.std.specs.Io.KnownBytes.{Consumes, IsAtEnd}
 use Rattle.dcc_connect.specs.declared.handing.Handed.{Handed}
 use Rattle.dcc_connect.specs.declared.handing.Handed.TheVariants.{Stays, Closes}
-use Rattle.dcc_connect.specs.declared.fault.ConnectFault.{ConnectFault}
 use Rattle.dcc_connect.specs.declared.fault.ConnectFault.TheVariants.{Read, Write, TooManyTurns, Header, Memory}
 use Rattle.dcc_connect.specs.declared.fault.ConnectionEnd.{ConnectionEnd}
 use Rattle.dcc_connect.specs.declared.fault.ConnectionEnd.TheVariants.{End, Closed, Fault}

@@ -1,5 +1,3 @@
-use Rattle.dcc_connect.specs.inner.Sends.{Sends}
-use Rattle.std.proofs.Common.{subst}
 use Rattle.dcc_connect.proofs.Replying.{reply_begun, reply_on, reply_closes, reply_stops, reply_none, reply_err}
 use Rattle.dcc_connect.proofs.connection.answer_ready.Goals as goal
 

@@ -1,4 +1,4 @@
-use Rattle.std.proofs.Common.{◌≡◌, ◌≤◌, ◌+◌, refl, ap, subst, inr, arith, rules}
+use Rattle.std.proofs.Common.{◌≡◌, refl, ap, subst, inr, arith, rules}
 use Rattle.dcc_lane.specs.Ends.{taken_of}
 use Rattle.dcc_connect.specs.declared.writing.Progress.{Progress}
 use Rattle.dcc_connect.specs.Writing.{TakesAndWrites}

@@ -1,5 +1,5 @@
-use Rattle.std.proofs.Common.{◌≡◌, ◌+◌, ◌≤◌}
-use Rattle.dcc_lane.specs.Ends.{IsSameReceiver, taken_of, senders_of}
+use Rattle.std.proofs.Common.{◌+◌, ◌≤◌}
+use Rattle.dcc_lane.specs.Ends.{IsSameReceiver, taken_of}
 use Rattle.dcc_connect.specs.inner.Items.{HasTaken}
 use Rattle.dcc_connect.proofs.writing.write_side.Given as goal
 
