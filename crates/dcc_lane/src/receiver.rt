@@ -55,6 +55,13 @@ impl<T: Drop> Receiver<T> {
     ghost use Rattle.std.specs.List.{All};
     ghost use Rattle.dcc_lane.specs.Ends.{lane_of, senders_of, number_of, taken_of, IsSameReceiver, TakesOne, IsOfLane, HasNoneOf, IsBegun, IsPutBy, AreCounts, IsMissing};
 
+    /// How many senders the lane was made with.
+    pub fn senders(&self) -> usize
+        ensures { result ≡ senders_of self.now }
+    {
+        self.taken.len()
+    }
+
     /// Takes the oldest item. It waits while there is none.
     pub fn take<R: Wait>(&mut self, rt: &R) -> T
         ensures same { IsSameReceiver self.old self.new }

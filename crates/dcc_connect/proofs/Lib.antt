@@ -1,0 +1,7 @@
+pub mod Cuts
+pub mod Nexting
+pub mod Passing
+pub mod Turning
+pub mod Octets
+pub mod Items
+pub mod Replying

@@ -1,0 +1,4 @@
+pub mod Steps
+pub mod Sends
+pub mod Items
+pub mod Answering

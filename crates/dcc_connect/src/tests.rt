@@ -1,0 +1,409 @@
+//! Connections over readers and writers that come to their end, fail, or take their time.
+
+use crate::{
+    Answerer, Clock, ConnectFault, ConnectionEnd, Handed, Item, Submitter, WriteEnd, read_side,
+    serve_connection, write_side,
+};
+use dcc_act::Moment;
+use dcc_base::Reply;
+use dcc_lane::{Lane, Sender};
+use dcc_message::{HeaderFault, LengthFault};
+use dcc_octets::OctetString;
+use std::alloc::Global;
+use std::io::{self, Error, ErrorKind, Read, Write};
+use std::sync::Wait;
+use std::test::Fail;
+use std::thread::join;
+
+/// A capabilities exchange, and then a device watchdog: their headers alone (RFC 6733, sections 5.3.1 and 5.5.1).
+const MESSAGES: &[u8] = &[
+    1, 0, 0, 20, 0x80, 0, 1, 1, 0, 0, 0, 0, 0, 0, 0, 1, 0, 0, 0, 1, //
+    1, 0, 0, 20, 0x80, 0, 1, 24, 0, 0, 0, 0, 0, 0, 0, 2, 0, 0, 0, 2,
+];
+
+/// Half of them.
+const HALF: usize = 20;
+
+/// What is answered to the first message, and to both.
+const FIRST: &[u8] = b"capabilities,";
+
+const BOTH: &[u8] = b"capabilities,watchdog";
+
+const ENOUGH: u32 = 1000;
+
+/// Gives so many octets at a time, and fails at the read after so many.
+#[derive(Drop)]
+struct Source<'a> {
+    rest: &'a [u8],
+    most: usize,
+    reads: u32,
+    failure: ErrorKind,
+}
+
+impl Read for Source<'_> {
+    fn read(&mut self, buf: &mut [u8]) -> io::Result<usize> {
+        if self.reads == 0 {
+            self.reads = 1000;
+            return Err(Error::from(self.failure));
+        }
+        self.reads -= 1;
+        let count = self.rest.len().min(self.most).min(buf.len());
+        let (front, rest) = self.rest.split_at(count);
+        buf[..count].copy_from_slice(front);
+        self.rest = rest;
+        Ok(count)
+    }
+}
+
+/// Takes so many octets at a time, and in all no more than it has room for; then it fails, or takes none.
+#[derive(Drop)]
+struct Sink {
+    taken: Vec<u8>,
+    most: usize,
+    room: usize,
+    refuses: bool,
+}
+
+impl Write for Sink {
+    fn write(&mut self, buf: &[u8]) -> io::Result<usize> {
+        if self.room == 0 && self.refuses {
+            return Err(Error::from(ErrorKind::BrokenPipe));
+        }
+        let count = self.room.min(self.most).min(buf.len());
+        self.taken.extend_from_slice(&buf[..count])?;
+        self.room -= count;
+        Ok(count)
+    }
+
+    fn flush(&mut self) -> io::Result<()> {
+        Ok(())
+    }
+}
+
+#[derive(Drop)]
+struct Stopped(Moment);
+
+impl Clock for Stopped {
+    fn moment(&self) -> Moment {
+        self.0
+    }
+}
+
+fn clock() -> Result<Stopped, Fail> {
+    match Moment::new(1_700_000_000) {
+        Some(moment) => Ok(Stopped(moment)),
+        None => Err("no moment".into()),
+    }
+}
+
+/// Answers the messages by their turn; it closes behind the one that it is told, and for want of memory.
+#[derive(Drop)]
+struct InTurn {
+    alloc: Global,
+    answered: u32,
+    last: u32,
+}
+
+impl Answerer for InTurn {
+    ghost answers = { λ _ _ _ _ _. Unit {0} };
+
+    fn answer(&mut self, _moment: Moment, _message: &[u8]) -> Reply {
+        let octets: &[u8] = if self.answered == 0 {
+            FIRST
+        } else {
+            b"watchdog"
+        };
+        self.answered = self.answered.saturating_add(1);
+        match Vec::from_slice(self.alloc, octets) {
+            Ok(octets) => Reply {
+                octets: OctetString::from_vec(octets),
+                close: self.answered == self.last,
+            },
+            Err(_) => Reply {
+                octets: OctetString::new(self.alloc),
+                close: true,
+            },
+        }
+    }
+}
+
+/// Counts the messages, and closes behind the one that it is told.
+#[derive(Drop)]
+struct Counter {
+    handed: u32,
+    last: u32,
+}
+
+impl Submitter for Counter {
+    ghost hands = { λ _ _ _ _ _. Unit {0} };
+
+    fn hand<W: Wait>(&mut self, _rt: &W, _moment: Moment, _message: &[u8]) -> Handed {
+        self.handed = self.handed.saturating_add(1);
+        if self.handed == self.last {
+            Handed::Closes
+        } else {
+            Handed::Stays
+        }
+    }
+}
+
+fn giving(octets: &[u8], most: usize, reads: u32) -> Source<'_> {
+    Source {
+        rest: octets,
+        most,
+        reads,
+        failure: ErrorKind::ConnectionReset,
+    }
+}
+
+fn taking(alloc: Global, most: usize, room: usize, refuses: bool) -> Sink {
+    Sink {
+        taken: Vec::new(alloc),
+        most,
+        room,
+        refuses,
+    }
+}
+
+/// Serves a connection whose answerer closes behind none of the first messages.
+fn serve(
+    alloc: Global,
+    input: &mut Source<'_>,
+    output: &mut Sink,
+    turns: u32,
+) -> Result<ConnectionEnd, Fail> {
+    let mut answerer = InTurn {
+        alloc,
+        answered: 0,
+        last: 9,
+    };
+    Ok(serve_connection(alloc, input, output, &clock()?, &mut answerer, turns))
+}
+
+#[test]
+fn answers_each_message(rt: HostRuntime) -> Result<(), Fail> {
+    let alloc = rt.alloc();
+    for most in [1, 7, HALF, 100] {
+        let mut output = taking(alloc, 100, 100, true);
+        let end = serve(
+            alloc,
+            &mut giving(MESSAGES, most, ENOUGH),
+            &mut output,
+            ENOUGH,
+        )?;
+        assert_eq!(&rt; end, ConnectionEnd::End);
+        assert_eq!(&rt; output.taken.as_slice(), BOTH);
+    }
+    Ok(())
+}
+
+/// The messages come in pieces of 10 octets: from the third read on the first is answered, and from the fifth on both.
+#[test]
+fn a_reader_fails_at_each_read(rt: HostRuntime) -> Result<(), Fail> {
+    let alloc = rt.alloc();
+    for (reads, answers) in [
+        (0, b"".as_slice()),
+        (1, b""),
+        (2, FIRST),
+        (3, FIRST),
+        (4, BOTH),
+    ] {
+        let mut output = taking(alloc, 100, 100, true);
+        let end = serve(alloc, &mut giving(MESSAGES, 10, reads), &mut output, ENOUGH)?;
+        assert_eq!(&rt; end, ConnectionEnd::Fault(ConnectFault::Read), "at {reads}");
+        assert_eq!(&rt; output.taken.as_slice(), answers, "at {reads}");
+    }
+    Ok(())
+}
+
+#[test]
+fn a_writer_fails_after_each_octet(rt: HostRuntime) -> Result<(), Fail> {
+    let alloc = rt.alloc();
+    for refuses in [true, false] {
+        for room in 0..BOTH.len() {
+            let mut output = taking(alloc, 1, room, refuses);
+            let end = serve(
+                alloc,
+                &mut giving(MESSAGES, 100, ENOUGH),
+                &mut output,
+                ENOUGH,
+            )?;
+            let written = room as u64;
+            assert_eq!(&rt; end, ConnectionEnd::Fault(ConnectFault::Write { written }));
+            assert_eq!(&rt; output.taken.as_slice(), &BOTH[..room]);
+        }
+    }
+    Ok(())
+}
+
+#[test]
+fn closes_behind_an_answer(rt: HostRuntime) -> Result<(), Fail> {
+    let alloc = rt.alloc();
+    let mut output = taking(alloc, 100, 100, true);
+    let mut answerer = InTurn {
+        alloc,
+        answered: 0,
+        last: 1,
+    };
+    let mut input = giving(MESSAGES, 100, ENOUGH);
+    let end = serve_connection(alloc, &mut input, &mut output, &clock()?, &mut answerer, 9);
+    assert_eq!(&rt; end, ConnectionEnd::Closed);
+    assert_eq!(&rt; output.taken.as_slice(), FIRST);
+    Ok(())
+}
+
+/// Behind the first message stands a header of version 2, a length below a header's, and one above the limit.
+#[test]
+fn what_is_no_message(rt: HostRuntime) -> Result<(), Fail> {
+    let alloc = rt.alloc();
+    let version = HeaderFault::Version;
+    let bad_length = HeaderFault::Length(LengthFault::BadLength);
+    let too_long = HeaderFault::Length(LengthFault::TooLong);
+    for (place, octet, fault, number) in [
+        (HALF, 2, version, 10),
+        (HALF + 3, 16, bad_length, 11),
+        (HALF + 1, 1, too_long, 12),
+    ] {
+        let mut octets = Vec::from_slice(alloc, MESSAGES)?;
+        if let Some(at) = octets.get_mut(place) {
+            *at = octet;
+        }
+        let mut output = taking(alloc, 100, 100, true);
+        let end = serve(
+            alloc,
+            &mut giving(octets.as_slice(), 7, ENOUGH),
+            &mut output,
+            ENOUGH,
+        )?;
+        assert_eq!(&rt; end, ConnectionEnd::Fault(ConnectFault::Header(fault)));
+        assert_eq!(&rt; ConnectFault::Header(fault).number(), Some(number));
+        assert_eq!(&rt; output.taken.as_slice(), FIRST);
+    }
+    Ok(())
+}
+
+#[test]
+fn turns_are_bounded(rt: HostRuntime) -> Result<(), Fail> {
+    let alloc = rt.alloc();
+    let used_up = ConnectionEnd::Fault(ConnectFault::TooManyTurns);
+    let mut output = taking(alloc, 1, 100, true);
+    // Three reads of one octet; and one read of all, with two octets that go out.
+    let end = serve(alloc, &mut giving(MESSAGES, 1, ENOUGH), &mut output, 3)?;
+    assert_eq!(&rt; end, used_up);
+    assert_eq!(&rt; output.taken.as_slice(), b"".as_slice());
+    let end = serve(alloc, &mut giving(MESSAGES, 100, ENOUGH), &mut output, 3)?;
+    assert_eq!(&rt; end, used_up);
+    assert_eq!(&rt; output.taken.as_slice(), b"ca".as_slice());
+    let mut counter = Counter { handed: 0, last: 9 };
+    let mut input = giving(MESSAGES, 1, ENOUGH);
+    let end = read_side(&rt, alloc, &mut input, &clock()?, &mut counter, 3);
+    assert_eq!(&rt; end, used_up);
+    Ok(())
+}
+
+#[test]
+fn hands_each_message_on(rt: HostRuntime) -> Result<(), Fail> {
+    let alloc = rt.alloc();
+    let failed = ConnectionEnd::Fault(ConnectFault::Read);
+    for (last, reads, end, handed) in [
+        (9, ENOUGH, ConnectionEnd::End, 2),
+        (1, ENOUGH, ConnectionEnd::Closed, 1),
+        (9, 3, failed, 1),
+    ] {
+        let mut counter = Counter { handed: 0, last };
+        let mut input = giving(MESSAGES, 10, reads);
+        let told = read_side(&rt, alloc, &mut input, &clock()?, &mut counter, ENOUGH);
+        assert_eq!(&rt; told, end);
+        assert_eq!(&rt; counter.handed, handed);
+    }
+    Ok(())
+}
+
+#[test]
+fn an_interrupted_read_is_made_again(rt: HostRuntime) -> Result<(), Fail> {
+    let alloc = rt.alloc();
+    let mut output = taking(alloc, 100, 100, true);
+    let mut input = giving(MESSAGES, 10, 1);
+    input.failure = ErrorKind::Interrupted;
+    let end = serve(alloc, &mut input, &mut output, ENOUGH)?;
+    assert_eq!(&rt; end, ConnectionEnd::End);
+    assert_eq!(&rt; output.taken.as_slice(), BOTH);
+    Ok(())
+}
+
+/// Puts so many items, and then that it ends.
+fn put_all<W: Wait>(rt: &W, alloc: Global, mut sender: Sender<Item>, count: u32) {
+    for _ in 0..count {
+        if let Ok(octets) = Vec::from_slice(alloc, FIRST) {
+            sender.put(rt, Item::Octets(OctetString::from_vec(octets)));
+        }
+    }
+    sender.put(rt, Item::End);
+}
+
+/// Writes what a sender puts in a thread of its own.
+fn write_all_of<W: Wait + std::thread::Threads + Sync>(
+    rt: &W,
+    alloc: Global,
+    output: &mut Sink,
+    count: u32,
+) -> Result<WriteEnd, Fail> {
+    let (mut senders, mut receiver) = Lane::<Item>::new(alloc, 2, 1)?;
+    let Some(sender) = senders.pop() else {
+        return Err("no sender".into());
+    };
+    let ((), end) = join(
+        rt,
+        || put_all(rt, alloc, sender, count),
+        || write_side(rt, output, &mut receiver, ENOUGH),
+    );
+    Ok(end)
+}
+
+#[test]
+fn writes_until_the_sender_ends(rt: HostRuntime) -> Result<(), Fail> {
+    let alloc = rt.alloc();
+    let mut output = taking(alloc, 5, 100, true);
+    let end = write_all_of(&rt, alloc, &mut output, 3)?;
+    let all = WriteEnd {
+        fault: None,
+        answers: 3,
+    };
+    assert_eq!(&rt; end, all);
+    assert_eq!(&rt;
+        output.taken.as_slice(),
+        b"capabilities,capabilities,capabilities,".as_slice()
+    );
+    Ok(())
+}
+
+/// The writer fails within the second item. A hundred more go through a lane that holds two.
+#[test]
+fn a_failed_writer_still_takes(rt: HostRuntime) -> Result<(), Fail> {
+    let alloc = rt.alloc();
+    let mut output = taking(alloc, 5, 15, true);
+    let end = write_all_of(&rt, alloc, &mut output, 102)?;
+    let failed = WriteEnd {
+        fault: Some(ConnectFault::Write { written: 15 }),
+        answers: 1,
+    };
+    assert_eq!(&rt; end, failed);
+    assert_eq!(&rt; output.taken.as_slice(), b"capabilities,ca".as_slice());
+    Ok(())
+}
+
+/// Meant for refused allocations.
+#[test]
+fn a_refusal_is_told(rt: HostRuntime) -> Result<(), Fail> {
+    let alloc = rt.alloc();
+    let mut counter = Counter { handed: 0, last: 9 };
+    let mut input = giving(MESSAGES, 10, ENOUGH);
+    let end = read_side(&rt, alloc, &mut input, &clock()?, &mut counter, ENOUGH);
+    if end == ConnectionEnd::Fault(ConnectFault::Memory) {
+        assert!(&rt; counter.handed < 2);
+        return Err(Fail::from("memory was refused"));
+    }
+    assert_eq!(&rt; end, ConnectionEnd::End);
+    assert_eq!(&rt; counter.handed, 2);
+    Ok(())
+}
