@@ -6,5 +6,3 @@
 mod decode;
 #[cfg(test)]
 mod program;
-#[cfg(test)]
-mod replay;

@@ -1,3 +1,0 @@
-//! Scripts and what is printed of them: what no row of tests/rows says.
-
-mod streams;
