@@ -15,6 +15,4 @@ mod server;
 #[cfg(test)]
 mod shard;
 #[cfg(test)]
-mod sqlrec;
-#[cfg(test)]
 mod top_ups;
