@@ -2,4 +2,5 @@ pub mod Marked
 pub mod Orders
 pub mod Outcomes
 pub mod Places
+pub mod SameActs
 pub mod Singles

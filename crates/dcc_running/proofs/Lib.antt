@@ -3,4 +3,5 @@ pub mod Copies
 pub mod Covering
 pub mod Ends
 pub mod Owned
+pub mod Placing
 pub mod TopUps

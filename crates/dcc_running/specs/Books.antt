@@ -1,5 +1,5 @@
 -- Shards that work under locks, and what they hold once they are out of these.
-use Rattle.std.specs.Prelude.{◌≡◌, ◌≢◌, ℕ, ◌<◌, List, [], length, slice_index_or, Option, Some, None, slice_get}
+use Rattle.std.specs.Prelude.{◌≡◌, ◌≢◌, ℕ, ◌<◌, Bool, false, List, [], length, slice_index_or, Option, Some, None, slice_get}
 use Rattle.std.specs.Global.{Vec}
 use Rattle.std.specs.Map.{lookup}
 use Rattle.std.specs.Option.{option_map_or}
@@ -9,6 +9,8 @@ use Rattle.dcc_act.specs.declared.act.Act.{Act}
 use Rattle.dcc_act.specs.declared.sub.Sub.{Sub}
 use Rattle.dcc_act.specs.Subs.{same_sub}
 use Rattle.dcc_records.specs.Books.{Held}
+use Rattle.dcc_records.specs.Contents.{Content}
+use Rattle.dcc_records.specs.Stops.{LeavesOnly}
 use Rattle.dcc_shard.specs.Routes.{shard_of}
 use Rattle.dcc_shard.specs.Shards.{held}
 use Rattle.dcc_shard.specs.Stored.{StoredView}
@@ -50,3 +52,8 @@ pub record AreShards {R : Type 0} (terms : TermsView) (identity : Identity) (par
   pub identity_is : (i : ℕ) (none : StoredView R) → i < length parts → (slice_index_or parts i none).shard.identity ≡ identity
   pub placed : (i : ℕ) (none : StoredView R) (sub : Sub) → i < length parts
       → held (slice_index_or parts i none).shard sub ≢ [] → shard_of sub (length parts) ≡ i
+
+-- The records of shards keep just what these hold: where those of a shard aren't stopped, a stop leaves its acts, and nothing else.
+abbrev pub AreKept : {R : Type 0} → (R → Bool) → (R → Content → Type 0) → List (StoredView R) → Type 0
+AreKept {R} is_stopped may_leave parts = (i : ℕ) (none : StoredView R) → i < length parts → is_stopped (slice_index_or parts i none).records ≡ false
+    → LeavesOnly (slice_index_or parts i none).shard.terms (held (slice_index_or parts i none).shard) (may_leave (slice_index_or parts i none).records)

@@ -1,9 +1,13 @@
 //! Shards out of their locks.
 
-ghost use Rattle.std.specs.Prelude.{◌≡◌, ◌≢◌, [], map, reverse, length, IfSome, IfNone};
+ghost use Rattle.std.specs.Prelude.{◌≡◌, ◌≢◌, ◌<◌, ◌≤◌, ℕ, [], map, reverse, length, slice_index_or, IfSome, IfNone};
+ghost use Rattle.dcc_act.specs.declared.sub.Sub.{Sub};
 ghost use Rattle.dcc_model.specs.Outcomes.{act_made, history};
 ghost use Rattle.dcc_running.specs.Audited.{AreOwn};
-ghost use Rattle.dcc_running.specs.Books.{AreShards, at_opening, book};
+ghost use Rattle.dcc_running.specs.Books.{AreShards, AreKept, at_opening, book};
+ghost use Rattle.dcc_shard.specs.Routes.{shard_of};
+ghost use Rattle.dcc_shard.specs.Shards.{held};
+ghost use Rattle.dcc_shard.specs.Stored.{StoredView};
 
 use crate::opening::Opening;
 use crate::shards::{Shards, locked, unlocked};
@@ -105,6 +109,15 @@ impl<R: Records> Books<R> {
         }
     }
 
+    /// Does nothing: what the records of each shard hold is what it holds.
+    pub(crate) fn records_are_kept(&self)
+        ensures { AreKept R.is_stopped R.may_leave self.now.parts }
+    {
+        for shard in &self.shards {
+            let _records = shard.records();
+        }
+    }
+
     /// The acts of a subscriber at opening.
     pub(crate) fn at_opening(&self, sub: &Sub) -> &[Act]
         ensures { result.now ≡ at_opening self.now.opening sub.now }
@@ -115,12 +128,26 @@ impl<R: Records> Books<R> {
         }
     }
 
-    /// The shards, each with its records, moved out: for a next opening. It takes no memory.
+    /// The shards, each with its records, moved out. It takes no memory. Where `close` was Ok they may be opened again, as
+    /// [`Shards::new`] asks for it.
     pub fn into_shards(self) -> Vec<Shard<R>>
     where
         R: Drop,
-        ensures { result.items ≡ self.parts }
+        ensures parts { result.items ≡ self.parts }
+        ensures some { 1 ≤ length result.items }
+        ensures most { length result.items ≤ 8 }
+        ensures terms { AreShards self.terms self.identity self.parts → (i : ℕ) (none : StoredView R) → i < length result.items
+            → (slice_index_or result.items i none).shard.terms ≡ self.terms }
+        ensures identity { AreShards self.terms self.identity self.parts → (i : ℕ) (none : StoredView R) → i < length result.items
+            → (slice_index_or result.items i none).shard.identity ≡ self.identity }
+        ensures placed { AreShards self.terms self.identity self.parts → (i : ℕ) (none : StoredView R) (sub : Sub) → i < length result.items
+            → held (slice_index_or result.items i none).shard sub ≢ [] → shard_of sub (length result.items) ≡ i }
+        // The acts of a subscriber are those that its shard holds, and what the records of a shard hold is what it holds.
+        ensures held { (sub : Sub) (none : StoredView R) → held (slice_index_or result.items (shard_of sub (length result.items)) none).shard sub
+            ≡ book self.parts sub }
+        ensures kept { AreKept R.is_stopped R.may_leave result.items }
     {
+        self.records_are_kept();
         self.shards
     }
 
