@@ -1,4 +1,5 @@
-//! Steps of accounts that hold many acts: a direct debit, an update of one of 64 open sessions, a repeat, and a top-up.
+//! Steps of accounts that hold many acts: a direct debit, an update of one of 64 open sessions, a repeat of a late and of any act, and a
+//! top-up.
 
 ghost use Rattle.std.specs.Prelude.{◌≡◌, ◌≤◌, true, is_some};
 ghost use Rattle.std.specs.Option.{ForSome};
@@ -70,6 +71,9 @@ pub fn measure<R: AllocGlobal + RandomSource + Print + Eprint + CpuClock>(
     let updates = timed(rt, "account update", steps, || {
         update_all(&setting, &mut all, &mut next)
     })?;
+    let late = timed(rt, "account late repeat", steps, || {
+        repeat_late(&setting, &mut all, held)
+    })?;
     let repeats = timed(rt, "account repeat", steps, || {
         repeat_all(&setting, &mut all, held)
     })?;
@@ -77,7 +81,7 @@ pub fn measure<R: AllocGlobal + RandomSource + Print + Eprint + CpuClock>(
         top_up_all(&setting, &mut all, &mut next)
     })?;
     println!(rt;
-        "account {accounts} {held} new {debits} {updates} {repeats} {top_ups} funds {}",
+        "account {accounts} {held} new {debits} {updates} {late} {repeats} {top_ups} funds {}",
         funds_of(&all)
     )?;
     Ok(())
@@ -117,6 +121,21 @@ fn update_all(setting: &Setting, all: &mut [Account], next: &mut u32) -> Result<
     for i in 0..STEPS as usize {
         *next = next.wrapping_add(1);
         made = made.wrapping_add(stepped(all, i, update(setting, *next % SESSIONS, *next)?)?);
+    }
+    Ok(made)
+}
+
+fn repeat_late(setting: &Setting, all: &mut [Account], held: u32) -> Result<u64> {
+    let mut made = 0u64;
+    let debits = held.saturating_sub(SESSIONS + 1).max(1);
+    for i in 0..STEPS {
+        // As a gateway sends again what it has just sent.
+        let back = (i % debits).wrapping_add(1);
+        made = made.wrapping_add(stepped(
+            all,
+            i as usize,
+            debit(setting, held.wrapping_sub(back))?,
+        )?);
     }
     Ok(made)
 }

@@ -10,11 +10,13 @@
 mod commands;
 mod fault;
 mod ledger;
+mod server;
 mod stores;
 mod top_up;
 
 pub use commands::{TopUpAsk, ledger_in, top_up_in};
 pub use fault::OperatorFault;
 pub use ledger::{ledger_run, unknown_run};
+pub use server::shards_over;
 pub use stores::{StoreRefusal, Stores, shard_over};
 pub use top_up::top_up_run;

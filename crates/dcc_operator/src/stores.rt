@@ -10,7 +10,7 @@ use dcc_message::Identity;
 use dcc_records::{Records, StoreFault};
 use dcc_shard::Shard;
 use dcc_tariff::Plan;
-use std::alloc::Global;
+use std::alloc::{AllocError, Global};
 use std::hash::RandomState;
 use thiserror::Error;
 
@@ -19,6 +19,12 @@ use thiserror::Error;
 #[derive(Clone, Copy, Debug, PartialEq, Eq, Error)]
 #[error("store fault {0}")]
 pub struct StoreRefusal(pub u8);
+
+impl From<AllocError> for StoreRefusal {
+    fn from(_error: AllocError) -> StoreRefusal {
+        StoreRefusal(50)
+    }
+}
 
 impl From<StoreFault> for StoreRefusal {
     fn from(fault: StoreFault) -> StoreRefusal {

@@ -1,0 +1,8 @@
+-- Records behind a gate, as a contract sees them.
+use Rattle.std.specs.Prelude.{Bool}
+use Rattle.dcc_records.specs.Memory.{MemoryView}
+
+-- the records, and whether the gate stayed shut once, so that they are stopped
+pub record GateView : Type 0 where
+  pub inner : MemoryView
+  pub stopped : Bool

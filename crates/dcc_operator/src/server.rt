@@ -1,0 +1,53 @@
+//! The shards of a server.
+
+ghost use Rattle.std.specs.Prelude.{◌≡◌, ◌≢◌, ◌<◌, ℕ, [], IfOk, length, slice_index_or};
+ghost use Rattle.dcc_act.specs.declared.sub.Sub.{Sub};
+ghost use Rattle.dcc_records.specs.Stops.{LeavesOnly};
+ghost use Rattle.dcc_shard.specs.Shards.{held, AreOwn};
+ghost use Rattle.dcc_shard.specs.Routes.{shard_of};
+ghost use Rattle.dcc_shard.specs.Stored.{StoredView};
+
+use crate::stores::{StoreRefusal, Stores, shard_over};
+use dcc_message::Identity;
+use dcc_shard::Shard;
+use dcc_tariff::Plan;
+use std::alloc::Global;
+use std::hash::RandomState;
+
+/// Opens the store of each shard of a server under this plan, 1 to 8, in order, or makes it where there is none, and gives the shards
+/// over them: each under the plan's terms, for this server, with subscribers alone that `dcc_shard::shard_of` gives it. That is what
+/// shards that work as one have to be.
+///
+/// The error is the first store's that can't be used: 50 where memory is short, 51 to 55 as of [`StoreRefusal`]. Stores that were opened
+/// or made before it stay as they are.
+pub fn shards_over<S: Stores>(
+    alloc: Global,
+    stores: &S,
+    folder: &str,
+    plan: &Plan,
+    identity: &Identity,
+    hasher: RandomState,
+) -> Result<Vec<Shard<S::Records>>, StoreRefusal>
+    ensures count { IfOk result (λ shards. length shards.items ≡ plan.now.shards) }
+    ensures terms { IfOk result (λ shards. (i : ℕ) (none : StoredView S.Records) → i < length shards.items
+        → (slice_index_or shards.items i none).shard.terms ≡ plan.now.terms) }
+    ensures identity { IfOk result (λ shards. (i : ℕ) (none : StoredView S.Records) → i < length shards.items
+        → (slice_index_or shards.items i none).shard.identity ≡ identity.now) }
+    ensures placed { IfOk result (λ shards. (i : ℕ) (none : StoredView S.Records) (sub : Sub) → i < length shards.items
+        → held (slice_index_or shards.items i none).shard sub ≢ [] → shard_of sub (length shards.items) ≡ i) }
+    ensures own { IfOk result (λ shards. (i : ℕ) (none : StoredView S.Records) → i < length shards.items
+        → AreOwn (slice_index_or shards.items i none).shard) }
+    // What each holds is what a stop leaves.
+    ensures found { IfOk result (λ shards. (i : ℕ) (none : StoredView S.Records) → i < length shards.items
+        → LeavesOnly (slice_index_or shards.items i none).shard.terms (held (slice_index_or shards.items i none).shard)
+        (S.Records.may_leave (slice_index_or shards.items i none).records)) }
+{
+    let count = usize::from(plan.shards());
+    let mut shards = Vec::with_capacity(alloc, count)?;
+    for index in 0..count {
+        let records = stores.open_or_make(folder, plan, index, hasher)?;
+        let shard = shard_over(alloc, identity, records, index, count, hasher)?;
+        shards.push_reserved(shard);
+    }
+    Ok(shards)
+}

@@ -1,0 +1,50 @@
+//! What the server is given from outside: who connects, and who is told of it.
+
+use dcc_connect::{ConnectionEnd, WriteEnd};
+use dcc_octets::OctetString;
+use std::io;
+use std::sync::Wait;
+
+/// A gateway's connection, in two halves, each for a thread of its own.
+#[derive(Drop)]
+pub struct Connection<I, O> {
+    /// What the gateway sends is read here.
+    pub input: I,
+    /// What it is sent is written here.
+    pub output: O,
+    /// Where it came from, as text.
+    pub name: OctetString,
+}
+
+/// Who takes connections in.
+pub trait Listener<I, O> {
+    /// The next connection. It may wait for it.
+    fn accept(&mut self) -> io::Result<Connection<I, O>>;
+}
+
+/// A half of a connection that can end both.
+pub trait Shut {
+    /// Ends both halves at once: who reads the other one finds its end.
+    fn shut(&mut self);
+}
+
+/// What happened to a gateway or a shard. Gateways are counted from 1 in each round, shards from 0.
+#[derive(Clone, Copy, Debug)]
+pub enum Notice<'a> {
+    /// A gateway came from here.
+    Came { gate: usize, name: &'a [u8] },
+    /// Its host has this name.
+    Host { gate: usize, host: &'a [u8] },
+    /// Nothing more is read of it.
+    Read { gate: usize, end: ConnectionEnd },
+    /// Nothing more is written to it.
+    Written { gate: usize, end: WriteEnd },
+    /// The records of a shard failed, and it answers busy from then on.
+    Stopped { shard: usize },
+}
+
+/// Who is told what happened, by several threads at once.
+pub trait Notices {
+    /// Takes a notice. It may wait.
+    fn tell<W: Wait>(&self, rt: &W, notice: Notice<'_>);
+}

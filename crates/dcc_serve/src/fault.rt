@@ -1,0 +1,59 @@
+//! Why a server ends before its rounds are over.
+
+ghost use Rattle.std.specs.Prelude.{◌≡◌};
+ghost use Rattle.dcc_serve.specs.declared.fault.ServeFault.TheVariants as fault;
+
+use dcc_receipts::CloseFault;
+use dcc_streams::WriteFault;
+use std::alloc::{AllocError, AllocFailed};
+use thiserror::Error;
+
+/// Why a server ends before its rounds are over.
+#[derive(Clone, Copy, Debug, PartialEq, Eq, Error)]
+pub enum ServeFault {
+    /// Memory was short for a round, or for its comparison.
+    #[error("out of memory")]
+    Memory,
+    /// The output or the listener failed.
+    #[error("the output or the listener failed")]
+    Io,
+    /// Receipts and books disagree, with this number: 60, 61 or 62.
+    #[error("receipts disagree, fault {0}")]
+    Close(u8),
+    /// A store has the fault with this number: 51, it failed in the round whose line was printed; 54, its shard has a subscriber that
+    /// another keeps, or other terms or another name than the server.
+    #[error("store fault {0}")]
+    Store(u8),
+}
+
+impl From<AllocError> for ServeFault {
+    ghost from_gives = { λ _ given. given ≡ fault.Memory };
+
+    fn from(_error: AllocError) -> ServeFault {
+        ServeFault::Memory
+    }
+}
+
+impl<T: Drop> From<AllocFailed<T>> for ServeFault {
+    ghost from_gives = { λ _ given. given ≡ fault.Memory };
+
+    fn from(_error: AllocFailed<T>) -> ServeFault {
+        ServeFault::Memory
+    }
+}
+
+impl From<WriteFault> for ServeFault {
+    ghost from_gives = { λ _ given. given ≡ fault.Io };
+
+    fn from(_fault: WriteFault) -> ServeFault {
+        ServeFault::Io
+    }
+}
+
+/// What a fault of the comparison ends a server with.
+pub(crate) fn of_close(fault: CloseFault) -> ServeFault {
+    match fault.number() {
+        Some(number) => ServeFault::Close(number),
+        None => ServeFault::Memory,
+    }
+}

@@ -1,0 +1,91 @@
+//! All rounds of a server.
+
+use crate::face::{Listener, Notice, Notices, Shut};
+use crate::fault::ServeFault;
+use crate::line::write_line;
+use crate::placed::are_shards;
+use crate::round::serve_round;
+use crate::rounds::Rounds;
+use dcc_connect::Clock;
+use dcc_message::Identity;
+use dcc_records::Records;
+use dcc_shard::Shard;
+use dcc_tariff::Plan;
+use std::alloc::Global;
+use std::hash::RandomState;
+use std::io::{Read, Write};
+use std::sync::Wait;
+use std::thread::Threads;
+
+/// What a server answers by, and who is told of it.
+#[derive(Drop)]
+pub struct Service<'a, C, N> {
+    pub plan: &'a Plan,
+    pub identity: &'a Identity,
+    pub clock: &'a C,
+    pub notices: &'a N,
+    /// By which subscribers are found.
+    pub hasher: RandomState,
+}
+
+/// Serves round after round over these shards, 1 to 8, and writes the line of each, `round R requests Q answers A acts T`: so many
+/// credit-control requests were handed to shards, so many answers went out whole, and so many acts were made in it.
+///
+/// A round accepts its gateways, serves them until all have ended, and compares what they were told with what the shards hold. A
+/// fault of a connection ends that connection alone. A shard whose records fail answers busy from then on, and the others go on.
+/// It waits for gateways, and for threads of its own.
+///
+/// Faults: [`ServeFault::Memory`], memory was short for a round; [`ServeFault::Io`], the output or the listener failed;
+/// [`ServeFault::Close`], receipts and books disagree, and no line is written; [`ServeFault::Store`], 54 before the first round where these
+/// can't be the shards of such a server, 51 behind the line of the round in which the records of a shard failed.
+pub fn serve_run<
+    W: Threads + Wait + Sync,
+    R: Records + Send + Sync + Drop,
+    I: Read + Send + Drop,
+    O: Write + Shut + Send + Drop,
+    L: Listener<I, O>,
+    C: Clock + Sync,
+    N: Notices + Sync,
+    P: Write,
+>(
+    rt: &W,
+    alloc: Global,
+    service: &Service<'_, C, N>,
+    shards: Vec<Shard<R>>,
+    listener: &mut L,
+    output: &mut P,
+    rounds: &Rounds,
+) -> Result<(), ServeFault> {
+    if !are_shards(
+        alloc,
+        service.plan.terms(),
+        service.identity,
+        shards.as_slice(),
+    )? {
+        return Err(ServeFault::Store(54));
+    }
+    let mut shards = shards;
+    for round in 0..rounds.rounds {
+        let (counts, next) = serve_round::<W, R, I, O, L, C, N>(
+            rt, alloc, service, shards, listener, rounds,
+        )?;
+        write_line(alloc, round.saturating_add(1), counts, output)?;
+        if tell_stopped(rt, service.notices, next.as_slice()) {
+            return Err(ServeFault::Store(51));
+        }
+        shards = next;
+    }
+    Ok(())
+}
+
+/// Tells each shard that is stopped, and whether one is.
+fn tell_stopped<W: Wait, R: Records, N: Notices>(rt: &W, notices: &N, shards: &[Shard<R>]) -> bool {
+    let mut stopped = false;
+    for shard in 0..shards.len() {
+        if shards[shard].records().is_stopped() {
+            notices.tell(rt, Notice::Stopped { shard });
+            stopped = true;
+        }
+    }
+    stopped
+}

@@ -1,0 +1,126 @@
+//! What the threads of a round do.
+
+ghost use Rattle.std.specs.Prelude.{◌≡◌};
+
+use crate::face::{Notices, Shut};
+use crate::reader::{Reader, read_gate};
+use crate::worker::Worker;
+use crate::writer::write_gate;
+use dcc_connect::{Clock, Item};
+use dcc_lane::Receiver;
+use dcc_message::Identity;
+use dcc_records::Records;
+use dcc_running::{Seat, Shards};
+use dcc_tariff::Plan;
+use std::alloc::Global;
+use std::io::{Read, Write};
+use std::sync::Wait;
+
+/// What one thread of a round does, and what came of it.
+#[derive(Drop)]
+pub(crate) enum Task<I, O> {
+    Read {
+        input: I,
+        reader: Reader,
+    },
+    Write {
+        gate: usize,
+        output: O,
+        from: Receiver<Item>,
+        answers: u64,
+    },
+    Work(Worker),
+}
+
+/// What all threads of a round share.
+#[derive(Drop)]
+pub(crate) struct Shared<'a, R: Records, C, N> {
+    pub alloc: Global,
+    pub plan: &'a Plan,
+    pub identity: &'a Identity,
+    pub clock: &'a C,
+    pub notices: &'a N,
+    pub shards: &'a Shards<R>,
+    /// So many shards there are.
+    pub count: usize,
+    ghost counted: { count ≡ shards.now.count },
+}
+
+impl<I: Read, O: Write + Shut> Task<I, O> {
+    /// Does what there is to do.
+    pub fn run<W: Wait, R: Records, C: Clock, N: Notices>(
+        &mut self,
+        rt: &W,
+        shared: &Shared<'_, R, C, N>,
+    ) {
+        match self {
+            Task::Read { input, reader } => {
+                let _end = read_gate(
+                    rt,
+                    shared.alloc,
+                    shared.plan,
+                    shared.identity,
+                    shared.clock,
+                    shared.notices,
+                    input,
+                    reader,
+                );
+            }
+            Task::Write {
+                gate,
+                output,
+                from,
+                answers,
+            } => {
+                let end = write_gate(rt, shared.notices, *gate, output, from);
+                *answers = end.answers;
+            }
+            Task::Work(worker) => {
+                if worker.shard < shared.count {
+                    worker.run(rt, shared.alloc, shared.shards);
+                }
+            }
+        }
+    }
+}
+
+impl<I, O> Task<I, O> {
+    /// How many requests it handed to shards.
+    pub fn requests(&self) -> u64 {
+        match self {
+            Task::Read { input: _, reader } => reader.requests,
+            Task::Write { .. } | Task::Work(_) => 0,
+        }
+    }
+
+    /// How many answers it wrote whole.
+    pub fn answers(&self) -> u64 {
+        match self {
+            Task::Write {
+                gate: _,
+                output: _,
+                from: _,
+                answers,
+            } => *answers,
+            Task::Read { .. } | Task::Work(_) => 0,
+        }
+    }
+
+    /// How many acts it made.
+    pub fn acts(&self) -> u64 {
+        match self {
+            Task::Work(worker) => worker.acts(),
+            Task::Read { .. } | Task::Write { .. } => 0,
+        }
+    }
+}
+
+impl<I: Drop, O: Drop> Task<I, O> {
+    /// The seat of a worker.
+    pub fn into_seat(self) -> Option<Seat> {
+        match self {
+            Task::Work(worker) => Some(worker.into_seat()),
+            Task::Read { .. } | Task::Write { .. } => None,
+        }
+    }
+}

@@ -1,0 +1,52 @@
+//! The writer of a gateway.
+
+use crate::face::{Notice, Notices, Shut};
+use crate::reader::TURNS;
+use dcc_connect::{Item, WriteEnd, write_side};
+use dcc_lane::Receiver;
+use std::io::{self, ErrorKind, Write};
+use std::sync::Wait;
+
+/// Ends the connection as soon as a write fails, so that its reader ends too.
+#[derive(Drop)]
+struct Ending<'a, O> {
+    output: &'a mut O,
+}
+
+impl<'a, O: Write + Shut> Write for Ending<'a, O> {
+    fn write(&mut self, buf: &[u8]) -> io::Result<usize> {
+        match self.output.write(buf) {
+            Ok(0) => {
+                self.output.shut();
+                Ok(0)
+            }
+            Ok(count) => Ok(count),
+            Err(error) => {
+                if error.kind() != ErrorKind::Interrupted {
+                    self.output.shut();
+                }
+                Err(error)
+            }
+        }
+    }
+
+    fn flush(&mut self) -> io::Result<()> {
+        self.output.flush()
+    }
+}
+
+/// Writes what a gateway is answered until all that answer it have ended, and ends the connection behind it.
+pub(crate) fn write_gate<W: Wait, O: Write + Shut, N: Notices>(
+    rt: &W,
+    notices: &N,
+    gate: usize,
+    output: &mut O,
+    from: &mut Receiver<Item>,
+) -> WriteEnd {
+    let mut ending = Ending { output };
+    let end = write_side(rt, &mut ending, from, TURNS);
+    ending.output.shut();
+    let gate = gate.saturating_add(1);
+    notices.tell(rt, Notice::Written { gate, end });
+    end
+}
