@@ -31,10 +31,7 @@ pub fn execute<
         + AllocGlobal,
     S: Stores,
     W: Write,
->(rt: &R, stores: &S, errors: &mut W) -> ExitCode
-where
-    S::Records: Send + Sync,
-{
+>(rt: &R, stores: &S, errors: &mut W) -> ExitCode {
     ExitCode::from(end(done(rt, stores), errors).status)
 }
 
@@ -52,10 +49,7 @@ fn done<
         + Sync
         + AllocGlobal,
     S: Stores,
->(rt: &R, stores: &S) -> Result<(), Failure>
-where
-    S::Records: Send + Sync,
-{
+>(rt: &R, stores: &S) -> Result<(), Failure> {
     let words = given_words(rt)?;
     if let Some(ask) = serve_of(rt.alloc(), words.as_slice())? {
         return serve(rt, stores, &ask, &mut io::writer(rt));

@@ -32,10 +32,7 @@ pub fn serve<
         + AllocGlobal,
     S: Stores,
     W: Write,
->(rt: &R, stores: &S, ask: &ServeAsk<'_>, output: &mut W) -> Result<(), Failure>
-where
-    S::Records: Send + Sync,
-{
+>(rt: &R, stores: &S, ask: &ServeAsk<'_>, output: &mut W) -> Result<(), Failure> {
     let alloc = rt.alloc();
     let hasher = RandomState::new(rt)?;
     let mut file = fs::open(rt, ask.place.plan)?;
