@@ -1,0 +1,63 @@
+//! One shard answers while another's append is held at its gate.
+
+use crate::callers::Caller;
+use crate::locks::{in_memory, two};
+use dcc_gate_records::{Gate, GateRecords};
+use dcc_records::Records;
+use dcc_running::Shards;
+use dcc_shard::{ExpiryAnswer, TopUpAnswer};
+use std::alloc::Global;
+use std::hint::spin_loop;
+use std::sync::Wait;
+use std::test::Fail;
+use std::thread::join;
+
+/// Each call of the other shard, once an append has come to the gate, which is opened behind them: whether each was answered.
+fn call_beside<W: Wait, R: Records>(
+    rt: &W,
+    alloc: Global,
+    shards: &Shards<R>,
+    caller: &mut Caller,
+    gate: &Gate,
+) -> bool {
+    for _ in rt.forever() {
+        if gate.is_reached() {
+            break;
+        }
+        spin_loop();
+    }
+    let topped = caller.top_up(rt, alloc, shards, 1, 1000);
+    let opened = caller.open(rt, alloc, shards);
+    let ended = caller.expire(rt, alloc, shards, 1200);
+    gate.open();
+    matches!(topped, Some(TopUpAnswer::Done { .. }))
+        && matches!(opened, Some(true))
+        && matches!(ended, Some(ExpiryAnswer::Closed { .. }))
+}
+
+/// With one lock round both shards the append waits until it fails: its caller is told so.
+#[test]
+fn a_shard_answers_beside_an_append(rt: HostRuntime) -> Result<(), Fail> {
+    let alloc = rt.alloc();
+    let (shut, open) = (Gate::new(), Gate::new());
+    open.open();
+    let first = GateRecords::new(in_memory(alloc), &shut);
+    let second = GateRecords::new(in_memory(alloc), &open);
+    let shards = two(&rt, first, second)?;
+    let mut held = Caller::new(alloc, &shards, b"491700000001", b"gw1.example;1;1")?;
+    let mut beside = Caller::new(alloc, &shards, b"491700000002", b"gw2.example;1;1")?;
+    let (topped, is_answered) = join(
+        &rt,
+        || held.top_up(&rt, alloc, &shards, 1, 1000),
+        || call_beside(&rt, alloc, &shards, &mut beside, &shut),
+    );
+    assert!(rt; is_answered);
+    assert_eq!(rt;
+        topped,
+        Some(TopUpAnswer::Done {
+            place: 1,
+            fresh: true
+        })
+    );
+    Ok(())
+}

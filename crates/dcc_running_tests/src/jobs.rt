@@ -1,0 +1,85 @@
+//! What gateways ask for: debits, and the opening of a session.
+
+ghost use Rattle.std.specs.Prelude.{◌≡◌, true, is_some};
+
+use dcc_act::{
+    Act, Action, Form, Kind, Moment, OneTimeEvent, RequestKey, Service, ServiceIds, Services,
+    SessionId, SessionRequest, Sub,
+};
+use dcc_answer::Proxies;
+use dcc_message::Header;
+use dcc_running::Job;
+use dcc_tariff::{Tariff, UnitKind};
+use std::alloc::Global;
+
+/// So many seconds after 2025-07-01T00:00:00Z.
+pub(crate) fn after(seconds: u32) -> Option<Moment> {
+    Moment::new(1_751_328_000 + u64::from(seconds))
+}
+
+/// 1,001 octets at 5 minor units per 1,000, which cost 10.
+fn service(alloc: Global) -> Service
+    ensures { is_some result.asked ≡ true }
+{
+    Service {
+        group: None,
+        ids: ServiceIds::new(alloc),
+        form: Form::Single,
+        asked: Some(1001),
+        used: None,
+        unit: Some(UnitKind::Octets),
+        tariff: Some(Tariff {
+            price: 5,
+            block: 1000,
+        }),
+    }
+}
+
+/// The request of this number in a session.
+fn key(alloc: Global, name: &[u8], number: u32) -> Option<RequestKey> {
+    let sid = SessionId::from_vec(name.to_vec(alloc).ok()?)?;
+    Some(RequestKey { sid, number })
+}
+
+/// A job of this kind, under a header that has its number.
+fn job(alloc: Global, sub: Sub, kind: Kind, number: u32) -> Option<Job> {
+    let act = Act {
+        moment: after(0)?,
+        kind,
+    };
+    let header = Header {
+        length: 20,
+        flags: 192,
+        code: 272,
+        app: 4,
+        hop: number,
+        end_to_end: number,
+    };
+    Some(Job {
+        sub,
+        act,
+        header,
+        proxies: Proxies::none(alloc),
+    })
+}
+
+/// A debit.
+pub(crate) fn debit(alloc: Global, sub: Sub, name: &[u8], number: u32) -> Option<Job> {
+    let event = OneTimeEvent {
+        key: key(alloc, name, number)?,
+        action: Action::DirectDebiting,
+        service: service(alloc),
+    };
+    job(alloc, sub, Kind::Event(event), number)
+}
+
+/// What opens a session.
+pub(crate) fn opening(alloc: Global, sub: Sub, name: &[u8]) -> Option<Job> {
+    let mut services = Vec::new(alloc);
+    services.push(service(alloc)).ok()?;
+    let request = SessionRequest {
+        key: key(alloc, name, 0)?,
+        services: Services::from_vec(services)?,
+    };
+    job(alloc, sub, Kind::Initial(request), 0)
+}

@@ -1,0 +1,18 @@
+//! Tests of shards under locks and of their receipts, which stand apart: a crate with tests of its own is proved a second time with
+//! them. Threads run at once here; that they do, and that no shard waits for another, no clause says.
+#![tactic(auto)]
+
+#[cfg(test)]
+mod at_once;
+#[cfg(test)]
+mod callers;
+#[cfg(test)]
+mod closing;
+#[cfg(test)]
+mod gates;
+#[cfg(test)]
+mod jobs;
+#[cfg(test)]
+mod locks;
+#[cfg(test)]
+mod placed;

@@ -1,0 +1,89 @@
+//! Shards under locks, opened of records.
+
+ghost use Rattle.std.specs.Prelude.{◌<◌, IfOk};
+
+use crate::placed::are_shards;
+use dcc_message::{DiameterIdentity, Identity};
+use dcc_records::{MemoryRecords, Records};
+use dcc_running::Shards;
+use dcc_shard::Shard;
+use dcc_tariff::Terms;
+use std::alloc::Global;
+use std::hash::RandomState;
+use std::random::RandomSource;
+use std::test::Fail;
+
+/// The terms of the samples' plan.
+const TERMS: Terms = Terms {
+    validity: 600,
+    hold: 1200,
+    currency: 978,
+    exponent: -2,
+};
+
+/// The server's names and its address.
+fn identity(alloc: Global) -> Result<Identity, Fail> {
+    Ok(Identity {
+        host: DiameterIdentity::from_vec(b"ocs.example".to_vec(alloc)?).ok_or("a host")?,
+        realm: DiameterIdentity::from_vec(b"example".to_vec(alloc)?).ok_or("a realm")?,
+        address: [127, 0, 0, 1],
+    })
+}
+
+/// Records in memory without acts.
+pub(crate) fn in_memory(alloc: Global) -> MemoryRecords {
+    MemoryRecords::new(alloc, &TERMS)
+}
+
+/// A shard of what these records hold.
+fn shard_over<S: RandomSource + AllocGlobal, R: Records + Drop>(
+    rt: &S,
+    records: R,
+) -> Result<Shard<R>, Fail> {
+    let hasher = RandomState::new(rt)?;
+    let identity = identity(rt.alloc())?;
+    Shard::new(rt.alloc(), &identity, records, hasher).map_err(|_| Fail::from("a shard"))
+}
+
+/// These shards under locks, where they may stand as one.
+fn locked<S: RandomSource + AllocGlobal, R: Records + Drop>(
+    rt: &S,
+    shards: Vec<Shard<R>>,
+) -> Result<Shards<R>, Fail>
+    ensures { IfOk result (λ locked. 0 < locked.count) }
+{
+    let hasher = RandomState::new(rt)?;
+    let identity = identity(rt.alloc())?;
+    let count = shards.len();
+    if count < 1 || count > 8 || !are_shards(&TERMS, &identity, &shards) {
+        return Err("shards".into());
+    }
+    Shards::new(rt.alloc(), &TERMS, &identity, shards, hasher).map_err(|_| Fail::from("locks"))
+}
+
+/// The one shard of what these records hold, under its lock.
+pub(crate) fn one<S: RandomSource + AllocGlobal, R: Records + Drop>(
+    rt: &S,
+    records: R,
+) -> Result<Shards<R>, Fail>
+    ensures { IfOk result (λ locked. 0 < locked.count) }
+{
+    let shard = shard_over(rt, records)?;
+    let mut shards = Vec::new(rt.alloc());
+    shards.push(shard)?;
+    locked(rt, shards)
+}
+
+/// Two shards, each under its lock.
+pub(crate) fn two<S: RandomSource + AllocGlobal, R: Records + Drop>(
+    rt: &S,
+    first: R,
+    second: R,
+) -> Result<Shards<R>, Fail> {
+    let first = shard_over(rt, first)?;
+    let second = shard_over(rt, second)?;
+    let mut shards = Vec::new(rt.alloc());
+    shards.push(first)?;
+    shards.push(second)?;
+    locked(rt, shards)
+}

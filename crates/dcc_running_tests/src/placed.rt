@@ -1,0 +1,54 @@
+//! Whether shards may stand as one.
+
+ghost use Rattle.std.specs.Prelude.{◌≡◌, ◌≢◌, ◌<◌, ℕ, [], true, length};
+ghost use Rattle.dcc_act.specs.declared.sub.Sub.{Sub};
+ghost use Rattle.dcc_running.specs.Books.{AreShards};
+ghost use Rattle.dcc_shard.specs.Routes.{shard_of};
+ghost use Rattle.dcc_shard.specs.Shards.{held};
+
+use dcc_message::Identity;
+use dcc_records::Records;
+use dcc_shard::Shard;
+use dcc_tariff::Terms;
+
+/// Whether these shards are under these terms, answer as this server, and hold only subscribers that they keep.
+pub(crate) fn are_shards<R: Records>(
+    terms: &Terms,
+    identity: &Identity,
+    shards: &[Shard<R>],
+) -> bool
+    ensures { result ≡ true → AreShards terms.now identity.now shards.now }
+{
+    let count = shards.len();
+    for i in 0..count {
+        let shard = &shards[i];
+        if !is_under(shard, terms, identity) || !shard.is_placed(i, count) {
+            return false;
+        }
+    }
+    true
+}
+
+/// Whether a shard is under these terms and answers as this server.
+fn is_under<R: Records>(shard: &Shard<R>, terms: &Terms, identity: &Identity) -> bool
+    ensures { result ≡ true → (shard.now.shard.terms ≡ terms.now) × (shard.now.shard.identity ≡ identity.now) }
+{
+    same_terms(shard.records().terms(), terms) && same_identity(shard.identity(), identity)
+}
+
+fn same_terms(a: &Terms, b: &Terms) -> bool
+    ensures { result ≡ true → a.now ≡ b.now }
+{
+    a.validity == b.validity
+        && a.hold == b.hold
+        && a.currency == b.currency
+        && a.exponent == b.exponent
+}
+
+fn same_identity(a: &Identity, b: &Identity) -> bool
+    ensures { result ≡ true → a.now ≡ b.now }
+{
+    a.host.as_slice() == b.host.as_slice()
+        && a.realm.as_slice() == b.realm.as_slice()
+        && a.address == b.address
+}
