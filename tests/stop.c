@@ -1,20 +1,29 @@
 /* Ends a program at one call that changes a file, the one whose number is in STOP, counted from 1; it is preloaded (LD_PRELOAD). With HALF set, a
  * write does half of its work first. Where there were fewer calls it says so on standard error, so that a sweep over all of them knows its
- * end. Standard output and standard error are no files here. */
+ * end. With FAIL and WHEN set, each such call fails on a file whose path has the text of FAIL in it, from when on there is a file at WHEN.
+ * Standard output, standard error and sockets are no files here. The calls of all threads are counted together. */
+#include <errno.h>
 #include <stddef.h>
+#include <stdio.h>
 #include <stdlib.h>
-#include <sys/types.h>
+#include <string.h>
+#include <sys/stat.h>
 #include <sys/syscall.h>
+#include <sys/types.h>
 #include <unistd.h>
 
 static unsigned long wanted;
 static unsigned long made;
 static int halves;
+static const char *failing;
+static const char *since;
 
 __attribute__((constructor)) static void begin(void) {
     const char *word = getenv("STOP");
     wanted = word ? strtoul(word, NULL, 10) : 0;
     halves = getenv("HALF") != NULL;
+    failing = getenv("FAIL");
+    since = getenv("WHEN");
     made = 0;
 }
 
@@ -25,22 +34,54 @@ __attribute__((destructor)) static void end(void) {
     }
 }
 
+static int is_file(int file) {
+    struct stat found;
+    return file > 2 && fstat(file, &found) == 0 && S_ISREG(found.st_mode);
+}
+
+/* Whether a call on this file fails. */
+static int fails(int file) {
+    char link[64];
+    char path[4096];
+    if (!failing || !since || access(since, F_OK) != 0) {
+        return 0;
+    }
+    snprintf(link, sizeof link, "/proc/self/fd/%d", file);
+    ssize_t length = readlink(link, path, sizeof path - 1);
+    if (length < 0) {
+        return 0;
+    }
+    path[length] = 0;
+    if (!strstr(path, failing)) {
+        return 0;
+    }
+    errno = EIO;
+    return 1;
+}
+
 static int is_last(void) {
-    made += 1;
-    return made == wanted;
+    return __atomic_add_fetch(&made, 1, __ATOMIC_SEQ_CST) == wanted;
 }
 
 ssize_t write(int file, const void *octets, size_t count) {
-    if (file > 2 && is_last()) {
-        if (halves) {
-            syscall(SYS_write, file, octets, count / 2);
+    if (is_file(file)) {
+        if (fails(file)) {
+            return -1;
         }
-        _exit(99);
+        if (is_last()) {
+            if (halves) {
+                syscall(SYS_write, file, octets, count / 2);
+            }
+            _exit(99);
+        }
     }
     return syscall(SYS_write, file, octets, count);
 }
 
 ssize_t pwrite(int file, const void *octets, size_t count, off_t at) {
+    if (fails(file)) {
+        return -1;
+    }
     if (is_last()) {
         if (halves) {
             syscall(SYS_pwrite64, file, octets, count / 2, at);
@@ -51,6 +92,9 @@ ssize_t pwrite(int file, const void *octets, size_t count, off_t at) {
 }
 
 int ftruncate(int file, off_t length) {
+    if (fails(file)) {
+        return -1;
+    }
     if (is_last()) {
         _exit(99);
     }
@@ -58,6 +102,9 @@ int ftruncate(int file, off_t length) {
 }
 
 int fsync(int file) {
+    if (fails(file)) {
+        return -1;
+    }
     if (is_last()) {
         _exit(99);
     }
@@ -65,6 +112,9 @@ int fsync(int file) {
 }
 
 int fdatasync(int file) {
+    if (fails(file)) {
+        return -1;
+    }
     if (is_last()) {
         _exit(99);
     }

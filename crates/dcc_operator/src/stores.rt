@@ -35,7 +35,7 @@ impl From<StoreFault> for StoreRefusal {
 /// Where the records of shards are kept: a store for each, in a folder. What opening does to files has no contract here, but that
 /// records are under the plan's terms.
 pub trait Stores {
-    type Records: Records + Drop;
+    type Records: Records + Send + Sync + Drop;
 
     /// The records of a shard, by its index, of a server under this plan, or none where there is no store yet. No store is made.
     fn open(

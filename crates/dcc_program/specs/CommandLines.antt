@@ -11,7 +11,7 @@ use Rattle.dcc_program.specs.declared.command_line.Place.{Place}
 use Rattle.dcc_program.specs.declared.command_line.Task.{Task}
 use Rattle.dcc_program.specs.declared.command_line.Task.TheVariants.{Replay, TopUp, Ledger, Decode, Help, Version}
 use Rattle.dcc_program.specs.declared.failure.Failure.{Failure}
-use Rattle.dcc_program.specs.declared.failure.Failure.TheVariants.{Usage, Memory, Io, Plan, Store, Script}
+use Rattle.dcc_program.specs.declared.failure.Failure.TheVariants.{Usage, Memory, Io, Plan, Store, Script, Close}
 
 -- an argument that has to be there, by its place
 abbrev pub argument : Text → Rule
@@ -31,6 +31,14 @@ topup_command = with_rule (with_rule (with_rule (store_command (codes "topup")) 
 abbrev pub ledger_command : App
 ledger_command = store_command (codes "ledger")
 
+-- an option that takes a value
+abbrev pub option : Text → Rule
+option name = record (new_rule name) { long = Some name; action = Some Set }
+
+abbrev pub serve_command : App
+serve_command = with_rule (with_rule (with_rule (with_rule (with_rule (with_rule (new_app (codes "serve")) (argument (codes "PLAN"))) (argument (codes "DIR")))
+    (option (codes "listen"))) (option (codes "gates"))) (option (codes "rounds"))) (option (codes "every"))
+
 abbrev pub decode_command : App
 decode_command = new_app (codes "decode")
 
@@ -48,9 +56,9 @@ abbrev pub without_help_command : App → App
 without_help_command app = record app { top = record app.top { disable_help_subcommand = true } }
 
 unfoldable pub dcc_command : App
-dcc_command = with_subcommand (with_subcommand (with_subcommand (with_subcommand (with_subcommand
+dcc_command = with_subcommand (with_subcommand (with_subcommand (with_subcommand (with_subcommand (with_subcommand
     (without_help_command (needing_command (with_version (new_app (codes "dcc"))))) replay_command.top) topup_command.top) ledger_command.top)
-    decode_command.top) help_command.top
+    serve_command.top) decode_command.top) help_command.top
 
 -- the words, of which the first is the program's name, have no fault and name this command, with these arguments
 pub record IsCommand (name : Text) (found : List Row) (words : List Text) : Type 0 where
@@ -159,3 +167,4 @@ IsTaskFailure words Io = ⊥
 IsTaskFailure words (Plan number) = ⊥
 IsTaskFailure words (Store number) = ⊥
 IsTaskFailure words (Script line) = ⊥
+IsTaskFailure words (Close number) = ⊥

@@ -9,12 +9,14 @@ use Rattle.dcc_streams.specs.declared.reading.ReadFault.{ReadFault}
 use Rattle.dcc_streams.specs.declared.reading.ReadFault.TheVariants as read
 use Rattle.dcc_operator.specs.declared.fault.OperatorFault.{OperatorFault}
 use Rattle.dcc_operator.specs.declared.fault.OperatorFault.TheVariants as operator
+use Rattle.dcc_serve.specs.declared.fault.ServeFault.{ServeFault}
+use Rattle.dcc_serve.specs.declared.fault.ServeFault.TheVariants as serve
 use Rattle.dcc_replay.specs.declared.fault.ReplayFault.{ReplayFault}
 use Rattle.dcc_replay.specs.declared.fault.ReplayFault.TheVariants as replay
 use Rattle.dcc_decode.specs.declared.fault.DecodeFault.{DecodeFault}
 use Rattle.dcc_decode.specs.declared.fault.DecodeFault.TheVariants as decode
 use Rattle.dcc_program.specs.declared.failure.Failure.{Failure}
-use Rattle.dcc_program.specs.declared.failure.Failure.TheVariants.{Usage, Memory, Io, Plan, Store, Script}
+use Rattle.dcc_program.specs.declared.failure.Failure.TheVariants.{Usage, Memory, Io, Plan, Store, Script, Close}
 
 -- the exit status
 abbrev pub status_of : Failure → ℕ
@@ -24,15 +26,17 @@ status_of Usage = 2
 status_of (Plan number) = 3
 status_of (Store number) = 4
 status_of (Script line) = 5
+status_of (Close number) = 6
 
 -- the line on standard error
 abbrev pub line_of : Failure → List ℕ
 line_of Memory = codes "dcc: memory"
 line_of Io = codes "dcc: io"
-line_of Usage = codes "dcc: usage: dcc replay PLAN, dcc topup PLAN DIR SUB TICKET AMOUNT MOMENT, dcc ledger PLAN DIR SUB, or dcc decode"
+line_of Usage = codes "dcc: usage: dcc replay PLAN, dcc topup PLAN DIR SUB TICKET AMOUNT MOMENT, dcc ledger PLAN DIR SUB, dcc serve PLAN DIR, or dcc decode"
 line_of (Plan number) = codes "dcc: plan fault " ++ decimal number
 line_of (Store number) = codes "dcc: store fault " ++ decimal number
 line_of (Script line) = codes "dcc: script line " ++ decimal line
+line_of (Close number) = codes "dcc: close fault " ++ decimal number
 
 -- the exit status of a program that did its work, or failed
 abbrev pub status_of_end : Result (Unit {0}) Failure → ℕ
@@ -66,6 +70,12 @@ of_operator operator.Memory = Memory
 of_operator operator.Output = Io
 of_operator (operator.Store number) = Store number
 
+abbrev pub of_serve : ServeFault → Failure
+of_serve serve.Memory = Memory
+of_serve serve.Io = Io
+of_serve (serve.Close number) = Close number
+of_serve (serve.Store number) = Store number
+
 abbrev pub of_replay : ReplayFault → Failure
 of_replay (replay.Line line) = Script line
 of_replay replay.Memory = Memory
@@ -85,3 +95,4 @@ IsDecodeFailure Io = ⊤
 IsDecodeFailure (Plan number) = ⊥
 IsDecodeFailure (Store number) = ⊥
 IsDecodeFailure (Script line) = ⊥
+IsDecodeFailure (Close number) = ⊥

@@ -7,7 +7,7 @@ use Rattle.dcc_tariff.specs.Faults.{fault_number}
 use Rattle.dcc_tariff.specs.declared.fault.PlanFault.{PlanFault}
 use Rattle.dcc_tariff.specs.declared.fault.PlanFault.TheVariants.{NotToml}
 use Rattle.dcc_program.specs.declared.failure.Failure.{Failure}
-use Rattle.dcc_program.specs.declared.failure.Failure.TheVariants.{Usage, Memory, Io, Plan, Store, Script}
+use Rattle.dcc_program.specs.declared.failure.Failure.TheVariants.{Usage, Memory, Io, Plan, Store, Script, Close}
 use Rattle.dcc_program.specs.Failures.{of_plan}
 
 -- octets that are no text are no TOML document
@@ -31,3 +31,4 @@ IsPlanFailure file (Plan number) = (fault : PlanFault) × (fault_number fault �
     × IfSome file (λ octets. plan_of_octets octets ≡ Err fault)
 IsPlanFailure file (Store number) = ⊥
 IsPlanFailure file (Script line) = ⊥
+IsPlanFailure file (Close number) = ⊥

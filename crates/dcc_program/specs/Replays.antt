@@ -4,7 +4,7 @@ use Rattle.dcc_tariff.specs.Plans.{PlanView}
 use Rattle.dcc_replay.specs.Scripts.{script_of}
 use Rattle.dcc_replay.specs.Replays as run
 use Rattle.dcc_program.specs.declared.failure.Failure.{Failure}
-use Rattle.dcc_program.specs.declared.failure.Failure.TheVariants.{Usage, Memory, Io, Plan, Store, Script}
+use Rattle.dcc_program.specs.declared.failure.Failure.TheVariants.{Usage, Memory, Io, Plan, Store, Script, Close}
 use Rattle.dcc_program.specs.Plans.{IsPlanOf, IsPlanFailure}
 
 -- a writer, before and after, has grown by what is printed of the script under the plan of the file
@@ -24,3 +24,4 @@ IsReplayFailure file script (Plan number) = IsPlanFailure file (Plan number)
 IsReplayFailure file script (Store number) = ⊥
 IsReplayFailure file script (Script line) = (plan : PlanView) × IsPlanOf file plan
     × IfSome script (λ text. script_of text ≡ Err line)
+IsReplayFailure file script (Close number) = ⊥

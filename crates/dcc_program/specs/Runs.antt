@@ -10,7 +10,7 @@ use Rattle.dcc_program.specs.declared.command_line.Task.{Task}
 use Rattle.dcc_program.specs.declared.command_line.Task.TheVariants.{Replay, TopUp, Ledger, Decode, Help, Version}
 use Rattle.dcc_program.specs.declared.help.TheConstants.{HELP, VERSION}
 use Rattle.dcc_program.specs.declared.failure.Failure.{Failure}
-use Rattle.dcc_program.specs.declared.failure.Failure.TheVariants.{Usage, Memory, Io, Plan, Store, Script}
+use Rattle.dcc_program.specs.declared.failure.Failure.TheVariants.{Usage, Memory, Io, Plan, Store, Script, Close}
 use Rattle.dcc_program.specs.CommandLines.{Asks, IsUnderPlan, IsOverStore, IsOverScript, IsNoUse}
 use Rattle.dcc_program.specs.Stores.{IsTopUp, IsTopUpBegun, IsLedger, IsLedgerBegun}
 use Rattle.dcc_program.specs.Plans.{IsPlanFailure}
@@ -41,6 +41,7 @@ IsBeforeScript Io = ⊥
 IsBeforeScript (Plan number) = ⊤
 IsBeforeScript (Store number) = ⊤
 IsBeforeScript (Script line) = ⊥
+IsBeforeScript (Close number) = ⊥
 
 -- the failures that the program comes to: usage where the words ask for nothing, and the others where they do
 abbrev pub IsRunFailure : List Text → Option (List ℕ) → Failure → Type 0
@@ -50,3 +51,4 @@ IsRunFailure words script Io = (task : Task) × Asks words task
 IsRunFailure words script (Plan number) = (task : Task) × Asks words task × IsUnderPlan task × IsPlanFailure None (Plan number)
 IsRunFailure words script (Store number) = (task : Task) × Asks words task × IsOverStore task
 IsRunFailure words script (Script line) = (task : Task) × Asks words task × IsOverScript task × IfSome script (λ text. script_of text ≡ Err line)
+IsRunFailure words script (Close number) = ⊥

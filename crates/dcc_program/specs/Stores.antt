@@ -7,7 +7,7 @@ use Rattle.dcc_operator.specs.declared.commands.TopUpAsk.{TopUpAsk}
 use Rattle.dcc_operator.specs.Commands.{IsToppedUp, IsToppedUpBegun, IsShown, IsShownBegun}
 use Rattle.dcc_replay.specs.Names.{identity_of}
 use Rattle.dcc_program.specs.declared.failure.Failure.{Failure}
-use Rattle.dcc_program.specs.declared.failure.Failure.TheVariants.{Usage, Memory, Io, Plan, Store, Script}
+use Rattle.dcc_program.specs.declared.failure.Failure.TheVariants.{Usage, Memory, Io, Plan, Store, Script, Close}
 use Rattle.dcc_program.specs.Plans.{IsPlanOf, IsPlanFailure}
 
 -- a top-up was made under the plan of the file, and a writer, before and after, has grown by its word, or by the first octets of that
@@ -32,3 +32,4 @@ IsStoreFailure file Io = ⊤
 IsStoreFailure file (Plan number) = IsPlanFailure file (Plan number)
 IsStoreFailure file (Store number) = (plan : PlanView) × IsPlanOf file plan
 IsStoreFailure file (Script line) = ⊥
+IsStoreFailure file (Close number) = ⊥

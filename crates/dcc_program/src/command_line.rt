@@ -2,7 +2,7 @@
 
 ghost use Rattle.std.specs.Prelude.{◌≡◌, ◌⊎◌, codes, None, IfErr, IfOk, IfSome, map, option_map, string_bytes};
 ghost use Rattle.clap.specs.Words.{app_of, first_of, found_of, rows_of, with_rule};
-ghost use Rattle.dcc_program.specs.CommandLines.{dcc_command, topup_command, store_command, argument, wish_of, Asks, IsTaskOf, IsTaskFailure};
+ghost use Rattle.dcc_program.specs.CommandLines.{dcc_command, topup_command, store_command, serve_command, argument, option, wish_of, Asks, IsTaskOf, IsTaskFailure};
 ghost use Rattle.dcc_program.specs.CommandLines.{IsPlace, IsAsk, sub_in, number_in, moment_in};
 ghost use Rattle.dcc_program.specs.declared.failure.Failure.TheVariants.{Memory, Usage};
 
@@ -12,8 +12,10 @@ use clap::error::ErrorKind;
 use clap::{Arg, ArgAction, ArgMatches, Command};
 use dcc_act::{Moment, Sub};
 use dcc_operator::TopUpAsk;
+use dcc_serve::Rounds;
 use dcc_words::{any_u64, moment};
 use std::alloc::{AllocError, Global};
+use std::net::{Ipv4Addr, SocketAddrV4};
 use std::rt::Env;
 use std::{env, io};
 
@@ -39,6 +41,15 @@ pub enum Task<'a> {
     Help,
     /// To print the version.
     Version,
+}
+
+/// The server that is asked for.
+#[derive(Drop)]
+pub struct ServeAsk<'a> {
+    pub place: Place<'a>,
+    /// Where it listens.
+    pub address: SocketAddrV4,
+    pub rounds: Rounds,
 }
 
 /// The words of the command line; one that is no text is none of the program's.
@@ -67,6 +78,48 @@ pub fn task_of<'a>(alloc: Global, words: &'a [String]) -> Result<Task<'a>, Failu
     match task_named(name, found) {
         Some(task) => Ok(task),
         None => Err(Failure::Usage),
+    }
+}
+
+/// The server that the words of a command line ask for, or none where they ask for something else, which [`task_of`] judges.
+pub fn serve_of<'a>(alloc: Global, words: &'a [String]) -> Result<Option<ServeAsk<'a>>, Failure> {
+    let Ok(matches) = command(alloc)?.try_get_matches_from(words) else {
+        return Ok(None);
+    };
+    match matches.subcommand() {
+        Some(("serve", found)) => match serve_ask_of(found) {
+            Some(ask) => Ok(Some(ask)),
+            None => Err(Failure::Usage),
+        },
+        _ => Ok(None),
+    }
+}
+
+/// The server with its options, or none where one isn't in its range.
+fn serve_ask_of<'a>(found: &ArgMatches<'a>) -> Option<ServeAsk<'a>> {
+    let gates = usize::try_from(option_of(found, "gates", 1)?).ok()?;
+    let rounds = u32::try_from(option_of(found, "rounds", 1)?).ok()?;
+    let every = u32::try_from(option_of(found, "every", 0)?).ok()?;
+    Some(ServeAsk {
+        place: place_of(found)?,
+        address: address_of(found)?,
+        rounds: Rounds::new(gates, rounds, every)?,
+    })
+}
+
+/// A number that stands for an option, or this one where the option isn't there.
+fn option_of(found: &ArgMatches<'_>, name: &str, default: u64) -> Option<u64> {
+    match text_of(found, name) {
+        Some(text) => any_u64(text.as_bytes()),
+        None => Some(default),
+    }
+}
+
+/// Where is listened: at the port of Diameter on this machine alone, where nothing else is said.
+fn address_of(found: &ArgMatches<'_>) -> Option<SocketAddrV4> {
+    match text_of(found, "listen") {
+        Some(text) => SocketAddrV4::parse_ascii(text.as_bytes()).ok(),
+        None => Some(SocketAddrV4::new(Ipv4Addr::LOCALHOST, 3868)),
     }
 }
 
@@ -176,6 +229,7 @@ fn command<'a>(alloc: Global) -> Result<Command<'a>, AllocError>
     let replay = with_argument(alloc, Command::new(alloc, "replay"), "PLAN")?;
     let topup = topup_command(alloc)?;
     let ledger = store_command(alloc, "ledger")?;
+    let serve = serve_command(alloc)?;
     let decode = Command::new(alloc, "decode");
     let help = Command::new(alloc, "help");
     Command::new(alloc, "dcc")
@@ -185,8 +239,21 @@ fn command<'a>(alloc: Global) -> Result<Command<'a>, AllocError>
         .subcommand(replay)?
         .subcommand(topup)?
         .subcommand(ledger)?
+        .subcommand(serve)?
         .subcommand(decode)?
         .subcommand(help)
+}
+
+/// The command of a server: where its plan and its stores are, and the options.
+fn serve_command<'a>(alloc: Global) -> Result<Command<'a>, AllocError>
+    ensures { IfOk result (λ command. app_of command ≡ serve_command) }
+{
+    let with_plan = with_argument(alloc, Command::new(alloc, "serve"), "PLAN")?;
+    let with_folder = with_argument(alloc, with_plan, "DIR")?;
+    let with_listen = with_option(alloc, with_folder, "listen")?;
+    let with_gates = with_option(alloc, with_listen, "gates")?;
+    let with_rounds = with_option(alloc, with_gates, "rounds")?;
+    with_option(alloc, with_rounds, "every")
 }
 
 /// A command with the arguments of a top-up behind those by which its subscriber's store is found.
@@ -217,4 +284,16 @@ fn with_argument<'a>(
 {
     let argument = Arg::new(alloc, name).required(true).action(ArgAction::Set);
     command.arg(argument)
+}
+
+/// A command with one more option, which takes a value.
+fn with_option<'a>(
+    alloc: Global,
+    command: Command<'a>,
+    name: &'a str,
+) -> Result<Command<'a>, AllocError>
+    ensures { IfOk result (λ given. app_of given ≡ with_rule (app_of command.entry) (option name.now)) }
+{
+    let option = Arg::new(alloc, name).long(name).action(ArgAction::Set);
+    command.arg(option)
 }

@@ -2,12 +2,13 @@
 
 ghost use Rattle.std.specs.Prelude.{◌≡◌, Some};
 ghost use Rattle.std.specs.IoError.{error_kind};
-ghost use Rattle.dcc_program.specs.Failures.{status_of, line_of, of_plan, of_read, of_operator, of_replay, of_decode, of_io_kind};
+ghost use Rattle.dcc_program.specs.Failures.{status_of, line_of, of_plan, of_read, of_operator, of_serve, of_replay, of_decode, of_io_kind};
 ghost use Rattle.dcc_program.specs.declared.failure.Failure.TheVariants as failure;
 
 use dcc_decode::DecodeFault;
 use dcc_operator::OperatorFault;
 use dcc_replay::ReplayFault;
+use dcc_serve::ServeFault;
 use dcc_streams::{ReadFault, WriteFault};
 use dcc_tariff::PlanFault;
 use std::alloc::{AllocError, AllocFailed};
@@ -28,11 +29,13 @@ pub enum Failure {
     Store(u8),
     /// The line of the script with this number has none of the forms.
     Script(u64),
+    /// What callers were told and what the shards hold disagree, with this number.
+    Close(u8),
 }
 
 impl Failure {
     /// The exit status of the program: 1 for memory and input or output, 2 for the command line, 3 for the plan, 4 for the store,
-    /// 5 for the script.
+    /// 5 for the script, 6 for a server whose receipts and books disagree.
     pub fn status(&self) -> u8
         ensures { result ≡ status_of self.now }
     {
@@ -42,6 +45,7 @@ impl Failure {
             Failure::Plan(_) => 3,
             Failure::Store(_) => 4,
             Failure::Script(_) => 5,
+            Failure::Close(_) => 6,
         }
     }
 }
@@ -54,13 +58,14 @@ impl fmt::Display for Failure {
         match self {
             Failure::Usage => write!(
                 f,
-                "dcc: usage: dcc replay PLAN, dcc topup PLAN DIR SUB TICKET AMOUNT MOMENT, dcc ledger PLAN DIR SUB, or dcc decode"
+                "dcc: usage: dcc replay PLAN, dcc topup PLAN DIR SUB TICKET AMOUNT MOMENT, dcc ledger PLAN DIR SUB, dcc serve PLAN DIR, or dcc decode"
             ),
             Failure::Memory => write!(f, "dcc: memory"),
             Failure::Io => write!(f, "dcc: io"),
             Failure::Plan(number) => write!(f, "dcc: plan fault {number}"),
             Failure::Store(number) => write!(f, "dcc: store fault {number}"),
             Failure::Script(line) => write!(f, "dcc: script line {line}"),
+            Failure::Close(number) => write!(f, "dcc: close fault {number}"),
         }
     }
 }
@@ -130,6 +135,19 @@ impl From<OperatorFault> for Failure {
             OperatorFault::Memory => Failure::Memory,
             OperatorFault::Output => Failure::Io,
             OperatorFault::Store(number) => Failure::Store(number),
+        }
+    }
+}
+
+impl From<ServeFault> for Failure {
+    ghost from_gives = { λ fault given. given ≡ of_serve fault };
+
+    fn from(fault: ServeFault) -> Failure {
+        match fault {
+            ServeFault::Memory => Failure::Memory,
+            ServeFault::Io => Failure::Io,
+            ServeFault::Close(number) => Failure::Close(number),
+            ServeFault::Store(number) => Failure::Store(number),
         }
     }
 }

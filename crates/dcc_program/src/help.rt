@@ -7,6 +7,7 @@ dcc is a Diameter credit-control server (RFC 8506) on prepaid balances.
 usage: dcc replay PLAN
        dcc topup PLAN DIR SUB TICKET AMOUNT MOMENT
        dcc ledger PLAN DIR SUB
+       dcc serve PLAN DIR [--listen ADDR] [--gates N] [--rounds N] [--every N]
        dcc decode
        dcc help
 
@@ -17,13 +18,17 @@ dcc topup         makes one top-up under the plan of the file PLAN, in the store
                   type and data, as 0:491700000001, TICKET tells the top-up from the others, AMOUNT is in minor
                   units, MOMENT in seconds since 1970
 dcc ledger        prints the ledger of the subscriber SUB from the store of its shard in the folder DIR
+dcc serve         serves gateways over TCP from the stores in the folder DIR, and prints where it listens, and a line
+                  for each round. ADDR is an IPv4 address and a port, 127.0.0.1:3868 where it is missing; a round
+                  has --gates gateways, 1 to 16; --rounds are 1 to 1000000; after each --every messages of a
+                  gateway, 0 to 1000000, sessions whose time is over are ended, with 0 never. Missing, they are 1, 1, 0
 dcc decode        reads what a replay printed, a script, or messages in hex from standard input, and prints each
                   message as a tree of names and values, and each line without one as it is
 dcc help          prints this text, as dcc --help and dcc -h do
 dcc --version     prints the version, as dcc -V does
 
 exit status: 0; 1 where memory, input or output failed; 2 at another command line; 3 at a faulty plan; 4 at a faulty
-store; 5 at a faulty script.
+store; 5 at a faulty script; 6 where a server's answers and accounts disagree.
 A failure has one line on standard error.
 ";
 

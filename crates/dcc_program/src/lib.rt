@@ -17,9 +17,10 @@ mod plan_file;
 mod process;
 mod program;
 mod replaying;
+mod serving;
 mod storing;
 
-pub use command_line::{Place, Task, given_words, task_of};
+pub use command_line::{Place, ServeAsk, Task, given_words, serve_of, task_of};
 pub use decoding::decode;
 pub use ending::{Ending, end};
 pub use failure::Failure;
@@ -28,4 +29,5 @@ pub use plan_file::{plan_from, plan_of};
 pub use process::execute;
 pub use program::run;
 pub use replaying::replay;
+pub use serving::serve;
 pub use storing::{ledger, top_up};

@@ -29,7 +29,7 @@ fn each_end_has_its_status_and_its_line(rt: HostRuntime) -> Result<(), Fail> {
         (
             Err(Failure::Usage),
             2,
-            "dcc: usage: dcc replay PLAN, dcc topup PLAN DIR SUB TICKET AMOUNT MOMENT, dcc ledger PLAN DIR SUB, or dcc decode\n",
+            "dcc: usage: dcc replay PLAN, dcc topup PLAN DIR SUB TICKET AMOUNT MOMENT, dcc ledger PLAN DIR SUB, dcc serve PLAN DIR, or dcc decode\n",
         ),
         (Err(Failure::Plan(22)), 3, "dcc: plan fault 22\n"),
         (Err(Failure::Store(54)), 4, "dcc: store fault 54\n"),
