@@ -5,6 +5,8 @@
 //! system's, and has no contract here.
 #![tactic(auto)]
 
+mod file_records;
 mod stores;
 
+pub use file_records::FileRecords;
 pub use stores::FileStores;

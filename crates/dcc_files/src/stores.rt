@@ -2,6 +2,7 @@
 
 ghost use Rattle.std.specs.Prelude.{◌≡◌, IfOk, IfSome};
 
+use crate::file_records::FileRecords;
 use dcc_operator::{StoreRefusal, Stores};
 use dcc_sqlrec::{OpenFault, Setting, SqlRecords};
 use dcc_tariff::Plan;
@@ -42,7 +43,7 @@ impl<'r> FileStores<'r> {
 }
 
 impl Stores for FileStores<'_> {
-    type Records = SqlRecords<FileStore<File>>;
+    type Records = FileRecords;
 
     fn open(
         &self,
@@ -50,14 +51,17 @@ impl Stores for FileStores<'_> {
         plan: &Plan,
         shard: usize,
         hasher: RandomState,
-    ) -> Result<Option<SqlRecords<FileStore<File>>>, StoreRefusal> {
+    ) -> Result<Option<FileRecords>, StoreRefusal> {
         let alloc = self.rt.alloc();
         let path = path_of(alloc, folder, shard).map_err(|_| MEMORY)?;
         if !fs::exists(self.rt, path.as_str()).map_err(|_| DEVICE)? {
             return Ok(None);
         }
         let conn = self.connect(path.as_str())?;
-        opened(alloc, conn, plan, shard, hasher)
+        match opened(alloc, conn, plan, shard, hasher)? {
+            Some(records) => Ok(Some(FileRecords { records })),
+            None => Ok(None),
+        }
     }
 
     fn open_or_make(
@@ -66,11 +70,12 @@ impl Stores for FileStores<'_> {
         plan: &Plan,
         shard: usize,
         hasher: RandomState,
-    ) -> Result<SqlRecords<FileStore<File>>, StoreRefusal> {
+    ) -> Result<FileRecords, StoreRefusal> {
         let alloc = self.rt.alloc();
         let path = path_of(alloc, folder, shard).map_err(|_| MEMORY)?;
         let conn = self.connect(path.as_str())?;
-        opened_or_made(alloc, conn, plan, shard, hasher)
+        let records = opened_or_made(alloc, conn, plan, shard, hasher)?;
+        Ok(FileRecords { records })
     }
 }
 
