@@ -1,6 +1,6 @@
 //! The shards of a server.
 
-ghost use Rattle.std.specs.Prelude.{◌≡◌, ◌≢◌, ◌<◌, ℕ, [], IfOk, length, slice_index_or};
+ghost use Rattle.std.specs.Prelude.{◌≡◌, ◌≢◌, ◌<◌, ◌≤◌, ℕ, [], IfOk, length, slice_index_or};
 ghost use Rattle.dcc_act.specs.declared.sub.Sub.{Sub};
 ghost use Rattle.dcc_records.specs.Stops.{LeavesOnly};
 ghost use Rattle.dcc_shard.specs.Shards.{held, AreOwn};
@@ -29,6 +29,8 @@ pub fn shards_over<S: Stores>(
     hasher: RandomState,
 ) -> Result<Vec<Shard<S::Records>>, StoreRefusal>
     ensures count { IfOk result (λ shards. length shards.items ≡ plan.now.shards) }
+    ensures some { IfOk result (λ shards. 1 ≤ length shards.items) }
+    ensures most { IfOk result (λ shards. length shards.items ≤ 8) }
     ensures terms { IfOk result (λ shards. (i : ℕ) (none : StoredView S.Records) → i < length shards.items
         → (slice_index_or shards.items i none).shard.terms ≡ plan.now.terms) }
     ensures identity { IfOk result (λ shards. (i : ℕ) (none : StoredView S.Records) → i < length shards.items

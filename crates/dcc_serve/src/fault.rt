@@ -20,8 +20,7 @@ pub enum ServeFault {
     /// Receipts and books disagree, with this number: 60, 61 or 62.
     #[error("receipts disagree, fault {0}")]
     Close(u8),
-    /// A store has the fault with this number: 51, it failed in the round whose line was printed; 54, its shard has a subscriber that
-    /// another keeps, or other terms or another name than the server.
+    /// A store has the fault with this number: 51, it failed in the round whose line was printed.
     #[error("store fault {0}")]
     Store(u8),
 }

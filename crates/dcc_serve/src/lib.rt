@@ -13,7 +13,6 @@ mod face;
 mod fault;
 mod lanes;
 mod line;
-mod placed;
 mod reader;
 mod round;
 mod rounds;

@@ -1,9 +1,11 @@
 //! All rounds of a server.
 
+ghost use Rattle.std.specs.Prelude.{◌≤◌, length};
+ghost use Rattle.dcc_running.specs.Books.{AreShards};
+
 use crate::face::{Listener, Notice, Notices, Shut};
 use crate::fault::ServeFault;
 use crate::line::write_line;
-use crate::placed::are_shards;
 use crate::round::serve_round;
 use crate::rounds::Rounds;
 use dcc_connect::Clock;
@@ -28,16 +30,18 @@ pub struct Service<'a, C, N> {
     pub hasher: RandomState,
 }
 
-/// Serves round after round over these shards, 1 to 8, and writes the line of each, `round R requests Q answers A acts T`: so many
-/// credit-control requests were handed to shards, so many answers went out whole, and so many acts were made in it.
+/// Serves round after round over these shards, and writes the line of each, `round R requests Q answers A acts T`: so many
+/// credit-control requests were handed to shards, so many answers went out whole, and so many acts were made in it. The conditions are
+/// those of [`dcc_running::Shards::new`]: 1 to 8 shards, under these terms and for this server, each of which holds only subscribers
+/// that [`dcc_shard::shard_of`] gives it.
 ///
 /// A round accepts its gateways, serves them until all have ended, and compares what they were told with what the shards hold. A
 /// fault of a connection ends that connection alone. A shard whose records fail answers busy from then on, and the others go on.
 /// It waits for gateways, and for threads of its own.
 ///
 /// Faults: [`ServeFault::Memory`], memory was short for a round; [`ServeFault::Io`], the output or the listener failed;
-/// [`ServeFault::Close`], receipts and books disagree, and no line is written; [`ServeFault::Store`], 54 before the first round where these
-/// can't be the shards of such a server, 51 behind the line of the round in which the records of a shard failed.
+/// [`ServeFault::Close`], receipts and books disagree, and no line is written; [`ServeFault::Store`], 51, behind
+/// the line of the round in which the records of a shard failed.
 pub fn serve_run<
     W: Threads + Wait + Sync,
     R: Records + Send + Sync + Drop,
@@ -55,15 +59,11 @@ pub fn serve_run<
     listener: &mut L,
     output: &mut P,
     rounds: &Rounds,
-) -> Result<(), ServeFault> {
-    if !are_shards(
-        alloc,
-        service.plan.terms(),
-        service.identity,
-        shards.as_slice(),
-    )? {
-        return Err(ServeFault::Store(54));
-    }
+) -> Result<(), ServeFault>
+    requires shards { AreShards service.now.plan.now.terms service.now.identity.now shards.items }
+    requires some { 1 ≤ length shards.items }
+    requires most { length shards.items ≤ 8 }
+{
     let mut shards = shards;
     for round in 0..rounds.rounds {
         let (counts, next) = serve_round::<W, R, I, O, L, C, N>(
