@@ -1,8 +1,13 @@
 //! The line behind a round.
 
+ghost use Rattle.std.specs.Prelude.{◌≡◌, ◌≢◌, ℕ, take, string_bytes, IfOk, IfErr, OnOk};
+ghost use Rattle.std.specs.Io.KnownBytes.{Appends, Keeps};
+ghost use Rattle.dcc_serve.specs.Lines.{round_line};
+ghost use Rattle.dcc_serve.specs.declared.fault.ServeFault.TheVariants.{Io};
+
 use crate::fault::ServeFault;
 use dcc_streams::write_all;
-use std::alloc::Global;
+use std::alloc::{AllocError, Global};
 use std::io::Write;
 
 /// What a round came to.
@@ -16,17 +21,31 @@ pub(crate) struct Counts {
     pub acts: u64,
 }
 
-/// Writes what a round came to. It fails where memory is short or the writer fails.
+/// Writes what a round came to. It fails where memory is short, and then nothing is written, or where the writer fails, and then a
+/// beginning is.
 pub(crate) fn write_line<P: Write>(
     alloc: Global,
     round: u32,
     counts: Counts,
     output: &mut P,
-) -> Result<(), ServeFault> {
+) -> Result<(), ServeFault>
+    ensures whole { OnOk result (Appends (P.contents output.old) (P.contents output.new) (round_line round counts)) }
+    ensures silent { IfErr result (λ fault. fault ≢ Io → Keeps (P.contents output.old) (P.contents output.new)) }
+    ensures part { IfErr result (λ fault. fault ≡ Io
+        → (n : ℕ) × Appends (P.contents output.old) (P.contents output.new) (take n (round_line round counts))) }
+{
+    let line = line_of(alloc, round, counts)?;
+    write_all(output, line.as_bytes())?;
+    Ok(())
+}
+
+/// The line of a round. The only error is want of memory.
+fn line_of(alloc: Global, round: u32, counts: Counts) -> Result<String, AllocError>
+    ensures { IfOk result (λ line. string_bytes line ≡ round_line round counts) }
+{
     let line = format!(in alloc;
         "round {} requests {} answers {} acts {}\n",
         round, counts.requests, counts.answers, counts.acts
     )?;
-    write_all(output, line.as_bytes())?;
-    Ok(())
+    Ok(line)
 }
