@@ -1,2 +1,5 @@
 pub mod Rounds
 pub mod Lines
+pub mod Lanes
+pub mod Working
+pub mod Handing

@@ -1,11 +1,15 @@
 //! The lanes of a round.
 
-ghost use Rattle.std.specs.Prelude.{◌<◌, ◌≤◌};
+ghost use Rattle.std.specs.Prelude.{◌≡◌, ◌<◌};
+ghost use Rattle.dcc_serve.specs.Lanes.{all_put, put_into, put_all};
+ghost use Rattle.dcc_serve.specs.declared.work.Work.TheVariants as work;
 
 use crate::work::Work;
+use dcc_act::Moment;
 use dcc_connect::Item;
 use dcc_lane::{Lane, Receiver, Sender};
 use std::alloc::{AllocError, Global};
+use std::sync::Wait;
 
 /// So many items a lane has room for; where it is full, its senders wait.
 const CAPACITY: usize = 64;
@@ -50,4 +54,23 @@ fn deal<T: Drop>(
         list.push(sender)?;
     }
     Ok(())
+}
+
+/// Puts an item into the lane of this index, where there is one.
+pub(crate) fn put_into<W: Wait, T: Drop>(rt: &W, lanes: &mut Vec<Sender<T>>, index: usize, item: T)
+    ensures { all_put lanes.new.items ≡ put_into index item (all_put lanes.old.items) }
+{
+    if index >= lanes.len() {
+        return;
+    }
+    lanes[index].put(rt, item);
+}
+
+/// Asks each worker for a sweep.
+pub(crate) fn ask_all_to_sweep<W: Wait>(rt: &W, workers: &mut Vec<Sender<Work>>, moment: Moment)
+    ensures { all_put workers.new.items ≡ put_all (work.Sweep moment) (all_put workers.old.items) }
+{
+    for index in 0..workers.len() {
+        put_into(rt, workers, index, Work::Sweep(moment));
+    }
 }

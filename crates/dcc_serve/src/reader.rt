@@ -1,6 +1,17 @@
 //! The reader of a gateway.
 
+ghost use Rattle.std.specs.Prelude.{◌≡◌, ◌++◌, true, is_some, length};
+ghost use Rattle.dcc_dispatch.specs.Dispatches.{IfAsked};
+ghost use Rattle.dcc_dispatch.specs.declared.decide.Dispatched.TheVariants.{Replied};
+ghost use Rattle.dcc_lane.specs.Ends.{put_of};
+ghost use Rattle.dcc_model.specs.Keys.{request_key};
+ghost use Rattle.dcc_serve.specs.Handing.{AsksSweep, Passes, reading_of, replies, one_more, is_due, since_then};
+ghost use Rattle.dcc_serve.specs.Lanes.{all_put, put_into};
+ghost use Rattle.dcc_serve.specs.declared.work.Work.TheVariants as work;
+ghost use Rattle.dcc_shard.specs.Routes.{shard_of};
+
 use crate::face::{Notice, Notices};
+use crate::lanes::{ask_all_to_sweep, put_into};
 use crate::work::{Request, Work};
 use dcc_act::Moment;
 use dcc_base::{Peer, Reply};
@@ -28,12 +39,37 @@ pub(crate) struct Reader {
     /// One for each shard's worker, by its index.
     pub workers: Vec<Sender<Work>>,
     pub writer: Sender<Item>,
-    /// A sweep is asked for after so many messages, or never with 0.
+    pub sweeps: Sweeps,
+    /// So many requests were handed to shards.
+    pub requests: u64,
+}
+
+/// When sweeps are asked for.
+#[derive(Drop)]
+pub(crate) struct Sweeps {
+    /// After so many messages, or never with 0.
     pub every: u32,
     /// So many came since.
     pub since: u32,
-    /// So many requests were handed to shards.
-    pub requests: u64,
+}
+
+impl Sweeps {
+    /// Counts a message, and tells whether a sweep is due behind it.
+    fn is_due(&mut self) -> bool
+        ensures due { result ≡ is_due self.old }
+        ensures every { self.new.every ≡ self.old.every }
+        ensures since { self.new.since ≡ since_then self.old }
+    {
+        if self.every == 0 {
+            return false;
+        }
+        if self.since >= self.every - 1 {
+            self.since = 0;
+            return true;
+        }
+        self.since += 1;
+        false
+    }
 }
 
 /// Who judges a gateway's messages.
@@ -47,7 +83,11 @@ pub(crate) struct Judge<'a, N> {
 }
 
 impl<'a, N: Notices> Submitter for Judge<'a, N> {
-    ghost hands = { λ _ _ _ _ _. Unit {0} };
+    ghost use Rattle.std.specs.Prelude.{◌≡◌};
+    ghost use Rattle.dcc_serve.specs.Handing.{Hands};
+
+    ghost hands = { λ old moment message handed new. Hands (record { plan = old.plan.now; identity = old.identity.now }) moment message handed
+        old.reader.now new.reader.now × (new.plan ≡ old.plan) × (new.identity ≡ old.identity) };
 
     fn hand<W: Wait>(&mut self, rt: &W, moment: Moment, message: &[u8]) -> Handed {
         let was_open = self.reader.peer.host().is_some();
@@ -62,25 +102,7 @@ impl<'a, N: Notices> Submitter for Judge<'a, N> {
         if !was_open {
             self.tell_host(rt);
         }
-        let handed = match dispatched {
-            Dispatched::Replied(reply) => self.reader.reply(rt, reply),
-            Dispatched::Asked {
-                sub,
-                act,
-                header,
-                proxies,
-            } => {
-                let job = Job {
-                    sub,
-                    act,
-                    header,
-                    proxies,
-                };
-                let gate = self.reader.gate;
-                self.reader.ask(rt, Request { gate, job });
-                Handed::Stays
-            }
-        };
+        let handed = self.reader.pass_on(rt, dispatched);
         self.reader.sweep(rt, moment);
         handed
     }
@@ -97,37 +119,73 @@ impl<'a, N: Notices> Judge<'a, N> {
 }
 
 impl Reader {
-    /// Puts what is replied at once into the writer's lane.
-    fn reply<W: Wait>(&mut self, rt: &W, reply: Reply) -> Handed {
-        let Reply { octets, close } = reply;
-        if octets.as_slice().len() > 0 {
-            self.writer.put(rt, Item::Octets(octets));
+    /// Passes on what a message comes to.
+    fn pass_on<W: Wait>(&mut self, rt: &W, word: Dispatched) -> Handed
+        requires { IfAsked word (λ sub act header proxies. is_some (request_key act.kind) ≡ true) }
+        ensures passed { Passes self.old.gate word result (reading_of self.old) (reading_of self.new) }
+        ensures peer { self.new.peer ≡ self.old.peer }
+        ensures gate { self.new.gate ≡ self.old.gate }
+    {
+        match word {
+            Dispatched::Replied(reply) => self.reply(rt, reply),
+            Dispatched::Asked {
+                sub,
+                act,
+                header,
+                proxies,
+            } => {
+                let job = Job {
+                    sub,
+                    act,
+                    header,
+                    proxies,
+                };
+                let gate = self.gate;
+                self.ask(rt, Request { gate, job });
+                Handed::Stays
+            }
         }
+    }
+
+    /// Puts what is replied at once into the writer's lane.
+    fn reply<W: Wait>(&mut self, rt: &W, reply: Reply) -> Handed
+        ensures passed { Passes self.old.gate (Replied reply) result (reading_of self.old) (reading_of self.new) }
+        ensures peer { self.new.peer ≡ self.old.peer }
+        ensures gate { self.new.gate ≡ self.old.gate }
+    {
+        let Reply { octets, close } = reply;
+        put_reply(rt, &mut self.writer, octets);
         if close { Handed::Closes } else { Handed::Stays }
     }
 
     /// Puts a request into the lane of its subscriber's shard.
-    fn ask<W: Wait>(&mut self, rt: &W, request: Request) {
+    fn ask<W: Wait>(&mut self, rt: &W, request: Request)
+        ensures asked { all_put self.new.workers.items ≡ put_into (shard_of request.job.sub (length self.old.workers.items))
+            (work.Request request) (all_put self.old.workers.items) }
+        ensures requests { self.new.requests ≡ one_more self.old.requests }
+        ensures writer { self.new.writer ≡ self.old.writer }
+        ensures sweeps { self.new.sweeps ≡ self.old.sweeps }
+        ensures peer { self.new.peer ≡ self.old.peer }
+        ensures gate { self.new.gate ≡ self.old.gate }
+    {
+        self.requests = self.requests.saturating_add(1);
         if self.workers.is_empty() {
             return;
         }
         let shard = shard_of(&request.job.sub, self.workers.len());
-        self.workers[shard].put(rt, Work::Request(request));
-        self.requests = self.requests.saturating_add(1);
+        put_into(rt, &mut self.workers, shard, Work::Request(request));
     }
 
     /// Counts a message, and asks each shard for a sweep where it is time.
-    fn sweep<W: Wait>(&mut self, rt: &W, moment: Moment) {
-        if self.every == 0 {
+    fn sweep<W: Wait>(&mut self, rt: &W, moment: Moment)
+        ensures asked { AsksSweep moment (reading_of self.old) (reading_of self.new) }
+        ensures peer { self.new.peer ≡ self.old.peer }
+        ensures gate { self.new.gate ≡ self.old.gate }
+    {
+        if !self.sweeps.is_due() {
             return;
         }
-        self.since = self.since.saturating_add(1);
-        if self.since >= self.every {
-            self.since = 0;
-            for worker in &mut self.workers {
-                worker.put(rt, Work::Sweep(moment));
-            }
-        }
+        ask_all_to_sweep(rt, &mut self.workers, moment);
     }
 
     /// Says that it ends to all that take from it.
@@ -138,6 +196,16 @@ impl Reader {
         }
         self.writer.put(rt, Item::End);
     }
+}
+
+/// Puts the octets of a reply into a writer's lane, where there are any.
+fn put_reply<W: Wait>(rt: &W, writer: &mut Sender<Item>, octets: OctetString)
+    ensures { put_of writer.new ≡ put_of writer.old ++ replies octets }
+{
+    if octets.as_slice().is_empty() {
+        return;
+    }
+    writer.put(rt, Item::Octets(octets));
 }
 
 /// Reads a gateway's messages and hands each on, until it ends, and says so.

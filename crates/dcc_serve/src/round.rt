@@ -8,7 +8,7 @@ use crate::face::{Connection, Listener, Notice, Notices, Shut};
 use crate::fault::{ServeFault, of_close};
 use crate::lanes::{Lanes, make_lanes};
 use crate::line::Counts;
-use crate::reader::Reader;
+use crate::reader::{Reader, Sweeps};
 use crate::rounds::Rounds;
 use crate::run::Service;
 use crate::tasks::{Shared, Task};
@@ -148,8 +148,10 @@ fn gather<W: Wait, R: Records, I: Read + Drop, O: Write + Drop, L: Listener<I, O
             peer: Peer::Wait,
             workers,
             writer,
-            every: rounds.every,
-            since: 0,
+            sweeps: Sweeps {
+                every: rounds.every,
+                since: 0,
+            },
             requests: 0,
         };
         tasks.push(Task::Read { input, reader })?;

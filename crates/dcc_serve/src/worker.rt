@@ -1,7 +1,11 @@
 //! The worker of a shard.
 
-ghost use Rattle.std.specs.Prelude.{◌<◌};
+ghost use Rattle.std.specs.Prelude.{◌≡◌, ◌<◌};
+ghost use Rattle.dcc_lane.specs.Ends.{senders_of};
+ghost use Rattle.dcc_serve.specs.Lanes.{all_put};
+ghost use Rattle.dcc_serve.specs.Working.{Answers, DoesOne, HasDone, Sweeps, octets_in};
 
+use crate::lanes::put_into;
 use crate::work::{Request, Work};
 use dcc_act::Moment;
 use dcc_connect::Item;
@@ -28,56 +32,46 @@ impl Worker {
     /// Does what its lane asks for, until every gateway has ended.
     pub fn run<W: Wait, R: Records>(&mut self, rt: &W, alloc: Global, shards: &Shards<R>)
         requires { self.old.shard < shards.now.count }
+        ensures { HasDone self.old self.new (senders_of self.old.from) }
     {
-        let shard = self.shard;
         let gates = self.from.senders();
         let mut ended = 0usize;
         for _ in rt.forever() {
             if ended >= gates {
                 return;
             }
-            match self.from.take(rt) {
-                Work::Request(request) => self.answer(rt, alloc, shards, request),
-                Work::Sweep(moment) => self.sweep(rt, alloc, shards, shard, moment),
-                Work::End(gate) => {
-                    ended = ended.saturating_add(1);
-                    self.put(rt, gate, Item::End);
-                }
+            if self.take_one(rt, alloc, shards) {
+                ended += 1;
             }
         }
+        unreachable!()
     }
 
-    /// Makes a request and puts its answer into its gateway's lane; where there is none, nothing.
-    fn answer<W: Wait, R: Records>(
-        &mut self,
-        rt: &W,
-        alloc: Global,
-        shards: &Shards<R>,
-        request: Request,
-    ) {
-        let Request { gate, job } = request;
-        if let Some(octets) = octets_of(shards.submit(rt, alloc, &mut self.seat, job)) {
-            self.put(rt, gate, Item::Octets(octets));
-        }
-    }
-
-    /// Ends what is due of each subscriber of the shard; one that is refused leaves the others. Without memory for the list of
-    /// subscribers nothing is ended.
-    fn sweep<W: Wait, R: Records>(
-        &mut self,
-        rt: &W,
-        alloc: Global,
-        shards: &Shards<R>,
-        shard: usize,
-        moment: Moment,
-    )
-        requires { shard < shards.now.count }
+    /// Takes one item and does it; whether a gateway has ended.
+    fn take_one<W: Wait, R: Records>(&mut self, rt: &W, alloc: Global, shards: &Shards<R>) -> bool
+        requires { self.old.shard < shards.now.count }
+        ensures { DoesOne self.old self.new result }
     {
-        let Ok(subs) = shards.subs(rt, alloc, shard) else {
-            return;
-        };
-        for sub in &subs {
-            let _answer = shards.expire(rt, alloc, &mut self.seat, *sub, moment);
+        match self.from.take(rt) {
+            Work::Request(request) => {
+                answer(
+                    rt,
+                    alloc,
+                    shards,
+                    &mut self.seat,
+                    &mut self.writers,
+                    request,
+                );
+                false
+            }
+            Work::Sweep(moment) => {
+                sweep(rt, alloc, shards, self.shard, &mut self.seat, moment);
+                false
+            }
+            Work::End(gate) => {
+                put_into(rt, &mut self.writers, gate, Item::End);
+                true
+            }
         }
     }
 
@@ -102,17 +96,53 @@ impl Worker {
         } = self;
         seat
     }
+}
 
-    /// Puts an item into a gateway's lane.
-    fn put<W: Wait>(&mut self, rt: &W, gate: usize, item: Item) {
-        if gate < self.writers.len() {
-            self.writers[gate].put(rt, item);
-        }
+/// Makes a request and puts its answer into its gateway's lane; where there is none, nothing.
+fn answer<W: Wait, R: Records>(
+    rt: &W,
+    alloc: Global,
+    shards: &Shards<R>,
+    seat: &mut Seat,
+    writers: &mut Vec<Sender<Item>>,
+    request: Request,
+)
+    ensures { Answers request (record { told = seat.old; put = all_put writers.old.items })
+        (record { told = seat.new; put = all_put writers.new.items }) }
+{
+    let Request { gate, job } = request;
+    let answer = shards.submit(rt, alloc, seat, job);
+    let Some(octets) = octets_of(answer) else {
+        return;
+    };
+    put_into(rt, writers, gate, Item::Octets(octets));
+}
+
+/// Ends what is due of each subscriber of the shard; one that is refused leaves the others. Without memory for the list of
+/// subscribers nothing is ended.
+fn sweep<W: Wait, R: Records>(
+    rt: &W,
+    alloc: Global,
+    shards: &Shards<R>,
+    shard: usize,
+    seat: &mut Seat,
+    moment: Moment,
+)
+    requires { shard < shards.now.count }
+    ensures { Sweeps moment seat.old seat.new }
+{
+    let Ok(subs) = shards.subs(rt, alloc, shard) else {
+        return;
+    };
+    for sub in &subs {
+        let _answer = shards.expire(rt, alloc, seat, *sub, moment);
     }
 }
 
 /// The octets of an answer, where there is one.
-fn octets_of(answer: RequestAnswer) -> Option<OctetString> {
+fn octets_of(answer: RequestAnswer) -> Option<OctetString>
+    ensures { result ≡ octets_in answer }
+{
     match answer {
         RequestAnswer::Done {
             octets,

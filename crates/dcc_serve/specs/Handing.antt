@@ -1,0 +1,85 @@
+-- What the reader of a gateway does with its messages.
+use Rattle.std.specs.Prelude.{◌≡◌, ℕ, ◌+◌, ◌-◌, ◌^◌, min, Bool, ◌==◌, ◌&&◌, nat_le, nat_lt, if◌then◌else◌, List, [], ◌∷◌, ◌++◌, length}
+use Rattle.dcc_base.specs.declared.peer.Peer.{Peer}
+use Rattle.dcc_connect.specs.declared.handing.Handed.{Handed}
+use Rattle.dcc_connect.specs.declared.handing.Handed.TheVariants.{Stays, Closes}
+use Rattle.dcc_connect.specs.declared.writing.Item.{Item}
+use Rattle.dcc_connect.specs.declared.writing.Item.TheVariants.{Octets}
+use Rattle.dcc_dispatch.specs.Dispatches.{IfAsked, IfReplied, IsAsked, IsRepliedTo}
+use Rattle.dcc_dispatch.specs.Messages.{message_view, received}
+use Rattle.dcc_dispatch.specs.Messages.Received.{Charging}
+use Rattle.dcc_dispatch.specs.Settings.{Setting}
+use Rattle.dcc_dispatch.specs.declared.decide.Dispatched.{Dispatched}
+use Rattle.dcc_dispatch.specs.declared.decide.Dispatched.TheVariants.{Replied, Asked}
+use Rattle.dcc_lane.specs.Ends.{put_of}
+use Rattle.dcc_serve.specs.Lanes.{all_put, put_into, put_all}
+use Rattle.dcc_serve.specs.declared.reader.Reader.{Reader}
+use Rattle.dcc_serve.specs.declared.reader.Sweeps.{Sweeps}
+use Rattle.dcc_serve.specs.declared.work.Request.{Request}
+use Rattle.dcc_serve.specs.declared.work.Work.{Work}
+use Rattle.dcc_serve.specs.declared.work.Work.TheVariants as work
+use Rattle.dcc_shard.specs.Routes.{shard_of}
+
+-- what a reader put for each shard and for its writer, and what it counted
+pub record Reading : Type 0 where
+  pub asked : List (List Work)
+  pub replied : List Item
+  pub requests : ℕ
+  pub sweeps : Sweeps
+
+abbrev pub reading_of : Reader → Reading
+reading_of reader = record { asked = all_put reader.workers.items; replied = put_of reader.writer; requests = reader.requests; sweeps = reader.sweeps }
+
+-- one of what a message to a peer may come to, and where it leaves the peer
+abbrev pub IsDispatched : Setting → ℕ → List ℕ → (old new : Peer) → Dispatched → Type 0
+IsDispatched setting moment message old new word =
+    IfAsked word (λ sub act header proxies. received old message ≡ Charging (message_view header message))
+    × IfAsked word (λ sub act header proxies. IsAsked setting moment (message_view header message) sub act header proxies)
+    × IfAsked word (λ sub act header proxies. new ≡ old)
+    × IfReplied word (λ reply. IsRepliedTo setting moment (received old message) old new reply)
+
+-- the octets of a reply, where there are any
+abbrev pub replies : List ℕ → List Item
+replies octets = if length octets == 0 then [] else Octets octets ∷ []
+
+abbrev pub one_more : ℕ → ℕ
+one_more count = min (count + 1) (2 ^ 64 - 1)
+
+-- A reply goes to the gateway's own writer, and the connection stays or closes as it says. What asks for an act goes to the shard that
+-- keeps its subscriber, as this gateway's, and the connection stays.
+abbrev pub Passes : ℕ → Dispatched → Handed → Reading → Reading → Type 0
+Passes gate (Replied reply) handed old new =
+    (handed ≡ (if reply.close then Closes else Stays))
+    × (new ≡ record { asked = old.asked; replied = old.replied ++ replies reply.octets; requests = old.requests; sweeps = old.sweeps })
+Passes gate (Asked sub act header proxies) handed old new =
+    (handed ≡ Stays)
+    × ((request : Request) × (request.gate ≡ gate) × (request.job ≡ record { sub = sub; act = act; header = header; proxies = proxies })
+    × (new ≡ record {
+      asked = put_into (shard_of sub (length old.asked)) (work.Request request) old.asked;
+      replied = old.replied;
+      requests = one_more old.requests;
+      sweeps = old.sweeps;
+    }))
+
+-- a sweep is due behind each message that makes up the number; with 0 never
+abbrev pub is_due : Sweeps → Bool
+is_due sweeps = nat_lt 0 sweeps.every && nat_le sweeps.every (sweeps.since + 1)
+
+abbrev pub since_then : Sweeps → ℕ
+since_then sweeps = if sweeps.every == 0 then sweeps.since else (if nat_le sweeps.every (sweeps.since + 1) then 0 else sweeps.since + 1)
+
+-- then each shard is asked for it
+abbrev pub AsksSweep : ℕ → Reading → Reading → Type 0
+AsksSweep moment old new =
+    new ≡ record {
+      asked = if is_due old.sweeps then put_all (work.Sweep moment) old.asked else old.asked;
+      replied = old.replied;
+      requests = old.requests;
+      sweeps = record { every = old.sweeps.every; since = since_then old.sweeps };
+    }
+
+-- a message comes to what is dispatched, and that is passed on; then a sweep is asked for where it is due
+abbrev pub Hands : Setting → ℕ → List ℕ → Handed → Reader → Reader → Type 0
+Hands setting moment message handed old new =
+    (word : Dispatched) × (between : Reading) × IsDispatched setting moment message old.peer new.peer word
+    × Passes old.gate word handed (reading_of old) between × AsksSweep moment between (reading_of new) × (new.gate ≡ old.gate)

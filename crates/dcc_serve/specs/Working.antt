@@ -1,0 +1,83 @@
+-- What the worker of a shard does.
+use Rattle.std.specs.Prelude.{◌≡◌, ℕ, Bool, true, false, List, [], ◌∷◌, ◌++◌, count_by, Option, Some, None}
+use Rattle.std.specs.List.{FoldsTo}
+use Rattle.std.specs.List.Sorted.{IsStrictlySortedBy}
+use Rattle.dcc_act.specs.declared.sub.Sub.{Sub}
+use Rattle.dcc_connect.specs.Writing.{items_of}
+use Rattle.dcc_connect.specs.declared.writing.Item.{Item}
+use Rattle.dcc_connect.specs.declared.writing.Item.TheVariants.{Octets, End}
+use Rattle.dcc_lane.specs.Ends.{senders_of, taken_of}
+use Rattle.dcc_receipts.specs.declared.receipt.Receipt.{Receipt}
+use Rattle.dcc_records.specs.Books.{sub_order}
+use Rattle.dcc_running.specs.Calls.{IsAnswerTo, IsEndOf, receipts_of, expiry_receipts}
+use Rattle.dcc_shard.specs.Answers.{IsToldApart}
+use Rattle.dcc_shard.specs.declared.answers.ExpiryAnswer.{ExpiryAnswer}
+use Rattle.dcc_shard.specs.declared.answers.RequestAnswer.{RequestAnswer}
+use Rattle.dcc_shard.specs.declared.answers.RequestAnswer.TheVariants as answers
+use Rattle.dcc_serve.specs.Lanes.{all_put, put_into}
+use Rattle.dcc_serve.specs.declared.work.Request.{Request}
+use Rattle.dcc_serve.specs.declared.work.Work.{Work}
+use Rattle.dcc_serve.specs.declared.work.Work.TheVariants as work
+use Rattle.dcc_serve.specs.declared.worker.Worker.{Worker}
+
+-- what a worker was told, and what it put for each gateway
+pub record Doing : Type 0 where
+  pub told : List Receipt
+  pub put : List (List Item)
+
+abbrev pub doing_of : Worker → Doing
+doing_of worker = record { told = worker.seat; put = all_put worker.writers.items }
+
+-- the octets of an answer, where there is one
+abbrev pub octets_in : RequestAnswer → Option (List ℕ)
+octets_in (answers.Done octets at fresh) = Some octets
+octets_in (answers.Unknown octets) = Some octets
+octets_in (answers.Busy octets) = Some octets
+octets_in answers.Silent = None
+
+-- they go to the gateway that asked, and to no other
+abbrev pub put_answer : ℕ → Option (List ℕ) → List (List Item) → List (List Item)
+put_answer gate None lanes = lanes
+put_answer gate (Some octets) lanes = put_into gate (Octets octets) lanes
+
+-- A request is answered with what some shard answers to its job, a refusal too; the worker keeps the receipt of it.
+abbrev pub Answers : Request → Doing → Doing → Type 0
+Answers request old new =
+    (answer : RequestAnswer) × IsAnswerTo request.job answer × IsToldApart answer
+    × (new.told ≡ old.told ++ receipts_of request.job answer) × (new.put ≡ put_answer request.gate (octets_in answer) old.put)
+
+-- what is due of a subscriber is ended
+abbrev pub Expires : ℕ → List Receipt → Sub → List Receipt → Type 0
+Expires moment old sub new = (answer : ExpiryAnswer) × IsEndOf sub moment answer × (new ≡ old ++ expiry_receipts sub moment answer)
+
+-- of each of some subscribers, in order
+abbrev pub Sweeps : ℕ → List Receipt → List Receipt → Type 0
+Sweeps moment old new = (subs : List Sub) × IsStrictlySortedBy sub_order subs × FoldsTo (Expires moment) old subs new
+
+abbrev pub Does : Doing → Work → Doing → Type 0
+Does old (work.Request request) new = Answers request old new
+Does old (work.Sweep moment) new = Sweeps moment old.told new.told × (new.put ≡ old.put)
+Does old (work.End gate) new = (new.told ≡ old.told) × (new.put ≡ put_into gate End old.put)
+
+abbrev pub is_end : Work → Bool
+is_end (work.Request request) = false
+is_end (work.Sweep moment) = false
+is_end (work.End gate) = true
+
+-- a worker took one item more, and did it
+pub record DoesOne (old new : Worker) (ended : Bool) : Type 0 where
+  pub one : Work
+  pub taken : items_of (taken_of new.from) ≡ items_of (taken_of old.from) ++ one ∷ []
+  pub done : Does (doing_of old) one (doing_of new)
+  pub ended_is : ended ≡ is_end one
+  pub senders : senders_of new.from ≡ senders_of old.from
+  pub shard : new.shard ≡ old.shard
+
+-- a worker took items, with so many ends, and did each in its turn
+pub record HasDone (old new : Worker) (ended : ℕ) : Type 0 where
+  pub works : List Work
+  pub taken : items_of (taken_of new.from) ≡ items_of (taken_of old.from) ++ works
+  pub done : FoldsTo Does (doing_of old) works (doing_of new)
+  pub ended_are : count_by is_end works ≡ ended
+  pub senders : senders_of new.from ≡ senders_of old.from
+  pub shard : new.shard ≡ old.shard
