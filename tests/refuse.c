@@ -1,6 +1,5 @@
 /* Refuses one allocation of a program, the one whose number is in REFUSE, counted from 1; it is preloaded (LD_PRELOAD). Where there were
- * fewer it says so on standard error, so that a sweep over all of them knows its end. Only calls of the program's own thread are counted:
- * the tests have one. */
+ * fewer it says so on standard error, so that a sweep over all of them knows its end. The allocations of all threads are counted together. */
 #include <stddef.h>
 #include <stdlib.h>
 #include <string.h>
@@ -28,8 +27,7 @@ __attribute__((destructor)) static void end(void) {
 }
 
 static int is_refused(void) {
-    made += 1;
-    return made == wanted;
+    return __atomic_add_fetch(&made, 1, __ATOMIC_SEQ_CST) == wanted;
 }
 
 void *malloc(size_t size) {

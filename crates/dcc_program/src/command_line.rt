@@ -83,8 +83,14 @@ pub fn task_of<'a>(alloc: Global, words: &'a [String]) -> Result<Task<'a>, Failu
 
 /// The server that the words of a command line ask for, or none where they ask for something else, which [`task_of`] judges.
 pub fn serve_of<'a>(alloc: Global, words: &'a [String]) -> Result<Option<ServeAsk<'a>>, Failure> {
-    let Ok(matches) = command(alloc)?.try_get_matches_from(words) else {
-        return Ok(None);
+    let matches = match command(alloc)?.try_get_matches_from(words) {
+        Ok(matches) => matches,
+        Err(error) => {
+            return match error.kind() {
+                ErrorKind::OutOfMemory => Err(Failure::Memory),
+                _ => Ok(None),
+            };
+        }
     };
     match matches.subcommand() {
         Some(("serve", found)) => match serve_ask_of(found) {
