@@ -1,0 +1,155 @@
+"""Messages as trees of AVPs that may be wrong in any way, and their octets."""
+
+import struct
+from dataclasses import dataclass, replace
+
+from wire import *
+
+
+@dataclass
+class Tree:
+    """An AVP to be: its data is octets, or the trees of a group."""
+
+    code: int
+    data: bytes | list
+    flags: int = MANDATORY
+    vendor: int | None = None
+    length: int | None = None  # where it isn't what the data says
+    padding: int = 0  # what its padding octets are
+    is_cut: bool = False  # whether its padding is left out
+
+    def octets(self):
+        data = spelled(self.data)
+        if self.vendor is not None:
+            data = self.vendor.to_bytes(4, "big") + data
+        length = 8 + len(data) if self.length is None else self.length
+        padding = b"" if self.is_cut else bytes([self.padding]) * (-len(data) % 4)
+        return struct.pack(">II", self.code, self.flags << 24 | length) + data + padding
+
+    def copy(self):
+        return replace(self, data=copied(self.data))
+
+
+def spelled(data):
+    return b"".join(tree.octets() for tree in data) if isinstance(data, list) else data
+
+
+def copied(data):
+    return [tree.copy() for tree in data] if isinstance(data, list) else data
+
+
+def number(code, value):
+    return Tree(code, value.to_bytes(4, "big"))
+
+
+def long(code, value):
+    return Tree(code, value.to_bytes(8, "big"))
+
+
+def group(code, *trees):
+    return Tree(code, list(trees))
+
+
+def every(trees):
+    """Each tree with the list in which it stands."""
+    for tree in trees:
+        yield trees, tree
+        if isinstance(tree.data, list):
+            yield from every(tree.data)
+
+
+@dataclass
+class Message:
+    command: int
+    trees: list
+    application: int = 0
+    flags: int = REQUEST
+    hop_by_hop: int = 0
+    end_to_end: int = 0
+    version: int = 1
+    length: int | None = None  # where it isn't that of the octets
+
+    def octets(self):
+        body = spelled(self.trees)
+        body += bytes(-len(body) % 4)
+        length = HEADER_OCTETS + len(body) if self.length is None else self.length
+        return (
+            struct.pack(">II", self.version << 24 | length, self.flags << 24 | self.command)
+            + struct.pack(">III", self.application, self.hop_by_hop, self.end_to_end)
+            + body
+        )
+
+    def copy(self):
+        return replace(self, trees=copied(self.trees))
+
+
+EDGES = [0, 1, 2, 3, 4, 5, 7, 255, 256, 10**12, 10**12 + 1, 2**31, 2**32 - 1, 2**63, 2**64 - 1]
+CODES = [*LEAST_OCTETS, 413, 999, 0, 2**32 - 1]
+
+
+def spoil(dice, trees):
+    """Changes one AVP, at any depth, in one way."""
+    places = list(every(trees))
+    if not places:
+        trees.append(Tree(999, b""))
+        return
+    where, tree = dice.choice(places)
+    dice.choice(WAYS)(dice, where, tree)
+
+
+def leave_out(dice, where, tree):
+    where.remove(tree)
+
+
+def double(dice, where, tree):
+    where.insert(dice.randrange(len(where) + 1), tree.copy())
+
+
+def resize(dice, where, tree):
+    data = spelled(tree.data)
+    tree.data = data[: dice.randrange(len(data) + 1)] if dice.random() < 0.5 else data + dice.randbytes(dice.randint(1, 9))
+
+
+def revalue(dice, where, tree):
+    size = len(spelled(tree.data))
+    tree.data = (dice.choice(EDGES) % 256**size).to_bytes(size, "big")
+
+
+def reflag(dice, where, tree):
+    tree.flags = dice.choice([0, MANDATORY, VENDOR, VENDOR | MANDATORY, 0x20, 0x7F, dice.randrange(256)])
+
+
+def rename(dice, where, tree):
+    tree.code = dice.choice(CODES)
+
+
+def relength(dice, where, tree):
+    right = 8 + len(spelled(tree.data))
+    tree.length = dice.choice([0, 7, 8, 11, 12, right - 1, right + 1, right + 2, right + 4, right + 8, 0xFFFFFF])
+
+
+def put_in(dice, where, tree):
+    vendor = dice.choice([None, None, 10415])
+    flags = dice.choice([0, MANDATORY, MANDATORY]) | (0 if vendor is None else VENDOR)
+    where.insert(dice.randrange(len(where) + 1), Tree(dice.choice(CODES), dice.randbytes(dice.randrange(13)), flags, vendor))
+
+
+def scramble(dice, where, tree):
+    """A rest that is no AVP, which isn't always too short for one."""
+    tree.data = spelled(tree.data) + dice.randbytes(dice.randrange(12))
+
+
+def swap(dice, where, tree):
+    dice.shuffle(where)
+
+
+def dirty(dice, where, tree):
+    tree.padding, tree.is_cut = dice.randrange(256), dice.random() < 0.5
+
+
+def wrap(dice, where, tree):
+    """One group more around it."""
+    where[where.index(tree)] = group(dice.choice([REQUESTED, USED, SERVICES, SUBSCRIPTION_ID, PROXY_INFO]), tree)
+
+
+WAYS = [leave_out, double, double, resize, revalue, revalue, reflag, rename, relength, put_in, put_in, scramble, swap, dirty, wrap]
