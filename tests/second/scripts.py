@@ -4,10 +4,10 @@ import random
 import string
 from datetime import datetime, timezone
 
-from charging import MOST_FUNDS, MOST_SESSIONS, MOST_TIME
+from charging import CHECK_BALANCE, MOST_FUNDS, MOST_SESSIONS, MOST_TIME
 from judge import LAST_MOMENT, Judge, Plan, read_event
 from refusals import *
-from trees import *
+from messages import *
 
 INITIAL = 1
 BEGIN = 1_748_736_000
@@ -168,11 +168,8 @@ class Maker:
                 enough = max(account.free(), 0) // tariff.price * tariff.block
                 for amount in {min(enough, MOST_UNITS), min(enough + 1, MOST_UNITS)}:
                     if unit != "time" or amount <= MOST_TIME:
-                        service = group(SERVICES, number(RATING_GROUP, rating_group), group(REQUESTED, *self.exactly(unit, amount)))
-                        self.event_of(subscriber, self.dice.randbytes(8), 0, 2, [service])
-
-    def exactly(self, unit, amount):
-        return [number(TIME, amount)] if unit == "time" else [long(TOTAL_OCTETS if unit == "octets" else SPECIFIC_UNITS, amount)]
+                        service = group(SERVICES, number(RATING_GROUP, rating_group), units_of(REQUESTED, unit, amount))
+                        self.send(event(subscriber, self.dice.randbytes(8), 0, CHECK_BALANCE, service))
 
     def amount(self, rating_group, subscriber):
         """An amount that may be beside a bound of the group or of the money that is free."""
@@ -187,9 +184,9 @@ class Maker:
                 amounts += [covered, covered + 1, covered // 2, covered - 1, covered * 2]
         if self.temper == "bounds" or dice.random() < 0.05:
             amounts += [MOST_UNITS, MOST_UNITS, MOST_UNITS - 1, MOST_UNITS // 2]
-        if dice.random() < 0.02:
-            amounts = [MOST_UNITS + 1, MOST_UNITS + 2, 2**64 - 1]
-        return max(0, min(dice.choice(amounts), 2**64 - 1))
+        if dice.random() < 0.01:
+            return dice.choice([MOST_UNITS + 1, MOST_UNITS + 2, 2**64 - 1])
+        return max(0, min(dice.choice(amounts), MOST_UNITS))
 
     # What requests say of services.
 
@@ -206,7 +203,7 @@ class Maker:
         else:
             trees = [long(TOTAL_OCTETS if unit == "octets" else SPECIFIC_UNITS, amount)]
         for other in [TIME, TOTAL_OCTETS, INPUT_OCTETS, OUTPUT_OCTETS, SPECIFIC_UNITS]:
-            if dice.random() < 0.06 and all(tree.code != other for tree in trees):
+            if dice.random() < (0.5 if self.temper == "faults" else 0.06) and all(tree.code != other for tree in trees):
                 value = dice.choice([0, 1, MOST_TIME, dice.randint(0, 10**9)])
                 trees.append(number(TIME, value) if other == TIME else long(other, value))
         if dice.random() < 0.1:
@@ -250,33 +247,20 @@ class Maker:
 
     # Credit-control requests.
 
-    def subscription(self, subscriber):
-        kind, data = subscriber
-        trees = [number(SUBSCRIPTION_TYPE, kind), Tree(SUBSCRIPTION_DATA, data)]
-        self.dice.shuffle(trees)
-        return group(SUBSCRIPTION_ID, *trees)
-
     def subscriptions(self, subscriber):
         """The Subscription-Id, and sometimes others that don't count."""
         others = [(self.dice.randint(1, 5), self.dice.choice([b"", b"other", b" "])) for _ in range(self.dice.choice([0, 0, 0, 0, 1, 2]))]
-        if subscriber[0]:
-            return [self.subscription(it) for it in [subscriber, *others]]
-        return [self.subscription(it) for it in self.dice.sample([subscriber, *others], len(others) + 1)]
+        chosen = [subscriber, *others]
+        if subscriber[0] == 0:
+            self.dice.shuffle(chosen)
+        return [subscription(it) for it in chosen]
 
-    def credit_control(self, subscriber, name, request_number, kind, rest):
+    def request(self, subscriber, name, kind, rest):
+        """A request with things beside it that don't count."""
         dice = self.dice
-        trees = [
-            Tree(SESSION_ID, name),
-            Tree(ORIGIN_HOST, b"gw1.example"),
-            Tree(ORIGIN_REALM, b"example"),
-            Tree(DESTINATION_REALM, b"example"),
-            number(AUTH_APPLICATION_ID, 4),
-            Tree(SERVICE_CONTEXT_ID, b"data@example"),
-            number(REQUEST_TYPE, kind),
-            number(REQUEST_NUMBER, request_number),
-            *self.subscriptions(subscriber),
-            *rest,
-        ]
+        message = credit_control(subscriber, name, self.request_number(), kind, *rest)
+        trees = message.trees
+        trees[8:9] = self.subscriptions(subscriber)
         if dice.random() < 0.2:
             trees += [group(PROXY_INFO, Tree(280, b"proxy"), Tree(33, dice.randbytes(3))), Tree(PROXY_INFO, dice.randbytes(5), 0)][dice.randrange(2) :]
         if dice.random() < 0.2:
@@ -287,12 +271,9 @@ class Maker:
         if dice.random() < 0.2:
             # What stands first decides of services and subscribers, so these keep their order.
             dice.shuffle(trees)
-        flags = REQUEST | dice.choice([0, PROXIABLE]) | dice.choice([0, 0, 0x10]) | dice.choice([0] * 9 + [0x0F])
-        return Message(CREDIT_CONTROL, trees, 4, flags, dice.randrange(2**32), dice.randrange(2**32))
-
-    def event_of(self, subscriber, name, request_number, action, services):
-        rest = [number(REQUESTED_ACTION, action), *services]
-        self.send(self.credit_control(subscriber, name, request_number, EVENT, rest))
+        message.flags |= dice.choice([0, PROXIABLE]) | dice.choice([0, 0, 0x10]) | dice.choice([0] * 9 + [0x0F])
+        message.hop_by_hop, message.end_to_end = dice.randrange(2**32), dice.randrange(2**32)
+        return message
 
     def name(self, account):
         """A Session-Id: an open one mostly, where there is one."""
@@ -319,7 +300,7 @@ class Maker:
         rest = self.single_service(subscriber) if single else self.multi_services(subscriber, live, count)
         if dice.random() < 0.05:
             rest += [number(REQUESTED_ACTION, dice.choice([0, 4]))]
-        return self.credit_control(subscriber, name, self.request_number(), kind, rest)
+        return self.request(subscriber, name, kind, rest)
 
     def event_request(self):
         dice = self.dice
@@ -328,7 +309,7 @@ class Maker:
         rest = self.single_service(subscriber) if single else self.multi_services(subscriber, [], 1)
         rest.insert(0, number(REQUESTED_ACTION, dice.choice([0, 0, 0, 1, 2, 3])))
         name = self.name(self.account(subscriber))
-        return self.credit_control(subscriber, name, self.request_number(), EVENT, rest)
+        return self.request(subscriber, name, EVENT, rest)
 
     def send_new(self, message):
         self.sent.append(message)
@@ -346,7 +327,7 @@ class Maker:
         account = self.account(subscriber)
         for _ in range(MOST_SESSIONS + 2 - len(account.open) if account else 0):
             self.next_name += 1
-            self.send_new(self.credit_control(subscriber, b"crowd %d" % self.next_name, 0, INITIAL, []))
+            self.send_new(credit_control(subscriber, b"crowd %d" % self.next_name, 0, INITIAL))
 
     def repeat(self):
         """A request of old: as it was, under other identifiers, or with other AVPs under its key."""
@@ -366,7 +347,7 @@ class Maker:
     def spoiled(self):
         """A request in which one thing or several are wrong."""
         dice = self.dice
-        message = dice.choice([self.session_request, self.session_request, self.event_request, self.base_request])()
+        message = dice.choice([self.session_request, self.session_request, self.event_request, self.exchange])()
         for _ in range(dice.choice([1, 1, 1, 2, 2, 3, 5])):
             spoil(dice, message.trees)
         if dice.random() < 0.06:
@@ -375,12 +356,12 @@ class Maker:
 
     # The base protocol.
 
-    def base_request(self):
+    def exchange(self):
         dice = self.dice
-        trees = [Tree(ORIGIN_HOST, b"gw1.example"), Tree(ORIGIN_REALM, b"example")]
         command = dice.choice([CAPABILITIES, WATCHDOG, WATCHDOG, DISCONNECT])
+        message = capabilities() if command == CAPABILITIES else base_request(command)
+        trees = message.trees
         if command == CAPABILITIES:
-            trees += [Tree(HOST_IP_ADDRESS, b"\0\1\x7f\0\0\1"), number(VENDOR_ID, 0), Tree(PRODUCT_NAME, b"gw", 0)]
             trees += [number(INBAND_SECURITY_ID, dice.randrange(2)) for _ in range(dice.choice([0, 0, 0, 1, 2]))]
             for application in dice.choices([4, 4, 4, 2**32 - 1, 3], k=dice.choice([0, 1, 1, 1, 2])):
                 inside = number(AUTH_APPLICATION_ID, application)
@@ -389,11 +370,12 @@ class Maker:
             trees.append(number(DISCONNECT_CAUSE, dice.choice([0, 1, 2, 2, 3])))
         if dice.random() < 0.2:
             trees.append(Tree(dice.choice([SESSION_ID, PROXY_INFO, PROXY_INFO]), dice.randbytes(5)))
-        flags = REQUEST | dice.choice([0, 0, 0, PROXIABLE, 0x10, ERROR])
-        return Message(command, trees, 0, flags, dice.randrange(2**32), dice.randrange(2**32))
+        message.flags |= dice.choice([0, 0, 0, PROXIABLE, 0x10, ERROR])
+        message.hop_by_hop, message.end_to_end = dice.randrange(2**32), dice.randrange(2**32)
+        return message
 
     def base(self):
-        message = self.base_request()
+        message = self.exchange()
         if self.dice.random() < 0.3:
             spoil(self.dice, message.trees)
         if self.dice.random() < 0.2:
@@ -408,6 +390,7 @@ class Maker:
             "application": [0, 1, 3, 4, 2**32 - 1],
             "command": [0, 257, 271, 272, 275, 280, 282, 999, 2**24 - 1],
             "version": [0, 2, 255],
+            "tail": [b"\0", b"\0\0\0", b"\0\0\0\0"],
             "length": [0, 4, 16, 20, right - 4, right - 1, right + 1, right + 4, MOST_OCTETS, MOST_OCTETS + 4, 2**24 - 1],
         }
         field = dice.choice([*change, "flags", "application", "command"])

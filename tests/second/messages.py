@@ -68,10 +68,11 @@ class Message:
     end_to_end: int = 0
     version: int = 1
     length: int | None = None  # where it isn't that of the octets
+    tail: bytes = b""
 
     def octets(self):
         body = spelled(self.trees)
-        body += bytes(-len(body) % 4)
+        body += bytes(-len(body) % 4) + self.tail
         length = HEADER_OCTETS + len(body) if self.length is None else self.length
         return (
             struct.pack(">II", self.version << 24 | length, self.flags << 24 | self.command)
@@ -83,18 +84,60 @@ class Message:
         return replace(self, trees=copied(self.trees))
 
 
+# Plain requests, with nothing that isn't wanted.
+
+
+def subscription(subscriber):
+    kind, data = subscriber
+    return group(SUBSCRIPTION_ID, number(SUBSCRIPTION_TYPE, kind), Tree(SUBSCRIPTION_DATA, data))
+
+
+def credit_control(subscriber, session, request_number, kind, *rest):
+    trees = [
+        Tree(SESSION_ID, session),
+        Tree(ORIGIN_HOST, b"gw1.example"),
+        Tree(ORIGIN_REALM, b"example"),
+        Tree(DESTINATION_REALM, b"example"),
+        number(AUTH_APPLICATION_ID, 4),
+        Tree(SERVICE_CONTEXT_ID, b"data@example"),
+        number(REQUEST_TYPE, kind),
+        number(REQUEST_NUMBER, request_number),
+        subscription(subscriber),
+        *rest,
+    ]
+    return Message(272, trees, 4)
+
+
+def event(subscriber, session, request_number, action, *rest):
+    return credit_control(subscriber, session, request_number, 4, number(REQUESTED_ACTION, action), *rest)
+
+
+def units_of(code, unit, amount):
+    """A Requested- or Used-Service-Unit."""
+    if unit == "time":
+        return group(code, number(TIME, amount))
+    return group(code, long(TOTAL_OCTETS if unit == "octets" else SPECIFIC_UNITS, amount))
+
+
+def base_request(command, *rest):
+    return Message(command, [Tree(ORIGIN_HOST, b"gw1.example"), Tree(ORIGIN_REALM, b"example"), *rest])
+
+
+def capabilities(*rest):
+    return base_request(257, Tree(HOST_IP_ADDRESS, b"\0\1\x7f\0\0\1"), number(VENDOR_ID, 0), Tree(PRODUCT_NAME, b"gw", 0), *rest)
+
+
 EDGES = [0, 1, 2, 3, 4, 5, 7, 255, 256, 10**12, 10**12 + 1, 2**31, 2**32 - 1, 2**63, 2**64 - 1]
-CODES = [*LEAST_OCTETS, 413, 999, 0, 2**32 - 1]
+UNKNOWN = [413, 999, 0, 2**32 - 1]
 
 
 def spoil(dice, trees):
-    """Changes one AVP, at any depth, in one way."""
-    places = list(every(trees))
-    if not places:
-        trees.append(Tree(999, b""))
-        return
-    where, tree = dice.choice(places)
-    dice.choice(WAYS)(dice, where, tree)
+    """Changes an AVP at any depth in one way, and sometimes others beside it in the same way."""
+    lists = [trees] + [tree.data for _, tree in every(trees) if isinstance(tree.data, list)]
+    where = dice.choice(lists)
+    way = dice.choice(WAYS)
+    for tree in dice.sample(where, min(len(where), dice.choice([1, 1, 1, 1, 2, 3, 6]))):
+        way(dice, where, tree)
 
 
 def leave_out(dice, where, tree):
@@ -120,7 +163,7 @@ def reflag(dice, where, tree):
 
 
 def rename(dice, where, tree):
-    tree.code = dice.choice(CODES)
+    tree.code = dice.choice(dice.choice([list(LEAST_OCTETS), UNKNOWN]))
 
 
 def relength(dice, where, tree):
@@ -131,7 +174,7 @@ def relength(dice, where, tree):
 def put_in(dice, where, tree):
     vendor = dice.choice([None, None, 10415])
     flags = dice.choice([0, MANDATORY, MANDATORY]) | (0 if vendor is None else VENDOR)
-    where.insert(dice.randrange(len(where) + 1), Tree(dice.choice(CODES), dice.randbytes(dice.randrange(13)), flags, vendor))
+    where.insert(dice.randrange(len(where) + 1), Tree(dice.choice(dice.choice([list(LEAST_OCTETS), UNKNOWN])), dice.randbytes(dice.randrange(13)), flags, vendor))
 
 
 def scramble(dice, where, tree):

@@ -1,0 +1,434 @@
+"""Scripts of hostile input: messages cut and falsified at each place, messages as great as they may be, groups in groups, and money at its bounds."""
+
+from charging import *
+from judge import *
+from messages import *
+from refusals import *
+
+PLAN = """
+host = "ocs.example"
+realm = "example"
+address = "127.0.0.1"
+shards = 2
+default_group = 10
+quantum = 100000
+validity = 600
+hold = 1200
+currency = 978
+exponent = -2
+tariff = [
+  { group = 10, unit = "octets", from = "2020-01-01T00:00:00Z", price = 5, block = 1000 },
+  { group = 20, unit = "time", from = "2020-01-01T00:00:00Z", price = 2, block = 60 },
+  { group = 30, unit = "units", from = "2020-01-01T00:00:00Z", price = 0, block = 1 },
+  { group = 40, unit = "octets", from = "2020-01-01T00:00:00Z", price = 1000000, block = 1 },
+  { group = 50, unit = "time", from = "2020-01-01T00:00:00Z", price = 1000000, block = 1 },
+  { group = 60, unit = "units", from = "2020-01-01T00:00:00Z", price = 1, block = 1 },
+]
+"""
+UNIT_OF = {10: "octets", 20: "time", 30: "units", 40: "octets", 50: "time", 60: "units"}
+NOW = 1_748_736_000
+SUBSCRIBER = 0, b"491700000001"
+INITIAL = 1
+MOST_BODY = MOST_OCTETS - HEADER_OCTETS
+
+
+class Writer:
+    """Lines of a script, over peers 1 and 2, which are open."""
+
+    def __init__(self, amount=1_000_000):
+        self.lines = ["open 1 gw1.example", "open 2 gw2.example", f"topup {NOW} 0:491700000001 1 {amount}"]
+        self.numbers = 0
+
+    def script(self):
+        return "".join(f"{line}\n" for line in self.lines).encode()
+
+    def fresh(self):
+        self.numbers += 1
+        return self.numbers
+
+    def top_up(self, amount):
+        self.lines.append(f"topup {NOW} 0:491700000001 {self.fresh() + 1} {amount}")
+
+    def send(self, octets, peer=1):
+        octets = octets.octets() if isinstance(octets, Message) else octets
+        self.lines.append(f"message {peer} {NOW} {octets.hex()}")
+
+    def connect(self, octets):
+        """A first message, and a watchdog that tells whether the peer is open behind it."""
+        self.lines.append("connect 3")
+        self.send(octets, 3)
+        self.send(base_request(WATCHDOG), 3)
+
+    def event(self, action, *rest):
+        self.send(event(SUBSCRIBER, b"event", self.fresh(), action, *rest))
+
+    def session(self, name, kind, *rest):
+        self.send(credit_control(SUBSCRIBER, name, self.fresh(), kind, *rest))
+
+    def look(self, free):
+        """Two balance checks: what is free is that, and not one more."""
+        self.event(CHECK_BALANCE, service(60, units_of(REQUESTED, "units", free)))
+        self.event(CHECK_BALANCE, service(60, units_of(REQUESTED, "units", free + 1)))
+
+    def reopen(self):
+        """Peer 1 is open again, should a message have closed it."""
+        self.lines.append("open 1 gw1.example")
+
+
+def service(rating_group, *rest):
+    return group(SERVICES, number(RATING_GROUP, rating_group), *rest)
+
+
+def asks(rating_group, amount):
+    return service(rating_group, units_of(REQUESTED, UNIT_OF[rating_group], amount))
+
+
+def reports(rating_group, *amounts):
+    return service(rating_group, *(units_of(USED, UNIT_OF[rating_group], amount) for amount in amounts))
+
+
+# Messages cut and falsified.
+
+
+def debit(writer):
+    return event(SUBSCRIBER, b"gw1.example;1;1", writer.fresh(), DIRECT_DEBITING, units_of(REQUESTED, "octets", 1001))
+
+
+def refund(writer):
+    return event(SUBSCRIBER, b"gw1.example;1;1", writer.fresh(), REFUND, asks(10, 1001))
+
+
+def update(writer):
+    services = [
+        service(10, number(SERVICE_IDENTIFIER, 1), units_of(REQUESTED, "octets", 1000), units_of(USED, "octets", 999)),
+        service(20, units_of(USED, "time", 30), units_of(USED, "time", 31)),
+    ]
+    return credit_control(SUBSCRIBER, b"s", writer.fresh(), UPDATE, *services)
+
+
+def exchange(_writer):
+    vendors = group(VENDOR_SPECIFIC_APPLICATION_ID, number(VENDOR_ID, 10415), number(AUTH_APPLICATION_ID, 4))
+    return capabilities(vendors, number(INBAND_SECURITY_ID, 0))
+
+
+WHOLE = {"debit": debit, "refund": refund, "update": update, "exchange": exchange}
+
+
+def cut(make):
+    """Each beginning of a message whose length is made to fit."""
+    writer = prepared()
+    for end in range(HEADER_OCTETS, len(make(Writer()).octets()), 4):
+        message = make(writer).octets()[:end]
+        put(writer, make, message[:1] + end.to_bytes(3, "big") + message[4:])
+    return writer
+
+
+def short(make):
+    """Each beginning of a message as it is, whose length isn't its own."""
+    writer = prepared()
+    for end in range(1, len(make(Writer()).octets())):
+        put(writer, make, make(writer).octets()[:end])
+        writer.reopen()
+    return writer
+
+
+def falsified(make):
+    """A message with each length of an AVP in turn replaced."""
+    writer = prepared()
+    for place in range(len(list(every(make(Writer()).trees)))):
+        for way in ["0", "7", "one less", "one more", "four more", "most"]:
+            message = make(writer)
+            _, tree = list(every(message.trees))[place]
+            right = 8 + len(spelled(tree.data))
+            tree.length = {"0": 0, "7": 7, "one less": right - 1, "one more": right + 1, "four more": right + 4, "most": 0xFFFFFF}[way]
+            put(writer, make, message)
+    return writer
+
+
+def prepared():
+    writer = Writer()
+    writer.session(b"s", INITIAL, asks(10, 1000), asks(20, 60))
+    return writer
+
+
+def put(writer, make, message):
+    if make is exchange:
+        writer.connect(message)
+    else:
+        writer.send(message)
+        writer.look(free=999_000)
+
+
+def dictionary():
+    """Each AVP of the profile, and some that aren't in it, with a wrong length, alone, and with V set."""
+    writer = Writer()
+    for code in [*LEAST_OCTETS, 0, 413, 999, 2**32 - 1]:
+        for flags in [0, MANDATORY, 0xFF]:
+            for length in [0, 7, 8, 11, 12, 13]:
+                for where in [WATCHDOG, CREDIT_CONTROL]:
+                    message = base_request(WATCHDOG) if where == WATCHDOG else event(SUBSCRIBER, b"d", writer.fresh(), CHECK_BALANCE, group(SERVICES))
+                    (message.trees if where == WATCHDOG else message.trees[-1].data).append(Tree(code, b"", flags, length=length))
+                    writer.send(message)
+    for make in WHOLE.values():
+        for place in range(len(make(writer).trees)):
+            message = make(writer)
+            del message.trees[place]
+            writer.connect(message) if make is exchange else writer.send(message)
+    writer.look(free=1_000_000)
+    return writer
+
+
+# Messages as great as they may be.
+
+
+def fit(message, where, code, flags):
+    """The message with so many one-octet AVPs at one place that it is as long as it may be."""
+    each = len(Tree(code, b"\0", flags).octets())
+    room = MOST_OCTETS - len(message.octets())
+    # What is left over is in the first one.
+    sizes = [1 + room % each] + [1] * (room // each - 1)
+    where += [Tree(code, bytes(size), flags) for size in sizes]
+    return message
+
+
+def great():
+    """One-octet AVPs, known and unknown, in the message's list and in groups, up to the greatest length."""
+    writer = Writer()
+    for code, flags in [(999, 0), (999, MANDATORY), (1, 0), (PROXY_INFO, 0), (SESSION_ID, 0), (SUBSCRIPTION_ID, 0), (USED, 0), (873, VENDOR)]:
+        message = event(SUBSCRIBER, b"filled", writer.fresh(), CHECK_BALANCE)
+        writer.send(fit(message, message.trees, code, flags))
+    for outside in [SERVICES, REQUESTED, USED, PROXY_INFO, SUBSCRIPTION_ID, 458]:
+        for code, flags in [(999, 0), (999, MANDATORY), (SERVICE_IDENTIFIER, MANDATORY), (REQUESTED, 0), (SUBSCRIPTION_TYPE, 0)]:
+            message = event(SUBSCRIBER, b"great", writer.fresh(), CHECK_BALANCE, group(outside))
+            writer.send(fit(message, message.trees[-1].data, code, flags))
+    for length in [MOST_OCTETS - 4, MOST_OCTETS, MOST_OCTETS + 4]:
+        message = base_request(WATCHDOG)
+        message.trees.append(Tree(1, bytes(length - len(message.octets()) - 8)))
+        writer.send(message)
+        writer.reopen()
+    for flags in [0, MANDATORY]:
+        message = debit(writer)
+        message.trees.insert(0, Tree(999, bytes(MOST_OCTETS - len(message.octets()) - 8), flags))
+        writer.send(message)
+    writer.look(free=999_990)
+    return writer
+
+
+def many_identifiers():
+    """As many Service-Identifiers as fit, of one service and of sixteen."""
+    writer = Writer()
+    for kind, count in [(EVENT, 1), (INITIAL, 1), (INITIAL, 16), (INITIAL, 17)]:
+        action = [number(REQUESTED_ACTION, PRICE_ENQUIRY)] if kind == EVENT else []
+        groups = [group(SERVICES, number(SERVICE_IDENTIFIER, it), units_of(REQUESTED, "octets", 1)) for it in range(count)]
+        message = credit_control(SUBSCRIBER, b"s%d" % writer.fresh(), 1, kind, *action, *groups)
+        room = (MOST_OCTETS - len(message.octets())) // 12 // count
+        for it in groups:
+            it.data += [number(SERVICE_IDENTIFIER, identifier) for identifier in range(room)]
+        writer.send(message)
+        message.flags |= 0x10
+        message.trees.append(Tree(PROXY_INFO, b""))
+        writer.send(message)
+    writer.look(free=999_000)
+    return writer
+
+
+def nested(code, depth, inner=b""):
+    tree = Tree(code, inner)
+    octets = tree.octets()
+    for _ in range(depth - 1):
+        octets = Tree(code, octets).octets()
+    return Tree(code, octets[8:])
+
+
+def deep():
+    """Groups in groups: those that are looked into end at the second level."""
+    writer = Writer()
+    for code in [PROXY_INFO, SERVICES, REQUESTED, USED, SUBSCRIPTION_ID, 458, FAILED_AVP]:
+        for depth in [1, 2, 3, 17, 1000, 8000]:
+            for inner in [b"", b"\0\0\0", spell(999, b"", MANDATORY)]:
+                writer.send(event(SUBSCRIBER, b"deep", writer.fresh(), CHECK_BALANCE, nested(code, depth, inner)))
+    for depth in [1, 2, 3, 8000]:
+        writer.connect(capabilities(nested(VENDOR_SPECIFIC_APPLICATION_ID, depth, number(AUTH_APPLICATION_ID, 4).octets())))
+    writer.look(free=1_000_000)
+    return writer
+
+
+def many_services():
+    """Up to seventeen services, with keys of their own or not, and beside units of the message's level."""
+    writer = Writer()
+    for count in [15, 16, 17, 18, 100]:
+        keys = [service(10, number(SERVICE_IDENTIFIER, it), units_of(REQUESTED, "octets", 1)) for it in range(count)]
+        alike = [service(10, number(SERVICE_IDENTIFIER, it % 14), units_of(REQUESTED, "octets", 1)) for it in range(count)]
+        for services in [keys, alike]:
+            for kind in [INITIAL, UPDATE, TERMINATION]:
+                writer.session(b"s%d" % count, kind, *services)
+            writer.event(DIRECT_DEBITING, *services)
+            writer.session(b"t", INITIAL, *services, units_of(USED, "octets", 1))
+    for pair in [(None, None), (10, None), (None, 1), (10, 1)]:
+        for other in [(None, None), (10, None), (None, 1), (10, 1), (10, 2)]:
+            writer.session(b"p%d" % writer.fresh(), INITIAL, *(of_key(*key) for key in [pair, other]))
+    writer.look(free=1)
+    return writer
+
+
+def of_key(rating_group, identifier):
+    trees = [number(RATING_GROUP, rating_group)] if rating_group else []
+    return group(SERVICES, *trees, *([number(SERVICE_IDENTIFIER, identifier)] if identifier else []))
+
+
+# Amounts and money at their bounds.
+
+
+def amounts():
+    """Amounts at the greatest one, in each unit, and in sums of parts and of reports."""
+    writer = Writer(10**18)
+    bound = MOST_UNITS
+    halves = [long(INPUT_OCTETS, bound // 2), long(OUTPUT_OCTETS, bound // 2)]
+    for code in [REQUESTED, USED]:
+        for parts in [
+            *([long(it, amount)] for it in [TOTAL_OCTETS, SPECIFIC_UNITS, INPUT_OCTETS] for amount in [bound - 1, bound, bound + 1, 2**63, 2**64 - 1]),
+            halves,
+            [long(INPUT_OCTETS, bound // 2 + 1), halves[1]],
+            [long(INPUT_OCTETS, 2**64 - 1), long(OUTPUT_OCTETS, 2**64 - 1)],
+            [long(INPUT_OCTETS, 2**64 - 1), long(OUTPUT_OCTETS, 1)],
+            [long(INPUT_OCTETS, 2**64 - 1), long(TOTAL_OCTETS, 1)],
+            [number(TIME, MOST_TIME)],
+        ]:
+            writer.event(PRICE_ENQUIRY, group(code, *parts))
+            for rating_group in UNIT_OF:
+                writer.event(CHECK_BALANCE, service(rating_group, group(code, *parts)))
+    writer.session(b"s", INITIAL)
+    for rating_group in [10, 20, 30]:
+        for sums in [[bound, 0], [bound, 1], [bound - 1, 1, 0], [bound // 2] * 3, [1, 2**64 - 1], [2**64 - 1] * 2]:
+            writer.session(b"s", UPDATE, service(rating_group, *(group(USED, long(TOTAL_OCTETS, it)) for it in sums)))
+            writer.session(b"s", UPDATE, service(rating_group, *(group(USED, long(SPECIFIC_UNITS, it)) for it in sums)))
+            writer.session(b"s", UPDATE, *(group(USED, long(OUTPUT_OCTETS, it)) for it in sums))
+        for count in [232, 233, 234]:
+            writer.session(b"s", UPDATE, service(rating_group, *(group(USED, number(TIME, MOST_TIME)) for _ in range(count))))
+    # Parts of an amount in different reports, and different units that are each within the bound.
+    writer.session(b"s", UPDATE, service(10, *(group(USED, long(it, bound // 2)) for it in [TOTAL_OCTETS, INPUT_OCTETS])))
+    writer.session(b"s", UPDATE, service(10, *(group(USED, long(it, bound)) for it in [TOTAL_OCTETS, SPECIFIC_UNITS])))
+    return writer
+
+
+def ceiling():
+    """Funds at the greatest amount: top-ups and refunds that just fit and that don't."""
+    writer = Writer(10**18)
+    for amount in [1, 10**18, 10**18 + 1, 0, 2**64 - 1]:
+        writer.top_up(amount)
+        writer.lines.append(writer.lines[-1])
+    writer.event(REFUND, asks(60, 1))
+    writer.event(REFUND, asks(30, 10**12))
+    writer.event(DIRECT_DEBITING, asks(60, 5))
+    writer.event(REFUND, asks(60, 6))
+    writer.event(REFUND, asks(60, 5))
+    writer.event(REFUND, asks(60, 1))
+    writer.event(DIRECT_DEBITING, asks(40, 10**12))
+    writer.look(free=0)
+    writer.event(REFUND, asks(40, 10**12))
+    writer.event(CHECK_BALANCE, asks(40, 10**12))
+    writer.session(b"s", INITIAL, asks(40, 10**12), asks(60, 1))
+    writer.look(free=0)
+    writer.top_up(1)
+    writer.session(b"s", UPDATE, reports(40, 10**12))
+    writer.top_up(10**18)
+    writer.session(b"s", TERMINATION)
+    writer.look(free=10**12)
+    return writer
+
+
+def floor():
+    """Funds at the least amount: reports that just fit and that don't, of one service and of many."""
+    writer = Writer(1)
+    identified = [service(40, number(SERVICE_IDENTIFIER, it), units_of(USED, "octets", 10**12)) for it in range(16)]
+    writer.session(b"s", INITIAL, asks(40, 1))
+    writer.session(b"t", INITIAL)
+    writer.session(b"s", UPDATE, *identified)
+    writer.session(b"s", UPDATE, reports(40, 10**12), reports(60, 2), asks(10, 1))
+    writer.session(b"s", UPDATE, reports(40, 10**12), reports(60, 1))
+    writer.session(b"s", UPDATE, reports(60, 1))
+    writer.session(b"s", UPDATE, reports(30, 10**12), asks(60, 0))
+    writer.session(b"s", TERMINATION, reports(60, 1))
+    writer.session(b"s", UPDATE)
+    writer.session(b"t", TERMINATION, *identified[:2])
+    writer.session(b"t", TERMINATION, units_of(USED, "octets", 1))
+    writer.session(b"t", UPDATE, group(USED))
+    writer.event(DIRECT_DEBITING, asks(30, 1))
+    writer.event(DIRECT_DEBITING, asks(60, 1))
+    writer.session(b"u", INITIAL, asks(30, 5))
+    writer.top_up(10**18)
+    writer.session(b"s", UPDATE, reports(60, 1))
+    writer.top_up(3)
+    writer.session(b"s", TERMINATION, reports(60, 1))
+    writer.look(free=2)
+    return writer
+
+
+def crowd():
+    """Sixty-four sessions over their limits at once, and more than may be open."""
+    writer = Writer(10**6)
+    for it in range(66):
+        writer.session(b"s%d" % it, INITIAL, asks(60, 10))
+    writer.session(b"s5", TERMINATION, reports(60, 20_000))
+    writer.session(b"s66", INITIAL, asks(60, 10))
+    writer.session(b"s67", INITIAL, asks(60, 10))
+    for it in range(68):
+        writer.session(b"s%d" % it, UPDATE, service(60, units_of(USED, "units", 20_000), units_of(REQUESTED, "units", 10)))
+    writer.lines.append(f"sweep {NOW + 1199}")
+    writer.session(b"s68", INITIAL)
+    writer.lines.append(f"sweep {NOW + 1200}")
+    writer.session(b"s69", INITIAL)
+    writer.session(b"s0", INITIAL)
+    writer.session(b"s0", UPDATE)
+    return writer
+
+
+def shown():
+    """Refusals that show great AVPs, behind great Proxy-Infos."""
+    writer = Writer()
+    for size in [1, 30_000]:
+        proxy = Tree(PROXY_INFO, bytes(size))
+        big = Tree(999, bytes(size), 0)
+        pair = [service(10, big), service(10, big.copy())] if size == 1 else [service(10, Tree(999, bytes(15_000), 0)) for _ in range(2)]
+        writer.session(b"s%d" % size, INITIAL, *pair, proxy)
+        writer.event(DIRECT_DEBITING, *pair, proxy)
+        writer.event(DIRECT_DEBITING, group(REQUESTED, long(TOTAL_OCTETS, MOST_UNITS + 1), big), proxy)
+        writer.event(DIRECT_DEBITING, Tree(999, bytes(size)), proxy)
+        writer.event(DIRECT_DEBITING, group(SERVICES, number(RATING_GROUP, 1), Tree(RATING_GROUP, bytes(size))), proxy)
+        writer.event(DIRECT_DEBITING, units_of(USED, "units", 1), service(10, big), proxy)
+    writer.look(free=1_000_000)
+    return writer
+
+
+def scripts():
+    """Each hostile script, with its name."""
+    for name, make in WHOLE.items():
+        for way in [cut, short, falsified]:
+            yield f"{name} {way.__name__}", way(make).script()
+    for make in [dictionary, great, many_identifiers, deep, many_services, amounts, ceiling, floor, crowd, shown]:
+        yield make.__name__, make().script()
+
+
+# Lines of a script that have no form, and lines that just have one.
+LINES = [
+    b"connect", b"connect ", b"connect  1", b" connect 1", b"connect 1 ", b"connect +1", b"connect -1", b"connect 1\r", b"connect 0x1",
+    b"connect 4294967295", b"connect 4294967296", b"connect 00000000000000000000000000000000000001", b"connect 1 2", b"Connect 1",
+    b"connect 18446744073709551617", b"connect 1_0", b"connect\t1", b"connect \xd9\xa1", b"\r", b" ", b"\xff", b"#\xff", b" # 1", b"",
+    b"open 1", b"open 1 ", b"open 1 h h", b"open 1 h", b"open 1 \xff\r\t", b"open 1 " + b"h" * 255, b"open 1 " + b"h" * 256,
+    b"disconnect", b"disconnect 1", b"disconnect x", b"sweep", b"sweep 0", b"sweep 4102444799", b"sweep 4102444800", b"sweep 0 0",
+    b"topup 0 0:1 1 1", b"topup 0 0:1 1", b"topup 0 5:1 1 1", b"topup 0 4:1 1 1", b"topup 0 00:1 1 1", b"topup 0 :1 1 1", b"topup 0 0: 1 1",
+    b"topup 0 0 1 1", b"topup 0 0:1:2 1 1", b"topup 0 0:: 1 1", b"topup 0 0:\x7f 1 1", b"topup 0 0:\xc3\xa9 1 1", b"topup 0 -0:1 1 1",
+    b"topup 0 0:" + b"1" * 64 + b" 1 1", b"topup 0 0:" + b"1" * 65 + b" 1 1", b"topup 0 256:1 1 1", b"topup 4102444800 0:1 1 1",
+    b"topup 0 0:1 18446744073709551615 18446744073709551615", b"topup 0 0:1 18446744073709551616 1", b"topup 0 0:1 1 18446744073709551616",
+    b"topup 0 0:1 1 99999999999999999999999999", b"topup 0 0:1 000000000000000000000000000000001 000",
+    b"message 1 0 00", b"message 1 0 0", b"message 1 0 000", b"message 1 0 0g", b"message 1 0 Ff", b"message 1 0", b"message 1 0 ",
+    b"message 1 4102444799 00", b"message 1 4102444800 00", b"message 1 0 0x00", b"message 1 0 00 00", b"message 1 0 00\t",
+    b"message 1 0 " + b"00" * 65_536, b"message 1 0 " + b"00" * 65_537, b"message 4294967296 0 00", b"nothing 1",
+]  # fmt: skip
+
+
+def line_scripts():
+    """A script for each line, behind one that is in order and lines that are no events."""
+    for line in LINES:
+        yield f"line {line[:60]!r}", b"open 1 gw1.example\n\n# a comment\n" + line
+        yield f"line {line[:60]!r} with more behind it", line + b"\n\nconnect x\n"
