@@ -1,9 +1,12 @@
 """Scripts of hostile input: messages cut and falsified at each place, messages as great as they may be, groups in groups, and money at its bounds."""
 
+from functools import partial
+from itertools import combinations, permutations
+
 from charging import *
-from judge import *
 from messages import *
 from refusals import *
+from writer import Writer
 
 PLAN = """
 host = "ocs.example"
@@ -32,47 +35,46 @@ INITIAL = 1
 MOST_BODY = MOST_OCTETS - HEADER_OCTETS
 
 
-class Writer:
-    """Lines of a script, over peers 1 and 2, which are open."""
+class Hostile(Writer):
+    """A script under the one plan, of one subscriber, over peers 1 and 2, which are open."""
 
     def __init__(self, amount=1_000_000):
-        self.lines = ["open 1 gw1.example", "open 2 gw2.example", f"topup {NOW} 0:491700000001 1 {amount}"]
-        self.numbers = 0
-
-    def script(self):
-        return "".join(f"{line}\n" for line in self.lines).encode()
+        super().__init__(PLAN)
+        self.numbers = 1
+        self.say("open 1 gw1.example")
+        self.say("open 2 gw2.example")
+        self.say(f"topup {NOW} 0:491700000001 1 {amount}")
 
     def fresh(self):
+        """A number that no request or top-up has yet."""
         self.numbers += 1
         return self.numbers
 
     def top_up(self, amount):
-        self.lines.append(f"topup {NOW} 0:491700000001 {self.fresh() + 1} {amount}")
+        """A top-up, twice."""
+        ticket = self.fresh()
+        for _ in range(2):
+            self.say(f"topup {NOW} 0:491700000001 {ticket} {amount}")
 
-    def send(self, octets, peer=1):
-        octets = octets.octets() if isinstance(octets, Message) else octets
-        self.lines.append(f"message {peer} {NOW} {octets.hex()}")
+    def put(self, message, peer=1):
+        self.send(message, peer, NOW)
 
-    def connect(self, octets):
-        """A first message, and a watchdog that tells whether the peer is open behind it."""
-        self.lines.append("connect 3")
-        self.send(octets, 3)
-        self.send(base_request(WATCHDOG), 3)
+    def put_first(self, message):
+        """A first message of a peer, and a watchdog that tells whether it is open behind it."""
+        self.say("connect 3")
+        self.put(message, 3)
+        self.put(base_request(WATCHDOG), 3)
 
     def event(self, action, *rest):
-        self.send(event(SUBSCRIBER, b"event", self.fresh(), action, *rest))
+        self.put(event(SUBSCRIBER, b"event", self.fresh(), action, *rest))
 
     def session(self, name, kind, *rest):
-        self.send(credit_control(SUBSCRIBER, name, self.fresh(), kind, *rest))
+        self.put(credit_control(SUBSCRIBER, name, self.fresh(), kind, *rest))
 
-    def look(self, free):
-        """Two balance checks: what is free is that, and not one more."""
-        self.event(CHECK_BALANCE, service(60, units_of(REQUESTED, "units", free)))
-        self.event(CHECK_BALANCE, service(60, units_of(REQUESTED, "units", free + 1)))
-
-    def reopen(self):
-        """Peer 1 is open again, should a message have closed it."""
-        self.lines.append("open 1 gw1.example")
+    def look_at_free(self):
+        """What is free, by peer 1, which a message may have closed."""
+        self.say("open 1 gw1.example")
+        self.look(NOW, [60])
 
 
 def service(rating_group, *rest):
@@ -117,64 +119,99 @@ WHOLE = {"debit": debit, "refund": refund, "update": update, "exchange": exchang
 def cut(make):
     """Each beginning of a message whose length is made to fit."""
     writer = prepared()
-    for end in range(HEADER_OCTETS, len(make(Writer()).octets()), 4):
+    for end in range(HEADER_OCTETS, len(make(Hostile()).octets()), 4):
         message = make(writer).octets()[:end]
-        put(writer, make, message[:1] + end.to_bytes(3, "big") + message[4:])
+        put_looked_at(writer, make, message[:1] + end.to_bytes(3, "big") + message[4:])
     return writer
 
 
 def short(make):
     """Each beginning of a message as it is, whose length isn't its own."""
     writer = prepared()
-    for end in range(1, len(make(Writer()).octets())):
-        put(writer, make, make(writer).octets()[:end])
-        writer.reopen()
+    for end in range(1, len(make(Hostile()).octets())):
+        put_looked_at(writer, make, make(writer).octets()[:end])
     return writer
 
 
 def falsified(make):
     """A message with each length of an AVP in turn replaced."""
     writer = prepared()
-    for place in range(len(list(every(make(Writer()).trees)))):
+    for place in range(len(list(every(make(Hostile()).trees)))):
         for way in ["0", "7", "one less", "one more", "four more", "most"]:
             message = make(writer)
             _, tree = list(every(message.trees))[place]
             right = 8 + len(spelled(tree.data))
             tree.length = {"0": 0, "7": 7, "one less": right - 1, "one more": right + 1, "four more": right + 4, "most": 0xFFFFFF}[way]
-            put(writer, make, message)
+            put_looked_at(writer, make, message)
     return writer
 
 
 def prepared():
-    writer = Writer()
+    writer = Hostile()
     writer.session(b"s", INITIAL, asks(10, 1000), asks(20, 60))
     return writer
 
 
-def put(writer, make, message):
+def put_looked_at(writer, make, message):
     if make is exchange:
-        writer.connect(message)
+        writer.put_first(message)
     else:
-        writer.send(message)
-        writer.look(free=999_000)
+        writer.put(message)
+        writer.look_at_free()
 
 
 def dictionary():
     """Each AVP of the profile, and some that aren't in it, with a wrong length, alone, and with V set."""
-    writer = Writer()
+    writer = Hostile()
     for code in [*LEAST_OCTETS, 0, 413, 999, 2**32 - 1]:
         for flags in [0, MANDATORY, 0xFF]:
             for length in [0, 7, 8, 11, 12, 13]:
                 for where in [WATCHDOG, CREDIT_CONTROL]:
                     message = base_request(WATCHDOG) if where == WATCHDOG else event(SUBSCRIBER, b"d", writer.fresh(), CHECK_BALANCE, group(SERVICES))
                     (message.trees if where == WATCHDOG else message.trees[-1].data).append(Tree(code, b"", flags, length=length))
-                    writer.send(message)
+                    writer.put(message)
     for make in WHOLE.values():
         for place in range(len(make(writer).trees)):
             message = make(writer)
             del message.trees[place]
-            writer.connect(message) if make is exchange else writer.send(message)
-    writer.look(free=1_000_000)
+            writer.put_first(message) if make is exchange else writer.put(message)
+    writer.look_at_free()
+    return writer
+
+
+def places():
+    """Several faults of one kind in a message: the first that is looked for is told."""
+    writer = Hostile()
+    many = [number(SERVICE_IDENTIFIER, 1), number(REQUESTED_ACTION, 0), units_of(REQUESTED, "units", 1), Tree(SESSION_ID, b"x"), number(REQUEST_TYPE, 4)]
+    amounts = [number(TIME, 1), long(TOTAL_OCTETS, 1), long(INPUT_OCTETS, 1), long(OUTPUT_OCTETS, 1), long(SPECIFIC_UNITS, 1)]
+    sized = [Tree(it.code, it.data[1:]) for it in amounts]
+    inner = [number(RATING_GROUP, 10), units_of(REQUESTED, "units", 1), number(SERVICE_IDENTIFIER, 1)]
+    names = [number(SUBSCRIPTION_TYPE, 0), Tree(SUBSCRIPTION_DATA, b"1")]
+    for one, other in permutations(range(5), 2):
+        for kind in [INITIAL, EVENT]:
+            writer.session(b"p", kind, *(many[it] for it in [one, one, other, other]))
+            for code in [REQUESTED, USED]:
+                for faulty in [[amounts[it] for it in [one, one, other, other]], [sized[one], sized[other]]]:
+                    writer.session(b"p", kind, group(code, *faulty), number(REQUESTED_ACTION, 0))
+                    writer.session(b"p", kind, service(10, group(code, *faulty)), number(REQUESTED_ACTION, 0))
+    for order in permutations(inner):
+        writer.event(CHECK_BALANCE, group(SERVICES, *order, *order))
+        writer.event(CHECK_BALANCE, group(SERVICES, *(Tree(it.code, b"\0") for it in order)))
+    for order in permutations(names * 2):
+        writer.event(CHECK_BALANCE, group(SUBSCRIPTION_ID, *order))
+    for order in permutations([units_of(REQUESTED, "units", 1), units_of(USED, "units", 1), service(10), service(20)]):
+        writer.event(CHECK_BALANCE, *order)
+        writer.session(b"p", UPDATE, *order)
+    applications = [number(AUTH_APPLICATION_ID, 4), number(AUTH_APPLICATION_ID, 3), Tree(AUTH_APPLICATION_ID, b"\0")]
+    for order in permutations(applications):
+        writer.put_first(capabilities(group(VENDOR_SPECIFIC_APPLICATION_ID, *order)))
+        writer.put_first(capabilities(*(group(VENDOR_SPECIFIC_APPLICATION_ID, it) for it in order[:2])))
+        writer.put_first(capabilities(*order[:2]))
+    for missing in combinations(range(10), 2):
+        message = event(SUBSCRIBER, b"p", writer.fresh(), CHECK_BALANCE)
+        message.trees = [tree for place, tree in enumerate(message.trees) if place not in missing]
+        writer.put(message)
+    writer.look_at_free()
     return writer
 
 
@@ -193,42 +230,41 @@ def fit(message, where, code, flags):
 
 def great():
     """One-octet AVPs, known and unknown, in the message's list and in groups, up to the greatest length."""
-    writer = Writer()
+    writer = Hostile()
     for code, flags in [(999, 0), (999, MANDATORY), (1, 0), (PROXY_INFO, 0), (SESSION_ID, 0), (SUBSCRIPTION_ID, 0), (USED, 0), (873, VENDOR)]:
         message = event(SUBSCRIBER, b"filled", writer.fresh(), CHECK_BALANCE)
-        writer.send(fit(message, message.trees, code, flags))
+        writer.put(fit(message, message.trees, code, flags))
     for outside in [SERVICES, REQUESTED, USED, PROXY_INFO, SUBSCRIPTION_ID, 458]:
         for code, flags in [(999, 0), (999, MANDATORY), (SERVICE_IDENTIFIER, MANDATORY), (REQUESTED, 0), (SUBSCRIPTION_TYPE, 0)]:
             message = event(SUBSCRIBER, b"great", writer.fresh(), CHECK_BALANCE, group(outside))
-            writer.send(fit(message, message.trees[-1].data, code, flags))
+            writer.put(fit(message, message.trees[-1].data, code, flags))
     for length in [MOST_OCTETS - 4, MOST_OCTETS, MOST_OCTETS + 4]:
         message = base_request(WATCHDOG)
         message.trees.append(Tree(1, bytes(length - len(message.octets()) - 8)))
-        writer.send(message)
-        writer.reopen()
+        writer.put(message)
+        writer.say("open 1 gw1.example")
     for flags in [0, MANDATORY]:
         message = debit(writer)
         message.trees.insert(0, Tree(999, bytes(MOST_OCTETS - len(message.octets()) - 8), flags))
-        writer.send(message)
-    writer.look(free=999_990)
+        writer.put(message)
+    writer.look_at_free()
     return writer
 
 
 def many_identifiers():
     """As many Service-Identifiers as fit, of one service and of sixteen."""
-    writer = Writer()
+    writer = Hostile()
     for kind, count in [(EVENT, 1), (INITIAL, 1), (INITIAL, 16), (INITIAL, 17)]:
         action = [number(REQUESTED_ACTION, PRICE_ENQUIRY)] if kind == EVENT else []
         groups = [group(SERVICES, number(SERVICE_IDENTIFIER, it), units_of(REQUESTED, "octets", 1)) for it in range(count)]
         message = credit_control(SUBSCRIBER, b"s%d" % writer.fresh(), 1, kind, *action, *groups)
-        room = (MOST_OCTETS - len(message.octets())) // 12 // count
         for it in groups:
-            it.data += [number(SERVICE_IDENTIFIER, identifier) for identifier in range(room)]
-        writer.send(message)
+            room = MOST_OCTETS - len(message.octets()) if it is groups[-1] else MOST_BODY // count
+            it.data += [number(SERVICE_IDENTIFIER, identifier) for identifier in range(room // 12)]
+        writer.put(message)
         message.flags |= 0x10
-        message.trees.append(Tree(PROXY_INFO, b""))
-        writer.send(message)
-    writer.look(free=999_000)
+        writer.put(message)
+    writer.look_at_free()
     return writer
 
 
@@ -242,20 +278,20 @@ def nested(code, depth, inner=b""):
 
 def deep():
     """Groups in groups: those that are looked into end at the second level."""
-    writer = Writer()
+    writer = Hostile()
     for code in [PROXY_INFO, SERVICES, REQUESTED, USED, SUBSCRIPTION_ID, 458, FAILED_AVP]:
         for depth in [1, 2, 3, 17, 1000, 8000]:
             for inner in [b"", b"\0\0\0", spell(999, b"", MANDATORY)]:
-                writer.send(event(SUBSCRIBER, b"deep", writer.fresh(), CHECK_BALANCE, nested(code, depth, inner)))
+                writer.put(event(SUBSCRIBER, b"deep", writer.fresh(), CHECK_BALANCE, nested(code, depth, inner)))
     for depth in [1, 2, 3, 8000]:
-        writer.connect(capabilities(nested(VENDOR_SPECIFIC_APPLICATION_ID, depth, number(AUTH_APPLICATION_ID, 4).octets())))
-    writer.look(free=1_000_000)
+        writer.put_first(capabilities(nested(VENDOR_SPECIFIC_APPLICATION_ID, depth, number(AUTH_APPLICATION_ID, 4).octets())))
+    writer.look_at_free()
     return writer
 
 
 def many_services():
     """Up to seventeen services, with keys of their own or not, and beside units of the message's level."""
-    writer = Writer()
+    writer = Hostile()
     for count in [15, 16, 17, 18, 100]:
         keys = [service(10, number(SERVICE_IDENTIFIER, it), units_of(REQUESTED, "octets", 1)) for it in range(count)]
         alike = [service(10, number(SERVICE_IDENTIFIER, it % 14), units_of(REQUESTED, "octets", 1)) for it in range(count)]
@@ -267,7 +303,7 @@ def many_services():
     for pair in [(None, None), (10, None), (None, 1), (10, 1)]:
         for other in [(None, None), (10, None), (None, 1), (10, 1), (10, 2)]:
             writer.session(b"p%d" % writer.fresh(), INITIAL, *(of_key(*key) for key in [pair, other]))
-    writer.look(free=1)
+    writer.look_at_free()
     return writer
 
 
@@ -281,7 +317,7 @@ def of_key(rating_group, identifier):
 
 def amounts():
     """Amounts at the greatest one, in each unit, and in sums of parts and of reports."""
-    writer = Writer(10**18)
+    writer = Hostile(10**18)
     bound = MOST_UNITS
     halves = [long(INPUT_OCTETS, bound // 2), long(OUTPUT_OCTETS, bound // 2)]
     for code in [REQUESTED, USED]:
@@ -313,10 +349,9 @@ def amounts():
 
 def ceiling():
     """Funds at the greatest amount: top-ups and refunds that just fit and that don't."""
-    writer = Writer(10**18)
+    writer = Hostile(10**18)
     for amount in [1, 10**18, 10**18 + 1, 0, 2**64 - 1]:
         writer.top_up(amount)
-        writer.lines.append(writer.lines[-1])
     writer.event(REFUND, asks(60, 1))
     writer.event(REFUND, asks(30, 10**12))
     writer.event(DIRECT_DEBITING, asks(60, 5))
@@ -324,22 +359,22 @@ def ceiling():
     writer.event(REFUND, asks(60, 5))
     writer.event(REFUND, asks(60, 1))
     writer.event(DIRECT_DEBITING, asks(40, 10**12))
-    writer.look(free=0)
+    writer.look_at_free()
     writer.event(REFUND, asks(40, 10**12))
     writer.event(CHECK_BALANCE, asks(40, 10**12))
     writer.session(b"s", INITIAL, asks(40, 10**12), asks(60, 1))
-    writer.look(free=0)
+    writer.look_at_free()
     writer.top_up(1)
     writer.session(b"s", UPDATE, reports(40, 10**12))
     writer.top_up(10**18)
     writer.session(b"s", TERMINATION)
-    writer.look(free=10**12)
+    writer.look_at_free()
     return writer
 
 
 def floor():
     """Funds at the least amount: reports that just fit and that don't, of one service and of many."""
-    writer = Writer(1)
+    writer = Hostile(1)
     identified = [service(40, number(SERVICE_IDENTIFIER, it), units_of(USED, "octets", 10**12)) for it in range(16)]
     writer.session(b"s", INITIAL, asks(40, 1))
     writer.session(b"t", INITIAL)
@@ -360,13 +395,13 @@ def floor():
     writer.session(b"s", UPDATE, reports(60, 1))
     writer.top_up(3)
     writer.session(b"s", TERMINATION, reports(60, 1))
-    writer.look(free=2)
+    writer.look_at_free()
     return writer
 
 
 def crowd():
     """Sixty-four sessions over their limits at once, and more than may be open."""
-    writer = Writer(10**6)
+    writer = Hostile(10**6)
     for it in range(66):
         writer.session(b"s%d" % it, INITIAL, asks(60, 10))
     writer.session(b"s5", TERMINATION, reports(60, 20_000))
@@ -374,9 +409,9 @@ def crowd():
     writer.session(b"s67", INITIAL, asks(60, 10))
     for it in range(68):
         writer.session(b"s%d" % it, UPDATE, service(60, units_of(USED, "units", 20_000), units_of(REQUESTED, "units", 10)))
-    writer.lines.append(f"sweep {NOW + 1199}")
+    writer.say(f"sweep {NOW + 1199}")
     writer.session(b"s68", INITIAL)
-    writer.lines.append(f"sweep {NOW + 1200}")
+    writer.say(f"sweep {NOW + 1200}")
     writer.session(b"s69", INITIAL)
     writer.session(b"s0", INITIAL)
     writer.session(b"s0", UPDATE)
@@ -385,7 +420,7 @@ def crowd():
 
 def shown():
     """Refusals that show great AVPs, behind great Proxy-Infos."""
-    writer = Writer()
+    writer = Hostile()
     for size in [1, 30_000]:
         proxy = Tree(PROXY_INFO, bytes(size))
         big = Tree(999, bytes(size), 0)
@@ -396,17 +431,12 @@ def shown():
         writer.event(DIRECT_DEBITING, Tree(999, bytes(size)), proxy)
         writer.event(DIRECT_DEBITING, group(SERVICES, number(RATING_GROUP, 1), Tree(RATING_GROUP, bytes(size))), proxy)
         writer.event(DIRECT_DEBITING, units_of(USED, "units", 1), service(10, big), proxy)
-    writer.look(free=1_000_000)
+    writer.look_at_free()
     return writer
 
 
-def scripts():
-    """Each hostile script, with its name."""
-    for name, make in WHOLE.items():
-        for way in [cut, short, falsified]:
-            yield f"{name} {way.__name__}", way(make).script()
-    for make in [dictionary, great, many_identifiers, deep, many_services, amounts, ceiling, floor, crowd, shown]:
-        yield make.__name__, make().script()
+SCRIPTS = {make.__name__: make for make in [dictionary, places, great, many_identifiers, deep, many_services, amounts, ceiling, floor, crowd, shown]}
+SCRIPTS |= {f"{name} {way.__name__}": partial(way, make) for name, make in WHOLE.items() for way in [cut, short, falsified]}
 
 
 # Lines of a script that have no form, and lines that just have one.

@@ -4,10 +4,11 @@ import random
 import string
 from datetime import datetime, timezone
 
-from charging import CHECK_BALANCE, MOST_FUNDS, MOST_SESSIONS, MOST_TIME
-from judge import LAST_MOMENT, Judge, Plan, read_event
+from charging import MOST_FUNDS, MOST_SESSIONS, MOST_TIME
+from judge import LAST_MOMENT
 from refusals import *
 from messages import *
+from writer import Writer
 
 INITIAL = 1
 BEGIN = 1_748_736_000
@@ -16,10 +17,10 @@ PLAIN = string.ascii_letters + string.digits + ".-"
 
 # How often each kind of event comes, by the temper of a script.
 TEMPERS = {
-    "mixed": {"session": 40, "event": 20, "repeat": 10, "spoiled": 14, "base": 5, "top_up": 6, "sweep": 4, "peer": 1},
+    "mixed": {"session": 40, "event": 20, "repeat": 10, "spoiled": 10, "noise": 4, "base": 5, "top_up": 6, "sweep": 4, "peer": 1},
     "sessions": {"session": 80, "event": 5, "repeat": 6, "top_up": 4, "sweep": 5},
     "events": {"event": 70, "session": 10, "repeat": 10, "top_up": 10},
-    "faults": {"spoiled": 75, "session": 8, "event": 8, "repeat": 4, "top_up": 3, "base": 2},
+    "faults": {"spoiled": 60, "noise": 15, "session": 8, "event": 8, "repeat": 4, "top_up": 3, "base": 2},
     "peers": {"base": 60, "peer": 15, "session": 10, "event": 5, "top_up": 2, "spoiled": 8},
     "bounds": {"top_up": 30, "event": 30, "session": 30, "repeat": 5, "sweep": 5},
     "crowd": {"session": 50, "crowd": 3, "top_up": 3, "sweep": 3, "event": 5, "repeat": 6},
@@ -30,14 +31,12 @@ def moment_text(moment):
     return datetime.fromtimestamp(moment, timezone.utc).strftime("%Y-%m-%dT%H:%M:%SZ")
 
 
-class Maker:
+class Maker(Writer):
     def __init__(self, seed):
         self.dice = random.Random(seed)
         self.temper = self.dice.choice(list(TEMPERS))
-        self.plan_text = self.make_plan()
-        self.judge = Judge(Plan(self.plan_text))
-        self.lines, self.printed, self.sent = [], [], []
-        self.now, self.next_name = BEGIN, 0
+        super().__init__(self.make_plan())
+        self.now, self.next_name, self.sent = BEGIN, 0, []
         types = [0] * 4 + [1, 2, 3, 4]
         words = ["491700000001", "491700000003", "491700000002", "!", "~" * 64, ":a:", self.text(VISIBLE, 64)]
         self.subscribers = [(self.dice.choice(types), self.dice.choice(words).encode()) for _ in range(self.dice.randint(1, 6))]
@@ -86,17 +85,14 @@ class Maker:
         weights = TEMPERS[self.temper]
         while len(self.lines) < count:
             getattr(self, self.dice.choices(list(weights), weights.values())[0])()
-        self.look()
+        self.look_at_all()
         self.say(f"sweep {LAST_MOMENT}")
-        self.look()
+        self.look_at_all()
         return self
 
-    def say(self, line):
-        self.lines.append(line)
-        self.printed += self.judge.take(read_event(*line.encode().split(b" ")))
-
-    def script(self):
-        return "".join(f"{line}\n" for line in self.lines).encode()
+    def look_at_all(self):
+        self.say("open 1 gw1.example")
+        self.look(self.now, self.judge.plan.units)
 
     # Peers and moments.
 
@@ -123,11 +119,14 @@ class Maker:
         self.now = max(0, min(LAST_MOMENT, self.now))
         return self.now
 
-    def send(self, message, peer=None):
+    def put(self, message, peer=None):
+        """A message at the next moment, by a peer that is open mostly."""
         peer = self.open_peer() if peer is None else peer
-        octets = message.octets()
-        if 1 <= len(octets) <= 65_536:
-            digits = octets.hex()
+        self.put_octets(message.octets(), peer)
+
+    def put_octets(self, octets, peer):
+        digits = octets.hex()
+        if len(octets) <= 65_536:
             self.say(f"message {peer} {self.step()} {digits.upper() if self.dice.random() < 0.1 else digits}")
 
     # Money.
@@ -156,20 +155,6 @@ class Maker:
         else:
             moment = self.step()
         self.say(f"sweep {max(0, min(moment, LAST_MOMENT))}")
-
-    def look(self):
-        """Balance checks at what is free, and just beyond, where a group has a price for that."""
-        plan = self.judge.plan
-        for subscriber, account in self.judge.accounts.items():
-            for rating_group, unit in plan.units.items():
-                tariff = plan.tariff(rating_group, self.now)
-                if tariff is None or tariff.price == 0:
-                    continue
-                enough = max(account.free(), 0) // tariff.price * tariff.block
-                for amount in {min(enough, MOST_UNITS), min(enough + 1, MOST_UNITS)}:
-                    if unit != "time" or amount <= MOST_TIME:
-                        service = group(SERVICES, number(RATING_GROUP, rating_group), units_of(REQUESTED, unit, amount))
-                        self.send(event(subscriber, self.dice.randbytes(8), 0, CHECK_BALANCE, service))
 
     def amount(self, rating_group, subscriber):
         """An amount that may be beside a bound of the group or of the money that is free."""
@@ -313,7 +298,7 @@ class Maker:
 
     def send_new(self, message):
         self.sent.append(message)
-        self.send(message)
+        self.put(message)
 
     def session(self):
         self.send_new(self.session_request())
@@ -342,7 +327,7 @@ class Maker:
             message.trees = [it for it in message.trees if it.code in kept] + [it for it in other.trees if it.code not in kept]
         if self.dice.random() < 0.2:
             message.trees.append(Tree(PROXY_INFO, self.dice.randbytes(4)))
-        self.send(message)
+        self.put(message)
 
     def spoiled(self):
         """A request in which one thing or several are wrong."""
@@ -352,7 +337,16 @@ class Maker:
             spoil(dice, message.trees)
         if dice.random() < 0.06:
             self.spoil_header(message)
-        self.send(message)
+        self.put(message)
+
+    def noise(self):
+        """A request in which octets are changed at random."""
+        message = self.dice.choice([self.session_request, self.event_request, self.exchange])()
+        octets = bytearray(message.octets())
+        for _ in range(self.dice.choice([1, 1, 2, 4])):
+            place = self.dice.randrange(len(octets))
+            octets[place] = self.dice.choice([octets[place] ^ 1 << self.dice.randrange(8), self.dice.randrange(256), 0])
+        self.put_octets(bytes(octets), self.open_peer())
 
     # The base protocol.
 
@@ -380,7 +374,7 @@ class Maker:
             spoil(self.dice, message.trees)
         if self.dice.random() < 0.2:
             self.spoil_header(message)
-        self.send(message, self.peer_number())
+        self.put(message, self.peer_number())
 
     def spoil_header(self, message):
         dice = self.dice
