@@ -1,13 +1,12 @@
-"""Plans, tariffs and accounts: what a request comes to (RFC 8506, sections 5 and 6), by escrow (O'Neil, ACM TODS 11(4), 1986).
+"""Accounts: what a request comes to (RFC 8506, sections 5 and 6), by escrow (O'Neil, ACM TODS 11(4), 1986).
 
 An account keeps its funds, its sessions with their live grants, and the outcome of each request for its repeats. What is free is added up
 anew whenever it is asked for.
 """
 
-import tomllib
-from datetime import datetime
 from typing import NamedTuple
 
+from plans import Service, Tariff
 from refusals import EVENT, TERMINATION, UPDATE
 
 SUCCESS, CREDIT_LIMIT_REACHED, UNKNOWN_SESSION, RESOURCES_EXCEEDED = 2001, 4012, 5002, 5006
@@ -15,69 +14,6 @@ UNABLE_TO_COMPLY, USER_UNKNOWN, RATING_FAILED = 5012, 5030, 5031
 DIRECT_DEBITING, REFUND, CHECK_BALANCE, PRICE_ENQUIRY = range(4)
 MOST_FUNDS = 10**18
 MOST_SESSIONS = 64
-MOST_TIME = 2**32 - 1
-
-
-class Tariff(NamedTuple):
-    price: int
-    block: int
-
-    def price_of(self, units):
-        return -(-units // self.block) * self.price
-
-    def most_units(self, asked, free):
-        """The greatest amount up to the one asked whose price is nothing or within what is free."""
-        if self.price_of(asked) == 0 or self.price_of(asked) <= free:
-            return asked
-        return min(asked, max(free, 0) // self.price * self.block)
-
-
-class Plan:
-    def __init__(self, text):
-        keys = tomllib.loads(text)
-        self.host, self.realm = keys["host"].encode(), keys["realm"].encode()
-        self.address = bytes(map(int, keys["address"].split(".")))
-        self.default_group, self.quantum = keys["default_group"], keys["quantum"]
-        self.validity, self.hold = keys["validity"], keys["hold"]
-        self.currency, self.exponent = keys["currency"], keys["exponent"]
-        self.units, self.versions = {}, {}
-        for table in keys["tariff"]:
-            begin = int(datetime.fromisoformat(table["from"]).timestamp())
-            self.units[table["group"]] = table["unit"]
-            self.versions.setdefault(table["group"], []).append((begin, Tariff(table["price"], table["block"])))
-
-    def tariff(self, group, moment):
-        """The version of the group's tariff with the greatest beginning at or before the moment."""
-        begun = [version for version in self.versions.get(group, []) if version[0] <= moment]
-        return max(begun)[1] if begun else None
-
-    def service(self, asked, is_event, moment):
-        """A service under the plan: its amounts in the unit of its group."""
-        group = self.default_group if asked.group is None else asked.group
-        unit = self.units.get(group)
-        requested = None if asked.requested is None else amount_of(asked.requested, unit)
-        used = None if asked.used is None else amount_of(asked.used, unit)
-        if is_event:
-            requested = requested or (1 if unit else 0)
-        elif requested == 0 and unit:
-            requested = min(self.quantum, MOST_TIME) if unit == "time" else self.quantum
-        return Service(asked.group, asked.identifiers, requested, used, unit, self.tariff(group, moment))
-
-
-def amount_of(units, unit):
-    return getattr(units, unit) if unit else 0
-
-
-class Service(NamedTuple):
-    group: int | None
-    identifiers: tuple
-    requested: int | None
-    used: int | None
-    unit: str | None
-    tariff: Tariff | None
-
-    def key(self):
-        return self.group, self.identifiers[:1]
 
 
 class Grant(NamedTuple):

@@ -5,10 +5,11 @@ from itertools import combinations, permutations
 
 from charging import *
 from messages import *
+from plans import MOST_TIME
 from refusals import *
 from writer import Writer
 
-PLAN = """
+PLAN = b"""
 host = "ocs.example"
 realm = "example"
 address = "127.0.0.1"
@@ -437,28 +438,3 @@ def shown():
 
 SCRIPTS = {make.__name__: make for make in [dictionary, places, great, many_identifiers, deep, many_services, amounts, ceiling, floor, crowd, shown]}
 SCRIPTS |= {f"{name} {way.__name__}": partial(way, make) for name, make in WHOLE.items() for way in [cut, short, falsified]}
-
-
-# Lines of a script that have no form, and lines that just have one.
-LINES = [
-    b"connect", b"connect ", b"connect  1", b" connect 1", b"connect 1 ", b"connect +1", b"connect -1", b"connect 1\r", b"connect 0x1",
-    b"connect 4294967295", b"connect 4294967296", b"connect 00000000000000000000000000000000000001", b"connect 1 2", b"Connect 1",
-    b"connect 18446744073709551617", b"connect 1_0", b"connect\t1", b"connect \xd9\xa1", b"\r", b" ", b"\xff", b"#\xff", b" # 1", b"",
-    b"open 1", b"open 1 ", b"open 1 h h", b"open 1 h", b"open 1 \xff\r\t", b"open 1 " + b"h" * 255, b"open 1 " + b"h" * 256,
-    b"disconnect", b"disconnect 1", b"disconnect x", b"sweep", b"sweep 0", b"sweep 4102444799", b"sweep 4102444800", b"sweep 0 0",
-    b"topup 0 0:1 1 1", b"topup 0 0:1 1", b"topup 0 5:1 1 1", b"topup 0 4:1 1 1", b"topup 0 00:1 1 1", b"topup 0 :1 1 1", b"topup 0 0: 1 1",
-    b"topup 0 0 1 1", b"topup 0 0:1:2 1 1", b"topup 0 0:: 1 1", b"topup 0 0:\x7f 1 1", b"topup 0 0:\xc3\xa9 1 1", b"topup 0 -0:1 1 1",
-    b"topup 0 0:" + b"1" * 64 + b" 1 1", b"topup 0 0:" + b"1" * 65 + b" 1 1", b"topup 0 256:1 1 1", b"topup 4102444800 0:1 1 1",
-    b"topup 0 0:1 18446744073709551615 18446744073709551615", b"topup 0 0:1 18446744073709551616 1", b"topup 0 0:1 1 18446744073709551616",
-    b"topup 0 0:1 1 99999999999999999999999999", b"topup 0 0:1 000000000000000000000000000000001 000",
-    b"message 1 0 00", b"message 1 0 0", b"message 1 0 000", b"message 1 0 0g", b"message 1 0 Ff", b"message 1 0", b"message 1 0 ",
-    b"message 1 4102444799 00", b"message 1 4102444800 00", b"message 1 0 0x00", b"message 1 0 00 00", b"message 1 0 00\t",
-    b"message 1 0 " + b"00" * 65_536, b"message 1 0 " + b"00" * 65_537, b"message 4294967296 0 00", b"nothing 1",
-]  # fmt: skip
-
-
-def line_scripts():
-    """A script for each line, behind one that is in order and lines that are no events."""
-    for line in LINES:
-        yield f"line {line[:60]!r}", b"open 1 gw1.example\n\n# a comment\n" + line
-        yield f"line {line[:60]!r} with more behind it", line + b"\n\nconnect x\n"

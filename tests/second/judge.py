@@ -6,10 +6,10 @@ It shares nothing with the server, and is written to be read, not to be fast.
 import binascii
 
 from charging import *
+from plans import *
 from refusals import *
 from wire import *
 
-LAST_MOMENT = 4_102_444_799
 WAITING, OPEN, CLOSED = "waiting", "open", "closed"
 
 
@@ -19,7 +19,10 @@ class BadScript(Exception):
 
 def replay(plan_text, script):
     """What is printed, told on standard error, and the status."""
-    judge = Judge(Plan(plan_text))
+    try:
+        judge = Judge(Plan(plan_text))
+    except BadPlan as fault:
+        return "", f"dcc: plan fault {fault}\n", 3
     try:
         events = list(read_script(script))
     except BadScript as line:
@@ -212,8 +215,8 @@ class Judge:
     def told_service(self, outcome, is_session):
         """The Multiple-Services-Credit-Control of a service."""
         service = outcome.service
-        members = granted(outcome) + b"".join(spell_number(SERVICE_IDENTIFIER, it) for it in service.identifiers)
-        members += spell_number(RATING_GROUP, service.group) if service.group is not None else b""
+        members = granted(outcome) + b"".join(spell_number(SERVICE_IDENTIFIER, it) for it in service.asked.identifiers)
+        members += spell_number(RATING_GROUP, service.asked.group) if service.asked.group is not None else b""
         members += self.validity(outcome, is_session) + spell_number(RESULT_CODE, outcome.result) + final(outcome)
         return spell(SERVICES, members)
 

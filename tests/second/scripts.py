@@ -4,10 +4,10 @@ import random
 import string
 from datetime import datetime, timezone
 
-from charging import MOST_FUNDS, MOST_SESSIONS, MOST_TIME
-from judge import LAST_MOMENT
-from refusals import *
+from charging import MOST_FUNDS, MOST_SESSIONS
 from messages import *
+from plans import LAST_MOMENT, MOST_TIME
+from refusals import *
 from writer import Writer
 
 INITIAL = 1
@@ -73,7 +73,7 @@ class Maker(Writer):
             "exponent": dice.choice([-9, -2, 0, 9]),
             "tariff": "[" + ", ".join(tables) + "]",
         }
-        return "".join(f"{key} = {value}\n" for key, value in keys.items())
+        return "".join(f"{key} = {value}\n" for key, value in keys.items()).encode()
 
     def make(self, count):
         """A script of about so many events, and a last look at each account."""

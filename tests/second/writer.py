@@ -1,8 +1,9 @@
 """A script that is written line by line, while a judge says what is printed of each."""
 
-from charging import CHECK_BALANCE, MOST_TIME
-from judge import Judge, Plan, read_event
+from charging import CHECK_BALANCE
+from judge import Judge, read_event
 from messages import *
+from plans import MOST_TIME, Plan
 from refusals import MOST_UNITS
 
 
