@@ -419,6 +419,59 @@ def crowd():
     return writer
 
 
+def full_house():
+    """Sixty-four sessions of sixteen live grants each, all of which report and ask anew, and end."""
+    writer = Hostile(10**6)
+    for kind in [INITIAL, UPDATE, TERMINATION]:
+        for name in range(65):
+            services = [service(60, number(SERVICE_IDENTIFIER, it)) for it in range(16)]
+            for it in services:
+                it.data.append(units_of(REQUESTED, "units", name))
+                if kind != INITIAL:
+                    it.data.append(units_of(USED, "units", 2 * name))
+            writer.session(b"h%d" % name, kind, *services)
+        writer.look_at_free()
+    return writer
+
+
+def many_names():
+    """Many peers, and many subscribers of one name each, over all shards."""
+    writer = Hostile()
+    for it in range(400):
+        writer.say(f"open {it + 10} gw{it}.example")
+        writer.say(f"topup {NOW} {it % 5}:{it // 5} 1 {it + 1}")
+    for it in range(400):
+        subscriber = it % 5, b"%d" % (it // 5)
+        writer.put(credit_control(subscriber, b"one", 1, INITIAL, asks(60, 200)), it + 10)
+    writer.say(f"sweep {NOW + 1199}")
+    for it in range(400):
+        subscriber = it % 5, b"%d" % (it // 5)
+        writer.put(credit_control(subscriber, b"one", 2, UPDATE, reports(60, 300)), 409 - it)
+    writer.say(f"sweep {NOW + 1200}")
+    writer.look_at_free()
+    return writer
+
+
+def many_versions():
+    """A thousand tariffs of a group, at moments beside each other, in no order."""
+    writer = Writer(versions_plan())
+    writer.say("open 1 gw1.example")
+    writer.say("topup 0 0:491700000001 1 1")
+    for moment in [0, 1, 2, 3, 498, 499, 500, 501, 997, 998, 999, 1000, 1001, NOW, *range(4, 1000, 37)]:
+        writer.send(event(SUBSCRIBER, b"v", moment, PRICE_ENQUIRY, asks(10, 1)), 1, moment)
+    return writer
+
+
+def versions_plan():
+    head = PLAN[: PLAN.index(b"tariff")].decode()
+    tables = []
+    for it in range(1000):
+        moment = it * 577 % 1000 + 1
+        begin = f"1970-01-01T00:{moment // 60:02}:{moment % 60:02}Z"
+        tables.append(f'[[tariff]]\ngroup = 10\nunit = "octets"\nfrom = "{begin}"\nprice = {moment}\nblock = 1\n')
+    return (head + "".join(tables)).encode()
+
+
 def shown():
     """Refusals that show great AVPs, behind great Proxy-Infos."""
     writer = Hostile()
@@ -436,5 +489,5 @@ def shown():
     return writer
 
 
-SCRIPTS = {make.__name__: make for make in [dictionary, places, great, many_identifiers, deep, many_services, amounts, ceiling, floor, crowd, shown]}
+SCRIPTS = {make.__name__: make for make in [dictionary, places, great, many_identifiers, deep, many_services, amounts, ceiling, floor, crowd, full_house, many_names, many_versions, shown]}
 SCRIPTS |= {f"{name} {way.__name__}": partial(way, make) for name, make in WHOLE.items() for way in [cut, short, falsified]}

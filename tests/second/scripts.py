@@ -208,7 +208,7 @@ class Maker(Writer):
         plan = self.judge.plan
         keys, services = [], []
         for _ in range(count):
-            fresh = dice.choice([None, *plan.units, *plan.units, 77]), tuple(dice.choices([1, 2, 3, 2**32 - 1], k=dice.choice([0, 0, 1, 1, 2])))[:1]
+            fresh = dice.choice([None, *plan.units, *plan.units, 77]), tuple(dice.choices([1, 2, 3, 2**32 - 1], k=dice.randrange(2)))
             key = dice.choice(live) if live and dice.random() < 0.7 else fresh
             if key in keys and dice.random() < 0.97:
                 key = key[0], (dice.randrange(2**32),)
@@ -241,21 +241,27 @@ class Maker(Writer):
         return [subscription(it) for it in chosen]
 
     def request(self, subscriber, name, kind, rest):
-        """A request with things beside it that don't count."""
+        """A request, and AVPs that don't count."""
         dice = self.dice
         message = credit_control(subscriber, name, self.request_number(), kind, *rest)
         trees = message.trees
         trees[8:9] = self.subscriptions(subscriber)
         if dice.random() < 0.2:
-            trees += [group(PROXY_INFO, Tree(280, b"proxy"), Tree(33, dice.randbytes(3))), Tree(PROXY_INFO, dice.randbytes(5), 0)][dice.randrange(2) :]
+            trees.append(group(PROXY_INFO, Tree(280, b"proxy"), Tree(33, dice.randbytes(3))))
+        if dice.random() < 0.1:
+            trees.append(Tree(PROXY_INFO, dice.randbytes(5), 0))
         if dice.random() < 0.2:
             trees.append(Tree(dice.choice([873, 263, 443, 284]), dice.randbytes(6), VENDOR | MANDATORY, 10415))
         if dice.random() < 0.2:
-            # Of no use in a request, and not looked at.
+            # These have no use in a request, and aren't looked at.
             trees.append(Tree(dice.choice([999, 55, 295, 418, 419, RATING_GROUP, 458, 455, TIME]), dice.randbytes(3), 0))
         if dice.random() < 0.2:
-            # What stands first decides of services and subscribers, so these keep their order.
             dice.shuffle(trees)
+        return self.identified(message)
+
+    def identified(self, message):
+        """The message under some identifiers, with flags that don't change what it asks."""
+        dice = self.dice
         message.flags |= dice.choice([0, PROXIABLE]) | dice.choice([0, 0, 0x10]) | dice.choice([0] * 9 + [0x0F])
         message.hop_by_hop, message.end_to_end = dice.randrange(2**32), dice.randrange(2**32)
         return message
@@ -315,12 +321,12 @@ class Maker(Writer):
             self.send_new(credit_control(subscriber, b"crowd %d" % self.next_name, 0, INITIAL))
 
     def repeat(self):
-        """A request of old: as it was, under other identifiers, or with other AVPs under its key."""
+        """A request that was sent: as it was, under other identifiers, or with other AVPs under its key."""
         if not self.sent:
             return
         message = self.dice.choice(self.sent[-30:]).copy()
-        message.flags |= self.dice.choice([0, 0x10])
-        message.hop_by_hop, message.end_to_end = self.dice.randrange(2**32), self.dice.choice([message.end_to_end, 0])
+        if self.dice.random() < 0.7:
+            self.identified(message)
         if self.dice.random() < 0.4:
             kept = (SESSION_ID, REQUEST_NUMBER, SUBSCRIPTION_ID)
             other = self.dice.choice(self.sent).copy()
@@ -364,9 +370,8 @@ class Maker(Writer):
             trees.append(number(DISCONNECT_CAUSE, dice.choice([0, 1, 2, 2, 3])))
         if dice.random() < 0.2:
             trees.append(Tree(dice.choice([SESSION_ID, PROXY_INFO, PROXY_INFO]), dice.randbytes(5)))
-        message.flags |= dice.choice([0, 0, 0, PROXIABLE, 0x10, ERROR])
-        message.hop_by_hop, message.end_to_end = dice.randrange(2**32), dice.randrange(2**32)
-        return message
+        message.flags |= dice.choice([0] * 5 + [ERROR])
+        return self.identified(message)
 
     def base(self):
         message = self.exchange()
