@@ -334,6 +334,7 @@ def amounts():
             writer.event(PRICE_ENQUIRY, group(code, *parts))
             for rating_group in UNIT_OF:
                 writer.event(CHECK_BALANCE, service(rating_group, group(code, *parts)))
+                writer.event(PRICE_ENQUIRY, service(rating_group, group(code, *parts)))
     writer.session(b"s", INITIAL)
     for rating_group in [10, 20, 30]:
         for sums in [[bound, 0], [bound, 1], [bound - 1, 1, 0], [bound // 2] * 3, [1, 2**64 - 1], [2**64 - 1] * 2]:
@@ -396,6 +397,13 @@ def floor():
     writer.session(b"s", UPDATE, reports(60, 1))
     writer.top_up(3)
     writer.session(b"s", TERMINATION, reports(60, 1))
+    writer.look_at_free()
+    # From the ceiling to the floor again and again: what is overrun in all passes 64 bits.
+    writer.session(b"v", INITIAL)
+    for _ in range(50):
+        writer.top_up(10**18)
+        writer.session(b"v", UPDATE, reports(40, 10**12))
+        writer.session(b"v", UPDATE, reports(40, 10**12))
     writer.look_at_free()
     return writer
 

@@ -5,6 +5,8 @@ import tomllib
 from datetime import datetime, timezone
 from typing import NamedTuple
 
+from refusals import Asked
+
 NO_TOML, MISSING_KEY, OUT_OF_RANGE, BAD_MOMENT = 20, 21, 22, 23
 LAST_MOMENT = 4_102_444_799
 MOST_TIME = 2**32 - 1
@@ -131,7 +133,7 @@ def amount_of(units, unit):
 
 
 class Service(NamedTuple):
-    asked: NamedTuple
+    asked: Asked
     requested: int | None
     used: int | None
     unit: str | None
