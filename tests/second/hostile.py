@@ -270,11 +270,10 @@ def many_identifiers():
 
 
 def nested(code, depth, inner=b""):
-    tree = Tree(code, inner)
-    octets = tree.octets()
+    """Groups of one code, each in another."""
     for _ in range(depth - 1):
-        octets = Tree(code, octets).octets()
-    return Tree(code, octets[8:])
+        inner = Tree(code, inner).octets()
+    return Tree(code, inner)
 
 
 def deep():
