@@ -216,6 +216,39 @@ def places():
     return writer
 
 
+def values():
+    """Two wrong values in a message, in either order: the first that is looked at is told."""
+    writer = Hostile()
+    much = long(TOTAL_OCTETS, MOST_UNITS + 1)
+    wrong = [
+        Tree(SESSION_ID, b""),
+        Tree(AUTH_APPLICATION_ID, b"\0\0\4"),
+        number(AUTH_APPLICATION_ID, 3),
+        number(REQUEST_TYPE, 5),
+        Tree(REQUEST_TYPE, b"\0\0\0\4\0"),
+        Tree(REQUEST_NUMBER, b"\1"),
+        number(REQUESTED_ACTION, 4),
+        Tree(REQUESTED_ACTION, b""),
+        subscription((5, b"1")),
+        subscription((0, b" ")),
+        group(SUBSCRIPTION_ID, Tree(SUBSCRIPTION_TYPE, b"\1"), Tree(SUBSCRIPTION_DATA, b"1")),
+        Tree(SERVICE_IDENTIFIER, b"\1"),
+        group(REQUESTED, much),
+        group(REQUESTED, Tree(TIME, b"\0"), much),
+        group(USED, much),
+        group(SERVICES, Tree(RATING_GROUP, b"\1"), Tree(SERVICE_IDENTIFIER, b"\1")),
+        group(SERVICES, group(USED, much), group(REQUESTED, much)),
+        group(SERVICES, group(USED, much), Tree(SERVICE_IDENTIFIER, b"\1")),
+    ]
+    for pair in permutations(wrong, 2):
+        message = event(SUBSCRIBER, b"v", writer.fresh(), CHECK_BALANCE)
+        codes = [tree.code for tree in pair]
+        message.trees = [tree for tree in message.trees if tree.code not in codes] + list(pair)
+        writer.put(message)
+    writer.look_at_free()
+    return writer
+
+
 # Messages as great as they may be.
 
 
@@ -397,6 +430,15 @@ def floor():
     writer.top_up(3)
     writer.session(b"s", TERMINATION, reports(60, 1))
     writer.look_at_free()
+    # A report that the floor refuses leaves the session its deadline.
+    writer.session(b"w", INITIAL, asks(60, 1))
+    for _ in range(2):
+        writer.send(credit_control(SUBSCRIBER, b"w", writer.fresh(), UPDATE, *identified[:3]), 1, NOW + 600)
+    writer.say(f"sweep {NOW + 1199}")
+    writer.look_at_free()
+    writer.say(f"sweep {NOW + 1200}")
+    writer.look_at_free()
+    writer.session(b"w", UPDATE)
     # From the ceiling to the floor again and again: what is overrun in all passes 64 bits.
     writer.session(b"v", INITIAL)
     for _ in range(50):
@@ -496,5 +538,5 @@ def shown():
     return writer
 
 
-SCRIPTS = {make.__name__: make for make in [dictionary, places, great, many_identifiers, deep, many_services, amounts, ceiling, floor, crowd, full_house, many_names, many_versions, shown]}
+SCRIPTS = {make.__name__: make for make in [dictionary, places, values, great, many_identifiers, deep, many_services, amounts, ceiling, floor, crowd, full_house, many_names, many_versions, shown]}
 SCRIPTS |= {f"{name} {way.__name__}": partial(way, make) for name, make in WHOLE.items() for way in [cut, short, falsified]}
