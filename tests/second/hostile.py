@@ -183,14 +183,15 @@ def dictionary():
 def places():
     """Several faults of one kind in a message: the first that is looked for is told."""
     writer = Hostile()
-    many = [number(SERVICE_IDENTIFIER, 1), number(REQUESTED_ACTION, 0), units_of(REQUESTED, "units", 1), Tree(SESSION_ID, b"x"), number(REQUEST_TYPE, 4)]
+    once = [number(SERVICE_IDENTIFIER, 1), number(REQUESTED_ACTION, 0), units_of(REQUESTED, "units", 1)]
+    once += [Tree(SESSION_ID, b"x"), number(REQUEST_TYPE, 4)]
     amounts = [number(TIME, 1), long(TOTAL_OCTETS, 1), long(INPUT_OCTETS, 1), long(OUTPUT_OCTETS, 1), long(SPECIFIC_UNITS, 1)]
     sized = [Tree(it.code, it.data[1:]) for it in amounts]
     inner = [number(RATING_GROUP, 10), units_of(REQUESTED, "units", 1), number(SERVICE_IDENTIFIER, 1)]
     names = [number(SUBSCRIPTION_TYPE, 0), Tree(SUBSCRIPTION_DATA, b"1")]
     for one, other in permutations(range(5), 2):
         for kind in [INITIAL, EVENT]:
-            writer.session(b"p", kind, *(many[it] for it in [one, one, other, other]))
+            writer.session(b"p", kind, *(once[it] for it in [one, one, other, other]))
             for code in [REQUESTED, USED]:
                 for faulty in [[amounts[it] for it in [one, one, other, other]], [sized[one], sized[other]]]:
                     writer.session(b"p", kind, group(code, *faulty), number(REQUESTED_ACTION, 0))
@@ -352,10 +353,13 @@ def amounts():
     """Amounts at the greatest one, in each unit, and in sums of parts and of reports."""
     writer = Hostile(10**18)
     bound = MOST_UNITS
+    bounds = [bound - 1, bound, bound + 1, 2**63, 2**64 - 1]
     halves = [long(INPUT_OCTETS, bound // 2), long(OUTPUT_OCTETS, bound // 2)]
     for code in [REQUESTED, USED]:
         for parts in [
-            *([long(it, amount)] for it in [TOTAL_OCTETS, SPECIFIC_UNITS, INPUT_OCTETS] for amount in [bound - 1, bound, bound + 1, 2**63, 2**64 - 1]),
+            *([long(TOTAL_OCTETS, amount)] for amount in bounds),
+            *([long(INPUT_OCTETS, amount)] for amount in bounds),
+            *([long(SPECIFIC_UNITS, amount)] for amount in bounds),
             halves,
             [long(INPUT_OCTETS, bound // 2 + 1), halves[1]],
             [long(INPUT_OCTETS, 2**64 - 1), long(OUTPUT_OCTETS, 2**64 - 1)],
@@ -538,5 +542,9 @@ def shown():
     return writer
 
 
-SCRIPTS = {make.__name__: make for make in [dictionary, places, values, great, many_identifiers, deep, many_services, amounts, ceiling, floor, crowd, full_house, many_names, many_versions, shown]}
+MADE = [
+    dictionary, places, values, great, many_identifiers, deep, many_services, amounts, ceiling, floor, crowd, full_house, many_names,
+    many_versions, shown,
+]  # fmt: skip
+SCRIPTS = {make.__name__: make for make in MADE}
 SCRIPTS |= {f"{name} {way.__name__}": partial(way, make) for name, make in WHOLE.items() for way in [cut, short, falsified]}

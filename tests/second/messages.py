@@ -163,7 +163,11 @@ def reflag(dice, where, tree):
 
 
 def rename(dice, where, tree):
-    tree.code = dice.choice(dice.choice([list(LEAST_OCTETS), UNKNOWN]))
+    tree.code = any_code(dice)
+
+
+def any_code(dice):
+    return dice.choice(dice.choice([list(LEAST_OCTETS), UNKNOWN]))
 
 
 def relength(dice, where, tree):
@@ -174,7 +178,7 @@ def relength(dice, where, tree):
 def put_in(dice, where, tree):
     vendor = dice.choice([None, None, 10415])
     flags = dice.choice([0, MANDATORY, MANDATORY]) | (0 if vendor is None else VENDOR)
-    where.insert(dice.randrange(len(where) + 1), Tree(dice.choice(dice.choice([list(LEAST_OCTETS), UNKNOWN])), dice.randbytes(dice.randrange(13)), flags, vendor))
+    where.insert(dice.randrange(len(where) + 1), Tree(any_code(dice), dice.randbytes(dice.randrange(13)), flags, vendor))
 
 
 def scramble(dice, where, tree):
