@@ -35,10 +35,10 @@ const MONEY: u64 = 1_000_000_000_000;
 
 /// What all acts have in common.
 #[derive(Clone, Copy)]
-struct Setting {
-    alloc: Global,
-    moment: Moment,
-    tariff: Tariff,
+pub(crate) struct Setting {
+    pub alloc: Global,
+    pub moment: Moment,
+    pub tariff: Tariff,
 }
 
 /// Measures each kind of step on accounts that hold so many acts each, taken in turn.
@@ -177,7 +177,7 @@ fn top_up(setting: &Setting, ticket: u64) -> Result<Act> {
 }
 
 /// A direct debit of 1,000 octets.
-fn debit(setting: &Setting, number: u32) -> Result<Act> {
+pub(crate) fn debit(setting: &Setting, number: u32) -> Result<Act> {
     let event = OneTimeEvent {
         key: key(setting, SESSIONS, number)?,
         action: Action::DirectDebiting,

@@ -13,6 +13,8 @@ pub enum Command {
     Plan { count: u32 },
     /// Steps of so many accounts, which hold so many acts each.
     Account { accounts: u32, held: u32 },
+    /// The end of shards in which so many debits were made.
+    Close { count: u32 },
     /// A run of so many subscribers' debits.
     Replay { subscribers: u32, requests: u32 },
     /// A little of each.
@@ -45,6 +47,7 @@ fn command_with(name: &str, count: u32) -> Option<Command> {
         "codec" => Some(Command::Codec { count }),
         "request" => Some(Command::Request { count }),
         "plan" => Some(Command::Plan { count }),
+        "close" => Some(Command::Close { count }),
         _ => None,
     }
 }

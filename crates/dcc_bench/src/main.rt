@@ -1,5 +1,5 @@
 //! The program that measures the path of a direct debit, and the reader of requests: `codec N`, `request N`,
-//! `framer OCTETS PIECE`, `plan N`, `account ACCOUNTS HELD`, `replay SUBSCRIBERS REQUESTS`, and `sample`, a little of each.
+//! `framer OCTETS PIECE`, `plan N`, `account ACCOUNTS HELD`, `close N`, `replay SUBSCRIBERS REQUESTS`, and `sample`, a little of each.
 //!
 //! It stands on the crates of that path, and calls them as the server does. Standard output has only what the arguments
 //! determine: counts, and a checksum of what was answered. Times go to standard error, one line for each thing that is
@@ -8,6 +8,7 @@
 
 mod account;
 mod checksum;
+mod close;
 mod codec;
 mod command;
 mod debit;
@@ -20,6 +21,9 @@ mod tariffs;
 use anyhow::{Result, bail};
 use command::{Command, command_of};
 use std::env;
+use std::random::RandomSource;
+use std::sync::Wait;
+use std::time::CpuClock;
 
 fn main(rt: HostRuntime) -> Result<()> {
     let words: Vec<String> = env::args(&rt)?.collect(rt.alloc())?;
@@ -30,6 +34,7 @@ fn main(rt: HostRuntime) -> Result<()> {
         Some(Command::Framer { octets, piece }) => stream::measure(&rt, octets, piece),
         Some(Command::Plan { count }) => tariffs::measure(&rt, count),
         Some(Command::Account { accounts, held }) => account::measure(&rt, accounts, held),
+        Some(Command::Close { count }) => close::measure(&rt, count),
         Some(
             Command::Replay {
                 subscribers,
@@ -37,17 +42,18 @@ fn main(rt: HostRuntime) -> Result<()> {
             },
         ) => replay::measure(&rt, subscribers, requests),
         None => bail!(
-            "usage: codec N | request N | framer OCTETS PIECE | plan N | account ACCOUNTS HELD | replay SUBSCRIBERS REQUESTS | sample"
+            "usage: codec N | request N | framer OCTETS PIECE | plan N | account ACCOUNTS HELD | close N | replay SUBSCRIBERS REQUESTS | sample"
         ),
     }
 }
 
 /// A little of each, by which the gate sees that all of it runs.
-fn sample(rt: &HostRuntime) -> Result<()> {
+fn sample<R: AllocGlobal + RandomSource + Print + Eprint + CpuClock + Wait>(rt: &R) -> Result<()> {
     codec::measure(rt, 100)?;
     requests::measure(rt, 10)?;
     stream::measure(rt, 10_000, 7)?;
     tariffs::measure(rt, 30)?;
     account::measure(rt, 2, 100)?;
+    close::measure(rt, 300)?;
     replay::measure(rt, 3, 30)
 }

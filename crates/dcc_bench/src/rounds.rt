@@ -31,19 +31,20 @@ pub fn timed<R: AllocGlobal + Eprint + CpuClock, F: FnMut() -> Result<u64>>(
 
 /// How long each round of one thing took.
 #[derive(Drop)]
-struct Rounds {
+pub(crate) struct Rounds {
     nanos: Vec<u64>,
 }
 
 impl Rounds {
-    fn new(alloc: Global) -> Rounds {
+    /// None yet.
+    pub fn new(alloc: Global) -> Rounds {
         Rounds {
             nanos: Vec::new(alloc),
         }
     }
 
     /// Adds a round from its begin to its end, as the processor time of the thread has them.
-    fn push(&mut self, begin: Duration, end: Duration) -> Result<(), AllocError> {
+    pub fn push(&mut self, begin: Duration, end: Duration) -> Result<(), AllocError> {
         let spent = end.checked_sub(begin).unwrap_or(Duration::ZERO);
         let nanos = u64::try_from(spent.as_nanos()).unwrap_or(u64::MAX);
         self.nanos.push(nanos)?;
@@ -51,7 +52,7 @@ impl Rounds {
     }
 
     /// Tells the times for one of the items of a round.
-    fn report(mut self, rt: &impl Eprint, name: &str, items: u64) -> io::Result<()> {
+    pub fn report(mut self, rt: &impl Eprint, name: &str, items: u64) -> io::Result<()> {
         self.nanos.sort_unstable();
         let nanos = self.nanos.as_slice();
         let rounds = nanos.len();
