@@ -3,6 +3,7 @@
 #include <stddef.h>
 #include <stdlib.h>
 #include <string.h>
+#include <sys/syscall.h>
 #include <unistd.h>
 
 extern void *__libc_malloc(size_t);
@@ -21,8 +22,17 @@ __attribute__((constructor)) static void begin(void) {
 
 __attribute__((destructor)) static void end(void) {
     static const char text[] = "fewer allocations\n";
-    if (made < wanted && write(2, text, sizeof text - 1) < 0) {
-        _exit(1);
+    if (made < wanted) {
+        made = wanted;
+        syscall(SYS_write, 2, text, sizeof text - 1);
+    }
+}
+
+/* How a program with threads ends, which no destructor sees. */
+void _exit(int status) {
+    end();
+    for (;;) {
+        syscall(SYS_exit_group, status);
     }
 }
 

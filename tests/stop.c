@@ -30,7 +30,16 @@ __attribute__((constructor)) static void begin(void) {
 __attribute__((destructor)) static void end(void) {
     static const char text[] = "fewer calls\n";
     if (made < wanted) {
+        made = wanted;
         syscall(SYS_write, 2, text, sizeof text - 1);
+    }
+}
+
+/* How a program with threads ends, which no destructor sees. */
+void _exit(int status) {
+    end();
+    for (;;) {
+        syscall(SYS_exit_group, status);
     }
 }
 
