@@ -5,3 +5,4 @@ pub mod Ends
 pub mod Owned
 pub mod Placing
 pub mod TopUps
+pub mod Walks

@@ -1,5 +1,5 @@
 -- Shards that work under locks, and what they hold once they are out of these.
-use Rattle.std.specs.Prelude.{◌≡◌, ◌≢◌, ℕ, ◌<◌, Bool, false, List, [], length, slice_index_or, Option, Some, None, slice_get}
+use Rattle.std.specs.Prelude.{◌≡◌, ◌≢◌, ℕ, ◌+◌, ◌<◌, ◌≤◌, Bool, true, false, List, [], length, take, slice_index_or, Option, Some, None, slice_get}
 use Rattle.std.specs.Global.{Vec}
 use Rattle.std.specs.Map.{lookup}
 use Rattle.std.specs.Option.{option_map_or}
@@ -13,7 +13,7 @@ use Rattle.dcc_records.specs.Contents.{Content}
 use Rattle.dcc_records.specs.Stops.{LeavesOnly}
 use Rattle.dcc_shard.specs.Routes.{shard_of}
 use Rattle.dcc_shard.specs.Shards.{held}
-use Rattle.dcc_shard.specs.Stored.{StoredView}
+use Rattle.dcc_shard.specs.Stored.{StoredView, LeavesHeld, LeavesOneMore}
 
 -- subscribers with their acts at opening
 abbrev pub Opening : Type 0
@@ -53,7 +53,20 @@ pub record AreShards {R : Type 0} (terms : TermsView) (identity : Identity) (par
   pub placed : (i : ℕ) (none : StoredView R) (sub : Sub) → i < length parts
       → held (slice_index_or parts i none).shard sub ≢ [] → shard_of sub (length parts) ≡ i
 
--- The records of shards keep just what these hold: where those of a shard aren't stopped, a stop leaves its acts, and nothing else.
+-- What a stop leaves of a shard: while its records go on what it holds, and nothing else; once they are stopped this or, with it, the one
+-- act on which they failed. So of each subscriber all its acts are left, and at most one beyond them.
+pub record IsKeptBy {R : Type 0} (is_stopped : R → Bool) (may_leave : R → Content → Type 0) (part : StoredView R) : Type 0 where
+  pub going : is_stopped part.records ≡ false → LeavesOnly part.shard.terms (held part.shard) (may_leave part.records)
+  pub stopped : is_stopped part.records ≡ true → LeavesOneMore part.shard.terms (held part.shard) (may_leave part.records)
+  pub left : LeavesHeld (held part.shard) (may_leave part.records)
+
+-- so it is of each of these shards
 abbrev pub AreKept : {R : Type 0} → (R → Bool) → (R → Content → Type 0) → List (StoredView R) → Type 0
-AreKept {R} is_stopped may_leave parts = (i : ℕ) (none : StoredView R) → i < length parts → is_stopped (slice_index_or parts i none).records ≡ false
-    → LeavesOnly (slice_index_or parts i none).shard.terms (held (slice_index_or parts i none).shard) (may_leave (slice_index_or parts i none).records)
+AreKept {R} is_stopped may_leave parts = (i : ℕ) (none : StoredView R) → i < length parts → IsKeptBy is_stopped may_leave (slice_index_or parts i none)
+
+-- Whatever a stop leaves of the shard that keeps a subscriber begins with the subscriber's acts: the act of each fresh receipt is among
+-- them, and each receipt's place. At most one act stands beyond.
+abbrev pub AreLeft : {R : Type 0} → (R → Content → Type 0) → List (StoredView R) → Type 0
+AreLeft {R} may_leave parts = (sub : Sub) (none : StoredView R) (found : Content)
+    → may_leave (slice_index_or parts (shard_of sub (length parts)) none).records found
+    → (take (length (book parts sub)) (found sub).acts ≡ book parts sub) × (length (found sub).acts ≤ length (book parts sub) + 1)

@@ -4,7 +4,7 @@ ghost use Rattle.std.specs.Prelude.{◌≡◌, ◌≢◌, ◌<◌, ◌≤◌, �
 ghost use Rattle.dcc_act.specs.declared.sub.Sub.{Sub};
 ghost use Rattle.dcc_model.specs.Outcomes.{act_made, history};
 ghost use Rattle.dcc_running.specs.Audited.{AreOwn};
-ghost use Rattle.dcc_running.specs.Books.{AreShards, AreKept, at_opening, book};
+ghost use Rattle.dcc_running.specs.Books.{AreShards, AreKept, AreLeft, at_opening, book};
 ghost use Rattle.dcc_shard.specs.Routes.{shard_of};
 ghost use Rattle.dcc_shard.specs.Shards.{held};
 ghost use Rattle.dcc_shard.specs.Stored.{StoredView};
@@ -109,7 +109,7 @@ impl<R: Records> Books<R> {
         }
     }
 
-    /// Does nothing: what the records of each shard hold is what it holds.
+    /// Does nothing: what a stop leaves of each shard is what it holds, or where its records are stopped at most one act beyond.
     pub(crate) fn records_are_kept(&self)
         ensures { AreKept R.is_stopped R.may_leave self.now.parts }
     {
@@ -142,10 +142,11 @@ impl<R: Records> Books<R> {
             → (slice_index_or result.items i none).shard.identity ≡ self.identity }
         ensures placed { AreShards self.terms self.identity self.parts → (i : ℕ) (none : StoredView R) (sub : Sub) → i < length result.items
             → held (slice_index_or result.items i none).shard sub ≢ [] → shard_of sub (length result.items) ≡ i }
-        // The acts of a subscriber are those that its shard holds, and what the records of a shard hold is what it holds.
+        // The acts of a subscriber are those that its shard holds, and whatever a stop leaves of a shard has them all.
         ensures held { (sub : Sub) (none : StoredView R) → held (slice_index_or result.items (shard_of sub (length result.items)) none).shard sub
             ≡ book self.parts sub }
         ensures kept { AreKept R.is_stopped R.may_leave result.items }
+        ensures left { AreLeft R.may_leave result.items }
     {
         self.records_are_kept();
         self.shards

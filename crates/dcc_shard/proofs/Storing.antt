@@ -1,23 +1,25 @@
 -- What an append does to the records, and what a stop then leaves.
-use Rattle.std.proofs.Common.{◌≡◌, ◌≢◌, ◌⊎◌, ℕ, ◌+◌, Bool, true, false, List, [], ◌∷◌, ◌++◌, Result, Ok, Err, refl, sym, ap, subst, ◌∙◌, arith, inl, inr}
+use Rattle.std.proofs.Common.{◌≡◌, ◌≢◌, ◌⊎◌, ℕ, ◌+◌, ◌≤◌, Bool, true, false, List, [], ◌∷◌, ◌++◌, length, take, length-append, Result, Ok, Err, refl, sym, ap, subst, ◌∙◌, arith, inl, inr}
+use Rattle.std.proofs.lemmas.Bool.{cases_Bool}
+use Rattle.std.proofs.lemmas.List.{take_at, take_all}
 use Rattle.std.proofs.Math.Logic.{∥∥₁_map, ∥∥₁_elim}
 use Rattle.std.proofs.Props.{props}
 use Rattle.dcc_tariff.specs.Terms.{TermsView}
 use Rattle.dcc_act.specs.declared.act.Act.{Act}
 use Rattle.dcc_act.specs.declared.entry.Entry.{Entry}
 use Rattle.dcc_act.specs.declared.sub.Sub.{Sub}
-use Rattle.dcc_act.specs.Subs.{SameAreEqual}
+use Rattle.dcc_act.specs.Subs.{same_sub, SameAreEqual}
 use Rattle.dcc_model.specs.Outcomes.{acts, is_new}
 use Rattle.dcc_model.specs.Entries.{entries}
 use Rattle.dcc_model.specs.Laws.{OneMoreAct}
 use Rattle.dcc_records.specs.Books.{Held, no_acts, with_act}
-use Rattle.dcc_records.specs.Contents.{Content, IsContentOf, IsNext}
+use Rattle.dcc_records.specs.Contents.{Content, Kept, IsContentOf, IsNext}
 use Rattle.dcc_records.specs.Stops.{LeavesOnly, LeavesEither}
 use Rattle.dcc_records.specs.Laws.{ContentHasOneBook, AlikeBooksHaveOneContent, NewIsNext, NextIsFound, OwnGrows, OthersStay}
 use Rattle.dcc_records.specs.declared.fault.StoreFault.{StoreFault}
 use Rattle.dcc_records.specs.declared.fault.StoreFault.TheVariants.{Memory, Device, Stopped}
 use Rattle.dcc_shard.specs.Shards.{held_in, held_then}
-use Rattle.dcc_shard.specs.Stored.{IsKept, IsLeft}
+use Rattle.dcc_shard.specs.Stored.{IsKept, IsLeft, LeavesHeld, LeavesOneMore}
 use Rattle.dcc_shard.specs.inner.Books.{BooksView, IsStepOfBooks}
 use Rattle.dcc_shard.specs.inner.Pending.{step_of, IsPending}
 use Rattle.dcc_shard.specs.declared.pending.Pending.{Pending}
@@ -125,14 +127,6 @@ device_or_not (Err Stopped) = inr (λ is. absurd cc)
 not_device : {X : Type 0} (result : Result X StoreFault) → result ≡ Err Stopped → result ≢ Err Device
 not_device result is device = absurd cc
 
--- records that are not stopped after it were not before
-pub was_going : {X : Type 0} (terms : TermsView) (held : Held) (sub : Sub) (act : Act) (result : Result X StoreFault) (before after : Content → Type 0) (was is : Bool) (faults_before faults_after : ℕ)
-    → Appended terms held sub act result before after was is faults_before faults_after → is ≡ false → was ≡ false
-was_going terms held sub act result before after was is fb fa appended going = elim (device_or_not result) [
-  | inl d ↦ absurd (let on : is ≡ true = (appended.device d).1 in cc)
-  | inr n ↦ sym (appended.going n).0 ∙ going
-]
-
 pub kept_by_append : {X : Type 0} (terms : TermsView) (held : Held) (sub : Sub) (act : Act) (result : Result X StoreFault) (before after : Content → Type 0) (was is : Bool) (faults_before faults_after : ℕ)
     → Appended terms held sub act result before after was is faults_before faults_after → (was ≡ false → LeavesOnly terms held before)
     → AlikeBooksHaveOneContent → ((other : Sub) → with_act sub act held other ≡ held_then terms sub act held other)
@@ -159,6 +153,55 @@ kept_without terms held sub act leaves stopped faults kept = record {
   frozen = λ is. (is, λ found left. left);
   faults = λ same. refl;
 }
+
+-- what is held, or this with the act of the append that failed; and so where it is what is held alone
+pub one_more_left : (terms : TermsView) (held : Held) (sub : Sub) (act : Act) (leaves : Content → Type 0) → LeavesEither terms held (held_then terms sub act held) leaves
+    → LeavesOneMore terms held leaves
+one_more_left terms held sub act leaves either = ∣ (sub, act, either) ∣₁
+
+pub only_left : (terms : TermsView) (held : Held) (sub : Sub) (act : Act) (leaves : Content → Type 0) → LeavesOnly terms held leaves → LeavesOneMore terms held leaves
+only_left terms held sub act leaves only = one_more_left terms held sub act leaves (λ found left. inl (only found left))
+
+-- what is held of a subscriber with one act more, of it or of another
+then_is : OneMoreAct → (terms : TermsView) (held : Held) (one : Sub) (act : Act) (sub : Sub) → acts terms (held sub) ≡ held sub
+    → (held_then terms one act held sub ≡ held sub ++ act ∷ []) ⊎ (held_then terms one act held sub ≡ held sub)
+then_is more terms held one act sub own = elim (cases_Bool (same_sub one sub)) [
+  | inr apart ↦ inr (rw apart refl)
+  | inl same ↦
+      let then_sub : held_then terms one act held sub ≡ acts terms (held sub ++ act ∷ []) = rw same refl in
+      elim (cases_Bool (is_new terms (held sub) act)) [
+        | inl made ↦
+            let grown : acts terms (held sub ++ act ∷ []) ≡ acts terms (held sub) ++ act ∷ [] = more terms (held sub) act ∙ rw made refl in
+            inl (then_sub ∙ grown ∙ ap (λ (xs : List Act). xs ++ act ∷ []) own)
+        | inr old ↦
+            let stays : acts terms (held sub ++ act ∷ []) ≡ acts terms (held sub) = more terms (held sub) act ∙ rw old refl in
+            inr (then_sub ∙ stays ∙ own)
+      ]
+]
+
+all_there : (xs ys : List Act) → ys ≡ xs → (take (length xs) ys ≡ xs) × (length ys ≤ length xs + 1)
+all_there xs ys same = rw same (take_all (length xs) xs (omega (arith)), omega (arith))
+
+one_beyond : (xs ys : List Act) (act : Act) → ys ≡ xs ++ act ∷ [] → (take (length xs) ys ≡ xs) × (length ys ≤ length xs + 1)
+one_beyond xs ys act same =
+    let longer : length (xs ++ act ∷ []) ≡ length xs + 1 = length-append xs (act ∷ []) in
+    rw same (take_at xs (act ∷ []) (length xs) refl, omega (arith, longer))
+
+-- whatever a stop leaves begins with what is held
+pub held_left : OneMoreAct → (terms : TermsView) (held : Held) (stopped : Bool) (leaves : Content → Type 0) → ((sub : Sub) → acts terms (held sub) ≡ held sub)
+    → (stopped ≡ false → LeavesOnly terms held leaves) → (stopped ≡ true → LeavesOneMore terms held leaves) → LeavesHeld held leaves
+held_left more terms held stopped leaves own going beyond found sub left = elim (cases_Bool stopped) [
+  | inr goes ↦ all_there (held sub) (found sub).acts (ap (λ (k : Kept). k.acts) (going goes found left sub))
+  | inl stops ↦ ∥∥₁_elim (beyond stops) (hlevel props) (λ one. elim (one.2 found left) [
+    | inl as_before ↦ all_there (held sub) (found sub).acts (ap (λ (k : Kept). k.acts) (as_before sub))
+    | inr with_it ↦
+        let acts_are : (found sub).acts ≡ held_then terms one.0 one.1 held sub = ap (λ (k : Kept). k.acts) (with_it sub) in
+        elim (then_is more terms held one.0 one.1 sub (own sub)) [
+          | inl grown ↦ one_beyond (held sub) (found sub).acts one.1 (acts_are ∙ grown)
+          | inr stays ↦ all_there (held sub) (found sub).acts (acts_are ∙ stays)
+        ]
+  ])
+]
 
 -- a content of a book that is alike is left too
 pub alike_left : AlikeBooksHaveOneContent → (given terms : TermsView) (one other : Held) (leaves : Content → Type 0) → given ≡ terms → ((sub : Sub) → one sub ≡ other sub) → IsLeft given one leaves

@@ -1,11 +1,11 @@
 //! The books, and the records that keep their acts: an act is appended, and then installed.
 
-ghost use Rattle.std.specs.Prelude.{◌≡◌, false, OnOk, OnErr, IfOk};
+ghost use Rattle.std.specs.Prelude.{◌≡◌, true, false, OnOk, OnErr, IfOk};
 ghost use Rattle.dcc_model.specs.Outcomes.{acts};
 ghost use Rattle.dcc_act.specs.declared.sub.Sub.{Sub};
 ghost use Rattle.dcc_records.specs.Stops.{LeavesOnly};
 ghost use Rattle.dcc_shard.specs.Shards.{held_in};
-ghost use Rattle.dcc_shard.specs.Stored.{IsKept};
+ghost use Rattle.dcc_shard.specs.Stored.{IsKept, LeavesHeld, LeavesOneMore};
 ghost use Rattle.dcc_shard.specs.inner.Books.{IsStepOfBooks};
 ghost use Rattle.dcc_shard.specs.inner.Pending.{step_of, IsPending};
 
@@ -21,7 +21,7 @@ use std::alloc::Global;
 use std::marker::Model;
 
 /// The books of a shard, and the records that keep their acts under the same terms. Where the records are not stopped, a stop
-/// leaves just what the books hold.
+/// leaves just what the books hold; where they are, this or, with it, the one act on which they failed.
 #[derive(Drop)]
 pub(crate) struct KeptBooks<R: Records> {
     books: Books,
@@ -29,9 +29,10 @@ pub(crate) struct KeptBooks<R: Records> {
 }
 
 impl<R: Records> Model for KeptBooks<R> {
-    ghost use Rattle.std.specs.Prelude.{◌≡◌, false};
+    ghost use Rattle.std.specs.Prelude.{◌≡◌, true, false};
     ghost use Rattle.dcc_records.specs.Stops.{LeavesOnly};
     ghost use Rattle.dcc_shard.specs.Shards.{held_in};
+    ghost use Rattle.dcc_shard.specs.Stored.{LeavesOneMore};
     ghost use Rattle.dcc_shard.specs.inner.Books.{KeptView};
 
     ghost Value = { KeptView R };
@@ -39,14 +40,16 @@ impl<R: Records> Model for KeptBooks<R> {
     ghost view = { λ k. record { books = k.books; records = k.records } };
 
     ghost invariant = { λ k. (R.terms k.records ≡ k.books.terms)
-        × (R.is_stopped k.records ≡ false → LeavesOnly k.books.terms (held_in k.books.rows) (R.may_leave k.records)) };
+        × (R.is_stopped k.records ≡ false → LeavesOnly k.books.terms (held_in k.books.rows) (R.may_leave k.records))
+        × (R.is_stopped k.records ≡ true → LeavesOneMore k.books.terms (held_in k.books.rows) (R.may_leave k.records)) };
 }
 
 impl<R: Records> KeptBooks<R> {
-    /// These books with the records that keep them.
+    /// These books with the records that keep them, and aren't stopped.
     pub(crate) fn of(books: Books, records: R) -> KeptBooks<R>
         requires terms { R.terms records ≡ books.terms }
-        requires kept { R.is_stopped records ≡ false → LeavesOnly books.terms (held_in books.rows) (R.may_leave records) }
+        requires going { R.is_stopped records ≡ false }
+        requires kept { LeavesOnly books.terms (held_in books.rows) (R.may_leave records) }
         ensures books { result.books ≡ books }
         ensures records { result.records ≡ records }
     {
@@ -76,13 +79,17 @@ impl<R: Records> KeptBooks<R> {
     }
 
     /// Does nothing: the records are under the terms of the books, the acts that are held for each subscriber are those that they
-    /// themselves make, and where the records are not stopped a stop leaves just these.
+    /// themselves make, and a stop leaves just these, or where the records are stopped at most one act beyond.
     pub(crate) fn acts_are_kept(&self)
         ensures own { (sub : Sub) → acts self.now.books.terms (held_in self.now.books.rows sub) ≡ held_in self.now.books.rows sub }
         ensures terms { R.terms self.now.records ≡ self.now.books.terms }
         ensures kept { R.is_stopped self.now.records ≡ false
             → LeavesOnly self.now.books.terms (held_in self.now.books.rows) (R.may_leave self.now.records) }
+        ensures beyond { R.is_stopped self.now.records ≡ true
+            → LeavesOneMore self.now.books.terms (held_in self.now.books.rows) (R.may_leave self.now.records) }
+        ensures left { LeavesHeld (held_in self.now.books.rows) (R.may_leave self.now.records) }
     {
+        one_more_act();
         self.books.acts_are_own();
     }
 
@@ -108,7 +115,8 @@ impl<R: Records> KeptBooks<R> {
 
     /// Appends the act of a step that was prepared, where it is new, and installs the step. Refused, the books are as before.
     pub(crate) fn commit(&mut self, sub: Sub, pending: Pending) -> Result<(), StoreFault>
-        requires { IsPending self.old.books sub (step_of pending).act pending }
+        requires pending { IsPending self.old.books sub (step_of pending).act pending }
+        requires going { R.is_stopped self.old.records ≡ false }
         ensures ok { OnOk result (IsStepOfBooks self.old.books self.new.books sub (step_of pending).act) }
         ensures going { OnOk result (R.is_stopped self.new.records ≡ R.is_stopped self.old.records) }
         ensures err { OnErr result (self.new.books.rows ≡ self.old.books.rows) }

@@ -9,7 +9,7 @@ ghost use Rattle.dcc_records.specs.Contents.{Content};
 ghost use Rattle.dcc_records.specs.Stops.{LeavesOnly};
 ghost use Rattle.dcc_records.specs.declared.fault.StoreFault.TheVariants.{Device, Stopped};
 ghost use Rattle.dcc_shard.specs.Shards.{held, held_in, AreOwn, IsStep, is_among};
-ghost use Rattle.dcc_shard.specs.Stored.{IsKept, IsLeft};
+ghost use Rattle.dcc_shard.specs.Stored.{IsKept, IsLeft, LeavesHeld, LeavesOneMore};
 ghost use Rattle.dcc_shard.specs.Routes.{shard_of};
 ghost use Rattle.dcc_shard.specs.Answers.{IsAnswer, IsToldApart, IsTold, is_judged, is_judged_top_up, top_up_act};
 ghost use Rattle.dcc_shard.specs.Answers.{IsExpired, is_judged_expiry, expiry_act};
@@ -100,11 +100,14 @@ impl<R: Records> Shard<R> {
         self.kept.acts_are_kept();
     }
 
-    /// The records that keep the acts. Where they are not stopped, a stop leaves just what is held.
+    /// The records that keep the acts. Where they are not stopped, a stop leaves just what is held; where they are, this or, with it, the
+    /// one act on which they failed. So all that was judged is in whatever a stop leaves.
     pub fn records(&self) -> &R
         ensures value { result.now ≡ self.now.records }
         ensures terms { R.terms result.now ≡ self.now.shard.terms }
         ensures kept { R.is_stopped result.now ≡ false → LeavesOnly self.now.shard.terms (held self.now.shard) (R.may_leave result.now) }
+        ensures beyond { R.is_stopped result.now ≡ true → LeavesOneMore self.now.shard.terms (held self.now.shard) (R.may_leave result.now) }
+        ensures left { LeavesHeld (held self.now.shard) (R.may_leave result.now) }
     {
         self.kept.acts_are_kept();
         self.kept.records()
@@ -115,6 +118,8 @@ impl<R: Records> Shard<R> {
         ensures value { result ≡ self.records }
         ensures terms { R.terms result ≡ self.shard.terms }
         ensures kept { R.is_stopped result ≡ false → LeavesOnly self.shard.terms (held self.shard) (R.may_leave result) }
+        ensures beyond { R.is_stopped result ≡ true → LeavesOneMore self.shard.terms (held self.shard) (R.may_leave result) }
+        ensures left { LeavesHeld (held self.shard) (R.may_leave result) }
     {
         self.kept.acts_are_kept();
         self.kept.into_records()
@@ -267,6 +272,7 @@ fn read<R: Records>(
     ensures there { IfOk result (λ read. R.is_honest records.new → IsLeft read.1.terms (held_in read.1.rows) (R.may_leave records.new)) }
     ensures same { (found : Content) → R.may_leave records.new found → R.may_leave records.old found }
     ensures going { OnOk result (R.is_stopped records.new ≡ R.is_stopped records.old) }
+    ensures open { OnOk result (R.is_stopped records.new ≡ false) }
     ensures device { result ≡ Err Device
         → (R.is_stopped records.old ≡ false) × (R.is_stopped records.new ≡ true) × (R.faults records.new ≡ R.faults records.old + 1) }
     ensures usable { result ≢ Err Device
