@@ -136,12 +136,12 @@ adds_act old new sub body place count has inside =
 abbrev pub entry_here : Table
 entry_here = record entry_table { tree = entry_tree }
 
-entry_news : (db : Trees) (sub : List ℕ) (place line : ℕ) (kind : List ℕ) (group : Option ℕ) (units amount : ℤ) (given : List Row) → given ≡ (Null ∷ entry_cells sub place line kind group units amount) ∷ []
+entry_news : (db : Trees) (sub : List ℕ) (place line kind : ℕ) (group : Option ℕ) (units amount : ℤ) (given : List Row) → given ≡ (Null ∷ entry_cells sub place line kind group units amount) ∷ []
     → (edit_of db entry_here [] Chosen 0 given).news ≡ (Int (next_rowid (db entry_tree)) ∷ entry_cells sub place line kind group units amount) ∷ []
 entry_news db sub place line kind group units amount given is =
-    ap (λ (all : List Row). (edit_of db entry_here [] Chosen 0 all).news) is ∙ rw (cast_null, cast_int (pos place), cast_int (pos line), cast_group group, cast_int units, cast_int amount) refl
+    ap (λ (all : List Row). (edit_of db entry_here [] Chosen 0 all).news) is ∙ rw (cast_null, cast_int (pos place), cast_int (pos line), cast_int (pos kind), cast_group group, cast_int units, cast_int amount) refl
 
-entry_added : (db next : Trees) (sub : List ℕ) (place line : ℕ) (kind : List ℕ) (group : Option ℕ) (units amount : ℤ) (given : List Row) → given ≡ (Null ∷ entry_cells sub place line kind group units amount) ∷ [] → Applies layout Enforced db (edit_of db entry_here [] Chosen 0 given) next
+entry_added : (db next : Trees) (sub : List ℕ) (place line kind : ℕ) (group : Option ℕ) (units amount : ℤ) (given : List Row) → given ≡ (Null ∷ entry_cells sub place line kind group units amount) ∷ [] → Applies layout Enforced db (edit_of db entry_here [] Chosen 0 given) next
     → AddsEntries (entry_cells sub place line kind group units amount ∷ []) db next
 entry_added db next sub place line kind group units amount given is applied =
     let new = Int (next_rowid (db entry_tree)) ∷ entry_cells sub place line kind group units amount in
@@ -153,7 +153,7 @@ entry_added db next sub place line kind group units amount given is applied =
       accounts = applied.tables.1.1.1.0 (λ e. absurd cc);
     }
 
-pub adds_entry : (old new : State) (sub : List ℕ) (place line : ℕ) (kind : List ℕ) (group : Option ℕ) (units amount : ℤ) (count : ℕ) → old.now.schema ≡ layout → ExecutesInside 0 new_entry (entry_cells sub place line kind group units amount) old new (Ok count)
+pub adds_entry : (old new : State) (sub : List ℕ) (place line kind : ℕ) (group : Option ℕ) (units amount : ℤ) (count : ℕ) → old.now.schema ≡ layout → ExecutesInside 0 new_entry (entry_cells sub place line kind group units amount) old new (Ok count)
     → HasRun (AddsEntries (entry_cells sub place line kind group units amount ∷ [])) old new
 adds_entry old new sub place line kind group units amount count has inside =
     let params = entry_cells sub place line kind group units amount in

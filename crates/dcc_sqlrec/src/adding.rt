@@ -8,7 +8,7 @@ ghost use Rattle.dcc_sqlrows.specs.Rows.{act_row, entry_cells, entry_row, accoun
 ghost use Rattle.dcc_sqlrec.specs.inner.Trees.{account_tree, AddsActs, AddsEntries, DropsAccount, AddsAccount, SetsAccount, Appends, IsKeyed, HasRun};
 
 use dcc_act::Entry;
-use dcc_sqlrows::kind_text;
+use dcc_sqlrows::kind_code;
 use sqlite::{Alter, Error, ErrorCode, Transaction, params};
 
 /// The rows of an act, of its entries and of its subscriber's account are written.
@@ -107,7 +107,7 @@ fn add_entry<S: Alter>(
     let Ok(units) = i64::try_from(entry.units) else {
         return Err(Error::SqliteFailure(ErrorCode::IntegerOverflow));
     };
-    let kind = kind_text(entry.kind);
+    let kind = kind_code(entry.kind);
     put_entry(tx, sub, place, line, kind, entry.group, units, entry.amount)
 }
 
@@ -117,7 +117,7 @@ fn put_entry<S: Alter>(
     sub: &[u8],
     place: u32,
     line: u32,
-    kind: &str,
+    kind: u32,
     group: Option<u32>,
     units: i64,
     amount: i64,
@@ -125,7 +125,7 @@ fn put_entry<S: Alter>(
     ensures same_reference { tx.new.conn.ghost_name ≡ tx.old.conn.ghost_name }
     ensures added { HasCleanDisk (state S.Store tx.new.conn.now) → IsTrue (state S.Store tx.old.conn.now).in_transaction
         → (state S.Store tx.old.conn.now).now.schema ≡ layout
-        → OnOk result (HasRun (AddsEntries (entry_cells sub.now place line kind.now group units amount ∷ [])) (state S.Store tx.old.conn.now) (state S.Store tx.new.conn.now)) }
+        → OnOk result (HasRun (AddsEntries (entry_cells sub.now place line kind group units amount ∷ [])) (state S.Store tx.old.conn.now) (state S.Store tx.new.conn.now)) }
     ensures inside { HasCleanDisk (state S.Store tx.new.conn.now) → IsTrue (state S.Store tx.old.conn.now).in_transaction
         → OnOk result (IsTrue (state S.Store tx.new.conn.now).in_transaction) }
     ensures kept { HasCleanDisk (state S.Store tx.new.conn.now) → IsTrue (state S.Store tx.old.conn.now).in_transaction

@@ -35,7 +35,7 @@ const ENTRY: [ColumnForm; 7] = [
     ColumnForm(b"sub", Kind::Blob, true),
     ColumnForm(b"place", Kind::Integer, true),
     ColumnForm(b"line", Kind::Integer, true),
-    ColumnForm(b"kind", Kind::Text, true),
+    ColumnForm(b"kind", Kind::Integer, true),
     ColumnForm(b"grp", Kind::Integer, false),
     ColumnForm(b"units", Kind::Integer, true),
     ColumnForm(b"amount", Kind::Integer, true),

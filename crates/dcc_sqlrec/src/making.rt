@@ -135,7 +135,7 @@ fn make_entry<S: Alter>(tx: &mut Transaction<'_, S>) -> Result<(), Error>
     ensures survives { Survives (state S.Store tx.old.conn.now) (state S.Store tx.new.conn.now) (λ _. ⊥) }
 {
     tx.execute(
-        "CREATE TABLE entry (sub BLOB NOT NULL, place INTEGER NOT NULL, line INTEGER NOT NULL, kind TEXT NOT NULL, grp INTEGER, units INTEGER NOT NULL, amount INTEGER NOT NULL, PRIMARY KEY (sub, place, line), FOREIGN KEY (sub, place) REFERENCES act (sub, place)) STRICT",
+        "CREATE TABLE entry (sub BLOB NOT NULL, place INTEGER NOT NULL, line INTEGER NOT NULL, kind INTEGER NOT NULL, grp INTEGER, units INTEGER NOT NULL, amount INTEGER NOT NULL, PRIMARY KEY (sub, place, line), FOREIGN KEY (sub, place) REFERENCES act (sub, place)) STRICT",
         &[],
     )?;
     Ok(())

@@ -63,6 +63,9 @@ pub fn open_store<S: Alter>(
         → result ≡ Err OpenFault.Damaged → IsDamagedIn (state S.Store conn.old).now.trees }
     ensures disagree { HasCleanDisk (state S.Store conn.new) → conn.old.schema ≡ layout
         → result ≡ Err OpenFault.Disagree → DisagreeIn setting.now.terms (state S.Store conn.old).now.trees }
+    ensures ours { HasCleanDisk (state S.Store conn.new) → conn.old.schema ≡ layout
+        → (result ≡ Err OpenFault.Damaged) ⊎ (result ≡ Err OpenFault.Disagree)
+        → setting_rows (state S.Store conn.old).now.trees ≡ setting_row setting.now ∷ [] }
     ensures filled { result ≢ Err OpenFault.Empty }
     ensures crash { Survives (state S.Store conn.old) (state S.Store conn.new) (HasOtherLayout (state S.Store conn.old)) }
 {
@@ -139,6 +142,7 @@ fn judge_store(
     ensures damaged { result ≡ Err OpenFault.Damaged → IsDamaged (rows_in found.now) }
     ensures disagree { result ≡ Err OpenFault.Disagree
         → (¬ IsDamaged (rows_in found.now)) × ((pages : List PageView) → ¬ AreOfBook setting.now.terms pages (rows_in found.now)) }
+    ensures ours { (result ≡ Err OpenFault.Damaged) ⊎ (result ≡ Err OpenFault.Disagree) → found.now.setting.items ≡ setting_row setting.now ∷ [] }
     ensures filled { result ≢ Err OpenFault.Empty }
 {
     if !is_setting(&found.setting, setting) {

@@ -126,6 +126,9 @@ impl<S: Alter> SqlRecords<S> {
             ⊎ ((conn.schema ≡ layout) × (HasCleanDisk (state S.Store failed.1) → HasOtherSetting setting.now (state S.Store conn).now.trees))) }
         ensures damaged { IfErr result (λ failed. failed.0 ≡ OpenFault.Damaged → HasCleanDisk (state S.Store failed.1) → IsDamagedIn (state S.Store conn).now.trees) }
         ensures disagree { IfErr result (λ failed. failed.0 ≡ OpenFault.Disagree → HasCleanDisk (state S.Store failed.1) → DisagreeIn setting.now.terms (state S.Store conn).now.trees) }
+        // The rows are judged only where the tables are those of a store, and it is of this setting.
+        ensures ours { IfErr result (λ failed. (failed.0 ≡ OpenFault.Damaged) ⊎ (failed.0 ≡ OpenFault.Disagree)
+            → (conn.schema ≡ layout) × (HasCleanDisk (state S.Store failed.1) → setting_rows (state S.Store conn).now.trees ≡ setting_row setting.now ∷ [])) }
         ensures undone { IfErr result (λ failed. failed.0 ≢ OpenFault.Device → HasCleanDisk (state S.Store failed.1)
             → (failed.1 ≡ conn) ⊎ IsUndone (state S.Store conn) (state S.Store failed.1)) }
         ensures left { IfErr result (λ failed. Survives (state S.Store conn) (state S.Store failed.1) (λ _. ⊥)) }

@@ -1,7 +1,7 @@
 -- The rows of the tables, as a book makes them.
-use Rattle.std.specs.Prelude.{ℕ, ◌+◌, ℤ, pos, List, [], ◌∷◌, codes, Option, Some, None}
+use Rattle.std.specs.Prelude.{ℕ, ◌+◌, ℤ, pos, List, [], ◌∷◌, Option, Some, None}
 use Rattle.sqlite.specs.declared.types.Value.{Value}
-use Rattle.sqlite.specs.declared.types.Value.TheVariants.{Null, Int, Text, Blob}
+use Rattle.sqlite.specs.declared.types.Value.TheVariants.{Null, Int, Blob}
 use Rattle.sqlite.specs.Order.{Row}
 use Rattle.dcc_act.specs.declared.entry.Entry.{Entry}
 use Rattle.dcc_act.specs.declared.entry.EntryKind.{EntryKind}
@@ -13,11 +13,11 @@ abbrev pub sub_octets : Sub → List ℕ
 sub_octets sub = sub.kind ∷ sub.name
 
 -- what an entry stands for
-abbrev pub kind_text : EntryKind → List ℕ
-kind_text TopUp = codes "TOPUP"
-kind_text Debit = codes "DEBIT"
-kind_text Refund = codes "REFUND"
-kind_text Charge = codes "CHARGE"
+abbrev pub kind_code : EntryKind → ℕ
+kind_code TopUp = 1
+kind_code Debit = 2
+kind_code Refund = 3
+kind_code Charge = 4
 
 -- the Rating-Group as it was sent, or NULL
 abbrev pub group_value : Option ℕ → Value
@@ -27,12 +27,12 @@ group_value (Some group) = Int (pos group)
 abbrev pub act_row : List ℕ → ℕ → List ℕ → Row
 act_row sub place body = Blob sub ∷ Int (pos place) ∷ Blob body ∷ []
 
-abbrev pub entry_cells : List ℕ → ℕ → ℕ → List ℕ → Option ℕ → ℤ → ℤ → Row
+abbrev pub entry_cells : List ℕ → ℕ → ℕ → ℕ → Option ℕ → ℤ → ℤ → Row
 entry_cells sub place line kind group units amount =
-    Blob sub ∷ Int (pos place) ∷ Int (pos line) ∷ Text kind ∷ group_value group ∷ Int units ∷ Int amount ∷ []
+    Blob sub ∷ Int (pos place) ∷ Int (pos line) ∷ Int (pos kind) ∷ group_value group ∷ Int units ∷ Int amount ∷ []
 
 abbrev pub entry_row : List ℕ → ℕ → ℕ → Entry → Row
-entry_row sub place line entry = entry_cells sub place line (kind_text entry.kind) entry.group (pos entry.units) entry.amount
+entry_row sub place line entry = entry_cells sub place line (kind_code entry.kind) entry.group (pos entry.units) entry.amount
 
 -- the rows of the entries of one act, from a line on
 abbrev pub entry_rows_of : List ℕ → ℕ → ℕ → List Entry → List Row

@@ -1,11 +1,11 @@
 //! Rows of entries and of accounts.
 
 ghost use Rattle.std.specs.Prelude.{◌≡◌, ◌↔◌, true, length, take, pos};
-ghost use Rattle.dcc_sqlrows.specs.Rows.{sub_octets, kind_text, entry_row, entry_rows_of, account_row};
+ghost use Rattle.dcc_sqlrows.specs.Rows.{sub_octets, kind_code, entry_row, entry_rows_of, account_row};
 
 use crate::line::has_sub;
 use crate::tally::Tally;
-use crate::value::{has_count, has_group, has_number, has_text};
+use crate::value::{has_count, has_group, has_number};
 use dcc_act::{Entry, EntryKind, Sub};
 use sqlite::Row;
 
@@ -33,7 +33,7 @@ fn is_entry_row(row: &Row, sub: Sub, place: u64, line: u64, entry: &Entry) -> bo
         && has_sub(row, sub)
         && has_count(row, 1, place)
         && has_count(row, 2, line)
-        && has_text(row, 3, kind_text(entry.kind))
+        && has_count(row, 3, u64::from(kind_code(entry.kind)))
         && has_group(row, 4, entry.group)
         && has_count(row, 5, entry.units)
         && has_number(row, 6, entry.amount)
@@ -50,14 +50,14 @@ pub(crate) fn is_account_row(row: &Row, sub: Sub, tally: Tally) -> bool
         && has_number(row, 2, tally.funds)
 }
 
-/// What an entry stands for, in a word.
-pub fn kind_text(kind: EntryKind) -> &'static str
-    ensures { result.now ≡ kind_text kind }
+/// What an entry stands for, as a number: 1 a top-up, 2 a direct debit, 3 a refund, 4 a charge.
+pub fn kind_code(kind: EntryKind) -> u32
+    ensures { result ≡ kind_code kind }
 {
     match kind {
-        EntryKind::TopUp => "TOPUP",
-        EntryKind::Debit => "DEBIT",
-        EntryKind::Refund => "REFUND",
-        EntryKind::Charge => "CHARGE",
+        EntryKind::TopUp => 1,
+        EntryKind::Debit => 2,
+        EntryKind::Refund => 3,
+        EntryKind::Charge => 4,
     }
 }

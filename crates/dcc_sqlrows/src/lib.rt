@@ -21,7 +21,7 @@ mod page;
 mod tally;
 mod value;
 
-pub use entries::kind_text;
+pub use entries::kind_code;
 pub use fault::ReadFault;
 pub use grouping::book_of;
 pub use judging::{are_own, judge};

@@ -10,8 +10,8 @@ returns-clause-added g c clean inside has =
     let old = state g.S.Store c.args.tx.now.conn.now in
     let new = state g.S.Store c.execute.new.self.conn.now in
     elim (cases_option c.args.group) [
-      | inl none ↦ rw none (adds_entry old new c.args.sub.now c.args.place c.args.line c.args.kind.now None c.args.units c.args.amount c.in_ok-execute.field-0 has
+      | inl none ↦ rw none (adds_entry old new c.args.sub.now c.args.place c.args.line c.args.kind None c.args.units c.args.amount c.in_ok-execute.field-0 has
           (rw (c.params-to_sql.ensures, c.params-to_sql-2.ensures, c.params-to_sql-3.ensures, c.params-to_sql-4.ensures, c.params-to_sql-5.ensures, c.params-to_sql-6.ensures, c.params-to_sql-7.ensures, none, to_z-of_z w64 c.args.units c.ranges.units, to_z-of_z w64 c.args.amount c.ranges.amount) at c.in_ok-execute.ensures.runs clean inside))
-      | inr some ↦ rw some.1 (adds_entry old new c.args.sub.now c.args.place c.args.line c.args.kind.now (Some some.0) c.args.units c.args.amount c.in_ok-execute.field-0 has
+      | inr some ↦ rw some.1 (adds_entry old new c.args.sub.now c.args.place c.args.line c.args.kind (Some some.0) c.args.units c.args.amount c.in_ok-execute.field-0 has
           (rw (c.params-to_sql.ensures, c.params-to_sql-2.ensures, c.params-to_sql-3.ensures, c.params-to_sql-4.ensures, c.params-to_sql-5.ensures, c.params-to_sql-6.ensures, c.params-to_sql-7.ensures, some.1, to_z-of_z w64 c.args.units c.ranges.units, to_z-of_z w64 c.args.amount c.ranges.amount) at c.in_ok-execute.ensures.runs clean inside))
     ]

@@ -34,6 +34,11 @@ returns-clause-set g c clean has =
     IfOk-weaker c.judge_store.result _ _
     (λ tallies is. setting_shown (state g.S.Store c.args.conn.now).now.trees c.in-Ok.found.setting.items (setting_row c.args.setting.now) shown is) c.judge_store.ensures.set
 
+pub returns-clause-ours : goal.returns-clause-ours
+returns-clause-ours g c clean has is =
+    let shown = (c.in-Ok.ensures.rows clean has).setting in
+    setting_shown (state g.S.Store c.args.conn.now).now.trees c.in-Ok.found.setting.items (setting_row c.args.setting.now) shown (c.judge_store.ensures.ours is)
+
 pub returns-clause-damaged : goal.returns-clause-damaged
 returns-clause-damaged g c clean has is = (rows_in c.in-Ok.found, (c.in-Ok.ensures.rows clean has).rows, c.judge_store.ensures.damaged is)
 

@@ -48,6 +48,16 @@ returns-in-Err-clause-disagree g c is clean =
     let has : c.args.conn.schema ≡ layout = search rules in
     c.in-Err.ensures.disagree clean has (ap Err is)
 
+pub returns-in-Err-clause-ours : goal.returns-in-Err-clause-ours
+returns-in-Err-clause-ours g c is =
+    let has : c.args.conn.schema ≡ layout = search rules in (
+      has,
+      λ clean. c.in-Err.ensures.ours clean has (elim is [
+        | inl damaged ↦ inl (ap Err damaged)
+        | inr disagree ↦ inr (ap Err disagree)
+      ]),
+    )
+
 pub returns-in-Err-clause-undone : goal.returns-in-Err-clause-undone
 returns-in-Err-clause-undone g c other clean =
     let has : c.args.conn.schema ≡ layout = search rules in
