@@ -42,6 +42,20 @@ pub enum LaneFault {
     Memory,
 }
 
+impl LaneFault {
+    ghost use Rattle.dcc_lane.specs.Faults.{lane_fault_number};
+
+    /// The number of the fault: 80; none for want of memory.
+    pub fn number(&self) -> Option<u8>
+        ensures { result ≡ lane_fault_number self.now }
+    {
+        match self {
+            LaneFault::SenderMissing => Some(80),
+            LaneFault::Memory => None,
+        }
+    }
+}
+
 /// A lane that isn't ended: why, and its ends as they were.
 #[derive(Drop)]
 pub struct Unfinished<T> {

@@ -1,6 +1,7 @@
 //! Writing a record.
 
 ghost use Rattle.std.specs.Prelude.{◌≡◌, ◌++◌, ◌∷◌, [], ◌≤◌, ◌<◌, ◌^◌, length, OnOk, IfOk};
+ghost use Rattle.dcc_act.specs.declared.limits.TheConstants.{MAX_IDS};
 ghost use Rattle.dcc_record.specs.Records.{u32_octets, u64_octets, optional, session_octets, key_octets, ids_octets, tariff_octets, service_octets, services_octets, request_octets, event_octets, top_up_octets, form_octet, unit_octet, action_octet, kind_octet, kind_octets, record_of};
 
 use dcc_act::{
@@ -166,7 +167,7 @@ fn action_octet(action: Action) -> u8
 /// Appends identifiers behind their count.
 #[tactic(auto, unfolding(crate::specs::Records::ids_octets))]
 fn put_ids(out: &mut Vec<u8>, ids: &[u32]) -> Result<(), AllocError>
-    requires { length ids.now ≤ 5460 }
+    requires { length ids.now ≤ MAX_IDS }
     ensures { OnOk result (out.new.items ≡ out.old.items ++ ids_octets ids.now) }
 {
     out.extend_from_slice(&(ids.len() as u16).to_be_bytes())?;

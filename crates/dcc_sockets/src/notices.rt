@@ -1,12 +1,14 @@
 //! What happened, as lines on standard error.
 
 use dcc_connect::{ConnectFault, ConnectionEnd, WriteEnd};
+use dcc_octets::{FIRST_VISIBLE, LAST_VISIBLE};
 use dcc_serve::{Notice, Notices};
 use std::fmt;
 use std::io::Eprint;
 use std::sync::Wait;
 
-/// Writes each notice as a line to standard error. A line that can't be written is left out.
+/// Writes each notice as a line to standard error, whatever octets a peer's name has: all but `!` to `~`, and the backslash, stand as `\xNN`.
+/// A line that can't be written is left out.
 #[derive(Clone, Copy)]
 pub struct NoticeLines<'r, P: Eprint> {
     print: &'r P,
@@ -26,7 +28,7 @@ impl<P: Eprint> Notices for NoticeLines<'_, P> {
     }
 }
 
-/// A notice as one line, without its line feed.
+/// A notice as one line, without its line feed. What a peer sent stands in it escaped.
 #[derive(Clone, Copy)]
 struct NoticeLine<'a> {
     notice: Notice<'a>,
@@ -36,11 +38,11 @@ impl fmt::Display for NoticeLine<'_> {
     fn fmt<W: fmt::Write>(&self, f: &mut fmt::Formatter<W>) -> fmt::Result {
         match self.notice {
             Notice::Came { gate, name } => {
-                let name = Text(name);
+                let name = Escaped(name);
                 write!(f, "dcc: gateway {gate} came from {name}")
             }
             Notice::Host { gate, host } => {
-                let host = Text(host);
+                let host = Escaped(host);
                 write!(f, "dcc: gateway {gate} is {host}")
             }
             Notice::Read { gate, end } => {
@@ -61,16 +63,21 @@ impl fmt::Display for NoticeLine<'_> {
     }
 }
 
-/// Octets of a name as they are, where they are text.
+/// Octets of a name that a peer chose, which neither end a line nor drive a terminal: `!` to `~` as they are but for the backslash, each
+/// other octet as `\xNN`, its two lower-case hexadecimal digits.
 #[derive(Clone, Copy)]
-struct Text<'a>(&'a [u8]);
+struct Escaped<'a>(&'a [u8]);
 
-impl fmt::Display for Text<'_> {
+impl fmt::Display for Escaped<'_> {
     fn fmt<W: fmt::Write>(&self, f: &mut fmt::Formatter<W>) -> fmt::Result {
-        match str::from_utf8(self.0) {
-            Ok(text) => f.write_str(text),
-            Err(_) => f.write_str("a name that is no text"),
+        for &octet in self.0 {
+            match octet {
+                b'\\' => f.write_str("\\x5c")?,
+                FIRST_VISIBLE..=LAST_VISIBLE => f.write_char(char::from(octet))?,
+                _ => write!(f, "\\x{octet:02x}")?,
+            }
         }
+        Ok(())
     }
 }
 
