@@ -1,8 +1,10 @@
 -- The row of a store's setting.
-use Rattle.std.specs.Prelude.{pos, [], ◌∷◌}
+use Rattle.std.specs.Prelude.{◌≡◌, pos, [], ◌∷◌}
 use Rattle.sqlite.specs.declared.types.Value.TheVariants.{Int, Text}
 use Rattle.sqlite.specs.Order.{Row}
+use Rattle.sqlite.specs.Tree.{Trees}
 use Rattle.dcc_sqlrec.specs.declared.setting.Setting.{Setting}
+use Rattle.dcc_sqlrec.specs.Trees.{AreEmpty, setting_rows}
 
 -- row 1, of layout 1
 abbrev pub setting_row : Setting → Row
@@ -17,3 +19,7 @@ setting_row setting =
     ∷ Int (pos setting.terms.hold)
     ∷ Int (pos setting.terms.currency)
     ∷ Int setting.terms.exponent ∷ []
+
+-- there are no acts, entries and accounts, and this is the setting
+abbrev pub IsFirst : Setting → Trees → Type 0
+IsFirst setting db = AreEmpty db × (setting_rows db ≡ setting_row setting ∷ [])

@@ -6,7 +6,7 @@ ghost use Rattle.sqlite.specs.State.{HasCleanDisk, Survives, KeepsCommit};
 ghost use Rattle.sqlite.specs.Held.{state};
 ghost use Rattle.dcc_sqlrec.specs.Tables.{no_schema, one_table, two_tables, three_tables, layout};
 ghost use Rattle.dcc_sqlrec.specs.inner.Trees.{HasCommitted, IsUndone};
-ghost use Rattle.dcc_sqlrec.specs.inner.Making.{HasMade, NoSetting, NoActs, NoEntries, NoRows, IsFirst, AreEmpty};
+ghost use Rattle.dcc_sqlrec.specs.inner.Making.{HasMade, NoSetting, NoActs, NoEntries, NoRows, IsFirst};
 
 use crate::setting::Setting;
 use dcc_records::StoreFault;
@@ -34,7 +34,7 @@ pub fn make_store<S: Alter>(
         → OnOk result (HasCommitted (λ _. IsFirst setting.now) (state S.Store conn.old) (state S.Store conn.new)) }
     ensures undone { HasCleanDisk (state S.Store conn.new) → result ≡ Err StoreFault.Memory
         → IsUndone (state S.Store conn.old) (state S.Store conn.new) }
-    ensures crash { conn.old.schema ≡ no_schema → Survives (state S.Store conn.old) (state S.Store conn.new) AreEmpty }
+    ensures crash { conn.old.schema ≡ no_schema → Survives (state S.Store conn.old) (state S.Store conn.new) (IsFirst setting.now) }
 {
     let Err(error) = commit_tables(conn, setting) else {
         return Ok(());
@@ -55,7 +55,7 @@ fn commit_tables<S: Alter>(conn: &mut Connection<S>, setting: &Setting<'_>) -> R
         → OnOk result (HasCommitted (λ _. IsFirst setting.now) (state S.Store conn.old) (state S.Store conn.new)) }
     ensures undone { HasCleanDisk (state S.Store conn.new) → IsTrue (state S.Store conn.new).is_open
         → OnErr result (((state S.Store conn.new).now ≡ (state S.Store conn.old).committed) × ((state S.Store conn.new).committed ≡ (state S.Store conn.old).committed)) }
-    ensures crash { conn.old.schema ≡ no_schema → Survives (state S.Store conn.old) (state S.Store conn.new) AreEmpty }
+    ensures crash { conn.old.schema ≡ no_schema → Survives (state S.Store conn.old) (state S.Store conn.new) (IsFirst setting.now) }
 {
     let mut tx = conn.transaction();
     make_tables(&mut tx, setting)?;

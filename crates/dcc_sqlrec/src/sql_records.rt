@@ -8,8 +8,8 @@ ghost use Rattle.dcc_records.specs.Stops.{LeavesOnly};
 ghost use Rattle.dcc_sqlrec.specs.Tables.{no_schema, layout};
 ghost use Rattle.dcc_sqlrec.specs.Content.{leaves};
 ghost use Rattle.dcc_sqlrec.specs.Opening.{FindsBook, HasOtherSetting, IsDamagedIn, DisagreeIn};
-ghost use Rattle.dcc_sqlrec.specs.Trees.{IsUndone, AreEmpty, setting_rows};
-ghost use Rattle.dcc_sqlrec.specs.Setting.{setting_row};
+ghost use Rattle.dcc_sqlrec.specs.Trees.{IsUndone, setting_rows};
+ghost use Rattle.dcc_sqlrec.specs.Setting.{setting_row, IsFirst};
 ghost use Rattle.dcc_sqlrec.specs.inner.Keeping.{KeepsBook};
 
 use crate::fault::{CreateFault, OpenFault};
@@ -55,7 +55,8 @@ impl<S: Alter + Drop> Drop for SqlRecords<S> {
 
 impl<S: Alter> SqlRecords<S> {
     /// Makes the tables in a database that has nothing in it, with the row of the setting, and records without acts over them.
-    /// It is one transaction: a stop inside leaves the database as it was, or with tables that hold no acts.
+    /// It is one transaction: a stop inside leaves the database as it was, or with the tables, the row of the setting, and no
+    /// acts.
     ///
     /// Errors, each with the connection: [`CreateFault::Memory`], nothing changed; [`CreateFault::Device`], the database
     /// failed, or a transaction was open; [`CreateFault::Layout`], there is something in the database, and nothing changed.
@@ -69,10 +70,10 @@ impl<S: Alter> SqlRecords<S> {
         ensures going { IfOk result (λ records. records.stopped ≡ false) }
         ensures empty { IfOk result (λ records. LeavesOnly records.terms no_acts (leaves records.terms (state S.Store records.conn))) }
         ensures setting { IfOk result (λ records. HasCleanDisk (state S.Store records.conn) → setting_rows (state S.Store records.conn).now.trees ≡ setting_row setting.now ∷ []) }
-        ensures crash { IfOk result (λ records. Survives (state S.Store conn) (state S.Store records.conn) AreEmpty) }
+        ensures crash { IfOk result (λ records. Survives (state S.Store conn) (state S.Store records.conn) (IsFirst setting.now)) }
         ensures undone { IfErr result (λ failed. failed.0 ≡ CreateFault.Memory → HasCleanDisk (state S.Store failed.1) → IsUndone (state S.Store conn) (state S.Store failed.1)) }
         ensures blank { IfErr result (λ failed. failed.0 ≡ CreateFault.Layout → (conn.schema ≢ no_schema) × (failed.1 ≡ conn)) }
-        ensures left { IfErr result (λ failed. Survives (state S.Store conn) (state S.Store failed.1) AreEmpty) }
+        ensures left { IfErr result (λ failed. Survives (state S.Store conn) (state S.Store failed.1) (IsFirst setting.now)) }
     {
         leaving_out_changes_nothing();
         funds_are_accounted_for();

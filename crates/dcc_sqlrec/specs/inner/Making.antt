@@ -1,12 +1,11 @@
 -- The tables as they are made.
-use Rattle.std.specs.Prelude.{◌≡◌, IsTrue, [], ◌∷◌}
+use Rattle.std.specs.Prelude.{◌≡◌, IsTrue, []}
 use Rattle.sqlite.specs.Schema.{Schema}
 use Rattle.sqlite.specs.Tree.{Trees}
 use Rattle.sqlite.specs.State.{State}
 pub use Rattle.dcc_sqlrec.specs.Trees.{AreEmpty}
-use Rattle.dcc_sqlrec.specs.Trees.{setting_tree, act_tree, entry_tree, setting_rows}
-use Rattle.dcc_sqlrec.specs.Setting.{setting_row}
-use Rattle.dcc_sqlrec.specs.declared.setting.Setting.{Setting}
+pub use Rattle.dcc_sqlrec.specs.Setting.{IsFirst}
+use Rattle.dcc_sqlrec.specs.Trees.{setting_tree, act_tree, entry_tree}
 
 -- the tables that are there have no rows
 abbrev pub NoSetting : Trees → Type 0
@@ -20,10 +19,6 @@ NoEntries db = (db setting_tree ≡ []) × (db act_tree ≡ []) × (db entry_tre
 
 abbrev pub NoRows : Trees → Type 0
 NoRows db = (db setting_tree ≡ []) × AreEmpty db
-
--- there are no acts, entries and accounts, and this is the setting
-abbrev pub IsFirst : Setting → Trees → Type 0
-IsFirst setting db = AreEmpty db × (setting_rows db ≡ setting_row setting ∷ [])
 
 -- A statement of a transaction was run: the transaction goes on with this schema, and this holds of the trees.
 pub record HasMade (after : Schema) (Says : Trees → Type 0) (old new : State) : Type 0 where
