@@ -436,7 +436,7 @@ fn open_sessions(rt: HostRuntime) -> Result<(), Fail> {
     Ok(())
 }
 
-/// Top-ups by one minor unit, by the tickets from 1, without the plain program's answer to each, which would take a minute.
+/// Top-ups by one minor unit, by the tickets from 1. What each comes to isn't asked of the plain program, which would begin anew each time.
 fn top_up_often(alloc: Global, book: &mut Book, times: u64) -> Result<(), Fail> {
     for ticket in 1..=times {
         let act = act(alloc, 0, Ask::TopUp(ticket, 1))?;
