@@ -436,6 +436,28 @@ fn open_sessions(rt: HostRuntime) -> Result<(), Fail> {
     Ok(())
 }
 
+/// Top-ups by one minor unit, by the tickets from 1. What each comes to isn't asked of the plain program, which would begin anew each time.
+fn top_up_often(alloc: Global, book: &mut Book, times: u64) -> Result<(), Fail> {
+    for ticket in 1..=times {
+        let act = act(alloc, 0, Ask::TopUp(ticket, 1))?;
+        book.judge(alloc, &act)?;
+        book.all.push(act)?;
+    }
+    Ok(())
+}
+
+/// Behind a thousand acts the next one is answered as ever.
+#[test]
+fn a_thousand_acts_before(rt: HostRuntime) -> Result<(), Fail> {
+    let alloc = rt.alloc();
+    let mut book = Book::new(alloc, RandomState::new(&rt)?);
+    top_up_often(alloc, &mut book, 1000)?;
+    let debit = Ask::Event(Action::DirectDebiting, 1, Want::Asks(SINGLE, 1000));
+    book.check(&rt, alloc, 1000, &[(0, debit, &[(2001, 1000)])])?;
+    assert_eq!(rt; (book.all.len(), book.standing.funds), (1001, 995));
+    Ok(())
+}
+
 /// Place, group or 0, units and amount of an entry.
 type Posted = (u64, u32, u64, i64);
 

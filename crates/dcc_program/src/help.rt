@@ -14,10 +14,11 @@ usage: dcc replay PLAN
 dcc replay PLAN   reads a script of events from standard input, and prints what each event is answered under the
                   plan of the file PLAN. A path that begins with a hyphen stands behind --
 dcc topup         makes one top-up under the plan of the file PLAN, in the store of the subscriber's shard in the
-                  folder DIR, which is made where it is missing, and prints done, ceiling, refused or bad. SUB is a
-                  type and data, as 0:491700000001, TICKET tells the top-up from the others, AMOUNT is in minor
-                  units, MOMENT in seconds since 1970
-dcc ledger        prints the ledger of the subscriber SUB from the store of its shard in the folder DIR
+                  folder DIR, and prints done, ceiling, refused or bad. A store that is missing is made, a folder isn't.
+                  SUB is a type and data, as 0:491700000001, TICKET tells the top-up from the others, AMOUNT is in
+                  minor units, MOMENT in seconds since 1970
+dcc ledger        prints the ledger of the subscriber SUB from the store of its shard in the folder DIR. Without such a
+                  store or folder the account is unknown, and nothing is made
 dcc serve         serves gateways over TCP from the stores in the folder DIR, and prints where it listens, and a line
                   for each round. ADDR is an IPv4 address and a port, 127.0.0.1:3868 where it is missing; a round
                   has --gates gateways, 1 to 16; --rounds are 1 to 1000000; after each --every messages of a
