@@ -1,0 +1,34 @@
+-- What a shard holds that stands on what a stop left of another.
+use Rattle.std.proofs.Common.{◌≡◌, ◌≤◌, ◌+◌, true, false, List, ◌∷◌, ◌++◌, length, take, drop, take-append-drop, append_assoc, sym, ap, subst, ◌∙◌}
+use Rattle.std.proofs.Math.Logic.{∥∥₁_elim}
+use Rattle.std.proofs.Props.{props}
+use Rattle.dcc_tariff.specs.Terms.{TermsView}
+use Rattle.dcc_act.specs.declared.act.Act.{Act}
+use Rattle.dcc_act.specs.declared.sub.Sub.{Sub}
+use Rattle.dcc_model.specs.Keys.{same_key}
+use Rattle.dcc_model.specs.Laws.{RepeatsAreFirsts, RepeatsAreOld}
+use Rattle.dcc_model.specs.Outcomes.{after, is_new}
+use Rattle.dcc_records.specs.Books.{Held}
+use Rattle.dcc_records.specs.Contents.{Content, Kept}
+use Rattle.dcc_shard.specs.Stored.{IsLeft, LeavesHeld}
+
+-- it holds what was held, and at most one act more of each subscriber
+pub goes_on : (terms : TermsView) (one other : Held) (leaves again : Content → Type 0) → LeavesHeld one leaves → IsLeft terms other again
+    → ((found : Content) → again found → ∥ leaves found ∥₁) → (sub : Sub) → (take (length (one sub)) (other sub) ≡ one sub) × (length (other sub) ≤ length (one sub) + 1)
+goes_on terms one other leaves again held there back sub =
+    ∥∥₁_elim there (hlevel props) (λ found. ∥∥₁_elim (back found.0 found.2) (hlevel props) (λ left.
+    let acts_are : (found.0 sub).acts ≡ other sub = ap (λ (kept : Kept). kept.acts) (found.1 sub) in
+    let P : List Act → Type 0 = λ all. (take (length (one sub)) all ≡ one sub) × (length all ≤ length (one sub) + 1) in
+    subst P acts_are (held found.0 sub left)))
+
+-- so what is repeated comes to what it came to first, and isn't made again
+pub first_again : RepeatsAreFirsts → RepeatsAreOld → (terms : TermsView) (one other before later : List Act) (act repeat : Act) → one ≡ before ++ act ∷ later
+    → take (length one) other ≡ one → is_new terms before act ≡ true → same_key repeat.kind act.kind ≡ true
+    → (after terms other repeat ≡ after terms before act) × (is_new terms other repeat ≡ false)
+first_again firsts olds terms one other before later act repeat is begins made alike =
+    let more = drop (length one) other in
+    let whole : other ≡ before ++ act ∷ (later ++ more) =
+    sym (take-append-drop (length one) other) ∙ ap (λ (xs : List Act). xs ++ more) (begins ∙ is) ∙ append_assoc before (act ∷ later) more in
+    let P : List Act → Type 0 = λ all. (after terms all repeat ≡ after terms before act) × (is_new terms all repeat ≡ false) in
+    let then : P (before ++ act ∷ (later ++ more)) = (firsts terms before (later ++ more) act repeat made alike, olds terms before (later ++ more) act repeat made alike) in
+    subst P (sym whole) then
