@@ -1,3 +1,4 @@
 pub mod Putting
 pub mod Doings
 pub mod Handings
+pub mod Tellings

@@ -1,9 +1,38 @@
--- The line behind a round.
-use Rattle.std.specs.Prelude.{ℕ, List, ◌++◌, codes}
+-- The lines behind rounds.
+use Rattle.std.specs.Prelude.{◌≡◌, ℕ, ◌+◌, ◌≤◌, ◌<◌, Bool, true, false, List, [], ◌∷◌, ◌++◌, length, take, codes, Option}
 use Rattle.std.specs.Fmt.{decimal}
+use Rattle.std.specs.Io.KnownBytes.{Appends}
+use Rattle.dcc_serve.specs.declared.fault.ServeFault.{ServeFault}
+use Rattle.dcc_serve.specs.declared.fault.ServeFault.TheVariants.{Memory, Io, Close, Store}
 use Rattle.dcc_serve.specs.declared.line.Counts.{Counts}
 
 abbrev pub round_line : ℕ → Counts → List ℕ
 round_line round counts =
     codes "round " ++ decimal round ++ codes " requests " ++ decimal counts.requests ++ codes " answers " ++ decimal counts.answers
     ++ codes " acts " ++ decimal counts.acts ++ codes "\n"
+
+-- the lines of rounds, one after another, with numbers from this one on
+abbrev pub round_lines : ℕ → List Counts → List ℕ
+round_lines first [] = []
+round_lines first (counts ∷ later) = round_line first counts ++ round_lines (first + 1) later
+
+-- a writer, before and after, has grown by the lines of this many rounds, the first of which is round 1
+abbrev pub AreTold : ℕ → (old new : Option (List ℕ)) → Type 0
+AreTold rounds old new = (ended : List Counts) × (length ended ≡ rounds) × Appends old new (round_lines 1 ended)
+
+-- by what a writer has grown where a fault ends a server of this many rounds: the lines of the rounds before; where records failed that of
+-- their round too, and where the output failed a beginning of it
+abbrev pub EndsWith : ServeFault → ℕ → (old new : Option (List ℕ)) → Type 0
+EndsWith Memory rounds old new = (ended : ℕ) × (ended < rounds) × AreTold ended old new
+EndsWith (Close number) rounds old new = (ended : ℕ) × (ended < rounds) × AreTold ended old new
+EndsWith (Store number) rounds old new = (number ≡ 51) × ((ended : ℕ) × (1 ≤ ended) × (ended ≤ rounds) × AreTold ended old new)
+EndsWith Io rounds old new =
+    (ended : List Counts) × (next : Counts) × (n : ℕ) × (length ended < rounds)
+    × Appends old new (round_lines 1 ended ++ take n (round_line (length ended + 1) next))
+
+-- whether it is a fault of records, which comes behind the line of its round
+abbrev pub is_store : ServeFault → Bool
+is_store Memory = false
+is_store Io = false
+is_store (Close number) = false
+is_store (Store number) = true

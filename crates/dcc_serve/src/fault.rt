@@ -1,6 +1,7 @@
 //! Why a server ends before its rounds are over.
 
-ghost use Rattle.std.specs.Prelude.{◌≡◌};
+ghost use Rattle.std.specs.Prelude.{◌≡◌, false};
+ghost use Rattle.dcc_serve.specs.Lines.{is_store};
 ghost use Rattle.dcc_serve.specs.declared.fault.ServeFault.TheVariants as fault;
 
 use dcc_receipts::CloseFault;
@@ -50,7 +51,9 @@ impl From<WriteFault> for ServeFault {
 }
 
 /// What a fault of the comparison ends a server with.
-pub(crate) fn of_close(fault: CloseFault) -> ServeFault {
+pub(crate) fn of_close(fault: CloseFault) -> ServeFault
+    ensures { is_store result ≡ false }
+{
     match fault.number() {
         Some(number) => ServeFault::Close(number),
         None => ServeFault::Memory,

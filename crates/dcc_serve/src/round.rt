@@ -1,8 +1,9 @@
 //! One round.
 
-ghost use Rattle.std.specs.Prelude.{◌≡◌, ◌≢◌, ◌<◌, ◌≤◌, ℕ, [], length, slice_index_or, IfOk};
+ghost use Rattle.std.specs.Prelude.{◌≡◌, ◌≢◌, ◌<◌, ◌≤◌, ℕ, false, [], length, slice_index_or, IfOk, IfErr};
 ghost use Rattle.dcc_act.specs.declared.sub.Sub.{Sub};
 ghost use Rattle.dcc_running.specs.Books.{AreShards};
+ghost use Rattle.dcc_serve.specs.Lines.{is_store};
 
 use crate::face::{Connection, Listener, Notice, Notices, Shut};
 use crate::fault::{ServeFault, of_close};
@@ -47,6 +48,7 @@ pub(crate) fn serve_round<
     ensures shards { IfOk result (λ r. AreShards service.now.plan.now.terms service.now.identity.now r.1.items) }
     ensures some { IfOk result (λ r. 1 ≤ length r.1.items) }
     ensures most { IfOk result (λ r. length r.1.items ≤ 8) }
+    ensures fault { IfErr result (λ fault. is_store fault ≡ false) }
 {
     let count = shards.len();
     let Ok(locked) = Shards::new(
@@ -89,6 +91,7 @@ fn gather<W: Wait, R: Records, I: Read + Drop, O: Write + Drop, L: Listener<I, O
 ) -> Result<Vec<Task<I, O>>, ServeFault>
     requires some { 1 ≤ count }
     requires most { count ≤ 8 }
+    ensures { IfErr result (λ fault. is_store fault ≡ false) }
 {
     let gates = rounds.gates;
     let work = make_lanes::<Work>(alloc, count, gates)?;

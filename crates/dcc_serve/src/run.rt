@@ -1,7 +1,8 @@
 //! All rounds of a server.
 
-ghost use Rattle.std.specs.Prelude.{◌≤◌, length};
+ghost use Rattle.std.specs.Prelude.{◌≤◌, length, IfErr, OnOk};
 ghost use Rattle.dcc_running.specs.Books.{AreShards};
+ghost use Rattle.dcc_serve.specs.Lines.{AreTold, EndsWith};
 
 use crate::face::{Listener, Notice, Notices, Shut};
 use crate::fault::ServeFault;
@@ -63,6 +64,8 @@ pub fn serve_run<
     requires shards { AreShards service.now.plan.now.terms service.now.identity.now shards.items }
     requires some { 1 ≤ length shards.items }
     requires most { length shards.items ≤ 8 }
+    ensures whole { OnOk result (AreTold rounds.now.rounds (P.contents output.old) (P.contents output.new)) }
+    ensures part { IfErr result (λ fault. EndsWith fault rounds.now.rounds (P.contents output.old) (P.contents output.new)) }
 {
     let mut shards = shards;
     for round in 0..rounds.rounds {
