@@ -1,5 +1,5 @@
 -- What a shard holds that stands on what a stop left of another.
-use Rattle.std.proofs.Common.{◌≡◌, ◌≤◌, ◌+◌, true, false, List, ◌∷◌, ◌++◌, length, take, drop, take-append-drop, append_assoc, sym, ap, subst, ◌∙◌}
+use Rattle.std.proofs.Common.{◌≡◌, true, false, List, ◌∷◌, ◌++◌, length, take, drop, take-append-drop, append_assoc, sym, ap, subst, ◌∙◌}
 use Rattle.std.proofs.Math.Logic.{∥∥₁_elim}
 use Rattle.std.proofs.Props.{props}
 use Rattle.dcc_tariff.specs.Terms.{TermsView}
@@ -10,16 +10,15 @@ use Rattle.dcc_model.specs.Laws.{RepeatsAreFirsts, RepeatsAreOld}
 use Rattle.dcc_model.specs.Outcomes.{after, is_new}
 use Rattle.dcc_records.specs.Books.{Held}
 use Rattle.dcc_records.specs.Contents.{Content, Kept}
-use Rattle.dcc_shard.specs.Stored.{IsLeft, LeavesHeld}
+use Rattle.dcc_shard.specs.Stored.{IsLeft, GoesOnFrom, LeavesHeld}
 
 -- it holds what was held, and at most one act more of each subscriber
 pub goes_on : (terms : TermsView) (one other : Held) (leaves again : Content → Type 0) → LeavesHeld one leaves → IsLeft terms other again
-    → ((found : Content) → again found → ∥ leaves found ∥₁) → (sub : Sub) → (take (length (one sub)) (other sub) ≡ one sub) × (length (other sub) ≤ length (one sub) + 1)
+    → ((found : Content) → again found → ∥ leaves found ∥₁) → (sub : Sub) → GoesOnFrom (one sub) (other sub)
 goes_on terms one other leaves again held there back sub =
     ∥∥₁_elim there (hlevel props) (λ found. ∥∥₁_elim (back found.0 found.2) (hlevel props) (λ left.
     let acts_are : (found.0 sub).acts ≡ other sub = ap (λ (kept : Kept). kept.acts) (found.1 sub) in
-    let P : List Act → Type 0 = λ all. (take (length (one sub)) all ≡ one sub) × (length all ≤ length (one sub) + 1) in
-    subst P acts_are (held found.0 sub left)))
+    subst (GoesOnFrom (one sub)) acts_are (held found.0 sub left)))
 
 -- so what is repeated comes to what it came to first, and isn't made again
 pub first_again : RepeatsAreFirsts → RepeatsAreOld → (terms : TermsView) (one other before later : List Act) (act repeat : Act) → one ≡ before ++ act ∷ later

@@ -1,6 +1,6 @@
 //! A shard that is stopped and opened again.
 
-ghost use Rattle.std.specs.Prelude.{◌≡◌, ◌≤◌, ◌+◌, List, [], ◌∷◌, ◌++◌, length, take, true, false, IfSome};
+ghost use Rattle.std.specs.Prelude.{◌≡◌, List, ◌∷◌, ◌++◌, true, false, IfSome};
 ghost use Rattle.sqlite.specs.Files.{file_state};
 ghost use Rattle.sqlite.specs.State.{HasCleanDisk};
 ghost use Rattle.dcc_act.specs.declared.act.Act.{Act};
@@ -8,6 +8,7 @@ ghost use Rattle.dcc_act.specs.declared.sub.Sub.{Sub};
 ghost use Rattle.dcc_model.specs.Keys.{same_key};
 ghost use Rattle.dcc_model.specs.Outcomes.{after, is_new};
 ghost use Rattle.dcc_shard.specs.Shards.{held, AreOwn};
+ghost use Rattle.dcc_shard.specs.Stored.{GoesOnFrom};
 
 use dcc_message::Identity;
 use dcc_model::acts_come_to_their_own;
@@ -36,7 +37,7 @@ pub fn stop_and_reopen_shard<D: Crash + Drop>(
     ensures own { IfSome result (λ again. AreOwn again.shard) }
     ensures held { HasCleanDisk (file_state shard.records.conn) → setting.now.terms ≡ shard.shard.terms → IfSome result (λ again.
         HasCleanDisk (file_state again.records.conn) → (sub : Sub)
-        → (take (length (held shard.shard sub)) (held again.shard sub) ≡ held shard.shard sub) × (length (held again.shard sub) ≤ length (held shard.shard sub) + 1)) }
+        → GoesOnFrom (held shard.shard sub) (held again.shard sub)) }
     ensures repeats { HasCleanDisk (file_state shard.records.conn) → setting.now.terms ≡ shard.shard.terms → IfSome result (λ again.
         HasCleanDisk (file_state again.records.conn) → (sub : Sub) (before later : List Act) (act repeat : Act)
         → held shard.shard sub ≡ before ++ act ∷ later → is_new shard.shard.terms before act ≡ true → same_key repeat.kind act.kind ≡ true

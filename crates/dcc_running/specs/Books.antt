@@ -1,5 +1,5 @@
 -- Shards that work under locks, and what they hold once they are out of these.
-use Rattle.std.specs.Prelude.{◌≡◌, ◌≢◌, ℕ, ◌+◌, ◌<◌, ◌≤◌, Bool, true, false, List, [], length, take, slice_index_or, Option, Some, None, slice_get}
+use Rattle.std.specs.Prelude.{◌≡◌, ◌≢◌, ℕ, ◌<◌, Bool, true, false, List, [], length, slice_index_or, Option, Some, None, slice_get}
 use Rattle.std.specs.Global.{Vec}
 use Rattle.std.specs.Map.{lookup}
 use Rattle.std.specs.Option.{option_map_or}
@@ -13,7 +13,7 @@ use Rattle.dcc_records.specs.Contents.{Content}
 use Rattle.dcc_records.specs.Stops.{LeavesOnly}
 use Rattle.dcc_shard.specs.Routes.{shard_of}
 use Rattle.dcc_shard.specs.Shards.{held}
-use Rattle.dcc_shard.specs.Stored.{StoredView, LeavesHeld, LeavesOneMore}
+use Rattle.dcc_shard.specs.Stored.{StoredView, GoesOnFrom, LeavesHeld, LeavesOneMore}
 
 -- subscribers with their acts at opening
 abbrev pub Opening : Type 0
@@ -69,4 +69,4 @@ AreKept {R} is_stopped may_leave parts = (i : ℕ) (none : StoredView R) → i <
 abbrev pub AreLeft : {R : Type 0} → (R → Content → Type 0) → List (StoredView R) → Type 0
 AreLeft {R} may_leave parts = (sub : Sub) (none : StoredView R) (found : Content)
     → may_leave (slice_index_or parts (shard_of sub (length parts)) none).records found
-    → (take (length (book parts sub)) (found sub).acts ≡ book parts sub) × (length (found sub).acts ≤ length (book parts sub) + 1)
+    → GoesOnFrom (book parts sub) (found sub).acts

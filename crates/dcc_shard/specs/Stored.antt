@@ -1,5 +1,5 @@
 -- A shard and the records that keep its acts.
-use Rattle.std.specs.Prelude.{◌≡◌, ℕ, ◌+◌, ◌≤◌, Bool, true, false, length, take}
+use Rattle.std.specs.Prelude.{◌≡◌, ℕ, ◌+◌, ◌≤◌, Bool, true, false, List, length, take}
 use Rattle.dcc_tariff.specs.Terms.{TermsView}
 use Rattle.dcc_act.specs.declared.act.Act.{Act}
 use Rattle.dcc_act.specs.declared.sub.Sub.{Sub}
@@ -21,10 +21,13 @@ IsLeft terms held leaves = ∥ ((content : Content) × IsContentOf terms held co
 abbrev pub LeavesOneMore : TermsView → Held → (Content → Type 0) → Type 0
 LeavesOneMore terms held leaves = ∥ ((sub : Sub) × (act : Act) × LeavesEither terms held (held_then terms sub act held) leaves) ∥₁
 
--- of each subscriber, whatever a stop leaves begins with the acts that are held, and has at most one beyond them
+-- a subscriber's acts that are found are those that were kept, in their order, and at most one beyond them
+abbrev pub GoesOnFrom : (kept found : List Act) → Type 0
+GoesOnFrom kept found = (take (length kept) found ≡ kept) × (length found ≤ length kept + 1)
+
+-- it is so of each subscriber, whatever a stop leaves
 abbrev pub LeavesHeld : Held → (Content → Type 0) → Type 0
-LeavesHeld held leaves = (found : Content) (sub : Sub) → leaves found
-    → (take (length (held sub)) (found sub).acts ≡ held sub) × (length (found sub).acts ≤ length (held sub) + 1)
+LeavesHeld held leaves = (found : Content) (sub : Sub) → leaves found → GoesOnFrom (held sub) (found sub).acts
 
 -- What one act of one subscriber does to the records, by what a stop leaves of them before and after, whether they are stopped, and
 -- how often they have failed.
