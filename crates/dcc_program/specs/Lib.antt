@@ -3,4 +3,5 @@ pub mod Plans
 pub mod CommandLines
 pub mod Replays
 pub mod Stores
+pub mod Servings
 pub mod Runs

@@ -1,5 +1,10 @@
 //! `dcc serve PLAN DIR`, over the stores of a folder and the network of the system.
 
+ghost use Rattle.std.specs.Prelude.{◌≡◌, ◌⊎◌, IfErr, OnOk};
+ghost use Rattle.std.specs.Io.KnownBytes.{Appends, Keeps};
+ghost use Rattle.dcc_program.specs.Servings.{listening_line, IsListeningBegun, IsServed, IsServedBegun};
+ghost use Rattle.dcc_program.specs.declared.failure.Failure.TheVariants.{Memory};
+
 use crate::command_line::ServeAsk;
 use crate::failure::Failure;
 use crate::plan_file::plan_from;
@@ -8,10 +13,11 @@ use dcc_replay::identity_of;
 use dcc_serve::{Service, serve_run};
 use dcc_sockets::{Door, Input, NoticeLines, Output, SystemClock};
 use dcc_streams::write_all;
+use std::alloc::Global;
 use std::fs;
 use std::hash::RandomState;
 use std::io::{Eprint, Write};
-use std::net::{Net, TcpListener, TcpStream};
+use std::net::{Net, SocketAddr, TcpListener, TcpStream};
 use std::random::RandomSource;
 use std::rt::Files;
 use std::sync::Wait;
@@ -19,7 +25,8 @@ use std::thread::Threads;
 use std::time::Clock;
 
 /// Serves under the plan that the file gives, over the stores of the folder, at an address: writes where it listens, and then the line of
-/// each round. The plan is judged first, then the stores, which are made where they are missing, then the address.
+/// each round. The plan is judged first, then the stores, which are made where they are missing, then the address, and all of them before
+/// anything is written.
 pub fn serve<
     R: Files
         + RandomSource
@@ -32,7 +39,10 @@ pub fn serve<
         + AllocGlobal,
     S: Stores,
     W: Write,
->(rt: &R, stores: &S, ask: &ServeAsk<'_>, output: &mut W) -> Result<(), Failure> {
+>(rt: &R, stores: &S, ask: &ServeAsk<'_>, output: &mut W) -> Result<(), Failure>
+    ensures whole { OnOk result (IsServed ask.now.rounds.rounds (W.contents output.old) (W.contents output.new)) }
+    ensures part { IfErr result (IsServedBegun ask.now.rounds.rounds (W.contents output.old) (W.contents output.new)) }
+{
     let alloc = rt.alloc();
     let hasher = RandomState::new(rt)?;
     let mut file = fs::open(rt, ask.place.plan)?;
@@ -44,10 +54,8 @@ pub fn serve<
         Err(refusal) => return Err(Failure::from(OperatorFault::from(refusal))),
     };
     let mut door = Door::bind(rt, alloc, ask.address)?;
-    let bound = door.address()?;
-    let line = format!(in alloc; "listening {bound}\n")?;
-    write_all(output, line.as_bytes())?;
-    output.flush()?;
+    let address = door.address()?;
+    tell_address(alloc, address, output)?;
     let clock = SystemClock::new(rt);
     let notices = NoticeLines::new(rt);
     let service = Service {
@@ -67,4 +75,14 @@ pub fn serve<
         &ask.rounds,
     )?;
     Ok(())
+}
+
+/// Writes where the server listens.
+fn tell_address<W: Write>(alloc: Global, address: SocketAddr, output: &mut W) -> Result<(), Failure>
+    ensures whole { OnOk result (Appends (W.contents output.old) (W.contents output.new) (listening_line address)) }
+    ensures part { IfErr result (λ failure. ((failure ≡ Memory) × Keeps (W.contents output.old) (W.contents output.new))
+        ⊎ IsListeningBegun failure (W.contents output.old) (W.contents output.new)) }
+{
+    let line = format!(in alloc; "listening {address}\n")?;
+    Ok(write_all(output, line.as_bytes())?)
 }
