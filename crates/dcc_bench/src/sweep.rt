@@ -1,0 +1,115 @@
+//! Sweeps over many subscribers that have a session each: where none is due, where one in a thousand is, and where all others are.
+
+ghost use Rattle.std.specs.Prelude.{◌≤◌};
+
+use crate::debit::Debit;
+use crate::engines::{
+    MOMENT, connection, make_engine, make_plan, message, moment, subscriber, top_up,
+};
+use crate::rounds::Rounds;
+use anyhow::{Result, bail};
+use dcc_engine::{Engine, Event};
+use dcc_records::MemoryRecords;
+use std::alloc::Global;
+use std::hash::RandomState;
+use std::random::RandomSource;
+use std::time::CpuClock;
+
+/// How often sessions are opened and swept.
+const ROUNDS: u32 = 3;
+
+/// One subscriber of so many opens its session before the others.
+const EARLY: u32 = 1_000;
+
+/// The seconds by which it does.
+const LEAD: u64 = 600;
+
+/// Measures sweeps over so many subscribers.
+pub fn measure<R: AllocGlobal + RandomSource + Print + Eprint + CpuClock>(
+    rt: &R,
+    subscribers: u32,
+    shards: u8,
+) -> Result<()>
+    requires some { 1 ≤ shards }
+    requires most { shards ≤ 8 }
+{
+    let alloc = rt.alloc();
+    let plan = make_plan(alloc)?;
+    let hold = u64::from(plan.terms().hold);
+    let mut engine = make_engine(alloc, plan, shards, RandomState::new(rt)?)?;
+    give_money(alloc, &mut engine, subscribers)?;
+    let mut sweeps = [Rounds::new(alloc), Rounds::new(alloc), Rounds::new(alloc)];
+    let mut acts = [0; 3];
+    for round in 0..ROUNDS {
+        let opened = MOMENT + u64::from(round) * 86_400;
+        open_sessions(alloc, &mut engine, subscribers, round, opened)?;
+        let moments = [opened + LEAD, opened + hold, opened + LEAD + hold];
+        for (i, seconds) in moments.iter().enumerate() {
+            let begin = rt.thread_cpu_time()?;
+            sweep(alloc, &mut engine, *seconds)?;
+            let end = rt.thread_cpu_time()?;
+            sweeps[i].push(begin, end)?;
+            acts[i] = acts_of(alloc, &engine, subscribers)?;
+        }
+    }
+    let [none, few, all] = sweeps;
+    none.report(rt, "sweep none", u64::from(subscribers))?;
+    few.report(rt, "sweep few", u64::from(subscribers))?;
+    all.report(rt, "sweep all", u64::from(subscribers))?;
+    let [none, few, all] = acts;
+    println!(rt; "sweep {subscribers} {shards} acts {none} {few} {all}")?;
+    Ok(())
+}
+
+/// Gives each subscriber its money.
+fn give_money(alloc: Global, engine: &mut Engine<MemoryRecords>, subscribers: u32) -> Result<()> {
+    engine.run(alloc, &[connection(alloc)?])?;
+    for number in 0..subscribers {
+        engine.run(alloc, &[top_up(alloc, number)?])?;
+    }
+    Ok(())
+}
+
+/// Opens a session of each subscriber.
+fn open_sessions(
+    alloc: Global,
+    engine: &mut Engine<MemoryRecords>,
+    subscribers: u32,
+    session: u32,
+    opened: u64,
+) -> Result<()> {
+    let mut debit = Debit::new()?;
+    debit.set_session(session);
+    for number in 0..subscribers {
+        let lead = if number % EARLY == 0 { 0 } else { LEAD };
+        debit.set_subscriber(number);
+        let moment = moment(opened.saturating_add(lead))?;
+        let request = message(alloc, moment, debit.initial(alloc)?.as_slice())?;
+        engine.run(alloc, &[request])?;
+    }
+    Ok(())
+}
+
+/// A sweep at this moment. It stands alone in a profile.
+#[inline(never)]
+fn sweep(alloc: Global, engine: &mut Engine<MemoryRecords>, seconds: u64) -> Result<()> {
+    let moment = moment(seconds)?;
+    let outs = engine.run(alloc, &[Event::Sweep { moment }])?;
+    for out in &outs {
+        if out.refused_all || !out.refused.as_slice().is_empty() {
+            bail!("a refused expiry");
+        }
+    }
+    Ok(())
+}
+
+/// The acts of all subscribers.
+fn acts_of(alloc: Global, engine: &Engine<MemoryRecords>, subscribers: u32) -> Result<u64> {
+    let mut acts = 0u64;
+    for number in 0..subscribers {
+        if let Some(account) = engine.account(subscriber(alloc, number)?) {
+            acts = acts.saturating_add(account.acts().len() as u64);
+        }
+    }
+    Ok(acts)
+}
