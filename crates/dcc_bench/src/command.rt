@@ -129,10 +129,7 @@ fn million(number: u32) -> Option<u32> {
 
 /// A number of shards.
 fn shards(number: u32) -> Option<u8> {
-    match number {
-        1..=8 => Some(number as u8),
-        _ => None,
-    }
+    u8::try_from(number).ok()
 }
 
 /// A number from 1 to 1,000,000,000.

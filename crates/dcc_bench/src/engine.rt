@@ -1,8 +1,6 @@
 //! Debits on an engine that holds many acts: of subscribers that lie far from one another, and beside them the same requests through
 //! the codec alone.
 
-ghost use Rattle.std.specs.Prelude.{◌≤◌};
-
 use crate::checksum::marked;
 use crate::codec::{Reply, answer, make_reply};
 use crate::debit::Debit;
@@ -31,15 +29,12 @@ pub fn measure<R: AllocGlobal + RandomSource + Print + Eprint + CpuClock>(
     subscribers: u32,
     held: u32,
     shards: u8,
-) -> Result<()>
-    requires some { 1 ≤ shards }
-    requires most { shards ≤ 8 }
-{
+) -> Result<()> {
     let alloc = rt.alloc();
     let mut engine = make_engine(alloc, make_plan(alloc)?, shards, RandomState::new(rt)?)?;
     fill(alloc, &mut engine, subscribers, held)?;
     let reply = make_reply(alloc)?;
-    let steps = (held / 10).clamp(10, CHUNK);
+    let steps = (held / 10).max(10).min(CHUNK);
     let mut next = held;
     let mut runs = Rounds::new(alloc);
     let mut codecs = Rounds::new(alloc);
@@ -107,15 +102,13 @@ fn debits(alloc: Global, subscribers: u32, first: u32, count: u32) -> Result<Vec
     Ok(events)
 }
 
-/// Runs debits. It stands alone in a profile.
-#[inline(never)]
+/// Runs debits.
 fn run_debits(alloc: Global, engine: &mut Engine<MemoryRecords>, events: &[Event]) -> Result<u64> {
     let outs = engine.run(alloc, events)?;
     Ok(mark_of(&outs))
 }
 
-/// Reads the debits, and writes answers. It stands alone in a profile.
-#[inline(never)]
+/// Reads the debits, and writes answers.
 fn code_debits(alloc: Global, reply: &Reply, events: &[Event]) -> Result<u64> {
     let mut mark = 0;
     for event in events {

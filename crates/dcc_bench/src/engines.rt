@@ -1,10 +1,8 @@
 //! Engines that are measured, and the events that they are given.
 
-ghost use Rattle.std.specs.Prelude.{◌≤◌};
-
 use crate::checksum::{START, marked, summed};
 use crate::tariffs::plan_text;
-use anyhow::{Context, Result};
+use anyhow::{Context, Result, bail};
 use dcc_act::{Moment, Sub};
 use dcc_base::Host;
 use dcc_engine::{Engine, Event, Out};
@@ -28,16 +26,16 @@ pub(crate) fn make_plan(alloc: Global) -> Result<Plan> {
     Ok(Plan::read(alloc, text.as_str())?)
 }
 
-/// An engine under this plan, over so many shards in memory.
+/// An engine under this plan, over so many shards in memory, 1 to 8.
 pub(crate) fn make_engine(
     alloc: Global,
     plan: Plan,
     shards: u8,
     hasher: RandomState,
-) -> Result<Engine<MemoryRecords>>
-    requires some { 1 ≤ shards }
-    requires most { shards ≤ 8 }
-{
+) -> Result<Engine<MemoryRecords>> {
+    if shards < 1 || shards > 8 {
+        bail!("1 to 8 shards");
+    }
     let identity = Identity {
         host: DiameterIdentity::from_vec(plan.host().to_vec(alloc)?).context("a host")?,
         realm: DiameterIdentity::from_vec(plan.realm().to_vec(alloc)?).context("a realm")?,

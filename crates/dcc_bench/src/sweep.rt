@@ -1,13 +1,11 @@
 //! Sweeps over many subscribers that have a session each: where none is due, where one in a thousand is, and where all others are.
 
-ghost use Rattle.std.specs.Prelude.{◌≤◌};
-
 use crate::debit::Debit;
 use crate::engines::{
     MOMENT, connection, make_engine, make_plan, message, moment, subscriber, top_up,
 };
 use crate::rounds::Rounds;
-use anyhow::{Result, bail};
+use anyhow::{Context, Result, bail};
 use dcc_engine::{Engine, Event};
 use dcc_records::MemoryRecords;
 use std::alloc::Global;
@@ -24,41 +22,65 @@ const EARLY: u32 = 1_000;
 /// The seconds by which it does.
 const LEAD: u64 = 600;
 
+/// From one opening to the next, in seconds.
+const DAY: u64 = 86_400;
+
 /// Measures sweeps over so many subscribers.
 pub fn measure<R: AllocGlobal + RandomSource + Print + Eprint + CpuClock>(
     rt: &R,
     subscribers: u32,
     shards: u8,
-) -> Result<()>
-    requires some { 1 ≤ shards }
-    requires most { shards ≤ 8 }
-{
+) -> Result<()> {
     let alloc = rt.alloc();
     let plan = make_plan(alloc)?;
     let hold = u64::from(plan.terms().hold);
     let mut engine = make_engine(alloc, plan, shards, RandomState::new(rt)?)?;
     give_money(alloc, &mut engine, subscribers)?;
-    let mut sweeps = [Rounds::new(alloc), Rounds::new(alloc), Rounds::new(alloc)];
-    let mut acts = [0; 3];
+    let mut sweeps = [Swept::new(alloc), Swept::new(alloc), Swept::new(alloc)];
     for round in 0..ROUNDS {
-        let opened = MOMENT + u64::from(round) * 86_400;
+        let opened = MOMENT.saturating_add(u64::from(round).saturating_mul(DAY));
+        let later = opened.saturating_add(LEAD);
         open_sessions(alloc, &mut engine, subscribers, round, opened)?;
-        let moments = [opened + LEAD, opened + hold, opened + LEAD + hold];
-        for (i, seconds) in moments.iter().enumerate() {
+        for (place, seconds) in [
+            (0, later),
+            (1, opened.saturating_add(hold)),
+            (2, later.saturating_add(hold)),
+        ] {
             let begin = rt.thread_cpu_time()?;
-            sweep(alloc, &mut engine, *seconds)?;
+            sweep(alloc, &mut engine, seconds)?;
             let end = rt.thread_cpu_time()?;
-            sweeps[i].push(begin, end)?;
-            acts[i] = acts_of(alloc, &engine, subscribers)?;
+            let swept = sweeps.get_mut(place).context("a sweep")?;
+            swept.rounds.push(begin, end)?;
+            swept.acts = acts_of(alloc, &engine, subscribers)?;
         }
     }
     let [none, few, all] = sweeps;
-    none.report(rt, "sweep none", u64::from(subscribers))?;
-    few.report(rt, "sweep few", u64::from(subscribers))?;
-    all.report(rt, "sweep all", u64::from(subscribers))?;
-    let [none, few, all] = acts;
-    println!(rt; "sweep {subscribers} {shards} acts {none} {few} {all}")?;
+    println!(rt;
+        "sweep {subscribers} {shards} acts {} {} {}",
+        none.acts, few.acts, all.acts
+    )?;
+    none.rounds
+        .report(rt, "sweep none", u64::from(subscribers))?;
+    few.rounds.report(rt, "sweep few", u64::from(subscribers))?;
+    all.rounds.report(rt, "sweep all", u64::from(subscribers))?;
     Ok(())
+}
+
+/// Sweeps of one kind, and how many acts were held behind the last.
+#[derive(Drop)]
+struct Swept {
+    rounds: Rounds,
+    acts: u64,
+}
+
+impl Swept {
+    /// None yet.
+    fn new(alloc: Global) -> Swept {
+        Swept {
+            rounds: Rounds::new(alloc),
+            acts: 0,
+        }
+    }
 }
 
 /// Gives each subscriber its money.

@@ -1,7 +1,5 @@
 //! An engine one of whose shards has records that fail once, at each of its appends in turn.
 
-ghost use Rattle.std.specs.Prelude.{◌≤◌};
-
 use crate::history::{ACTS, FUNDS, History, busy, subscribers};
 use crate::locks::{in_memory, shard_over};
 use crate::placed::are_shards;
@@ -16,9 +14,10 @@ use std::process::Abort;
 use std::random::RandomSource;
 use std::test::Fail;
 
-/// What an event is answered where no append fails, and how many acts of the subscriber that is looked at are held behind it.
+/// What an event is answered where no append fails, whose it is, and how many acts of the subscriber that is looked at are held behind it.
 #[derive(Drop)]
 struct Turn {
+    of: Option<Sub>,
     out: Out,
     acts: usize,
 }
@@ -53,10 +52,10 @@ fn turns(
     let alloc = rt.alloc();
     let mut engine = engine_over(rt, in_memory(alloc), in_memory(alloc))?;
     let mut turns = Vec::new(alloc);
-    for event in history.events.chunks(1) {
+    for (event, of) in history.events.chunks(1).zip(&history.subs) {
         let out = engine.run(alloc, event)?.pop().ok_or("an out")?;
         let acts = acts_of(&engine, sub);
-        turns.push(Turn { out, acts })?;
+        turns.push(Turn { of: *of, out, acts })?;
     }
     Ok(turns)
 }
@@ -144,17 +143,36 @@ fn assert_stopped(
     n: usize,
 ) -> Result<(), Fail> {
     assert_eq!(rt; outs.len(), turns.len());
-    for (i, (turn, out)) in turns.iter().zip(outs).enumerate() {
-        let (event, of) = (&history.events[i], history.subs[i]);
-        let is_right = match event {
-            _ if turn.acts < n => are_alike(out, &turn.out) && out.top_up == turn.out.top_up,
-            Event::Sweep { .. } => is_swept(out, sub, n > 1),
-            _ if of == Some(sub) => is_refused(rt.alloc(), event, out)?,
-            _ => are_alike(out, &turn.out) && out.top_up == turn.out.top_up,
-        };
+    for (i, (event, (turn, out))) in history
+        .events
+        .iter()
+        .zip(turns.iter().zip(outs))
+        .enumerate()
+    {
+        let is_right = is_right(rt.alloc(), event, turn, out, sub, n)?;
         assert!(rt; is_right, "event {i} where append {n} fails");
     }
     Ok(())
+}
+
+/// Whether an event is answered as it is to be where the subscriber's `n`-th act isn't appended.
+fn is_right(
+    alloc: Global,
+    event: &Event,
+    turn: &Turn,
+    out: &Out,
+    sub: Sub,
+    n: usize,
+) -> Result<bool, Fail> {
+    if turn.acts >= n {
+        if let Event::Sweep { .. } = event {
+            return Ok(is_swept(out, sub, n > 1));
+        }
+        if turn.of == Some(sub) {
+            return is_refused(alloc, event, out);
+        }
+    }
+    Ok(are_alike(out, &turn.out) && out.top_up == turn.out.top_up)
 }
 
 /// Asserts that of the subscriber the acts before its `n`-th are held, and of the other all.
@@ -163,11 +181,9 @@ fn assert_held<R: Records>(
     engine: &Engine<R>,
     sub: Sub,
     n: usize,
-) -> Result<(), Fail>
-    requires { 1 ≤ n }
-{
+) -> Result<(), Fail> {
     for it in subscribers()? {
-        let wanted = if it == sub { n - 1 } else { ACTS };
+        let wanted = if it == sub { n.saturating_sub(1) } else { ACTS };
         assert_eq!(rt; acts_of(engine, it), wanted);
     }
     Ok(())
