@@ -21,7 +21,7 @@ use std::time::CpuClock;
 
 /// What an answer is written of.
 #[derive(Drop)]
-struct Reply {
+pub(crate) struct Reply {
     identity: Identity,
     terms: Terms,
     outcome: Outcome,
@@ -95,8 +95,7 @@ fn answer_all(alloc: Global, reply: &Reply, count: u32) -> Result<u64> {
     for i in 0..count {
         debit.set_identifiers(i);
         debit.set_number(i);
-        let (header, proxies) = read(alloc, debit.as_slice())?;
-        let answer = written(alloc, reply, &header, &proxies)?;
+        let answer = answer(alloc, reply, debit.as_slice())?;
         mark = marked(mark, answer.as_slice(), i);
     }
     Ok(mark)
@@ -109,10 +108,18 @@ fn sum_of_answers(alloc: Global, reply: &Reply, count: u32) -> Result<u64> {
     for i in 0..count {
         debit.set_identifiers(i);
         debit.set_number(i);
-        let (header, proxies) = read(alloc, debit.as_slice())?;
-        sum = summed(sum, written(alloc, reply, &header, &proxies)?.as_slice());
+        sum = summed(sum, answer(alloc, reply, debit.as_slice())?.as_slice());
     }
     Ok(sum)
+}
+
+/// Reads a request, and writes its answer.
+pub(crate) fn answer(alloc: Global, reply: &Reply, octets: &[u8]) -> Result<Vec<u8>>
+    requires least { 20 ≤ length octets.now }
+    requires most { length octets.now ≤ 65_000 }
+{
+    let (header, proxies) = read(alloc, octets)?;
+    written(alloc, reply, &header, &proxies)
 }
 
 /// Reads a request whole: its header, its list, its proxies, and what it asks for.
@@ -143,7 +150,7 @@ fn written(alloc: Global, reply: &Reply, header: &Header, proxies: &Proxies) -> 
 }
 
 /// The answer to a debit of 1,001 octets.
-fn make_reply(alloc: Global) -> Result<Reply> {
+pub(crate) fn make_reply(alloc: Global) -> Result<Reply> {
     let host = DiameterIdentity::from_vec(b"ocs.example".to_vec(alloc)?).context("a host")?;
     let realm = DiameterIdentity::from_vec(b"example".to_vec(alloc)?).context("a realm")?;
     let sid = SessionId::from_vec(b"gw1.example;1;1".to_vec(alloc)?).context("a session")?;

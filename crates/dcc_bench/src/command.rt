@@ -4,19 +4,47 @@
 #[derive(Clone, Copy, Debug, PartialEq, Eq)]
 pub enum Command {
     /// Debit requests read, and their answers written.
-    Codec { count: u32 },
+    Codec {
+        count: u32,
+    },
     /// Requests of some services read, of lists that are there already.
-    Request { count: u32 },
+    Request {
+        count: u32,
+    },
     /// A stream of about so many octets, fed in pieces of so many.
-    Framer { octets: u32, piece: u32 },
+    Framer {
+        octets: u32,
+        piece: u32,
+    },
     /// A plan of so many tariffs, in which they are looked up.
-    Plan { count: u32 },
+    Plan {
+        count: u32,
+    },
     /// Steps of so many accounts, which hold so many acts each.
-    Account { accounts: u32, held: u32 },
+    Account {
+        accounts: u32,
+        held: u32,
+    },
     /// The end of shards in which so many debits were made.
-    Close { count: u32 },
+    Close {
+        count: u32,
+    },
     /// A run of so many subscribers' debits.
-    Replay { subscribers: u32, requests: u32 },
+    Replay {
+        subscribers: u32,
+        requests: u32,
+    },
+    /// Debits on an engine of so many shards, which holds so many acts of so many subscribers.
+    Engine {
+        subscribers: u32,
+        held: u32,
+        shards: u8,
+    },
+    /// Sweeps over so many subscribers in so many shards.
+    Sweep {
+        subscribers: u32,
+        shards: u8,
+    },
     /// A little of each.
     Sample,
 }
@@ -30,6 +58,12 @@ pub fn command_of(words: &[String]) -> Option<Command> {
             name.as_str(),
             number(first)?,
             number(second)?,
+        ),
+        [_, name, first, second, third] => command_with_three(
+            name.as_str(),
+            number(first)?,
+            number(second)?,
+            number(third)?,
         ),
         _ => None,
     }
@@ -66,8 +100,36 @@ fn command_with_two(name: &str, first: u32, second: u32) -> Option<Command> {
             subscribers: first,
             requests: second,
         }),
+        "sweep" => Some(Command::Sweep {
+            subscribers: million(first)?,
+            shards: shards(second)?,
+        }),
         _ => None,
     }
+}
+
+fn command_with_three(name: &str, first: u32, second: u32, third: u32) -> Option<Command> {
+    match name {
+        "engine" => Some(Command::Engine {
+            subscribers: million(first)?,
+            held: second,
+            shards: shards(third)?,
+        }),
+        _ => None,
+    }
+}
+
+/// A number of subscribers whom the debit can name.
+fn million(number: u32) -> Option<u32> {
+    match number {
+        1..=1_000_000 => Some(number),
+        _ => None,
+    }
+}
+
+/// A number of shards.
+fn shards(number: u32) -> Option<u8> {
+    u8::try_from(number).ok()
 }
 
 /// A number from 1 to 1,000,000,000.

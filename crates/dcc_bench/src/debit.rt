@@ -4,6 +4,7 @@ ghost use Rattle.std.specs.Prelude.{◌≡◌, length};
 
 use dcc_samples::DEBIT;
 use hex::FromHexError;
+use std::alloc::{AllocError, Global};
 
 /// How long the request is, in octets.
 pub const LENGTH: usize = 228;
@@ -43,6 +44,21 @@ impl Debit {
             *digit = b'0' + (left % 10) as u8;
             left /= 10;
         }
+    }
+
+    /// Sets the last digit of the Session-Id.
+    pub fn set_session(&mut self, session: u32) {
+        self.octets[42] = b'0' + (session % 10) as u8;
+    }
+
+    /// The first request of that session, which asks for as much: of another CC-Request-Type, and without a Requested-Action.
+    pub fn initial(&self, alloc: Global) -> Result<Vec<u8>, AllocError> {
+        let mut octets = Vec::from_slice(alloc, &[1, 0, 0, 216])?;
+        octets.extend_from_slice(&self.octets[4..136])?;
+        octets.extend_from_slice(&[0, 0, 0, 1])?;
+        octets.extend_from_slice(&self.octets[140..152])?;
+        octets.extend_from_slice(&self.octets[164..])?;
+        Ok(octets)
     }
 
     /// The octets of the request.

@@ -1,5 +1,6 @@
 //! The program that measures the path of a direct debit, and the reader of requests: `codec N`, `request N`,
-//! `framer OCTETS PIECE`, `plan N`, `account ACCOUNTS HELD`, `close N`, `replay SUBSCRIBERS REQUESTS`, and `sample`, a little of each.
+//! `framer OCTETS PIECE`, `plan N`, `account ACCOUNTS HELD`, `close N`, `replay SUBSCRIBERS REQUESTS`,
+//! `engine SUBSCRIBERS HELD SHARDS`, `sweep SUBSCRIBERS SHARDS`, and `sample`, a little of each.
 //!
 //! It stands on the crates of that path, and calls them as the server does. Standard output has only what the arguments
 //! determine: counts, and a checksum of what was answered. Times go to standard error, one line for each thing that is
@@ -12,10 +13,13 @@ mod close;
 mod codec;
 mod command;
 mod debit;
+mod engine;
+mod engines;
 mod replay;
 mod requests;
 mod rounds;
 mod stream;
+mod sweep;
 mod tariffs;
 
 use anyhow::{Result, bail};
@@ -41,8 +45,21 @@ fn main(rt: HostRuntime) -> Result<()> {
                 requests,
             },
         ) => replay::measure(&rt, subscribers, requests),
+        Some(
+            Command::Engine {
+                subscribers,
+                held,
+                shards,
+            },
+        ) => engine::measure(&rt, subscribers, held, shards),
+        Some(
+            Command::Sweep {
+                subscribers,
+                shards,
+            },
+        ) => sweep::measure(&rt, subscribers, shards),
         None => bail!(
-            "usage: codec N | request N | framer OCTETS PIECE | plan N | account ACCOUNTS HELD | close N | replay SUBSCRIBERS REQUESTS | sample"
+            "usage: codec N | request N | framer OCTETS PIECE | plan N | account ACCOUNTS HELD | close N | replay SUBSCRIBERS REQUESTS | engine SUBSCRIBERS HELD SHARDS | sweep SUBSCRIBERS SHARDS | sample"
         ),
     }
 }
@@ -55,5 +72,7 @@ fn sample<R: AllocGlobal + RandomSource + Print + Eprint + CpuClock + Wait>(rt: 
     tariffs::measure(rt, 30)?;
     account::measure(rt, 2, 100)?;
     close::measure(rt, 300)?;
-    replay::measure(rt, 3, 30)
+    replay::measure(rt, 3, 30)?;
+    engine::measure(rt, 7, 50, 2)?;
+    sweep::measure(rt, 3, 2)
 }

@@ -1,29 +1,18 @@
 //! Debits of some subscribers: answered by an engine, and replayed from a script.
 
-use crate::checksum::{START, marked, summed};
+use crate::checksum::{START, summed};
 use crate::debit::Debit;
+use crate::engines::{
+    MOMENT, MONEY, connection, make_engine, make_plan, mark_of, message, moment, sum_of, top_up,
+};
 use crate::rounds::timed;
-use crate::tariffs::plan_text;
-use anyhow::{Context, Result};
-use dcc_act::{Moment, Sub};
-use dcc_base::Host;
-use dcc_engine::{Engine, Event, Out};
-use dcc_message::{DiameterIdentity, Identity};
-use dcc_octets::OctetString;
-use dcc_records::MemoryRecords;
+use anyhow::Result;
+use dcc_engine::{Event, Out};
 use dcc_replay::replay_run;
-use dcc_shard::shards_in_memory;
-use dcc_tariff::Plan;
 use std::alloc::Global;
 use std::hash::RandomState;
 use std::random::RandomSource;
 use std::time::CpuClock;
-
-/// When everything happens, in seconds since 1970.
-const MOMENT: u64 = 1_751_328_000;
-
-/// The money that each subscriber is given, in minor units.
-const MONEY: u64 = 1_000_000_000;
 
 /// Measures a run of one peer, each subscriber's money, and debits of the subscribers in turn; and the replay of a script that
 /// says the same.
@@ -77,57 +66,24 @@ fn replay_all(alloc: Global, script: &[u8], hasher: RandomState) -> Result<Vec<u
 /// Runs events on an engine just opened. It stands alone in a profile.
 #[inline(never)]
 fn run_all(alloc: Global, events: &[Event], hasher: RandomState) -> Result<Vec<Out>> {
-    let mut engine = make_engine(alloc, hasher)?;
+    let plan = make_plan(alloc)?;
+    let shards = plan.shards();
+    let mut engine = make_engine(alloc, plan, shards, hasher)?;
     Ok(engine.run(alloc, events)?)
 }
 
-/// A mark of the answers.
-fn mark_of(outs: &[Out]) -> u64 {
-    let mut mark = 0;
-    for out in outs {
-        mark = marked(mark, out.octets.as_slice(), 15);
-    }
-    mark
-}
-
-/// The checksum of the answers.
-fn sum_of(outs: &[Out]) -> u64 {
-    let mut sum = START;
-    for out in outs {
-        sum = summed(sum, out.octets.as_slice());
-    }
-    sum
-}
-
 fn events_of(alloc: Global, subscribers: u32, requests: u32) -> Result<Vec<Event>> {
-    let moment = Moment::new(MOMENT).context("a moment")?;
-    let name = OctetString::from_vec(b"gw1.example".to_vec(alloc)?);
-    let host = Host::from_octets(name).context("a host")?;
-    let connect = Event::Connect {
-        peer: 1,
-        host: Some(host),
-    };
-    let mut events = vec![in alloc; connect]?;
+    let moment = moment(MOMENT)?;
+    let mut events = vec![in alloc; connection(alloc)?]?;
     for i in 0..subscribers {
-        let name = format!(in alloc; "491700{i:06}")?;
-        let sub = Sub::new(0, name.as_bytes()).context("a subscriber")?;
-        events.push(Event::TopUp {
-            moment,
-            sub,
-            ticket: 1,
-            amount: MONEY,
-        })?;
+        events.push(top_up(alloc, i)?)?;
     }
     let mut debit = Debit::new()?;
     for i in 0..requests {
         debit.set_identifiers(i);
         debit.set_number(i);
         debit.set_subscriber(i % subscribers.max(1));
-        events.push(Event::Message {
-            peer: 1,
-            moment,
-            octets: OctetString::from_vec(debit.as_slice().to_vec(alloc)?),
-        })?;
+        events.push(message(alloc, moment, debit.as_slice())?)?;
     }
     Ok(events)
 }
@@ -147,21 +103,4 @@ fn script_of(alloc: Global, subscribers: u32, requests: u32) -> Result<String> {
         write!(text, "message 1 {MOMENT} {octets}\n")?;
     }
     Ok(text)
-}
-
-/// An engine under a plan of one tariff, over shards in memory.
-fn make_engine(alloc: Global, hasher: RandomState) -> Result<Engine<MemoryRecords>> {
-    let plan = make_plan(alloc)?;
-    let identity = Identity {
-        host: DiameterIdentity::from_vec(plan.host().to_vec(alloc)?).context("a host")?,
-        realm: DiameterIdentity::from_vec(plan.realm().to_vec(alloc)?).context("a realm")?,
-        address: plan.address(),
-    };
-    let shards = shards_in_memory(alloc, plan.terms(), identity, plan.shards(), hasher)?;
-    Ok(Engine::open(alloc, plan, shards)?)
-}
-
-fn make_plan(alloc: Global) -> Result<Plan> {
-    let text = plan_text(alloc, 1)?;
-    Ok(Plan::read(alloc, text.as_str())?)
 }

@@ -6,7 +6,7 @@ use std::io;
 use std::time::{CpuClock, Duration};
 
 /// How often each thing is measured.
-const ROUNDS: u32 = 7;
+pub(crate) const ROUNDS: u32 = 7;
 
 /// Measures a thing in rounds of so many items, each of which gives the same mark, and tells the times for one item.
 pub fn timed<R: AllocGlobal + Eprint + CpuClock, F: FnMut() -> Result<u64>>(

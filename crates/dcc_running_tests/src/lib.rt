@@ -1,5 +1,5 @@
-//! Tests of shards under locks and of their receipts, which stand apart: a crate with tests of its own is proved a second time with
-//! them. Threads run at once here; that they do, and that no shard waits for another, no clause says.
+//! Tests of shards under locks and of their receipts, and of an engine whose records fail, which stand apart: a crate with tests of its
+//! own is proved a second time with them. Threads run at once here; that they do, and that no shard waits for another, no clause says.
 #![tactic(auto)]
 
 #[cfg(test)]
@@ -9,7 +9,11 @@ mod callers;
 #[cfg(test)]
 mod closing;
 #[cfg(test)]
+mod failing;
+#[cfg(test)]
 mod gates;
+#[cfg(test)]
+mod history;
 #[cfg(test)]
 mod jobs;
 #[cfg(test)]

@@ -36,7 +36,7 @@ pub(crate) fn in_memory(alloc: Global) -> MemoryRecords {
 }
 
 /// A shard of what these records hold.
-fn shard_over<S: RandomSource + AllocGlobal, R: Records + Drop>(
+pub(crate) fn shard_over<S: RandomSource + AllocGlobal, R: Records + Drop>(
     rt: &S,
     records: R,
 ) -> Result<Shard<R>, Fail> {

@@ -1,0 +1,124 @@
+//! Debits on an engine that holds many acts: of subscribers that lie far from one another, and beside them the same requests through
+//! the codec alone.
+
+use crate::checksum::marked;
+use crate::codec::{Reply, answer, make_reply};
+use crate::debit::Debit;
+use crate::engines::{
+    MOMENT, connection, make_engine, make_plan, mark_of, message, moment, sum_of, top_up,
+};
+use crate::rounds::{ROUNDS, Rounds};
+use anyhow::{Result, bail};
+use dcc_engine::{Engine, Event};
+use dcc_records::MemoryRecords;
+use std::alloc::Global;
+use std::hash::RandomState;
+use std::random::RandomSource;
+use std::time::CpuClock;
+
+/// The events of one run, where no time is taken.
+const CHUNK: u32 = 1_000;
+
+/// Subscribers that debit one after another are so far from one another.
+const LEAP: u64 = 7_919;
+
+/// Measures runs of further debits on an engine that holds so many acts of so many subscribers, and the codec on the same requests.
+/// A round has a tenth as many debits as are held, 1,000 at most, so that what is held stays about the same.
+pub fn measure<R: AllocGlobal + RandomSource + Print + Eprint + CpuClock>(
+    rt: &R,
+    subscribers: u32,
+    held: u32,
+    shards: u8,
+) -> Result<()> {
+    let alloc = rt.alloc();
+    let mut engine = make_engine(alloc, make_plan(alloc)?, shards, RandomState::new(rt)?)?;
+    fill(alloc, &mut engine, subscribers, held)?;
+    let reply = make_reply(alloc)?;
+    let steps = (held / 10).max(10).min(CHUNK);
+    let mut next = held;
+    let mut runs = Rounds::new(alloc);
+    let mut codecs = Rounds::new(alloc);
+    let mut mark = 0u64;
+    for _ in 0..ROUNDS {
+        let events = debits(alloc, subscribers, next, steps)?;
+        next = next.wrapping_add(steps);
+        let begin = rt.thread_cpu_time()?;
+        let answered = run_debits(alloc, &mut engine, &events)?;
+        let between = rt.thread_cpu_time()?;
+        let coded = code_debits(alloc, &reply, &events)?;
+        let end = rt.thread_cpu_time()?;
+        if answered != coded {
+            bail!("an answer under other identifiers");
+        }
+        mark = mark.rotate_left(5) ^ answered;
+        runs.push(begin, between)?;
+        codecs.push(between, end)?;
+    }
+    runs.report(rt, "engine run", u64::from(steps))?;
+    codecs.report(rt, "engine codec", u64::from(steps))?;
+    let last = engine.run(alloc, &debits(alloc, subscribers, next, steps)?)?;
+    println!(rt;
+        "engine {subscribers} {held} {shards} mark {mark:016x} answers {:016x}",
+        sum_of(&last)
+    )?;
+    Ok(())
+}
+
+/// Gives each subscriber its money, and makes debits until so many acts are held.
+fn fill(
+    alloc: Global,
+    engine: &mut Engine<MemoryRecords>,
+    subscribers: u32,
+    held: u32,
+) -> Result<()> {
+    engine.run(alloc, &[connection(alloc)?])?;
+    for first in (0..subscribers).step_by(CHUNK as usize) {
+        let mut events = Vec::new(alloc);
+        for number in first..subscribers.min(first.saturating_add(CHUNK)) {
+            events.push(top_up(alloc, number)?)?;
+        }
+        engine.run(alloc, &events)?;
+    }
+    for first in (subscribers..held).step_by(CHUNK as usize) {
+        let count = held.saturating_sub(first).min(CHUNK);
+        engine.run(alloc, &debits(alloc, subscribers, first, count)?)?;
+    }
+    Ok(())
+}
+
+/// So many debits from this number on, each of a subscriber far from the one before.
+fn debits(alloc: Global, subscribers: u32, first: u32, count: u32) -> Result<Vec<Event>> {
+    let moment = moment(MOMENT)?;
+    let mut debit = Debit::new()?;
+    let mut events = Vec::new(alloc);
+    for i in 0..count {
+        let number = first.wrapping_add(i);
+        let place = u64::from(number).wrapping_mul(LEAP) % u64::from(subscribers.max(1));
+        debit.set_identifiers(number);
+        debit.set_number(number);
+        debit.set_subscriber((place & 0xffff_ffff) as u32);
+        events.push(message(alloc, moment, debit.as_slice())?)?;
+    }
+    Ok(events)
+}
+
+/// Runs debits.
+fn run_debits(alloc: Global, engine: &mut Engine<MemoryRecords>, events: &[Event]) -> Result<u64> {
+    let outs = engine.run(alloc, events)?;
+    Ok(mark_of(&outs))
+}
+
+/// Reads the debits, and writes answers.
+fn code_debits(alloc: Global, reply: &Reply, events: &[Event]) -> Result<u64> {
+    let mut mark = 0;
+    for event in events {
+        if let Event::Message { octets, .. } = event {
+            let octets = octets.as_slice();
+            if octets.len() < 20 || octets.len() > 65_000 {
+                bail!("no request");
+            }
+            mark = marked(mark, answer(alloc, reply, octets)?.as_slice(), 15);
+        }
+    }
+    Ok(mark)
+}

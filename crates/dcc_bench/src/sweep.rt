@@ -1,0 +1,137 @@
+//! Sweeps over many subscribers that have a session each: where none is due, where one in a thousand is, and where all others are.
+
+use crate::debit::Debit;
+use crate::engines::{
+    MOMENT, connection, make_engine, make_plan, message, moment, subscriber, top_up,
+};
+use crate::rounds::Rounds;
+use anyhow::{Context, Result, bail};
+use dcc_engine::{Engine, Event};
+use dcc_records::MemoryRecords;
+use std::alloc::Global;
+use std::hash::RandomState;
+use std::random::RandomSource;
+use std::time::CpuClock;
+
+/// How often sessions are opened and swept.
+const ROUNDS: u32 = 3;
+
+/// One subscriber of so many opens its session before the others.
+const EARLY: u32 = 1_000;
+
+/// The seconds by which it does.
+const LEAD: u64 = 600;
+
+/// From one opening to the next, in seconds.
+const DAY: u64 = 86_400;
+
+/// Measures sweeps over so many subscribers.
+pub fn measure<R: AllocGlobal + RandomSource + Print + Eprint + CpuClock>(
+    rt: &R,
+    subscribers: u32,
+    shards: u8,
+) -> Result<()> {
+    let alloc = rt.alloc();
+    let plan = make_plan(alloc)?;
+    let hold = u64::from(plan.terms().hold);
+    let mut engine = make_engine(alloc, plan, shards, RandomState::new(rt)?)?;
+    give_money(alloc, &mut engine, subscribers)?;
+    let mut sweeps = [Swept::new(alloc), Swept::new(alloc), Swept::new(alloc)];
+    for round in 0..ROUNDS {
+        let opened = MOMENT.saturating_add(u64::from(round).saturating_mul(DAY));
+        let later = opened.saturating_add(LEAD);
+        open_sessions(alloc, &mut engine, subscribers, round, opened)?;
+        for (place, seconds) in [
+            (0, later),
+            (1, opened.saturating_add(hold)),
+            (2, later.saturating_add(hold)),
+        ] {
+            let begin = rt.thread_cpu_time()?;
+            sweep(alloc, &mut engine, seconds)?;
+            let end = rt.thread_cpu_time()?;
+            let swept = sweeps.get_mut(place).context("a sweep")?;
+            swept.rounds.push(begin, end)?;
+            swept.acts = acts_of(alloc, &engine, subscribers)?;
+        }
+    }
+    let [none, few, all] = sweeps;
+    println!(rt;
+        "sweep {subscribers} {shards} acts {} {} {}",
+        none.acts, few.acts, all.acts
+    )?;
+    none.rounds
+        .report(rt, "sweep none", u64::from(subscribers))?;
+    few.rounds.report(rt, "sweep few", u64::from(subscribers))?;
+    all.rounds.report(rt, "sweep all", u64::from(subscribers))?;
+    Ok(())
+}
+
+/// Sweeps of one kind, and how many acts were held behind the last.
+#[derive(Drop)]
+struct Swept {
+    rounds: Rounds,
+    acts: u64,
+}
+
+impl Swept {
+    /// None yet.
+    fn new(alloc: Global) -> Swept {
+        Swept {
+            rounds: Rounds::new(alloc),
+            acts: 0,
+        }
+    }
+}
+
+/// Gives each subscriber its money.
+fn give_money(alloc: Global, engine: &mut Engine<MemoryRecords>, subscribers: u32) -> Result<()> {
+    engine.run(alloc, &[connection(alloc)?])?;
+    for number in 0..subscribers {
+        engine.run(alloc, &[top_up(alloc, number)?])?;
+    }
+    Ok(())
+}
+
+/// Opens a session of each subscriber.
+fn open_sessions(
+    alloc: Global,
+    engine: &mut Engine<MemoryRecords>,
+    subscribers: u32,
+    session: u32,
+    opened: u64,
+) -> Result<()> {
+    let mut debit = Debit::new()?;
+    debit.set_session(session);
+    for number in 0..subscribers {
+        let lead = if number % EARLY == 0 { 0 } else { LEAD };
+        debit.set_subscriber(number);
+        let moment = moment(opened.saturating_add(lead))?;
+        let request = message(alloc, moment, debit.initial(alloc)?.as_slice())?;
+        engine.run(alloc, &[request])?;
+    }
+    Ok(())
+}
+
+/// A sweep at this moment. It stands alone in a profile.
+#[inline(never)]
+fn sweep(alloc: Global, engine: &mut Engine<MemoryRecords>, seconds: u64) -> Result<()> {
+    let moment = moment(seconds)?;
+    let outs = engine.run(alloc, &[Event::Sweep { moment }])?;
+    for out in &outs {
+        if out.refused_all || !out.refused.as_slice().is_empty() {
+            bail!("a refused expiry");
+        }
+    }
+    Ok(())
+}
+
+/// The acts of all subscribers.
+fn acts_of(alloc: Global, engine: &Engine<MemoryRecords>, subscribers: u32) -> Result<u64> {
+    let mut acts = 0u64;
+    for number in 0..subscribers {
+        if let Some(account) = engine.account(subscriber(alloc, number)?) {
+            acts = acts.saturating_add(account.acts().len() as u64);
+        }
+    }
+    Ok(acts)
+}

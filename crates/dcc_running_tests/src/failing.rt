@@ -1,0 +1,230 @@
+//! An engine one of whose shards has records that fail once, at each of its appends in turn.
+
+use crate::history::{ACTS, FUNDS, History, busy, subscribers};
+use crate::locks::{in_memory, shard_over};
+use crate::placed::are_shards;
+use dcc_act::Sub;
+use dcc_engine::{Engine, Event, Out};
+use dcc_records::{MemoryRecords, OnceRecords, Records};
+use dcc_samples::PLAN;
+use dcc_shard::{Shards, TopUpAnswer};
+use dcc_tariff::Plan;
+use std::alloc::Global;
+use std::process::Abort;
+use std::random::RandomSource;
+use std::test::Fail;
+
+/// What an event is answered where no append fails, whose it is, and how many acts of the subscriber that is looked at are held behind it.
+#[derive(Drop)]
+struct Turn {
+    of: Option<Sub>,
+    out: Out,
+    acts: usize,
+}
+
+/// An engine of two shards, over these records.
+fn engine_over<S: RandomSource + AllocGlobal, R: Records + Drop>(
+    rt: &S,
+    first: R,
+    second: R,
+) -> Result<Engine<R>, Fail> {
+    let alloc = rt.alloc();
+    let plan = Plan::read(alloc, PLAN)?;
+    let first = shard_over(rt, first)?;
+    let identity = first.identity().copy()?;
+    let mut shards = Vec::new(alloc);
+    shards.push(first)?;
+    shards.push(shard_over(rt, second)?)?;
+    let count = shards.len();
+    if count < 1 || count > 8 || !are_shards(plan.terms(), &identity, &shards) {
+        return Err("shards".into());
+    }
+    let shards = Shards::new(plan.terms(), identity, shards);
+    Ok(Engine::open(alloc, plan, shards)?)
+}
+
+/// What the events come to where no append fails.
+fn turns(
+    rt: &(impl RandomSource + AllocGlobal),
+    history: &History,
+    sub: Sub,
+) -> Result<Vec<Turn>, Fail> {
+    let alloc = rt.alloc();
+    let mut engine = engine_over(rt, in_memory(alloc), in_memory(alloc))?;
+    let mut turns = Vec::new(alloc);
+    for (event, of) in history.events.chunks(1).zip(&history.subs) {
+        let out = engine.run(alloc, event)?.pop().ok_or("an out")?;
+        let acts = acts_of(&engine, sub);
+        turns.push(Turn { of: *of, out, acts })?;
+    }
+    Ok(turns)
+}
+
+/// How many acts are held for a subscriber.
+fn acts_of<R: Records>(engine: &Engine<R>, sub: Sub) -> usize {
+    match engine.account(sub) {
+        Some(account) => account.acts().len(),
+        None => 0,
+    }
+}
+
+/// The engine of which an append fails: the `n`-th of the shard at this index.
+fn failing_engine(
+    rt: &(impl RandomSource + AllocGlobal),
+    index: usize,
+    n: u64,
+) -> Result<Engine<OnceRecords>, Fail> {
+    let alloc = rt.alloc();
+    let (first, second) = if index == 0 { (n, 0) } else { (0, n) };
+    engine_over(
+        rt,
+        OnceRecords::new(in_memory(alloc), first),
+        OnceRecords::new(in_memory(alloc), second),
+    )
+}
+
+/// An engine over what its records find after a restart.
+fn reopened(
+    rt: &(impl RandomSource + AllocGlobal),
+    engine: Engine<OnceRecords>,
+) -> Result<Engine<MemoryRecords>, Fail> {
+    let mut shards = engine.into_shards().into_vec();
+    let second = shards.pop().ok_or("a shard")?;
+    let first = shards.pop().ok_or("a shard")?;
+    engine_over(
+        rt,
+        first.into_records().healed(),
+        second.into_records().healed(),
+    )
+}
+
+/// Whether two outs are alike, but that a top-up which was made before isn't fresh.
+fn are_alike(a: &Out, b: &Out) -> bool {
+    a.octets.as_slice() == b.octets.as_slice()
+        && (a.peer, a.close, a.refused_all) == (b.peer, b.close, b.refused_all)
+        && a.refused.as_slice() == b.refused.as_slice()
+        && are_told_alike(a.top_up, b.top_up)
+}
+
+fn are_told_alike(a: Option<TopUpAnswer>, b: Option<TopUpAnswer>) -> bool {
+    match (a, b) {
+        (Some(TopUpAnswer::Done { place: a, .. }), Some(TopUpAnswer::Done { place: b, .. })) => {
+            a == b
+        }
+        _ => a == b,
+    }
+}
+
+/// Whether an event of the subscriber is refused.
+fn is_refused(alloc: Global, event: &Event, out: &Out) -> Result<bool, Fail> {
+    match event {
+        Event::Message { octets, .. } => {
+            let busy = busy(alloc, octets.as_slice())?;
+            Ok(out.octets.as_slice() == busy.as_slice())
+        }
+        Event::TopUp { .. } => Ok(out.top_up == Some(TopUpAnswer::Refused)),
+        _ => Ok(false),
+    }
+}
+
+/// Whether a sweep refused just this subscriber, or nobody where nothing is held for it.
+fn is_swept(out: &Out, sub: Sub, is_held: bool) -> bool {
+    let refused = out.refused.as_slice();
+    !out.refused_all && refused.len() == usize::from(is_held) && refused.iter().all(|it| *it == sub)
+}
+
+/// Asserts that the events of the subscriber are refused from its `n`-th act on, and that all else is answered as ever.
+fn assert_stopped(
+    rt: &(impl Abort + AllocGlobal),
+    history: &History,
+    turns: &[Turn],
+    outs: &[Out],
+    sub: Sub,
+    n: usize,
+) -> Result<(), Fail> {
+    assert_eq!(rt; outs.len(), turns.len());
+    for (i, (event, (turn, out))) in history
+        .events
+        .iter()
+        .zip(turns.iter().zip(outs))
+        .enumerate()
+    {
+        let is_right = is_right(rt.alloc(), event, turn, out, sub, n)?;
+        assert!(rt; is_right, "event {i} where append {n} fails");
+    }
+    Ok(())
+}
+
+/// Whether an event is answered as it is to be where the subscriber's `n`-th act isn't appended.
+fn is_right(
+    alloc: Global,
+    event: &Event,
+    turn: &Turn,
+    out: &Out,
+    sub: Sub,
+    n: usize,
+) -> Result<bool, Fail> {
+    if turn.acts >= n {
+        if let Event::Sweep { .. } = event {
+            return Ok(is_swept(out, sub, n > 1));
+        }
+        if turn.of == Some(sub) {
+            return is_refused(alloc, event, out);
+        }
+    }
+    Ok(are_alike(out, &turn.out) && out.top_up == turn.out.top_up)
+}
+
+/// Asserts that of the subscriber the acts before its `n`-th are held, and of the other all.
+fn assert_held<R: Records>(
+    rt: &impl Abort,
+    engine: &Engine<R>,
+    sub: Sub,
+    n: usize,
+) -> Result<(), Fail> {
+    for it in subscribers()? {
+        let wanted = if it == sub { n.saturating_sub(1) } else { ACTS };
+        assert_eq!(rt; acts_of(engine, it), wanted);
+    }
+    Ok(())
+}
+
+/// Asserts that all events are answered as ever, and each act is made once.
+fn assert_made_once(
+    rt: &(impl Abort + AllocGlobal),
+    engine: &mut Engine<MemoryRecords>,
+    history: &History,
+    turns: &[Turn],
+) -> Result<(), Fail> {
+    let outs = engine.run(rt.alloc(), &history.events)?;
+    assert_eq!(rt; outs.len(), turns.len());
+    for (i, (turn, out)) in turns.iter().zip(&outs).enumerate() {
+        assert!(rt; are_alike(out, &turn.out), "event {i} again");
+    }
+    for sub in subscribers()? {
+        let account = engine.account(sub).ok_or("an account")?;
+        assert_eq!(rt; (account.acts().len(), account.funds()), (ACTS, FUNDS));
+    }
+    Ok(())
+}
+
+/// The shard whose append fails refuses its subscriber from there on, the other answers as ever, and what is opened again of both
+/// answers every event as if none had failed.
+#[test]
+fn an_engine_outlives_each_append_that_fails(rt: HostRuntime) -> Result<(), Fail> {
+    let alloc = rt.alloc();
+    let history = History::new(alloc)?;
+    for (index, sub) in subscribers()?.into_iter().enumerate() {
+        let turns = turns(&rt, &history, sub)?;
+        assert_eq!(rt; turns.last().map(|turn| turn.acts), Some(ACTS));
+        for n in 1..=ACTS + 1 {
+            let mut engine = failing_engine(&rt, index, n as u64)?;
+            let outs = engine.run(alloc, &history.events)?;
+            assert_stopped(&rt, &history, &turns, &outs, sub, n)?;
+            assert_held(&rt, &engine, sub, n)?;
+            let mut again = reopened(&rt, engine)?;
+            assert_made_once(&rt, &mut again, &history, &turns)?;
+        }
+    }
+    Ok(())
+}
