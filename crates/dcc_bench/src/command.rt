@@ -2,7 +2,7 @@
 
 /// What is measured.
 #[derive(Clone, Copy, Debug, PartialEq, Eq)]
-pub enum Command {
+pub enum Command<'a> {
     /// Debit requests read, and their answers written.
     Codec { count: u32 },
     /// Requests of some services read, of lists that are there already.
@@ -17,32 +17,30 @@ pub enum Command {
     Close { count: u32 },
     /// A run of so many subscribers' debits.
     Replay { subscribers: u32, requests: u32 },
-    /// A little of each.
+    /// The server with records in memory, for so many gateways, under the plan of this file.
+    Serve { plan: &'a str, gates: u32 },
+    /// A little of each but the server.
     Sample,
 }
 
 /// The command of the words, of which the first is the program's name.
-pub fn command_of(words: &[String]) -> Option<Command> {
+pub fn command_of<'a>(words: &'a [String]) -> Option<Command<'a>> {
     match words {
         [_, name] => command_alone(name.as_str()),
         [_, name, count] => command_with(name.as_str(), number(count)?),
-        [_, name, first, second] => command_with_two(
-            name.as_str(),
-            number(first)?,
-            number(second)?,
-        ),
+        [_, name, first, second] => command_with_two(name.as_str(), first, number(second)?),
         _ => None,
     }
 }
 
-fn command_alone(name: &str) -> Option<Command> {
+fn command_alone<'a>(name: &str) -> Option<Command<'a>> {
     match name {
         "sample" => Some(Command::Sample),
         _ => None,
     }
 }
 
-fn command_with(name: &str, count: u32) -> Option<Command> {
+fn command_with<'a>(name: &str, count: u32) -> Option<Command<'a>> {
     match name {
         "codec" => Some(Command::Codec { count }),
         "request" => Some(Command::Request { count }),
@@ -52,19 +50,23 @@ fn command_with(name: &str, count: u32) -> Option<Command> {
     }
 }
 
-fn command_with_two(name: &str, first: u32, second: u32) -> Option<Command> {
+fn command_with_two<'a>(name: &str, first: &'a String, second: u32) -> Option<Command<'a>> {
     match name {
         "framer" => Some(Command::Framer {
-            octets: first,
+            octets: number(first)?,
             piece: second,
         }),
         "account" => Some(Command::Account {
-            accounts: first,
+            accounts: number(first)?,
             held: second,
         }),
         "replay" => Some(Command::Replay {
-            subscribers: first,
+            subscribers: number(first)?,
             requests: second,
+        }),
+        "serve" => Some(Command::Serve {
+            plan: first.as_str(),
+            gates: second,
         }),
         _ => None,
     }

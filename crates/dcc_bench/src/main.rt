@@ -1,5 +1,6 @@
 //! The program that measures the path of a direct debit, and the reader of requests: `codec N`, `request N`,
-//! `framer OCTETS PIECE`, `plan N`, `account ACCOUNTS HELD`, `close N`, `replay SUBSCRIBERS REQUESTS`, and `sample`, a little of each.
+//! `framer OCTETS PIECE`, `plan N`, `account ACCOUNTS HELD`, `close N`, `replay SUBSCRIBERS REQUESTS`, and `sample`, a little of each; and
+//! `serve PLAN GATES`, the server with records in memory, which `bench/serve` measures from outside.
 //!
 //! It stands on the crates of that path, and calls them as the server does. Standard output has only what the arguments
 //! determine: counts, and a checksum of what was answered. Times go to standard error, one line for each thing that is
@@ -15,6 +16,7 @@ mod debit;
 mod replay;
 mod requests;
 mod rounds;
+mod server;
 mod stream;
 mod tariffs;
 
@@ -41,13 +43,14 @@ fn main(rt: HostRuntime) -> Result<()> {
                 requests,
             },
         ) => replay::measure(&rt, subscribers, requests),
+        Some(Command::Serve { plan, gates }) => server::run(&rt, plan, gates),
         None => bail!(
-            "usage: codec N | request N | framer OCTETS PIECE | plan N | account ACCOUNTS HELD | close N | replay SUBSCRIBERS REQUESTS | sample"
+            "usage: codec N | request N | framer OCTETS PIECE | plan N | account ACCOUNTS HELD | close N | replay SUBSCRIBERS REQUESTS | serve PLAN GATES | sample"
         ),
     }
 }
 
-/// A little of each, by which the gate sees that all of it runs.
+/// A little of each but the server, by which the gate sees that it runs.
 fn sample<R: AllocGlobal + RandomSource + Print + Eprint + CpuClock + Wait>(rt: &R) -> Result<()> {
     codec::measure(rt, 100)?;
     requests::measure(rt, 10)?;
