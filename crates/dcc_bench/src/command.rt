@@ -113,12 +113,7 @@ fn command_with_two<'a>(name: &str, first: &'a String, second: u32) -> Option<Co
     }
 }
 
-fn command_with_three<'a>(
-    name: &str,
-    first: u32,
-    second: u32,
-    third: u32,
-) -> Option<Command<'a>> {
+fn command_with_three<'a>(name: &str, first: u32, second: u32, third: u32) -> Option<Command<'a>> {
     match name {
         "engine" => Some(Command::Engine {
             subscribers: million(first)?,
