@@ -1,6 +1,6 @@
 //! A store whose disk stops at each of its calls in turn.
 
-ghost use Rattle.std.specs.Prelude.{◌≡◌, IsTrue, IfOk};
+ghost use Rattle.std.specs.Prelude.{IsTrue};
 
 use crate::disks::{left, opened, reopened, still_answer};
 use crate::known::Known;
@@ -130,11 +130,11 @@ fn stop_at_each(
     stop: Stop,
 ) -> Result<u64, Fail> {
     for calls in 0..10_000u64 {
-        let files = match which {
-            Half::Log => fused(alloc, calls, u64::MAX),
-            Half::Database => fused(alloc, u64::MAX, calls),
+        let (log, db) = match which {
+            Half::Log => (calls, u64::MAX),
+            Half::Database => (u64::MAX, calls),
         };
-        if !stop_and_go_on(rt, alloc, server, known, files, stop)? {
+        if !stop_and_go_on(rt, alloc, server, known, fused(alloc, log, db), stop)? {
             return Ok(calls);
         }
     }
