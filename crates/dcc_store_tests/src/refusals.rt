@@ -1,0 +1,90 @@
+//! A store to which an allocation is refused.
+
+use crate::disks::{FileShard, left, reopened};
+use crate::known::Known;
+use crate::script::TWO_SERVICES;
+use crate::server::Server;
+use dcc_records::Records;
+use sqlite::Files;
+use sqlite_disk::{Crash, Memory};
+use std::alloc::Global;
+use std::hash::RandomState;
+use std::process::Abort;
+use std::test::Fail;
+
+/// The shard of what the files hold, opened once more where that was refused, which is noted.
+fn opened_at_last<D: Crash + Drop>(
+    alloc: Global,
+    server: &Server,
+    files: Files<D>,
+    was_refused: &mut bool,
+) -> Result<FileShard<D>, Fail> {
+    match reopened(alloc, server, files) {
+        Ok(shard) => Ok(shard),
+        Err(files) => {
+            *was_refused = true;
+            reopened(alloc, server, files).map_err(|_| Fail::from("the store isn't opened"))
+        }
+    }
+}
+
+/// Asks for all acts. One that is refused is asked for once more, of the same shard where it goes on, and else of the store opened
+/// again.
+fn run<D: Crash + Drop>(
+    rt: &impl Abort,
+    alloc: Global,
+    server: &Server,
+    known: &Known,
+    files: Files<D>,
+    was_refused: &mut bool,
+) -> Result<FileShard<D>, Fail> {
+    let mut shard = opened_at_last(alloc, server, files, was_refused)?;
+    let answered = known.play(rt, alloc, &mut shard, 0)?;
+    if answered == known.script.len() {
+        return Ok(shard);
+    }
+    *was_refused = true;
+    if shard.records().is_stopped() {
+        shard = opened_at_last(alloc, server, left(shard), was_refused)?;
+    }
+    let kept = known.assert_kept(rt, alloc, &mut shard, answered)?;
+    assert_eq!(rt;
+        known.play(rt, alloc, &mut shard, kept)?,
+        known.script.len()
+    );
+    Ok(shard)
+}
+
+/// Asks for all acts, and then opens what is left.
+fn run_twice<D: Crash + Drop>(
+    rt: &impl Abort,
+    alloc: Global,
+    server: &Server,
+    known: &Known,
+    files: Files<D>,
+    was_refused: &mut bool,
+) -> Result<(), Fail> {
+    let shard = run(rt, alloc, server, known, files, was_refused)?;
+    let mut again = opened_at_last(alloc, server, left(shard), was_refused)?;
+    let kept = known.assert_kept(rt, alloc, &mut again, known.script.len())?;
+    assert_eq!(rt; kept, known.script.len());
+    known.assert_whole(rt, alloc, &again)
+}
+
+/// For allocations that are refused one after another: what is asked for again is made once.
+#[test]
+fn a_refusal_loses_nothing(rt: HostRuntime) -> Result<(), Fail> {
+    let alloc = rt.alloc();
+    let server = Server::new(alloc, RandomState::new(&rt)?)?;
+    let known = Known::new(&rt, alloc, &server, TWO_SERVICES)?;
+    let files = Files {
+        log: Memory::new(alloc),
+        db: Memory::new(alloc),
+    };
+    let mut was_refused = false;
+    run_twice(&rt, alloc, &server, &known, files, &mut was_refused)?;
+    if was_refused {
+        return Err("memory was refused".into());
+    }
+    Ok(())
+}

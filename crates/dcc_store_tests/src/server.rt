@@ -1,0 +1,49 @@
+//! The server whose shard is asked, and its subscriber.
+
+use dcc_act::Sub;
+use dcc_message::{DiameterIdentity, Identity};
+use dcc_sqlrec::Setting;
+use dcc_tariff::Terms;
+use std::alloc::Global;
+use std::hash::RandomState;
+use std::test::Fail;
+
+/// The terms of its plan.
+pub(crate) const TERMS: Terms = Terms {
+    validity: 600,
+    hold: 1200,
+    currency: 978,
+    exponent: -2,
+};
+
+/// What its one shard's store is of.
+pub(crate) const SETTING: Setting<'static> = Setting {
+    shard: 0,
+    shards: 1,
+    host: "ocs.example",
+    realm: "example",
+    terms: TERMS,
+};
+
+/// Who answers, and by what accounts are found.
+#[derive(Drop)]
+pub(crate) struct Server {
+    pub identity: Identity,
+    pub hasher: RandomState,
+}
+
+impl Server {
+    pub(crate) fn new(alloc: Global, hasher: RandomState) -> Result<Server, Fail> {
+        let identity = Identity {
+            host: DiameterIdentity::from_vec(b"ocs.example".to_vec(alloc)?).ok_or("a host")?,
+            realm: DiameterIdentity::from_vec(b"example".to_vec(alloc)?).ok_or("a realm")?,
+            address: [127, 0, 0, 1],
+        };
+        Ok(Server { identity, hasher })
+    }
+}
+
+/// The subscriber.
+pub(crate) fn subscriber() -> Result<Sub, Fail> {
+    Ok(Sub::new(0, b"491700000001").ok_or("a subscriber")?)
+}
