@@ -27,15 +27,17 @@ IsBeforeServing (Store number) = ⊤
 IsBeforeServing (Script line) = ⊥
 IsBeforeServing (Close number) = ⊥
 
--- the first octets of where the server listens are written, and then the output failed
-abbrev pub IsListeningBegun : Failure → (old new : Option (List ℕ)) → Type 0
-IsListeningBegun failure old new = (address : SocketAddr) × (n : ℕ) × (failure ≡ Io) × Appends old new (take n (listening_line address))
+-- by what a writer has grown where a server fails before it waits for a gateway: by nothing, or by the first octets of where it listens
+-- where the output failed
+abbrev pub IsTellingBegun : (old new : Option (List ℕ)) → Failure → Type 0
+IsTellingBegun old new failure = (IsBeforeServing failure × Keeps old new)
+    ⊎ ((address : SocketAddr) × (n : ℕ) × (failure ≡ Io) × Appends old new (take n (listening_line address)))
 
 -- where the server listens is written, and then what a fault of its rounds leaves
-abbrev pub IsServingEnded : ℕ → Failure → (old new : Option (List ℕ)) → Type 0
-IsServingEnded rounds failure old new = (address : SocketAddr) × (told : Option (List ℕ)) × (fault : ServeFault)
+abbrev pub IsServingEnded : ℕ → (old new : Option (List ℕ)) → Failure → Type 0
+IsServingEnded rounds old new failure = (address : SocketAddr) × (told : Option (List ℕ)) × (fault : ServeFault)
     × (failure ≡ of_serve fault) × Appends old told (listening_line address) × EndsWith fault rounds told new
 
 -- by what a writer has grown where a server of this many rounds ends with a failure
 abbrev pub IsServedBegun : ℕ → (old new : Option (List ℕ)) → Failure → Type 0
-IsServedBegun rounds old new failure = (IsBeforeServing failure × Keeps old new) ⊎ IsListeningBegun failure old new ⊎ IsServingEnded rounds failure old new
+IsServedBegun rounds old new failure = IsTellingBegun old new failure ⊎ IsServingEnded rounds old new failure

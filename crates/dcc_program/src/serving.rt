@@ -1,9 +1,8 @@
 //! `dcc serve PLAN DIR`, over the stores of a folder and the network of the system.
 
-ghost use Rattle.std.specs.Prelude.{◌≡◌, ◌⊎◌, IfErr, OnOk};
-ghost use Rattle.std.specs.Io.KnownBytes.{Appends, Keeps};
-ghost use Rattle.dcc_program.specs.Servings.{listening_line, IsListeningBegun, IsServed, IsServedBegun};
-ghost use Rattle.dcc_program.specs.declared.failure.Failure.TheVariants.{Memory};
+ghost use Rattle.std.specs.Prelude.{IfErr, OnOk};
+ghost use Rattle.std.specs.Io.KnownBytes.{Appends};
+ghost use Rattle.dcc_program.specs.Servings.{listening_line, IsTellingBegun, IsServed, IsServedBegun};
 
 use crate::command_line::ServeAsk;
 use crate::failure::Failure;
@@ -80,8 +79,7 @@ pub fn serve<
 /// Writes where the server listens.
 fn tell_address<W: Write>(alloc: Global, address: SocketAddr, output: &mut W) -> Result<(), Failure>
     ensures whole { OnOk result (Appends (W.contents output.old) (W.contents output.new) (listening_line address)) }
-    ensures part { IfErr result (λ failure. ((failure ≡ Memory) × Keeps (W.contents output.old) (W.contents output.new))
-        ⊎ IsListeningBegun failure (W.contents output.old) (W.contents output.new)) }
+    ensures part { IfErr result (IsTellingBegun (W.contents output.old) (W.contents output.new)) }
 {
     let line = format!(in alloc; "listening {address}\n")?;
     Ok(write_all(output, line.as_bytes())?)
