@@ -36,32 +36,69 @@ pub fn measure<R: AllocGlobal + RandomSource + Print + Eprint + CpuClock>(
     let reply = make_reply(alloc)?;
     let steps = (held / 10).max(10).min(CHUNK);
     let mut next = held;
-    let mut runs = Rounds::new(alloc);
-    let mut codecs = Rounds::new(alloc);
-    let mut mark = 0u64;
+    let mut taken = Taken::new(alloc);
     for _ in 0..ROUNDS {
         let events = debits(alloc, subscribers, next, steps)?;
         next = next.wrapping_add(steps);
-        let begin = rt.thread_cpu_time()?;
-        let answered = run_debits(alloc, &mut engine, &events)?;
-        let between = rt.thread_cpu_time()?;
-        let coded = code_debits(alloc, &reply, &events)?;
-        let end = rt.thread_cpu_time()?;
-        if answered != coded {
-            bail!("an answer under other identifiers");
-        }
-        mark = mark.rotate_left(5) ^ answered;
-        runs.push(begin, between)?;
-        codecs.push(between, end)?;
+        taken.add(rt, &mut engine, &reply, &events)?;
     }
-    runs.report(rt, "engine run", u64::from(steps))?;
-    codecs.report(rt, "engine codec", u64::from(steps))?;
+    let mark = taken.report(rt, u64::from(steps))?;
     let last = engine.run(alloc, &debits(alloc, subscribers, next, steps)?)?;
     println!(rt;
         "engine {subscribers} {held} {shards} mark {mark:016x} answers {:016x}",
         sum_of(&last)
     )?;
     Ok(())
+}
+
+/// What rounds took, of the run and of the codec, and a mark of their answers.
+#[derive(Drop)]
+struct Taken {
+    runs: Rounds,
+    codecs: Rounds,
+    mark: u64,
+}
+
+impl Taken {
+    /// None yet.
+    fn new(alloc: Global) -> Taken {
+        Taken {
+            runs: Rounds::new(alloc),
+            codecs: Rounds::new(alloc),
+            mark: 0,
+        }
+    }
+
+    /// Runs debits, and puts them through the codec alone, whose answers have to stand under the same identifiers.
+    fn add(
+        &mut self,
+        rt: &(impl AllocGlobal + CpuClock),
+        engine: &mut Engine<MemoryRecords>,
+        reply: &Reply,
+        events: &[Event],
+    ) -> Result<()> {
+        let alloc = rt.alloc();
+        let begin = rt.thread_cpu_time()?;
+        let answered = run_debits(alloc, engine, events)?;
+        let between = rt.thread_cpu_time()?;
+        let coded = code_debits(alloc, reply, events)?;
+        let end = rt.thread_cpu_time()?;
+        if answered != coded {
+            bail!("an answer under other identifiers");
+        }
+        self.mark = self.mark.rotate_left(5) ^ answered;
+        self.runs.push(begin, between)?;
+        self.codecs.push(between, end)?;
+        Ok(())
+    }
+
+    /// Tells the times for one debit, and gives the mark.
+    fn report(self, rt: &impl Eprint, steps: u64) -> Result<u64> {
+        let Taken { runs, codecs, mark } = self;
+        runs.report(rt, "engine run", steps)?;
+        codecs.report(rt, "engine codec", steps)?;
+        Ok(mark)
+    }
 }
 
 /// Gives each subscriber its money, and makes debits until so many acts are held.

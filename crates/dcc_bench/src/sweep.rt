@@ -55,14 +55,10 @@ pub fn measure<R: AllocGlobal + RandomSource + Print + Eprint + CpuClock>(
         }
     }
     let [none, few, all] = sweeps;
-    println!(rt;
-        "sweep {subscribers} {shards} acts {} {} {}",
-        none.acts, few.acts, all.acts
-    )?;
-    none.rounds
-        .report(rt, "sweep none", u64::from(subscribers))?;
-    few.rounds.report(rt, "sweep few", u64::from(subscribers))?;
-    all.rounds.report(rt, "sweep all", u64::from(subscribers))?;
+    let none = none.report(rt, "sweep none", subscribers)?;
+    let few = few.report(rt, "sweep few", subscribers)?;
+    let all = all.report(rt, "sweep all", subscribers)?;
+    println!(rt; "sweep {subscribers} {shards} acts {none} {few} {all}")?;
     Ok(())
 }
 
@@ -80,6 +76,13 @@ impl Swept {
             rounds: Rounds::new(alloc),
             acts: 0,
         }
+    }
+
+    /// Tells the times for one subscriber, and gives the acts.
+    fn report(self, rt: &impl Eprint, name: &str, subscribers: u32) -> Result<u64> {
+        let Swept { rounds, acts } = self;
+        rounds.report(rt, name, u64::from(subscribers))?;
+        Ok(acts)
     }
 }
 

@@ -54,7 +54,9 @@ pub fn serve<
     };
     let mut door = Door::bind(rt, alloc, ask.address)?;
     let address = door.address()?;
-    tell_address(alloc, address, output)?;
+    if let Err(failure) = tell_address(alloc, address, output) {
+        return Err(failure);
+    }
     let clock = SystemClock::new(rt);
     let notices = NoticeLines::new(rt);
     let service = Service {

@@ -1,14 +1,17 @@
 //! An engine one of whose shards has records that fail once, at each of its appends in turn.
 
+ghost use Rattle.std.specs.Prelude.{◌≡◌, IfOk};
+
 use crate::history::{ACTS, FUNDS, History, busy, subscribers};
 use crate::locks::{in_memory, shard_over};
 use crate::placed::are_shards;
 use dcc_act::Sub;
 use dcc_engine::{Engine, Event, Out};
+use dcc_message::Identity;
 use dcc_records::{MemoryRecords, OnceRecords, Records};
 use dcc_samples::PLAN;
-use dcc_shard::{Shards, TopUpAnswer};
-use dcc_tariff::Plan;
+use dcc_shard::{Shard, Shards, TopUpAnswer};
+use dcc_tariff::{Plan, Terms};
 use std::alloc::Global;
 use std::process::Abort;
 use std::random::RandomSource;
@@ -35,12 +38,23 @@ fn engine_over<S: RandomSource + AllocGlobal, R: Records + Drop>(
     let mut shards = Vec::new(alloc);
     shards.push(first)?;
     shards.push(shard_over(rt, second)?)?;
+    let shards = as_one(plan.terms(), identity, shards)?;
+    Ok(Engine::open(alloc, plan, shards)?)
+}
+
+/// These shards as one, where they may stand so.
+fn as_one<R: Records + Drop>(
+    terms: &Terms,
+    identity: Identity,
+    shards: Vec<Shard<R>>,
+) -> Result<Shards<R>, Fail>
+    ensures { IfOk result (λ shards. shards.shard.terms ≡ terms.now) }
+{
     let count = shards.len();
-    if count < 1 || count > 8 || !are_shards(plan.terms(), &identity, &shards) {
+    if count < 1 || count > 8 || !are_shards(terms, &identity, &shards) {
         return Err("shards".into());
     }
-    let shards = Shards::new(plan.terms(), identity, shards);
-    Ok(Engine::open(alloc, plan, shards)?)
+    Ok(Shards::new(terms, identity, shards))
 }
 
 /// What the events come to where no append fails.
