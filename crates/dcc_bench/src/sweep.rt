@@ -5,7 +5,7 @@ use crate::engines::{
     MOMENT, connection, make_engine, make_plan, message, moment, subscriber, top_up,
 };
 use crate::rounds::Rounds;
-use anyhow::{Context, Result, bail};
+use anyhow::{Result, bail};
 use dcc_engine::{Engine, Event};
 use dcc_records::MemoryRecords;
 use std::alloc::Global;
@@ -36,25 +36,17 @@ pub fn measure<R: AllocGlobal + RandomSource + Print + Eprint + CpuClock>(
     let hold = u64::from(plan.terms().hold);
     let mut engine = make_engine(alloc, plan, shards, RandomState::new(rt)?)?;
     give_money(alloc, &mut engine, subscribers)?;
-    let mut sweeps = [Swept::new(alloc), Swept::new(alloc), Swept::new(alloc)];
+    let mut none = Swept::new(alloc);
+    let mut few = Swept::new(alloc);
+    let mut all = Swept::new(alloc);
     for round in 0..ROUNDS {
         let opened = MOMENT.saturating_add(u64::from(round).saturating_mul(DAY));
         let later = opened.saturating_add(LEAD);
         open_sessions(alloc, &mut engine, subscribers, round, opened)?;
-        for (place, seconds) in [
-            (0, later),
-            (1, opened.saturating_add(hold)),
-            (2, later.saturating_add(hold)),
-        ] {
-            let begin = rt.thread_cpu_time()?;
-            sweep(alloc, &mut engine, seconds)?;
-            let end = rt.thread_cpu_time()?;
-            let swept = sweeps.get_mut(place).context("a sweep")?;
-            swept.rounds.push(begin, end)?;
-            swept.acts = acts_of(alloc, &engine, subscribers)?;
-        }
+        none.add(rt, &mut engine, subscribers, later)?;
+        few.add(rt, &mut engine, subscribers, opened.saturating_add(hold))?;
+        all.add(rt, &mut engine, subscribers, later.saturating_add(hold))?;
     }
-    let [none, few, all] = sweeps;
     let none = none.report(rt, "sweep none", subscribers)?;
     let few = few.report(rt, "sweep few", subscribers)?;
     let all = all.report(rt, "sweep all", subscribers)?;
@@ -76,6 +68,23 @@ impl Swept {
             rounds: Rounds::new(alloc),
             acts: 0,
         }
+    }
+
+    /// Sweeps at this moment, and counts the acts of so many subscribers behind it.
+    fn add(
+        &mut self,
+        rt: &(impl AllocGlobal + CpuClock),
+        engine: &mut Engine<MemoryRecords>,
+        subscribers: u32,
+        seconds: u64,
+    ) -> Result<()> {
+        let alloc = rt.alloc();
+        let begin = rt.thread_cpu_time()?;
+        sweep(alloc, engine, seconds)?;
+        let end = rt.thread_cpu_time()?;
+        self.rounds.push(begin, end)?;
+        self.acts = acts_of(alloc, engine, subscribers)?;
+        Ok(())
     }
 
     /// Tells the times for one subscriber, and gives the acts.
