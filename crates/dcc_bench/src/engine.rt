@@ -31,24 +31,49 @@ pub fn measure<R: AllocGlobal + RandomSource + Print + Eprint + CpuClock>(
     shards: u8,
 ) -> Result<()> {
     let alloc = rt.alloc();
-    let mut engine = make_engine(alloc, make_plan(alloc)?, shards, RandomState::new(rt)?)?;
-    fill(alloc, &mut engine, subscribers, held)?;
-    let reply = make_reply(alloc)?;
+    let plan = make_plan(alloc)?;
+    let hasher = RandomState::new(rt)?;
+    let mut engine = make_engine(alloc, plan, shards, hasher)?;
+    let (mark, sum) = measure_on(rt, &mut engine, subscribers, held)?;
+    println!(rt; "engine {subscribers} {held} {shards} mark {mark:016x} answers {sum:016x}")?;
+    Ok(())
+}
+
+/// Measures on this engine: a mark of the rounds' answers, and the checksum of those of one more round.
+fn measure_on(
+    rt: &(impl AllocGlobal + Eprint + CpuClock),
+    engine: &mut Engine<MemoryRecords>,
+    subscribers: u32,
+    held: u32,
+) -> Result<(u64, u64)> {
+    let alloc = rt.alloc();
+    fill(alloc, engine, subscribers, held)?;
     let steps = (held / 10).max(10).min(CHUNK);
-    let mut next = held;
+    let (mark, next) = take_rounds(rt, engine, subscribers, held, steps)?;
+    let last = debits(alloc, subscribers, next, steps)?;
+    let outs = engine.run(alloc, &last)?;
+    Ok((mark, sum_of(&outs)))
+}
+
+/// Measures rounds of so many debits from this number on: a mark of the answers, and the number behind the last.
+fn take_rounds(
+    rt: &(impl AllocGlobal + Eprint + CpuClock),
+    engine: &mut Engine<MemoryRecords>,
+    subscribers: u32,
+    first: u32,
+    steps: u32,
+) -> Result<(u64, u32)> {
+    let alloc = rt.alloc();
+    let reply = make_reply(alloc)?;
+    let mut next = first;
     let mut taken = Taken::new(alloc);
     for _ in 0..ROUNDS {
         let events = debits(alloc, subscribers, next, steps)?;
         next = next.wrapping_add(steps);
-        taken.add(rt, &mut engine, &reply, &events)?;
+        taken.add(rt, engine, &reply, &events)?;
     }
     let mark = taken.report(rt, u64::from(steps))?;
-    let last = engine.run(alloc, &debits(alloc, subscribers, next, steps)?)?;
-    println!(rt;
-        "engine {subscribers} {held} {shards} mark {mark:016x} answers {:016x}",
-        sum_of(&last)
-    )?;
-    Ok(())
+    Ok((mark, next))
 }
 
 /// What rounds took, of the run and of the codec, and a mark of their answers.

@@ -34,24 +34,74 @@ pub fn measure<R: AllocGlobal + RandomSource + Print + Eprint + CpuClock>(
     let alloc = rt.alloc();
     let plan = make_plan(alloc)?;
     let hold = u64::from(plan.terms().hold);
-    let mut engine = make_engine(alloc, plan, shards, RandomState::new(rt)?)?;
-    give_money(alloc, &mut engine, subscribers)?;
-    let mut none = Swept::new(alloc);
-    let mut few = Swept::new(alloc);
-    let mut all = Swept::new(alloc);
+    let hasher = RandomState::new(rt)?;
+    let mut engine = make_engine(alloc, plan, shards, hasher)?;
+    let sweeps = measure_on(rt, &mut engine, subscribers, hold)?;
+    sweeps.report(rt, subscribers, shards)
+}
+
+/// Measures on this engine, which has nobody yet, and holds sessions for so many seconds.
+fn measure_on(
+    rt: &(impl AllocGlobal + CpuClock),
+    engine: &mut Engine<MemoryRecords>,
+    subscribers: u32,
+    hold: u64,
+) -> Result<Sweeps> {
+    let alloc = rt.alloc();
+    give_money(alloc, engine, subscribers)?;
+    let mut sweeps = Sweeps::new(alloc);
     for round in 0..ROUNDS {
         let opened = MOMENT.saturating_add(u64::from(round).saturating_mul(DAY));
-        let later = opened.saturating_add(LEAD);
-        open_sessions(alloc, &mut engine, subscribers, round, opened)?;
-        none.add(rt, &mut engine, subscribers, later)?;
-        few.add(rt, &mut engine, subscribers, opened.saturating_add(hold))?;
-        all.add(rt, &mut engine, subscribers, later.saturating_add(hold))?;
+        open_sessions(alloc, engine, subscribers, round, opened)?;
+        sweeps.add(rt, engine, subscribers, opened, hold)?;
     }
-    let none = none.report(rt, "sweep none", subscribers)?;
-    let few = few.report(rt, "sweep few", subscribers)?;
-    let all = all.report(rt, "sweep all", subscribers)?;
-    println!(rt; "sweep {subscribers} {shards} acts {none} {few} {all}")?;
-    Ok(())
+    Ok(sweeps)
+}
+
+/// Sweeps of each kind.
+#[derive(Drop)]
+struct Sweeps {
+    none: Swept,
+    few: Swept,
+    all: Swept,
+}
+
+impl Sweeps {
+    /// None yet.
+    fn new(alloc: Global) -> Sweeps {
+        Sweeps {
+            none: Swept::new(alloc),
+            few: Swept::new(alloc),
+            all: Swept::new(alloc),
+        }
+    }
+
+    /// Sweeps before any session is over that was opened then, once the early ones are, and once all are.
+    fn add(
+        &mut self,
+        rt: &(impl AllocGlobal + CpuClock),
+        engine: &mut Engine<MemoryRecords>,
+        subscribers: u32,
+        opened: u64,
+        hold: u64,
+    ) -> Result<()> {
+        let later = opened.saturating_add(LEAD);
+        self.none.add(rt, engine, subscribers, later)?;
+        self.few
+            .add(rt, engine, subscribers, opened.saturating_add(hold))?;
+        self.all
+            .add(rt, engine, subscribers, later.saturating_add(hold))
+    }
+
+    /// Tells the times for one subscriber, and prints the acts.
+    fn report(self, rt: &(impl Print + Eprint), subscribers: u32, shards: u8) -> Result<()> {
+        let Sweeps { none, few, all } = self;
+        let none = none.report(rt, "sweep none", subscribers)?;
+        let few = few.report(rt, "sweep few", subscribers)?;
+        let all = all.report(rt, "sweep all", subscribers)?;
+        println!(rt; "sweep {subscribers} {shards} acts {none} {few} {all}")?;
+        Ok(())
+    }
 }
 
 /// Sweeps of one kind, and how many acts were held behind the last.
