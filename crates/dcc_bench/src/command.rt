@@ -2,7 +2,7 @@
 
 /// What is measured.
 #[derive(Clone, Copy, Debug, PartialEq, Eq)]
-pub enum Command<'a> {
+pub enum Command {
     /// Debit requests read, and their answers written.
     Codec {
         count: u32,
@@ -45,21 +45,20 @@ pub enum Command<'a> {
         subscribers: u32,
         shards: u8,
     },
-    /// The server with records in memory, for so many gateways, under the plan of this file.
-    Serve {
-        plan: &'a str,
-        gates: u32,
-    },
-    /// A little of each but the server.
+    /// A little of each.
     Sample,
 }
 
 /// The command of the words, of which the first is the program's name.
-pub fn command_of<'a>(words: &'a [String]) -> Option<Command<'a>> {
+pub fn command_of(words: &[String]) -> Option<Command> {
     match words {
         [_, name] => command_alone(name.as_str()),
         [_, name, count] => command_with(name.as_str(), number(count)?),
-        [_, name, first, second] => command_with_two(name.as_str(), first, number(second)?),
+        [_, name, first, second] => command_with_two(
+            name.as_str(),
+            number(first)?,
+            number(second)?,
+        ),
         [_, name, first, second, third] => command_with_three(
             name.as_str(),
             number(first)?,
@@ -70,14 +69,14 @@ pub fn command_of<'a>(words: &'a [String]) -> Option<Command<'a>> {
     }
 }
 
-fn command_alone<'a>(name: &str) -> Option<Command<'a>> {
+fn command_alone(name: &str) -> Option<Command> {
     match name {
         "sample" => Some(Command::Sample),
         _ => None,
     }
 }
 
-fn command_with<'a>(name: &str, count: u32) -> Option<Command<'a>> {
+fn command_with(name: &str, count: u32) -> Option<Command> {
     match name {
         "codec" => Some(Command::Codec { count }),
         "request" => Some(Command::Request { count }),
@@ -87,33 +86,29 @@ fn command_with<'a>(name: &str, count: u32) -> Option<Command<'a>> {
     }
 }
 
-fn command_with_two<'a>(name: &str, first: &'a String, second: u32) -> Option<Command<'a>> {
+fn command_with_two(name: &str, first: u32, second: u32) -> Option<Command> {
     match name {
         "framer" => Some(Command::Framer {
-            octets: number(first)?,
+            octets: first,
             piece: second,
         }),
         "account" => Some(Command::Account {
-            accounts: number(first)?,
+            accounts: first,
             held: second,
         }),
         "replay" => Some(Command::Replay {
-            subscribers: number(first)?,
+            subscribers: first,
             requests: second,
         }),
         "sweep" => Some(Command::Sweep {
-            subscribers: million(number(first)?)?,
+            subscribers: million(first)?,
             shards: shards(second)?,
-        }),
-        "serve" => Some(Command::Serve {
-            plan: first.as_str(),
-            gates: second,
         }),
         _ => None,
     }
 }
 
-fn command_with_three<'a>(name: &str, first: u32, second: u32, third: u32) -> Option<Command<'a>> {
+fn command_with_three(name: &str, first: u32, second: u32, third: u32) -> Option<Command> {
     match name {
         "engine" => Some(Command::Engine {
             subscribers: million(first)?,
