@@ -1,10 +1,9 @@
 //! Names of sessions.
 
-ghost use Rattle.std.specs.Prelude.{◌≡◌, ◌↔◌, true, IsSome, IfSome, IfOk, nat_eq};
+ghost use Rattle.std.specs.Prelude.{◌≡◌, ◌↔◌, true, IsSome, IfSome, IfOk, nat_eq, ◌∷◌, []};
 ghost use Rattle.std.specs.Cmp.{on_equiv, on_per, partial_equiv_from_equiv};
 ghost use Rattle.std.specs.Cmp.Lexicographic.{pointwise, nat_list_eq_equiv};
 ghost use Rattle.std.specs.Cmp.Rules.{hashing};
-ghost use Rattle.std.specs.Hash as fed;
 ghost use Rattle.std.proofs.Common.{rules};
 ghost use Rattle.dcc_octets.specs.Names.{is_short};
 
@@ -83,11 +82,12 @@ impl Eq for SessionId {
 }
 
 impl Hash for SessionId {
-    ghost hash_input = { λ s. fed.slice fed.u8 s };
+    // At once: a hasher takes whole words of the octets, where it takes them one by one of a slice that is hashed as one.
+    ghost hash_input = { λ s. s ∷ [] };
 
     ghost respects_eq = { Prim.search (hashing, rules) };
 
     fn hash<H: Hasher>(&self, state: &mut H) {
-        self.as_slice().hash(state);
+        state.write(self.as_slice());
     }
 }

@@ -1,6 +1,6 @@
 //! How subscribers compare: by type, and then by the data, octet by octet.
 
-ghost use Rattle.std.specs.Prelude.{◌++◌};
+ghost use Rattle.std.specs.Prelude.{◌∷◌};
 ghost use Rattle.std.proofs.Common.{rules};
 ghost use Rattle.std.specs.Cmp.{partial_order_from_own_ties, and_per, and_equiv, on_per, on_equiv, partial_equiv_from_equiv, nat_eq_equiv};
 ghost use Rattle.std.specs.Cmp.Rules.{comparing, hashing};
@@ -54,12 +54,13 @@ impl PartialOrd for Sub {
 }
 
 impl Hash for Sub {
-    ghost hash_input = { λ s. fed.u8 s.kind ++ fed.slice fed.u8 s.name };
+    // The data at once and first: a hasher takes whole words of them, where it takes octets of a slice that is hashed as one.
+    ghost hash_input = { λ s. s.name ∷ fed.u8 s.kind };
 
     ghost respects_eq = { Prim.search (hashing, rules) };
 
     fn hash<H: Hasher>(&self, state: &mut H) {
-        self.kind().hash(state);
-        self.name().hash(state);
+        state.write(self.name());
+        state.write_u8(self.kind());
     }
 }
