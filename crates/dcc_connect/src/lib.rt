@@ -16,8 +16,6 @@ mod handing;
 mod laws;
 mod reading;
 mod sending;
-#[cfg(test)]
-mod tests;
 mod turns;
 mod writing;
 

@@ -3,6 +3,8 @@
 #![tactic(auto)]
 
 #[cfg(test)]
+mod connect;
+#[cfg(test)]
 mod lane;
 #[cfg(test)]
 mod record;

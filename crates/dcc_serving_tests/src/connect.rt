@@ -1,11 +1,12 @@
 //! Connections over readers and writers that come to their end, fail, or take their time.
 
-use crate::{
+use crate::top_ups::moment;
+use dcc_act::Moment;
+use dcc_base::Reply;
+use dcc_connect::{
     Answerer, Clock, ConnectFault, ConnectionEnd, Handed, Item, Submitter, WriteEnd, read_side,
     serve_connection, write_side,
 };
-use dcc_act::Moment;
-use dcc_base::Reply;
 use dcc_lane::{Lane, Sender};
 use dcc_message::{HeaderFault, LengthFault};
 use dcc_octets::OctetString;
@@ -90,10 +91,7 @@ impl Clock for Stopped {
 }
 
 fn clock() -> Result<Stopped, Fail> {
-    match Moment::new(1_700_000_000) {
-        Some(moment) => Ok(Stopped(moment)),
-        None => Err("no moment".into()),
-    }
+    Ok(Stopped(moment(1_700_000_000)?))
 }
 
 /// Answers the messages by their turn; it closes behind the one that it is told, and for want of memory.
