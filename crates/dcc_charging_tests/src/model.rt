@@ -413,27 +413,28 @@ fn lists_of_acts(rt: HostRuntime) -> Result<(), Fail> {
     Ok(())
 }
 
+/// Opens 64 sessions, and then asks for more.
+fn open_65(rt: &impl Abort, alloc: Global, book: &mut Book) -> Result<(), Fail> {
+    book.check(rt, alloc, 0, &[(0, Ask::TopUp(1, 1), &[(ADDED, 0)])])?;
+    for session in 0..64u8 {
+        let opening = (0, Ask::Initial(session, 0, &[]), OK);
+        book.check(rt, alloc, session as usize, &[opening])?;
+    }
+    book.check(rt, alloc, 64, &BEYOND)
+}
+
+/// One session more than may be open, and again when one has ended.
+const BEYOND: [Line; 3] = [
+    (0, Ask::Initial(64, 0, &[]), &[(5006, 0)]),
+    (0, Ask::Termination(7, 1, &[]), OK),
+    (0, Ask::Initial(65, 0, &[]), OK),
+];
+
 /// A subscriber has at most 64 sessions open.
 #[test]
 fn open_sessions(rt: HostRuntime) -> Result<(), Fail> {
-    let alloc = rt.alloc();
-    let mut book = Book::new(alloc, RandomState::new(&rt)?);
-    book.check(&rt, alloc, 0, &[(0, Ask::TopUp(1, 1), &[(ADDED, 0)])])?;
-    for session in 0..64u8 {
-        let opening = (0, Ask::Initial(session, 0, &[]), OK);
-        book.check(&rt, alloc, session as usize, &[opening])?;
-    }
-    book.check(
-        &rt,
-        alloc,
-        64,
-        &[
-            (0, Ask::Initial(64, 0, &[]), &[(5006, 0)]),
-            (0, Ask::Termination(7, 1, &[]), OK),
-            (0, Ask::Initial(65, 0, &[]), OK),
-        ],
-    )?;
-    Ok(())
+    let mut book = Book::new(rt.alloc(), RandomState::new(&rt)?);
+    open_65(&rt, rt.alloc(), &mut book)
 }
 
 /// Top-ups by one minor unit, by the tickets from 1. What each comes to isn't asked of the plain program, which would begin anew each time.
@@ -446,16 +447,20 @@ fn top_up_often(alloc: Global, book: &mut Book, times: u64) -> Result<(), Fail> 
     Ok(())
 }
 
+/// Tops up a thousand times, and then debits.
+fn debit_behind_a_thousand(rt: &impl Abort, alloc: Global, book: &mut Book) -> Result<(), Fail> {
+    top_up_often(alloc, book, 1000)?;
+    let debit = Ask::Event(Action::DirectDebiting, 1, Want::Asks(SINGLE, 1000));
+    book.check(rt, alloc, 1000, &[(0, debit, &[(2001, 1000)])])?;
+    assert_eq!(rt; (book.all.len(), book.standing.funds), (1001, 995));
+    Ok(())
+}
+
 /// Behind a thousand acts the next one is answered as ever.
 #[test]
 fn a_thousand_acts_before(rt: HostRuntime) -> Result<(), Fail> {
-    let alloc = rt.alloc();
-    let mut book = Book::new(alloc, RandomState::new(&rt)?);
-    top_up_often(alloc, &mut book, 1000)?;
-    let debit = Ask::Event(Action::DirectDebiting, 1, Want::Asks(SINGLE, 1000));
-    book.check(&rt, alloc, 1000, &[(0, debit, &[(2001, 1000)])])?;
-    assert_eq!(rt; (book.all.len(), book.standing.funds), (1001, 995));
-    Ok(())
+    let mut book = Book::new(rt.alloc(), RandomState::new(&rt)?);
+    debit_behind_a_thousand(&rt, rt.alloc(), &mut book)
 }
 
 /// Place, group or 0, units and amount of an entry.
@@ -484,14 +489,25 @@ fn post(posted: &mut Vec<Posted>, entries: &[Entry]) -> Result<(), Fail> {
     Ok(())
 }
 
+/// Judges a list of acts, and puts their entries behind those that stand there.
+fn post_all(
+    alloc: Global,
+    book: &mut Book,
+    posted: &mut Vec<Posted>,
+    lines: &[Line],
+) -> Result<(), Fail> {
+    for (after, ask, _) in lines {
+        let entries = book.judge(alloc, &act(alloc, *after, *ask)?)?;
+        post(posted, &entries)?;
+    }
+    Ok(())
+}
+
 /// The entries of a list of acts.
 fn posted(alloc: Global, hasher: RandomState, lines: &[Line]) -> Result<Vec<Posted>, Fail> {
     let mut book = Book::new(alloc, hasher);
     let mut posted = Vec::new(alloc);
-    for (after, ask, _) in lines {
-        let entries = book.judge(alloc, &act(alloc, *after, *ask)?)?;
-        post(&mut posted, &entries)?;
-    }
+    post_all(alloc, &mut book, &mut posted, lines)?;
     Ok(posted)
 }
 

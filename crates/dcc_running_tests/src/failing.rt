@@ -65,10 +65,20 @@ fn turns(
 ) -> Result<Vec<Turn>, Fail> {
     let alloc = rt.alloc();
     let mut engine = engine_over(rt, in_memory(alloc), in_memory(alloc))?;
+    turns_of(alloc, &mut engine, history, sub)
+}
+
+/// What the events come to, one after another.
+fn turns_of(
+    alloc: Global,
+    engine: &mut Engine<MemoryRecords>,
+    history: &History,
+    sub: Sub,
+) -> Result<Vec<Turn>, Fail> {
     let mut turns = Vec::new(alloc);
     for (event, of) in history.events.chunks(1).zip(&history.subs) {
         let out = engine.run(alloc, event)?.pop().ok_or("an out")?;
-        let acts = acts_of(&engine, sub);
+        let acts = acts_of(engine, sub);
         turns.push(Turn { of: *of, out, acts })?;
     }
     Ok(turns)
@@ -222,22 +232,44 @@ fn assert_made_once(
     Ok(())
 }
 
+/// Runs the history, in which the subscriber's `n`-th append fails.
+fn run_until_stopped(
+    rt: &(impl Abort + AllocGlobal),
+    engine: &mut Engine<OnceRecords>,
+    history: &History,
+    turns: &[Turn],
+    sub: Sub,
+    n: usize,
+) -> Result<(), Fail> {
+    let outs = engine.run(rt.alloc(), &history.events)?;
+    assert_stopped(rt, history, turns, &outs, sub, n)?;
+    assert_held(rt, engine, sub, n)
+}
+
+/// Runs the history with an append that fails, of the shard at this index, and again over what is found after a restart.
+fn run_twice(
+    rt: &(impl Abort + RandomSource + AllocGlobal),
+    history: &History,
+    turns: &[Turn],
+    (index, sub): (usize, Sub),
+    n: usize,
+) -> Result<(), Fail> {
+    let mut engine = failing_engine(rt, index, n as u64)?;
+    run_until_stopped(rt, &mut engine, history, turns, sub, n)?;
+    let mut again = reopened(rt, engine)?;
+    assert_made_once(rt, &mut again, history, turns)
+}
+
 /// The shard whose append fails refuses its subscriber from there on, the other answers as ever, and what is opened again of both
 /// answers every event as if none had failed.
 #[test]
 fn an_engine_outlives_each_append_that_fails(rt: HostRuntime) -> Result<(), Fail> {
-    let alloc = rt.alloc();
-    let history = History::new(alloc)?;
+    let history = History::new(rt.alloc())?;
     for (index, sub) in subscribers()?.into_iter().enumerate() {
         let turns = turns(&rt, &history, sub)?;
         assert_eq!(rt; turns.last().map(|turn| turn.acts), Some(ACTS));
         for n in 1..=ACTS + 1 {
-            let mut engine = failing_engine(&rt, index, n as u64)?;
-            let outs = engine.run(alloc, &history.events)?;
-            assert_stopped(&rt, &history, &turns, &outs, sub, n)?;
-            assert_held(&rt, &engine, sub, n)?;
-            let mut again = reopened(&rt, engine)?;
-            assert_made_once(&rt, &mut again, &history, &turns)?;
+            run_twice(&rt, &history, &turns, (index, sub), n)?;
         }
     }
     Ok(())

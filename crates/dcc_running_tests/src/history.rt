@@ -63,21 +63,26 @@ impl History {
             events: Vec::new(alloc),
             subs: Vec::new(alloc),
         };
+        history.fill(alloc)?;
+        Ok(history)
+    }
+
+    fn fill(&mut self, alloc: Global) -> Result<(), Fail> {
         let name = OctetString::from_vec(b"gw1.example".to_vec(alloc)?);
         let host = Some(Host::from_octets(name).ok_or("a host")?);
-        history.put(None, Event::Connect { peer: 1, host })?;
+        self.put(None, Event::Connect { peer: 1, host })?;
         for step in STEPS {
             for sub in subscribers()? {
-                history.put(Some(sub), event(alloc, sub, step)?)?;
+                self.put(Some(sub), event(alloc, sub, step)?)?;
             }
         }
         let moment = after(DAY).ok_or("a moment")?;
-        history.put(None, Event::Sweep { moment })?;
+        self.put(None, Event::Sweep { moment })?;
         for sub in subscribers()? {
             let request = debit(alloc, sub, 1)?;
-            history.put(Some(sub), message(DAY, request)?)?;
+            self.put(Some(sub), message(DAY, request)?)?;
         }
-        Ok(history)
+        Ok(())
     }
 
     fn put(&mut self, sub: Option<Sub>, event: Event) -> Result<(), Fail> {

@@ -28,6 +28,32 @@ fn opened_at_last<D: Crash + Drop>(
     }
 }
 
+/// The shard where it goes on, and else the one of the store opened again.
+fn going_on<D: Crash + Drop>(
+    alloc: Global,
+    server: &Server,
+    shard: FileShard<D>,
+    was_refused: &mut bool,
+) -> Result<FileShard<D>, Fail> {
+    if shard.records().is_stopped() {
+        return opened_at_last(alloc, server, left(shard), was_refused);
+    }
+    Ok(shard)
+}
+
+/// Asks again for the acts that were answered, and then for the others.
+fn finish<D: Crash + Drop>(
+    rt: &impl Abort,
+    alloc: Global,
+    known: &Known,
+    shard: &mut FileShard<D>,
+    answered: usize,
+) -> Result<(), Fail> {
+    let kept = known.assert_kept(rt, alloc, shard, answered)?;
+    assert_eq!(rt; known.play(rt, alloc, shard, kept)?, known.script.len());
+    Ok(())
+}
+
 /// Asks for all acts. One that is refused is asked for once more, of the same shard where it goes on, and else of the store opened
 /// again.
 fn run<D: Crash + Drop>(
@@ -44,15 +70,21 @@ fn run<D: Crash + Drop>(
         return Ok(shard);
     }
     *was_refused = true;
-    if shard.records().is_stopped() {
-        shard = opened_at_last(alloc, server, left(shard), was_refused)?;
-    }
-    let kept = known.assert_kept(rt, alloc, &mut shard, answered)?;
-    assert_eq!(rt;
-        known.play(rt, alloc, &mut shard, kept)?,
-        known.script.len()
-    );
+    let mut shard = going_on(alloc, server, shard, was_refused)?;
+    finish(rt, alloc, known, &mut shard, answered)?;
     Ok(shard)
+}
+
+/// Asserts that a shard holds all acts, and what a run without a stop does.
+fn assert_all<D: Crash + Drop>(
+    rt: &impl Abort,
+    alloc: Global,
+    known: &Known,
+    shard: &mut FileShard<D>,
+) -> Result<(), Fail> {
+    let kept = known.assert_kept(rt, alloc, shard, known.script.len())?;
+    assert_eq!(rt; kept, known.script.len());
+    known.assert_whole(rt, alloc, shard)
 }
 
 /// Asks for all acts, and then opens what is left.
@@ -66,9 +98,7 @@ fn run_twice<D: Crash + Drop>(
 ) -> Result<(), Fail> {
     let shard = run(rt, alloc, server, known, files, was_refused)?;
     let mut again = opened_at_last(alloc, server, left(shard), was_refused)?;
-    let kept = known.assert_kept(rt, alloc, &mut again, known.script.len())?;
-    assert_eq!(rt; kept, known.script.len());
-    known.assert_whole(rt, alloc, &again)
+    assert_all(rt, alloc, known, &mut again)
 }
 
 /// For allocations that are refused one after another: what is asked for again is made once.

@@ -2,7 +2,7 @@
 
 ghost use Rattle.std.specs.Prelude.{IsTrue};
 
-use crate::disks::{left, opened, reopened, still_answer};
+use crate::disks::{FileShard, left, opened, reopened, still_answer};
 use crate::known::Known;
 use crate::script::{CHARGED, Line, TWO_SERVICES};
 use crate::server::Server;
@@ -42,11 +42,22 @@ fn run<D: Disk + Drop>(
         Ok(shard) => shard,
         Err(files) => return Ok((0, files)),
     };
-    let answered = known.play(rt, alloc, &mut shard, 0)?;
-    if answered < known.script.len() {
-        known.assert_stopped(rt, alloc, &mut shard, answered)?;
-    }
+    let answered = ask(rt, alloc, known, &mut shard)?;
     Ok((answered, left(shard)))
+}
+
+/// Asks until an act is refused, which stops the shard, or all are answered: how many were.
+fn ask<D: Disk + Drop>(
+    rt: &impl Abort,
+    alloc: Global,
+    known: &Known,
+    shard: &mut FileShard<D>,
+) -> Result<usize, Fail> {
+    let answered = known.play(rt, alloc, shard, 0)?;
+    if answered < known.script.len() {
+        known.assert_stopped(rt, alloc, shard, answered)?;
+    }
+    Ok(answered)
 }
 
 /// Opens what a stop left, asks for each act again that was answered, and then for the others.
@@ -61,10 +72,21 @@ fn go_on<D: Crash + Drop>(
     let Ok(mut shard) = reopened(alloc, server, files) else {
         return Err("the store isn't opened again".into());
     };
-    let kept = known.assert_kept(rt, alloc, &mut shard, answered)?;
-    let all = known.play(rt, alloc, &mut shard, kept)?;
+    ask_again(rt, alloc, known, &mut shard, answered)
+}
+
+/// Asks for each act again that was answered, and then for the others.
+fn ask_again<D: Disk + Drop>(
+    rt: &impl Abort,
+    alloc: Global,
+    known: &Known,
+    shard: &mut FileShard<D>,
+    answered: usize,
+) -> Result<(), Fail> {
+    let kept = known.assert_kept(rt, alloc, shard, answered)?;
+    let all = known.play(rt, alloc, shard, kept)?;
     assert_eq!(rt; all, known.script.len());
-    known.assert_whole(rt, alloc, &shard)
+    known.assert_whole(rt, alloc, shard)
 }
 
 /// Empty files, whose disks stop after so many calls.

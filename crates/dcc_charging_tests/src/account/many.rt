@@ -7,6 +7,7 @@ use dcc_act::{Act, Kind, TopUp};
 use dcc_model::is_refused;
 use std::alloc::Global;
 use std::hash::RandomState;
+use std::process::Abort;
 use std::test::Fail;
 
 /// Makes an act.
@@ -46,23 +47,28 @@ fn is_remembered(alloc: Global, account: &Account, session: u8) -> Result<bool, 
 }
 
 /// Three acts for each of a hundred sessions: a top-up, the session's beginning, and its end.
-fn account(alloc: Global, hasher: RandomState) -> Result<Account, Fail> {
-    let mut account = Account::new(alloc, &TERMS, hasher);
+fn fill(alloc: Global, account: &mut Account) -> Result<(), Fail> {
     for session in 0..100 {
-        make(&mut account, top_up(session)?)?;
-        live(alloc, &mut account, session)?;
+        make(account, top_up(session)?)?;
+        live(alloc, account, session)?;
     }
-    Ok(account)
+    Ok(())
+}
+
+/// Whether each session of a hundred is remembered.
+fn are_remembered(rt: &impl Abort, alloc: Global, account: &Account) -> Result<(), Fail> {
+    for session in 0..100 {
+        assert!(rt; is_remembered(alloc, account, session)?);
+    }
+    Ok(())
 }
 
 /// After 300 acts each repeat is still found at the place of its first, and no session that ended opens again.
 #[test]
 fn repeats_after_300_acts(rt: HostRuntime) -> Result<(), Fail> {
     let alloc = rt.alloc();
-    let account = account(alloc, RandomState::new(&rt)?)?;
+    let mut account = Account::new(alloc, &TERMS, RandomState::new(&rt)?);
+    fill(alloc, &mut account)?;
     assert!(rt; account.acts().len() == 300);
-    for session in 0..100 {
-        assert!(rt; is_remembered(alloc, &account, session)?);
-    }
-    Ok(())
+    are_remembered(&rt, alloc, &account)
 }

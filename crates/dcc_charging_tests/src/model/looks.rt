@@ -4,6 +4,7 @@ use super::{Ask, Book, Want, act};
 use dcc_act::{Action, Outcome};
 use std::alloc::Global;
 use std::hash::RandomState;
+use std::process::Abort;
 use std::test::Fail;
 
 /// Judges an act, which has to be as it is meant.
@@ -37,15 +38,19 @@ fn looks(alloc: Global, book: &Book, after: u64, ask: Ask) -> Result<(u64, u64),
     Ok((step.looks(), ended))
 }
 
+/// Looks before a debit, an update of one session, and an expiry, of 64 open sessions.
+fn look(rt: &impl Abort, alloc: Global, book: &mut Book) -> Result<(), Fail> {
+    open_all(alloc, book)?;
+    let debit = Ask::Event(Action::DirectDebiting, 0, Want::Asks(10, 1000));
+    assert_eq!(rt; looks(alloc, book, 200, debit)?, (0, 0));
+    let update = Ask::Update(7, 1, &[Want::Both(10, 900, 1000)]);
+    assert_eq!(rt; looks(alloc, book, 200, update)?, (1, 0));
+    assert_eq!(rt; looks(alloc, book, 1250, Ask::Expiry)?, (0, 3));
+    Ok(())
+}
+
 #[test]
 fn looks_do_not_grow_with_sessions(rt: HostRuntime) -> Result<(), Fail> {
-    let alloc = rt.alloc();
-    let mut book = Book::new(alloc, RandomState::new(&rt)?);
-    open_all(alloc, &mut book)?;
-    let debit = Ask::Event(Action::DirectDebiting, 0, Want::Asks(10, 1000));
-    assert_eq!(rt; looks(alloc, &book, 200, debit)?, (0, 0));
-    let update = Ask::Update(7, 1, &[Want::Both(10, 900, 1000)]);
-    assert_eq!(rt; looks(alloc, &book, 200, update)?, (1, 0));
-    assert_eq!(rt; looks(alloc, &book, 1250, Ask::Expiry)?, (0, 3));
-    Ok(())
+    let mut book = Book::new(rt.alloc(), RandomState::new(&rt)?);
+    look(&rt, rt.alloc(), &mut book)
 }

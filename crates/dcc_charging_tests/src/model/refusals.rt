@@ -58,6 +58,20 @@ fn make(
     Ok(())
 }
 
+/// Makes the acts of a row.
+fn make_all(
+    rt: &impl Abort,
+    alloc: Global,
+    account: &mut Account,
+    lines: &[Line],
+    was_refused: &mut bool,
+) -> Result<(), Fail> {
+    for line in lines {
+        make(rt, alloc, account, line, was_refused)?;
+    }
+    Ok(())
+}
+
 /// Funds, what is free and what is overrun after the acts of a row.
 fn money_after(
     rt: &impl Abort,
@@ -67,9 +81,7 @@ fn money_after(
     was_refused: &mut bool,
 ) -> Result<(i128, i128, i128), Fail> {
     let mut account = Account::new(alloc, &TERMS, hasher);
-    for line in lines {
-        make(rt, alloc, &mut account, line, was_refused)?;
-    }
+    make_all(rt, alloc, &mut account, lines, was_refused)?;
     Ok((account.funds(), account.free(), account.overrun()))
 }
 
