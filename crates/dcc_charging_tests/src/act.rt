@@ -21,21 +21,29 @@ const TARIFF: Tariff = Tariff {
     block: 1000,
 };
 
+/// The subscriber of this type and these data. A constructor of literals, in its place, takes the prover minutes.
+fn subscriber(kind: u8, name: &[u8]) -> Result<Sub, Fail> {
+    Ok(Sub::new(kind, name).ok_or("a subscriber")?)
+}
+
 #[test]
 fn subscribers(rt: HostRuntime) -> Result<(), Fail> {
-    let a = Sub::new(0, b"491700000001").ok_or("a subscriber")?;
-    let b = Sub::new(1, b"491700000001").ok_or("a subscriber")?;
-    let c = Sub::new(0, b"49170000000").ok_or("a subscriber")?;
+    let a = subscriber(0, b"491700000001")?;
+    let b = subscriber(1, b"491700000001")?;
+    let c = subscriber(0, b"49170000000")?;
     assert_eq!(rt; a.kind(), 0);
     assert_eq!(rt; a.name(), b"491700000001".as_slice());
     assert!(rt; c < a && a < b && a == a && a != c);
-    assert!(rt; Sub::new(0, b"4 9").is_none());
+    assert!(rt; subscriber(0, b"4 9").is_err());
     Ok(())
 }
 
+fn named(alloc: Global, name: &[u8]) -> Result<SessionId, Fail> {
+    Ok(SessionId::from_vec(name.to_vec(alloc)?).ok_or("a session's name")?)
+}
+
 fn key(alloc: Global) -> Result<RequestKey, Fail> {
-    let octets = b"gw1.example;1;1".to_vec(alloc)?;
-    let sid = SessionId::from_vec(octets).ok_or("a session's name")?;
+    let sid = named(alloc, b"gw1.example;1;1")?;
     Ok(RequestKey { sid, number: 7 })
 }
 
@@ -111,6 +119,10 @@ fn request(alloc: Global) -> Result<SessionRequest, Fail> {
     })
 }
 
+fn top_up(amount: u64) -> Result<TopUp, Fail> {
+    Ok(TopUp::new(1, amount).ok_or("a top-up")?)
+}
+
 /// One of each kind.
 fn kinds(alloc: Global) -> Result<Vec<Kind>, Fail> {
     let event = OneTimeEvent {
@@ -119,7 +131,7 @@ fn kinds(alloc: Global) -> Result<Vec<Kind>, Fail> {
         service: service(alloc, 10, Form::Single)?,
     };
     Ok(vec![in alloc;
-        Kind::TopUp(TopUp::new(1, 1000).ok_or("a top-up")?),
+        Kind::TopUp(top_up(1000)?),
         Kind::Initial(request(alloc)?),
         Kind::Update(request(alloc)?),
         Kind::Termination(request(alloc)?),

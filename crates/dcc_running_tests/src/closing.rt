@@ -170,11 +170,11 @@ fn check(acts: &[Act], receipts: &[Receipt]) -> u8 {
     }
 }
 
-/// The act that a top-up makes.
-fn topped() -> Option<Act> {
+/// The act that a top-up of this amount makes.
+fn topped(amount: u64) -> Option<Act> {
     Some(Act {
         moment: after(0)?,
-        kind: Kind::TopUp(TopUp::new(1, 1000)?),
+        kind: Kind::TopUp(TopUp::new(1, amount)?),
     })
 }
 
@@ -183,7 +183,7 @@ fn receipts_of_one_seat(rt: HostRuntime) -> Result<(), Fail> {
     let shards = one(&rt, in_memory(rt.alloc()))?;
     let mut caller = caller(rt.alloc(), &shards)?;
     top_up_thrice(&rt, &shards, &mut caller);
-    let acts = [topped().ok_or("an act")?];
+    let acts = [topped(1000).ok_or("an act")?];
     assert_eq!(rt; check(&acts, caller.seat.receipts()), 0);
     assert_eq!(rt; check(&[], caller.seat.receipts()), 60);
     assert_eq!(rt; check(&acts, &[]), 61);

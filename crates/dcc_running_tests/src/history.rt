@@ -68,8 +68,7 @@ impl History {
     }
 
     fn fill(&mut self, alloc: Global) -> Result<(), Fail> {
-        let name = OctetString::from_vec(b"gw1.example".to_vec(alloc)?);
-        let host = Some(Host::from_octets(name).ok_or("a host")?);
+        let host = Some(host(alloc, b"gw1.example")?);
         self.put(None, Event::Connect { peer: 1, host })?;
         for step in STEPS {
             for sub in subscribers()? {
@@ -90,6 +89,12 @@ impl History {
         self.subs.push(sub)?;
         Ok(())
     }
+}
+
+/// The host of this name.
+fn host(alloc: Global, name: &[u8]) -> Result<Host, Fail> {
+    let octets = OctetString::from_vec(name.to_vec(alloc)?);
+    Ok(Host::from_octets(octets).ok_or("a host")?)
 }
 
 /// The subscribers, in the order of the shards that keep them.

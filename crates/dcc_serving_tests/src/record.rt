@@ -1,7 +1,7 @@
 //! Records octet for octet, one of each kind, and octets that are none.
 
-use crate::top_ups::moment;
-use dcc_act::{Act, Action, Form, Kind, OneTimeEvent, RequestKey, Service, ServiceIds, SessionId};
+use crate::top_ups::{moment, session_id};
+use dcc_act::{Act, Action, Form, Kind, OneTimeEvent, RequestKey, Service, ServiceIds};
 use dcc_record::{RecordFault, read_act, write_act};
 use dcc_tariff::{Tariff, UnitKind};
 use std::alloc::Global;
@@ -43,8 +43,7 @@ fn is_refused(alloc: Global, octets: &[u8]) -> bool {
 
 /// The act of that record.
 fn debit(alloc: Global) -> Result<Act, Fail> {
-    let octets = b"gw1.example;1;1".to_vec(alloc)?;
-    let sid = SessionId::from_vec(octets).ok_or("a session's name")?;
+    let sid = session_id(alloc, b"gw1.example;1;1")?;
     let service = Service {
         group: None,
         ids: ServiceIds::new(alloc),

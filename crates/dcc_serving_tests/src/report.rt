@@ -1,7 +1,7 @@
 //! Ledgers octet for octet.
 
-use crate::top_ups::moment;
-use dcc_act::{Entry, EntryKind, EntryName, SessionId, Sub};
+use crate::top_ups::{moment, session_id, subscriber};
+use dcc_act::{Entry, EntryKind, EntryName, Sub};
 use dcc_report::{account_line, ledger_text};
 use std::alloc::Global;
 use std::test::Fail;
@@ -13,8 +13,7 @@ const JUNE: u64 = 1_748_736_000;
 const LAST: u64 = 4_102_444_799;
 
 fn session(alloc: Global, octets: &[u8]) -> Result<EntryName, Fail> {
-    let sid = SessionId::from_vec(octets.to_vec(alloc)?).ok_or("a session's name")?;
-    Ok(EntryName::Session(sid))
+    Ok(EntryName::Session(session_id(alloc, octets)?))
 }
 
 fn top_up(place: u64, seconds: u64, amount: i64, ticket: u64) -> Result<Entry, Fail> {
@@ -36,7 +35,7 @@ fn ledger(
     reserved: i128,
     overrun: i128,
 ) -> Result<Vec<u8>, Fail> {
-    let sub = Sub::new(0, b"491700000001").ok_or("a subscriber")?;
+    let sub = subscriber(b"491700000001")?;
     Ok(ledger_text(alloc, &sub, entries, reserved, overrun)?)
 }
 
@@ -175,9 +174,14 @@ fn columns_at_their_greatest_widths(rt: HostRuntime) -> Result<(), Fail> {
     Ok(())
 }
 
+/// A subscriber of a private type.
+fn private(name: &[u8]) -> Result<Sub, Fail> {
+    Ok(Sub::new(4, name).ok_or("a subscriber")?)
+}
+
 #[test]
 fn account_without_entries(rt: HostRuntime) -> Result<(), Fail> {
-    let sub = Sub::new(4, b"data:of@example").ok_or("a subscriber")?;
+    let sub = private(b"data:of@example")?;
     let text = ledger_text(rt.alloc(), &sub, &[], 0, 0)?;
     assert_eq!(rt;
         text.as_slice(),

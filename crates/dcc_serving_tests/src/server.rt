@@ -4,11 +4,16 @@ use dcc_message::{DiameterIdentity, Identity};
 use std::alloc::Global;
 use std::test::Fail;
 
+/// A name of these octets. A constructor of literals, in its place, takes the prover minutes.
+fn named(alloc: Global, name: &[u8]) -> Result<DiameterIdentity, Fail> {
+    Ok(DiameterIdentity::from_vec(name.to_vec(alloc)?).ok_or("a name")?)
+}
+
 /// Its names and its address.
 pub(crate) fn identity(alloc: Global) -> Result<Identity, Fail> {
     Ok(Identity {
-        host: DiameterIdentity::from_vec(b"ocs.example".to_vec(alloc)?).ok_or("a host")?,
-        realm: DiameterIdentity::from_vec(b"example".to_vec(alloc)?).ok_or("a realm")?,
+        host: named(alloc, b"ocs.example")?,
+        realm: named(alloc, b"example")?,
         address: [127, 0, 0, 1],
     })
 }

@@ -4,9 +4,9 @@
 ghost use Rattle.std.specs.Prelude.{◌≡◌, true, is_some};
 
 use crate::server::identity;
-use crate::top_ups::{moment, subscriber};
+use crate::top_ups::{moment, session_id, subscriber};
 use dcc_act::{
-    Act, Action, Form, Kind, OneTimeEvent, RequestKey, Service, ServiceIds, Services, SessionId,
+    Act, Action, Form, Kind, OneTimeEvent, RequestKey, Service, ServiceIds, Services,
     SessionRequest, Sub,
 };
 use dcc_answer::Proxies;
@@ -54,7 +54,7 @@ fn header(alloc: Global) -> Result<Header, Fail> {
 
 /// The first request of the sample's session.
 fn first_key(alloc: Global) -> Result<RequestKey, Fail> {
-    let sid = SessionId::from_vec(b"gw1.example;1;1".to_vec(alloc)?).ok_or("a name")?;
+    let sid = session_id(alloc, b"gw1.example;1;1")?;
     Ok(RequestKey { sid, number: 0 })
 }
 

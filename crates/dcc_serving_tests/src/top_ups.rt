@@ -3,8 +3,9 @@
 ghost use Rattle.std.specs.Prelude.{◌≡◌, IfOk};
 ghost use Rattle.dcc_serving_tests.specs.TopUps.{top_up_act, top_up_entry};
 
-use dcc_act::{Act, Entry, EntryKind, EntryName, Kind, Moment, Sub, TopUp};
+use dcc_act::{Act, Entry, EntryKind, EntryName, Kind, Moment, SessionId, Sub, TopUp};
 use dcc_tariff::Terms;
+use std::alloc::Global;
 use std::test::Fail;
 
 /// The terms of the samples' plan.
@@ -18,6 +19,11 @@ pub(crate) const TERMS: Terms = Terms {
 /// A subscriber of these data.
 pub(crate) fn subscriber(name: &[u8]) -> Result<Sub, Fail> {
     Ok(Sub::new(0, name).ok_or("a subscriber")?)
+}
+
+/// A session's name of these octets. A constructor of literals, in its place, takes the prover minutes.
+pub(crate) fn session_id(alloc: Global, name: &[u8]) -> Result<SessionId, Fail> {
+    Ok(SessionId::from_vec(name.to_vec(alloc)?).ok_or("a session's name")?)
 }
 
 /// The moment of these seconds. `Moment::new` of a literal, in its place, takes the prover minutes.

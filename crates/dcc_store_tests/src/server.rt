@@ -25,6 +25,11 @@ pub(crate) const SETTING: Setting<'static> = Setting {
     terms: TERMS,
 };
 
+/// A name of these octets. A constructor of literals, in its place, takes the prover minutes.
+fn named(alloc: Global, name: &[u8]) -> Result<DiameterIdentity, Fail> {
+    Ok(DiameterIdentity::from_vec(name.to_vec(alloc)?).ok_or("a name")?)
+}
+
 /// Who answers, and by what accounts are found.
 #[derive(Drop)]
 pub(crate) struct Server {
@@ -35,15 +40,19 @@ pub(crate) struct Server {
 impl Server {
     pub(crate) fn new(alloc: Global, hasher: RandomState) -> Result<Server, Fail> {
         let identity = Identity {
-            host: DiameterIdentity::from_vec(b"ocs.example".to_vec(alloc)?).ok_or("a host")?,
-            realm: DiameterIdentity::from_vec(b"example".to_vec(alloc)?).ok_or("a realm")?,
+            host: named(alloc, b"ocs.example")?,
+            realm: named(alloc, b"example")?,
             address: [127, 0, 0, 1],
         };
         Ok(Server { identity, hasher })
     }
 }
 
+fn subscriber_of(name: &[u8]) -> Result<Sub, Fail> {
+    Ok(Sub::new(0, name).ok_or("a subscriber")?)
+}
+
 /// The subscriber.
 pub(crate) fn subscriber() -> Result<Sub, Fail> {
-    Ok(Sub::new(0, b"491700000001").ok_or("a subscriber")?)
+    subscriber_of(b"491700000001")
 }

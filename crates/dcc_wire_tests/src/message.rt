@@ -1,11 +1,10 @@
 //! Messages and streams from outside.
 
-use crate::octets::decoded;
+use crate::octets::{decoded, identity, named};
 use dcc_avp::{read_list, write_avp};
 use dcc_message::{
-    DiameterIdentity, Framer, Header, HeaderFault, Identity, LengthFault, MAX_LENGTH, any_pieces,
-    applications, begin_message, command_flags, commands, finish_message, read_header,
-    write_message,
+    Framer, Header, HeaderFault, LengthFault, MAX_LENGTH, any_pieces, applications, begin_message,
+    command_flags, commands, finish_message, read_header, write_message,
 };
 use dcc_samples::{
     ANSWER, BUSY, CAPABILITIES, CAPABILITIES_ANSWER, DEBIT, WATCHDOG, WATCHDOG_ANSWER,
@@ -214,18 +213,11 @@ fn bad_length_fields(rt: HostRuntime) -> Result<(), Fail> {
 
 #[test]
 fn names(rt: HostRuntime) -> Result<(), Fail> {
-    let host = DiameterIdentity::from_vec(b"ocs.example".to_vec(rt.alloc())?).ok_or("a host")?;
-    let realm = DiameterIdentity::from_vec(b"example".to_vec(rt.alloc())?).ok_or("a realm")?;
-    let identity = Identity {
-        host,
-        realm,
-        address: [127, 0, 0, 1],
-    };
+    let identity = identity(rt.alloc())?;
     assert_eq!(rt; identity.host.as_slice(), b"ocs.example".as_slice());
     assert_eq!(rt; identity.realm.into_vec().len(), 7);
-    let long = vec![in rt.alloc(); 0x61; 256]?;
-    assert!(rt; DiameterIdentity::from_vec(long).is_none());
-    assert!(rt; DiameterIdentity::from_vec(b"a b".to_vec(rt.alloc())?).is_none());
-    assert!(rt; DiameterIdentity::from_vec(Vec::new(rt.alloc())).is_none());
+    for name in [[0x61; 256].as_slice(), b"a b", b""] {
+        assert!(rt; named(rt.alloc(), name).is_err());
+    }
     Ok(())
 }

@@ -21,13 +21,16 @@ pub(crate) fn decoded(alloc: Global, text: &str) -> Result<Vec<u8>, Fail> {
     Ok(hex::decode(alloc, text)?)
 }
 
+/// A name of these octets. A constructor of literals, in its place, takes the prover minutes.
+pub(crate) fn named(alloc: Global, name: &[u8]) -> Result<DiameterIdentity, Fail> {
+    Ok(DiameterIdentity::from_vec(name.to_vec(alloc)?).ok_or("a name")?)
+}
+
 /// The server of the samples.
 pub(crate) fn identity(alloc: Global) -> Result<Identity, Fail> {
-    let host = b"ocs.example".to_vec(alloc)?;
-    let realm = b"example".to_vec(alloc)?;
     Ok(Identity {
-        host: DiameterIdentity::from_vec(host).ok_or("a host")?,
-        realm: DiameterIdentity::from_vec(realm).ok_or("a realm")?,
+        host: named(alloc, b"ocs.example")?,
+        realm: named(alloc, b"example")?,
         address: [127, 0, 0, 1],
     })
 }

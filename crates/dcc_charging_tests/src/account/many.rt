@@ -23,10 +23,11 @@ fn place_again(account: &Account, act: Act) -> Result<Option<u64>, Fail> {
     Ok(if step.is_new() { None } else { step.place() })
 }
 
-fn top_up(ticket: u8) -> Result<Act, Fail> {
+/// A top-up of this amount. `TopUp::new` of a literal, in its place, takes the prover long.
+fn top_up(ticket: u8, amount: u64) -> Result<Act, Fail> {
     Ok(Act {
         moment: moment(1_748_736_000)?,
-        kind: Kind::TopUp(TopUp::new(u64::from(ticket), 1).ok_or("a top-up")?),
+        kind: Kind::TopUp(TopUp::new(u64::from(ticket), amount).ok_or("a top-up")?),
     })
 }
 
@@ -39,7 +40,7 @@ fn live(alloc: Global, account: &mut Account, session: u8) -> Result<(), Fail> {
 
 /// Whether the top-up and the beginning of a session are still found, and the session can't be opened any more.
 fn is_remembered(alloc: Global, account: &Account, session: u8) -> Result<bool, Fail> {
-    let place = place_again(account, top_up(session)?)?;
+    let place = place_again(account, top_up(session, 1)?)?;
     let is_kept = account.kept(&key(alloc, session, 0)?).is_some();
     let step = account.prepare(act(alloc, 200_000, Ask::Initial(session, 1, 0))?)?;
     let is_spent = step.is_new() && is_refused(step.outcome());
@@ -49,7 +50,7 @@ fn is_remembered(alloc: Global, account: &Account, session: u8) -> Result<bool, 
 /// Three acts for each of a hundred sessions: a top-up, the session's beginning, and its end.
 fn fill(alloc: Global, account: &mut Account) -> Result<(), Fail> {
     for session in 0..100 {
-        make(account, top_up(session)?)?;
+        make(account, top_up(session, 1)?)?;
         live(alloc, account, session)?;
     }
     Ok(())
