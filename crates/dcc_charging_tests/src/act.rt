@@ -174,29 +174,56 @@ fn answer(alloc: Global) -> Result<Answer, Fail> {
     })
 }
 
+/// The numbers of an answer: of its request's type, of its result, and of its balance.
+fn numbers(answer: &Answer) -> (u32, u32, Option<u32>) {
+    (
+        answer.request.number(),
+        answer.result.number(),
+        answer.balance.map(|balance| balance.number()),
+    )
+}
+
+/// Whether an answer has the one service that was put into it.
+fn has_service(answer: &Answer) -> bool {
+    match answer.services.as_slice() {
+        [service] => {
+            let key = service.key();
+            key.group.is_none() && key.id == Some(3) && service.grant.is_some() && service.is_final
+        }
+        _ => false,
+    }
+}
+
+/// The answer that an outcome is.
+fn answered(outcome: Outcome) -> Option<Answer> {
+    match outcome {
+        Outcome::Answered(answer) => Some(answer),
+        _ => None,
+    }
+}
+
+/// A copy of an answer, made as an outcome.
+fn copied(alloc: Global) -> Result<Answer, Fail> {
+    let outcome = Outcome::Answered(answer(alloc)?);
+    Ok(answered(outcome.copy()?).ok_or("an answer")?)
+}
+
+#[test]
+fn answers(rt: HostRuntime) -> Result<(), Fail> {
+    let copy = copied(rt.alloc())?;
+    assert_eq!(rt; numbers(&copy), (2, 5002, Some(1)));
+    assert!(rt; has_service(&copy));
+    assert_eq!(rt; copy.services.into_vec().len(), 1);
+    Ok(())
+}
+
 #[test]
 fn outcomes(rt: HostRuntime) -> Result<(), Fail> {
-    let alloc = rt.alloc();
     let unknown = Outcome::Unknown {
         request: RequestType::Event,
-        key: key(alloc)?,
+        key: key(rt.alloc())?,
     };
     assert!(rt; matches!(&unknown.copy()?, Outcome::Unknown { key, .. } if key.number == 7));
-    let Outcome::Answered(copy) = Outcome::Answered(answer(alloc)?).copy()? else {
-        return Err("an answer".into());
-    };
-    let numbers = (
-        copy.request.number(),
-        copy.result.number(),
-        copy.balance.map(|balance| balance.number()),
-    );
-    assert_eq!(rt; numbers, (2, 5002, Some(1)));
-    let [service] = copy.services.as_slice() else {
-        return Err("a service".into());
-    };
-    assert!(rt; service.key().group.is_none() && service.key().id == Some(3));
-    assert!(rt; service.grant.is_some() && service.is_final);
-    assert_eq!(rt; copy.services.into_vec().len(), 1);
     Ok(())
 }
 
