@@ -1,10 +1,11 @@
 //! Messages and streams from outside.
 
-use crate::octets::{decoded, identity, named};
+use crate::octets::{decoded, identity};
 use dcc_avp::{read_list, write_avp};
 use dcc_message::{
-    Framer, Header, HeaderFault, LengthFault, MAX_LENGTH, any_pieces, applications, begin_message,
-    command_flags, commands, finish_message, read_header, write_message,
+    DiameterIdentity, Framer, Header, HeaderFault, LengthFault, MAX_LENGTH, any_pieces,
+    applications, begin_message, command_flags, commands, finish_message, read_header,
+    write_message,
 };
 use dcc_samples::{
     ANSWER, BUSY, CAPABILITIES, CAPABILITIES_ANSWER, DEBIT, WATCHDOG, WATCHDOG_ANSWER,
@@ -217,7 +218,8 @@ fn names(rt: HostRuntime) -> Result<(), Fail> {
     assert_eq!(rt; identity.host.as_slice(), b"ocs.example".as_slice());
     assert_eq!(rt; identity.realm.into_vec().len(), 7);
     for name in [[0x61; 256].as_slice(), b"a b", b""] {
-        assert!(rt; named(rt.alloc(), name).is_err());
+        let octets = name.to_vec(rt.alloc())?;
+        assert!(rt; DiameterIdentity::from_vec(octets).is_none());
     }
     Ok(())
 }

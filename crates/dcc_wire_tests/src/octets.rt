@@ -22,7 +22,7 @@ pub(crate) fn decoded(alloc: Global, text: &str) -> Result<Vec<u8>, Fail> {
 }
 
 /// A name of these octets. A constructor of literals, in its place, takes the prover minutes.
-pub(crate) fn named(alloc: Global, name: &[u8]) -> Result<DiameterIdentity, Fail> {
+fn named(alloc: Global, name: &[u8]) -> Result<DiameterIdentity, Fail> {
     Ok(DiameterIdentity::from_vec(name.to_vec(alloc)?).ok_or("a name")?)
 }
 
