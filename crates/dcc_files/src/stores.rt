@@ -130,6 +130,10 @@ fn path_of(alloc: Global, folder: &str, shard: usize) -> Result<String, AllocErr
 
 /// What the store of a shard is of, under a plan: names of visible ASCII are text, and shards are few, so that it is there.
 fn setting_of(plan: &Plan, shard: usize) -> Option<Setting<'_>>
+    ensures shard { IfSome result (λ setting. setting.shard ≡ shard) }
+    ensures shards { IfSome result (λ setting. setting.shards ≡ plan.now.shards) }
+    ensures host { IfSome result (λ setting. setting.host.now ≡ plan.now.host) }
+    ensures realm { IfSome result (λ setting. setting.realm.now ≡ plan.now.realm) }
     ensures terms { IfSome result (λ setting. setting.terms ≡ plan.now.terms) }
 {
     let (Ok(host), Ok(realm)) = (str::from_utf8(plan.host()), str::from_utf8(plan.realm())) else {
