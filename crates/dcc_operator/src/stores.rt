@@ -1,7 +1,8 @@
 //! Where the records of shards are kept.
 
-ghost use Rattle.std.specs.Prelude.{◌≡◌, ◌↔◌, ◌≢◌, ◌<◌, [], IfOk, IfErr, IfSome};
+ghost use Rattle.std.specs.Prelude.{◌≡◌, ◌↔◌, ◌≢◌, ◌<◌, ◌⊎◌, true, false, [], IfOk, IfErr, IfSome};
 ghost use Rattle.dcc_act.specs.declared.sub.Sub.{Sub};
+ghost use Rattle.dcc_records.specs.Faults.{fault_number};
 ghost use Rattle.dcc_records.specs.Stops.{LeavesOnly};
 ghost use Rattle.dcc_shard.specs.Shards.{held, AreOwn};
 ghost use Rattle.dcc_shard.specs.Routes.{shard_of};
@@ -21,12 +22,16 @@ use thiserror::Error;
 pub struct StoreRefusal(pub u8);
 
 impl From<AllocError> for StoreRefusal {
+    ghost from_gives = { λ _ refusal. refusal.0 ≡ 50 };
+
     fn from(_error: AllocError) -> StoreRefusal {
         StoreRefusal(50)
     }
 }
 
 impl From<StoreFault> for StoreRefusal {
+    ghost from_gives = { λ fault refusal. refusal.0 ≡ fault_number fault };
+
     fn from(fault: StoreFault) -> StoreRefusal {
         StoreRefusal(fault.number())
     }
@@ -77,6 +82,10 @@ pub fn shard_over<R: Records + Drop>(
     // What it holds is what a stop leaves, and each subscriber is this shard's.
     ensures found { IfOk result (λ shard. LeavesOnly shard.shard.terms (held shard.shard) (R.may_leave shard.records)) }
     ensures placed { IfOk result (λ shard. (sub : Sub) → held shard.shard sub ≢ [] → shard_of sub count ≡ index) }
+    // The number of a fault: those of the records, each only where they have it, and 54.
+    ensures device { IfErr result (λ refusal. refusal.0 ≡ 51 → R.is_stopped records ≡ false) }
+    ensures stopped { IfErr result (λ refusal. refusal.0 ≡ 52 → R.is_stopped records ≡ true) }
+    ensures number { IfErr result (λ refusal. (refusal.0 ≡ 50) ⊎ (refusal.0 ≡ 51) ⊎ (refusal.0 ≡ 52) ⊎ (refusal.0 ≡ 54)) }
 {
     match Shard::new(alloc, identity, records, hasher) {
         Ok(shard) => {
