@@ -2,6 +2,7 @@
 
 ghost use Rattle.std.specs.Prelude.{◌≡◌, ◌<◌};
 
+use crate::engines::moment;
 use anyhow::{Context, Result, bail};
 use dcc_act::{Moment, Sub};
 use dcc_operator::{StoreRefusal, Stores, shard_over};
@@ -43,7 +44,10 @@ pub fn run<
         + Sync
         + AllocGlobal,
 >(rt: &R, plan: &str, gates: u32) -> Result<()> {
-    let stores = Funded { alloc: rt.alloc() };
+    let stores = Funded {
+        alloc: rt.alloc(),
+        moment: moment(MOMENT)?,
+    };
     let gates = usize::try_from(gates)?;
     let ask = ServeAsk {
         place: Place { plan, folder: "" },
@@ -60,6 +64,8 @@ pub fn run<
 #[derive(Drop)]
 struct Funded {
     alloc: Global,
+    /// When each is given it.
+    moment: Moment,
 }
 
 impl Stores for Funded {
@@ -86,7 +92,7 @@ impl Stores for Funded {
         let records = MemoryRecords::new(self.alloc, plan.terms());
         let count = usize::from(plan.shards());
         let mut made = shard_over(self.alloc, &identity, records, shard, count, hasher)?;
-        fund_all(self.alloc, &mut made, shard, count)?;
+        fund_all(self.alloc, &mut made, shard, count, self.moment)?;
         Ok(made.into_records())
     }
 }
@@ -97,6 +103,7 @@ fn fund_all(
     shard: &mut Shard<MemoryRecords>,
     index: usize,
     count: usize,
+    moment: Moment,
 ) -> Result<(), StoreRefusal>
     requires { 0 < count }
     ensures { shard.new.shard.terms ≡ shard.old.shard.terms }
@@ -106,7 +113,7 @@ fn fund_all(
             return Err(StoreRefusal(54));
         };
         if shard_of(&sub, count) == index {
-            fund(alloc, shard, sub);
+            fund(alloc, shard, sub, moment);
         }
     }
     Ok(())
@@ -119,10 +126,8 @@ fn subscriber(alloc: Global, number: u32) -> Result<Option<Sub>, AllocError> {
 }
 
 /// Gives a subscriber its money.
-fn fund(alloc: Global, shard: &mut Shard<MemoryRecords>, sub: Sub)
+fn fund(alloc: Global, shard: &mut Shard<MemoryRecords>, sub: Sub, moment: Moment)
     ensures { shard.new.shard.terms ≡ shard.old.shard.terms }
 {
-    if let Some(moment) = Moment::new(MOMENT) {
-        let _told = shard.top_up(alloc, sub, moment, 1, MONEY);
-    }
+    let _told = shard.top_up(alloc, sub, moment, 1, MONEY);
 }
