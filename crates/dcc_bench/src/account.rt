@@ -4,22 +4,19 @@
 ghost use Rattle.std.specs.Prelude.{◌≡◌, ◌≤◌, true, is_some};
 ghost use Rattle.std.specs.Option.{ForSome};
 
+use crate::engines::{MOMENT, make_plan, moment};
 use crate::rounds::timed;
-use crate::tariffs::plan_text;
 use anyhow::{Context, Result};
 use dcc_account::Account;
 use dcc_act::{
     Act, Action, Form, Kind, Moment, OneTimeEvent, RequestKey, Service, ServiceIds, Services,
     SessionId, SessionRequest, TopUp,
 };
-use dcc_tariff::{Plan, Tariff, UnitKind};
+use dcc_tariff::{Plan, Tariff, Terms, UnitKind};
 use std::alloc::Global;
 use std::hash::RandomState;
 use std::random::RandomSource;
 use std::time::CpuClock;
-
-/// When everything happens, in seconds since 1970.
-const MOMENT: u64 = 1_751_328_000;
 
 /// The sessions that each account has open, each with one service.
 const SESSIONS: u32 = 64;
@@ -49,40 +46,91 @@ pub fn measure<R: AllocGlobal + RandomSource + Print + Eprint + CpuClock>(
 ) -> Result<()> {
     let alloc = rt.alloc();
     let hasher = RandomState::new(rt)?;
-    let plan = Plan::read(alloc, plan_text(alloc, 1)?.as_str())?;
-    let moment = Moment::new(MOMENT).context("a moment")?;
+    let plan = make_plan(alloc)?;
+    let setting = setting_of(alloc, &plan)?;
+    let mut all = Vec::new(alloc);
+    add_all(&setting, plan.terms(), hasher, &mut all, accounts, held)?;
+    measure_on(rt, &setting, &mut all, held)
+}
+
+/// What all acts under this plan have in common.
+pub(crate) fn setting_of(alloc: Global, plan: &Plan) -> Result<Setting> {
+    let moment = moment(MOMENT)?;
     let (_unit, tariff) = plan.at(GROUP, MOMENT).context("a tariff")?;
-    let setting = Setting {
+    Ok(Setting {
         alloc,
         moment,
         tariff,
-    };
-    let mut all = Vec::new(alloc);
+    })
+}
+
+/// Adds so many accounts, which hold so many acts each.
+fn add_all(
+    setting: &Setting,
+    terms: &Terms,
+    hasher: RandomState,
+    all: &mut Vec<Account>,
+    accounts: u32,
+    held: u32,
+) -> Result<()> {
     for _ in 0..accounts {
-        let mut account = Account::new(alloc, plan.terms(), hasher);
-        fill(&setting, &mut account, held)?;
-        all.push(account)?;
+        all.push(Account::new(setting.alloc, terms, hasher))?;
+        fill_last(setting, all, held)?;
     }
+    Ok(())
+}
+
+/// Fills the last of the accounts with so many acts.
+fn fill_last(setting: &Setting, all: &mut [Account], held: u32) -> Result<()> {
+    match all.last_mut() {
+        Some(account) => fill(setting, account, held),
+        None => Ok(()),
+    }
+}
+
+/// Measures each kind of step on these accounts, which hold so many acts each.
+fn measure_on(
+    rt: &(impl AllocGlobal + Print + Eprint + CpuClock),
+    setting: &Setting,
+    all: &mut [Account],
+    held: u32,
+) -> Result<()> {
+    let accounts = all.len();
     let mut next = held;
     let steps = u64::from(STEPS);
-    let debits = timed(rt, "account debit", steps, || {
-        debit_all(&setting, &mut all, &mut next)
-    })?;
-    let updates = timed(rt, "account update", steps, || {
-        update_all(&setting, &mut all, &mut next)
-    })?;
-    let late = timed(rt, "account late repeat", steps, || {
-        repeat_late(&setting, &mut all, held)
-    })?;
-    let repeats = timed(rt, "account repeat", steps, || {
-        repeat_all(&setting, &mut all, held)
-    })?;
-    let top_ups = timed(rt, "account top-up", steps, || {
-        top_up_all(&setting, &mut all, &mut next)
-    })?;
+    let debits = timed(
+        rt,
+        "account debit",
+        steps,
+        || debit_all(setting, all, &mut next),
+    )?;
+    let updates = timed(
+        rt,
+        "account update",
+        steps,
+        || update_all(setting, all, &mut next),
+    )?;
+    let late = timed(
+        rt,
+        "account late repeat",
+        steps,
+        || repeat_late(setting, all, held),
+    )?;
+    let repeats = timed(
+        rt,
+        "account repeat",
+        steps,
+        || repeat_all(setting, all, held),
+    )?;
+    let top_ups = timed(
+        rt,
+        "account top-up",
+        steps,
+        || top_up_all(setting, all, &mut next),
+    )?;
+    let funds = funds_of(all);
     println!(rt;
-        "account {accounts} {held} new {debits} {updates} {late} {repeats} {top_ups} funds {}",
-        funds_of(&all)
+        "account {accounts} {held} new {debits} {updates} {late} {repeats} {top_ups} funds {funds}"
     )?;
     Ok(())
 }

@@ -1,27 +1,22 @@
 //! The end of shards that worked under locks: their receipts are compared with the acts that they hold.
 
-use crate::account::{Setting, debit};
+use crate::account::{Setting, debit, setting_of};
+use crate::engines::make_plan;
 use crate::rounds::Rounds;
-use crate::tariffs::plan_text;
 use anyhow::{Context, Result, bail};
-use dcc_act::{Act, Kind, Moment, Sub};
+use dcc_act::{Act, Kind, Sub};
 use dcc_answer::Proxies;
-use dcc_message::{DiameterIdentity, Header, Identity};
+use dcc_message::Header;
 use dcc_operator::{StoreRefusal, Stores, shards_over};
 use dcc_records::MemoryRecords;
-use dcc_running::{Job, Seat, Shards};
+use dcc_replay::identity_of;
+use dcc_running::{Books, Job, Seat, Shards, Unclosed};
 use dcc_tariff::Plan;
 use std::alloc::Global;
 use std::hash::RandomState;
 use std::random::RandomSource;
 use std::sync::Wait;
 use std::time::CpuClock;
-
-/// When everything happens, in seconds since 1970.
-const MOMENT: u64 = 1_751_328_000;
-
-/// The group of all debits.
-const GROUP: u32 = 10;
 
 /// So many subscribers debit in turn.
 const SUBSCRIBERS: u32 = 100;
@@ -69,43 +64,61 @@ pub fn measure<R: AllocGlobal + RandomSource + Print + Eprint + CpuClock + Wait>
 ) -> Result<()> {
     let alloc = rt.alloc();
     let hasher = RandomState::new(rt)?;
-    let plan = Plan::read(alloc, plan_text(alloc, 1)?.as_str())?;
-    let moment = Moment::new(MOMENT).context("a moment")?;
-    let (_unit, tariff) = plan.at(GROUP, MOMENT).context("a tariff")?;
-    let setting = Setting {
-        alloc,
-        moment,
-        tariff,
-    };
+    let plan = make_plan(alloc)?;
+    let setting = setting_of(alloc, &plan)?;
     let mut rounds = Rounds::new(alloc);
     let mut receipts = 0usize;
     for _ in 0..ROUNDS {
         let shards = make_shards(alloc, &plan, hasher)?;
-        let mut seat = shards.seat(alloc)?;
-        fill(rt, &setting, &shards, &mut seat, debits)?;
-        receipts = seat.receipts().len();
-        let mut seats = Vec::new(alloc);
-        seats.push(seat)?;
-        let begin = rt.thread_cpu_time()?;
-        let closed = shards.close(alloc, seats);
-        let end = rt.thread_cpu_time()?;
-        if closed.is_err() {
-            bail!("receipts and books disagree");
-        }
-        rounds.push(begin, end)?;
+        receipts = fill_and_close(rt, &setting, shards, debits, &mut rounds)?;
     }
     rounds.report(rt, "close", u64::from(debits))?;
     println!(rt; "close {debits} receipts {receipts}")?;
     Ok(())
 }
 
+/// Makes so many debits in these shards, measures their end, and gives the number of receipts.
+fn fill_and_close(
+    rt: &(impl AllocGlobal + CpuClock + Wait),
+    setting: &Setting,
+    shards: Shards<MemoryRecords>,
+    debits: u32,
+    rounds: &mut Rounds,
+) -> Result<usize> {
+    let seats = seats_of(rt, setting, &shards, debits)?;
+    let receipts = seats.first().map_or(0, |seat| seat.receipts().len());
+    let begin = rt.thread_cpu_time();
+    let closed = shards.close(rt.alloc(), seats);
+    let end = rt.thread_cpu_time();
+    if !is_closed(closed) {
+        bail!("receipts and books disagree");
+    }
+    rounds.push(begin?, end?)?;
+    Ok(receipts)
+}
+
+/// Whether receipts and books agree. What was closed is let go here, where nothing else can fail.
+fn is_closed(closed: Result<Books<MemoryRecords>, Unclosed<MemoryRecords>>) -> bool {
+    closed.is_ok()
+}
+
+/// A seat in which each subscriber was given its money, and so many debits were made.
+fn seats_of(
+    rt: &(impl AllocGlobal + Wait),
+    setting: &Setting,
+    shards: &Shards<MemoryRecords>,
+    debits: u32,
+) -> Result<Vec<Seat>> {
+    let alloc = rt.alloc();
+    let mut seat = shards.seat(alloc)?;
+    give_money(rt, setting, shards, &mut seat)?;
+    make_debits(rt, setting, shards, &mut seat, debits)?;
+    Ok(vec![in alloc; seat]?)
+}
+
 /// Shards under locks, over records in memory.
 fn make_shards(alloc: Global, plan: &Plan, hasher: RandomState) -> Result<Shards<MemoryRecords>> {
-    let identity = Identity {
-        host: DiameterIdentity::from_vec(plan.host().to_vec(alloc)?).context("a host")?,
-        realm: DiameterIdentity::from_vec(plan.realm().to_vec(alloc)?).context("a realm")?,
-        address: plan.address(),
-    };
+    let identity = identity_of(alloc, plan)?;
     let stores = InMemory { alloc };
     let Ok(shards) = shards_over(alloc, &stores, "", plan, &identity, hasher) else {
         bail!("no shards");
@@ -116,18 +129,28 @@ fn make_shards(alloc: Global, plan: &Plan, hasher: RandomState) -> Result<Shards
     }
 }
 
-/// Gives each subscriber its money, and makes debits of the subscribers in turn.
-fn fill<W: Wait>(
+/// Gives each subscriber its money.
+fn give_money<W: Wait>(
+    rt: &W,
+    setting: &Setting,
+    shards: &Shards<MemoryRecords>,
+    seat: &mut Seat,
+) -> Result<()> {
+    for number in 0..SUBSCRIBERS {
+        let sub = subscriber(setting.alloc, number)?;
+        let _told = shards.top_up(rt, setting.alloc, seat, sub, setting.moment, 0, MONEY);
+    }
+    Ok(())
+}
+
+/// Makes debits of the subscribers in turn.
+fn make_debits<W: Wait>(
     rt: &W,
     setting: &Setting,
     shards: &Shards<MemoryRecords>,
     seat: &mut Seat,
     debits: u32,
 ) -> Result<()> {
-    for number in 0..SUBSCRIBERS {
-        let sub = subscriber(setting.alloc, number)?;
-        let _told = shards.top_up(rt, setting.alloc, seat, sub, setting.moment, 0, MONEY);
-    }
     for number in 0..debits {
         let sub = subscriber(setting.alloc, number % SUBSCRIBERS)?;
         let act = debit(setting, number)?;

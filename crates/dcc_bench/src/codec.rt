@@ -19,13 +19,16 @@ use dcc_tariff::{Tariff, Terms, UnitKind};
 use std::alloc::Global;
 use std::time::CpuClock;
 
-/// What an answer is written of.
-#[derive(Drop)]
-pub(crate) struct Reply {
-    identity: Identity,
-    terms: Terms,
-    outcome: Outcome,
-}
+/// What an answer is written of: who answers, and what.
+pub(crate) type Reply = (Identity, Outcome);
+
+/// The terms of the answer.
+const TERMS: Terms = Terms {
+    validity: 600,
+    hold: 1200,
+    currency: 978,
+    exponent: -2,
+};
 
 /// Measures reading the list alone, reading the request, writing its answer, and both in turn.
 pub fn measure<R: AllocGlobal + Print + Eprint + CpuClock>(rt: &R, count: u32) -> Result<()> {
@@ -139,21 +142,53 @@ fn read(alloc: Global, octets: &[u8]) -> Result<(Header, Proxies)>
 }
 
 fn written(alloc: Global, reply: &Reply, header: &Header, proxies: &Proxies) -> Result<Vec<u8>> {
-    Ok(write_cca(
-        alloc,
-        &reply.identity,
-        &reply.terms,
-        header,
-        proxies,
-        &reply.outcome,
-    )?)
+    let (identity, outcome) = reply;
+    Ok(write_cca(alloc, identity, &TERMS, header, proxies, outcome)?)
 }
 
 /// The answer to a debit of 1,001 octets.
 pub(crate) fn make_reply(alloc: Global) -> Result<Reply> {
-    let host = DiameterIdentity::from_vec(b"ocs.example".to_vec(alloc)?).context("a host")?;
-    let realm = DiameterIdentity::from_vec(b"example".to_vec(alloc)?).context("a realm")?;
-    let sid = SessionId::from_vec(b"gw1.example;1;1".to_vec(alloc)?).context("a session")?;
+    let identity = identity(alloc)?;
+    Ok((identity, Outcome::Answered(success(alloc)?)))
+}
+
+/// The server's names and address.
+fn identity(alloc: Global) -> Result<Identity> {
+    Ok(Identity {
+        host: name(alloc, b"ocs.example")?,
+        realm: name(alloc, b"example")?,
+        address: [127, 0, 0, 1],
+    })
+}
+
+/// A server's name.
+fn name(alloc: Global, octets: &[u8]) -> Result<DiameterIdentity> {
+    DiameterIdentity::from_vec(octets.to_vec(alloc)?).context("a name")
+}
+
+/// What is answered.
+fn success(alloc: Global) -> Result<Answer> {
+    let services = services(alloc)?;
+    Ok(Answer {
+        request: RequestType::Event,
+        key: RequestKey {
+            sid: session(alloc)?,
+            number: 0,
+        },
+        result: ResultCode::Success,
+        services,
+        cost: None,
+        balance: None,
+    })
+}
+
+/// The session of the answer.
+fn session(alloc: Global) -> Result<SessionId> {
+    SessionId::from_vec(b"gw1.example;1;1".to_vec(alloc)?).context("a session")
+}
+
+/// The one service that is answered, with 1,001 octets.
+fn services(alloc: Global) -> Result<ServiceAnswers> {
     let service = ServiceAnswer {
         group: None,
         ids: ServiceIds::new(alloc),
@@ -169,26 +204,5 @@ pub(crate) fn make_reply(alloc: Global) -> Result<Reply> {
         }),
         is_final: false,
     };
-    let services = ServiceAnswers::from_vec(vec![in alloc; service]?).context("services")?;
-    Ok(Reply {
-        identity: Identity {
-            host,
-            realm,
-            address: [127, 0, 0, 1],
-        },
-        terms: Terms {
-            validity: 600,
-            hold: 1200,
-            currency: 978,
-            exponent: -2,
-        },
-        outcome: Outcome::Answered(Answer {
-            request: RequestType::Event,
-            key: RequestKey { sid, number: 0 },
-            result: ResultCode::Success,
-            services,
-            cost: None,
-            balance: None,
-        }),
-    })
+    ServiceAnswers::from_vec(vec![in alloc; service]?).context("services")
 }

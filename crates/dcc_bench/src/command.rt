@@ -2,7 +2,7 @@
 
 /// What is measured.
 #[derive(Clone, Copy, Debug, PartialEq, Eq)]
-pub enum Command {
+pub enum Command<'a> {
     /// Debit requests read, and their answers written.
     Codec {
         count: u32,
@@ -45,20 +45,21 @@ pub enum Command {
         subscribers: u32,
         shards: u8,
     },
-    /// A little of each.
+    /// The server with records in memory, for so many gateways, under the plan of this file.
+    Serve {
+        plan: &'a str,
+        gates: u32,
+    },
+    /// A little of each but the server.
     Sample,
 }
 
 /// The command of the words, of which the first is the program's name.
-pub fn command_of(words: &[String]) -> Option<Command> {
+pub fn command_of<'a>(words: &'a [String]) -> Option<Command<'a>> {
     match words {
         [_, name] => command_alone(name.as_str()),
         [_, name, count] => command_with(name.as_str(), number(count)?),
-        [_, name, first, second] => command_with_two(
-            name.as_str(),
-            number(first)?,
-            number(second)?,
-        ),
+        [_, name, first, second] => command_with_two(name.as_str(), first, number(second)?),
         [_, name, first, second, third] => command_with_three(
             name.as_str(),
             number(first)?,
@@ -69,14 +70,14 @@ pub fn command_of(words: &[String]) -> Option<Command> {
     }
 }
 
-fn command_alone(name: &str) -> Option<Command> {
+fn command_alone<'a>(name: &str) -> Option<Command<'a>> {
     match name {
         "sample" => Some(Command::Sample),
         _ => None,
     }
 }
 
-fn command_with(name: &str, count: u32) -> Option<Command> {
+fn command_with<'a>(name: &str, count: u32) -> Option<Command<'a>> {
     match name {
         "codec" => Some(Command::Codec { count }),
         "request" => Some(Command::Request { count }),
@@ -86,29 +87,33 @@ fn command_with(name: &str, count: u32) -> Option<Command> {
     }
 }
 
-fn command_with_two(name: &str, first: u32, second: u32) -> Option<Command> {
+fn command_with_two<'a>(name: &str, first: &'a String, second: u32) -> Option<Command<'a>> {
     match name {
         "framer" => Some(Command::Framer {
-            octets: first,
+            octets: number(first)?,
             piece: second,
         }),
         "account" => Some(Command::Account {
-            accounts: first,
+            accounts: number(first)?,
             held: second,
         }),
         "replay" => Some(Command::Replay {
-            subscribers: first,
+            subscribers: number(first)?,
             requests: second,
         }),
         "sweep" => Some(Command::Sweep {
-            subscribers: million(first)?,
+            subscribers: million(number(first)?)?,
             shards: shards(second)?,
+        }),
+        "serve" => Some(Command::Serve {
+            plan: first.as_str(),
+            gates: second,
         }),
         _ => None,
     }
 }
 
-fn command_with_three(name: &str, first: u32, second: u32, third: u32) -> Option<Command> {
+fn command_with_three<'a>(name: &str, first: u32, second: u32, third: u32) -> Option<Command<'a>> {
     match name {
         "engine" => Some(Command::Engine {
             subscribers: million(first)?,

@@ -5,7 +5,7 @@ use crate::checksum::marked;
 use crate::codec::{Reply, answer, make_reply};
 use crate::debit::Debit;
 use crate::engines::{
-    MOMENT, connection, make_engine, make_plan, mark_of, message, moment, sum_of, top_up,
+    MOMENT, connection, make_engine, make_plan, mark_of, message, moment, run_one, sum_of, top_up,
 };
 use crate::rounds::{ROUNDS, Rounds};
 use anyhow::{Result, bail};
@@ -30,13 +30,24 @@ pub fn measure<R: AllocGlobal + RandomSource + Print + Eprint + CpuClock>(
     held: u32,
     shards: u8,
 ) -> Result<()> {
-    let alloc = rt.alloc();
-    let plan = make_plan(alloc)?;
     let hasher = RandomState::new(rt)?;
-    let mut engine = make_engine(alloc, plan, shards, hasher)?;
-    let (mark, sum) = measure_on(rt, &mut engine, subscribers, held)?;
+    let (mark, sum) = measured(rt, subscribers, held, shards, hasher)?;
     println!(rt; "engine {subscribers} {held} {shards} mark {mark:016x} answers {sum:016x}")?;
     Ok(())
+}
+
+/// Measures on an engine just opened.
+fn measured(
+    rt: &(impl AllocGlobal + Eprint + CpuClock),
+    subscribers: u32,
+    held: u32,
+    shards: u8,
+    hasher: RandomState,
+) -> Result<(u64, u64)> {
+    let alloc = rt.alloc();
+    let plan = make_plan(alloc)?;
+    let mut engine = make_engine(alloc, plan, shards, hasher)?;
+    measure_on(rt, &mut engine, subscribers, held)
 }
 
 /// Measures on this engine: a mark of the rounds' answers, and the checksum of those of one more round.
@@ -50,9 +61,14 @@ fn measure_on(
     fill(alloc, engine, subscribers, held)?;
     let steps = (held / 10).max(10).min(CHUNK);
     let (mark, next) = take_rounds(rt, engine, subscribers, held, steps)?;
-    let last = debits(alloc, subscribers, next, steps)?;
-    let outs = engine.run(alloc, &last)?;
-    Ok((mark, sum_of(&outs)))
+    let sum = run_last(alloc, engine, &debits(alloc, subscribers, next, steps)?)?;
+    Ok((mark, sum))
+}
+
+/// Runs debits, for the checksum of their answers.
+fn run_last(alloc: Global, engine: &mut Engine<MemoryRecords>, events: &[Event]) -> Result<u64> {
+    let outs = engine.run(alloc, events)?;
+    Ok(sum_of(&outs))
 }
 
 /// Measures rounds of so many debits from this number on: a mark of the answers, and the number behind the last.
@@ -104,7 +120,7 @@ impl Taken {
     ) -> Result<()> {
         let alloc = rt.alloc();
         let begin = rt.thread_cpu_time()?;
-        let answered = run_debits(alloc, engine, events)?;
+        let answered = run_events(alloc, engine, events)?;
         let between = rt.thread_cpu_time()?;
         let coded = code_debits(alloc, reply, events)?;
         let end = rt.thread_cpu_time()?;
@@ -133,19 +149,25 @@ fn fill(
     subscribers: u32,
     held: u32,
 ) -> Result<()> {
-    engine.run(alloc, &[connection(alloc)?])?;
+    run_one(alloc, engine, connection(alloc)?)?;
     for first in (0..subscribers).step_by(CHUNK as usize) {
-        let mut events = Vec::new(alloc);
-        for number in first..subscribers.min(first.saturating_add(CHUNK)) {
-            events.push(top_up(alloc, number)?)?;
-        }
-        engine.run(alloc, &events)?;
+        let end = subscribers.min(first.saturating_add(CHUNK));
+        run_events(alloc, engine, &top_ups(alloc, first, end)?)?;
     }
     for first in (subscribers..held).step_by(CHUNK as usize) {
         let count = held.saturating_sub(first).min(CHUNK);
-        engine.run(alloc, &debits(alloc, subscribers, first, count)?)?;
+        run_events(alloc, engine, &debits(alloc, subscribers, first, count)?)?;
     }
     Ok(())
+}
+
+/// The money of the subscribers from one number to before another.
+fn top_ups(alloc: Global, first: u32, end: u32) -> Result<Vec<Event>> {
+    let mut events = Vec::new(alloc);
+    for number in first..end {
+        events.push(top_up(alloc, number)?)?;
+    }
+    Ok(events)
 }
 
 /// So many debits from this number on, each of a subscriber far from the one before.
@@ -164,8 +186,8 @@ fn debits(alloc: Global, subscribers: u32, first: u32, count: u32) -> Result<Vec
     Ok(events)
 }
 
-/// Runs debits.
-fn run_debits(alloc: Global, engine: &mut Engine<MemoryRecords>, events: &[Event]) -> Result<u64> {
+/// Runs events, for a mark of their answers.
+fn run_events(alloc: Global, engine: &mut Engine<MemoryRecords>, events: &[Event]) -> Result<u64> {
     let outs = engine.run(alloc, events)?;
     Ok(mark_of(&outs))
 }

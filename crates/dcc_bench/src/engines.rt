@@ -6,9 +6,9 @@ use anyhow::{Context, Result, bail};
 use dcc_act::{Moment, Sub};
 use dcc_base::Host;
 use dcc_engine::{Engine, Event, Out};
-use dcc_message::{DiameterIdentity, Identity};
 use dcc_octets::OctetString;
 use dcc_records::MemoryRecords;
+use dcc_replay::identity_of;
 use dcc_shard::shards_in_memory;
 use dcc_tariff::Plan;
 use std::alloc::Global;
@@ -36,13 +36,19 @@ pub(crate) fn make_engine(
     if shards < 1 || shards > 8 {
         bail!("1 to 8 shards");
     }
-    let identity = Identity {
-        host: DiameterIdentity::from_vec(plan.host().to_vec(alloc)?).context("a host")?,
-        realm: DiameterIdentity::from_vec(plan.realm().to_vec(alloc)?).context("a realm")?,
-        address: plan.address(),
-    };
+    let identity = identity_of(alloc, &plan)?;
     let shards = shards_in_memory(alloc, plan.terms(), identity, shards, hasher)?;
     Ok(Engine::open(alloc, plan, shards)?)
+}
+
+/// Runs one event.
+pub(crate) fn run_one(
+    alloc: Global,
+    engine: &mut Engine<MemoryRecords>,
+    event: Event,
+) -> Result<()> {
+    engine.run(alloc, &[event])?;
+    Ok(())
 }
 
 /// The connection of peer 1, which is open at once.

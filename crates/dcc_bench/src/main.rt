@@ -1,6 +1,7 @@
 //! The program that measures the path of a direct debit, and the reader of requests: `codec N`, `request N`,
 //! `framer OCTETS PIECE`, `plan N`, `account ACCOUNTS HELD`, `close N`, `replay SUBSCRIBERS REQUESTS`,
-//! `engine SUBSCRIBERS HELD SHARDS`, `sweep SUBSCRIBERS SHARDS`, and `sample`, a little of each.
+//! `engine SUBSCRIBERS HELD SHARDS`, `sweep SUBSCRIBERS SHARDS`, and `sample`, a little of each; and
+//! `serve PLAN GATES`, the server with records in memory, which `bench/serve` measures from outside.
 //!
 //! It stands on the crates of that path, and calls them as the server does. Standard output has only what the arguments
 //! determine: counts, and a checksum of what was answered. Times go to standard error, one line for each thing that is
@@ -18,6 +19,7 @@ mod engines;
 mod replay;
 mod requests;
 mod rounds;
+mod server;
 mod stream;
 mod sweep;
 mod tariffs;
@@ -58,13 +60,14 @@ fn main(rt: HostRuntime) -> Result<()> {
                 shards,
             },
         ) => sweep::measure(&rt, subscribers, shards),
+        Some(Command::Serve { plan, gates }) => server::run(&rt, plan, gates),
         None => bail!(
-            "usage: codec N | request N | framer OCTETS PIECE | plan N | account ACCOUNTS HELD | close N | replay SUBSCRIBERS REQUESTS | engine SUBSCRIBERS HELD SHARDS | sweep SUBSCRIBERS SHARDS | sample"
+            "usage: codec N | request N | framer OCTETS PIECE | plan N | account ACCOUNTS HELD | close N | replay SUBSCRIBERS REQUESTS | engine SUBSCRIBERS HELD SHARDS | sweep SUBSCRIBERS SHARDS | serve PLAN GATES | sample"
         ),
     }
 }
 
-/// A little of each, by which the gate sees that all of it runs.
+/// A little of each but the server, by which the gate sees that it runs.
 fn sample<R: AllocGlobal + RandomSource + Print + Eprint + CpuClock + Wait>(rt: &R) -> Result<()> {
     codec::measure(rt, 100)?;
     requests::measure(rt, 10)?;

@@ -7,7 +7,8 @@ use crate::engines::{
 };
 use crate::rounds::timed;
 use anyhow::Result;
-use dcc_engine::{Event, Out};
+use dcc_engine::{Engine, Event, Out};
+use dcc_records::MemoryRecords;
 use dcc_replay::replay_run;
 use std::alloc::Global;
 use std::hash::RandomState;
@@ -69,6 +70,11 @@ fn run_all(alloc: Global, events: &[Event], hasher: RandomState) -> Result<Vec<O
     let plan = make_plan(alloc)?;
     let shards = plan.shards();
     let mut engine = make_engine(alloc, plan, shards, hasher)?;
+    run_on(alloc, &mut engine, events)
+}
+
+/// Runs events on this engine.
+fn run_on(alloc: Global, engine: &mut Engine<MemoryRecords>, events: &[Event]) -> Result<Vec<Out>> {
     Ok(engine.run(alloc, events)?)
 }
 

@@ -9,7 +9,7 @@ use crate::debit::Debit;
 use crate::rounds::timed;
 use anyhow::{Result, bail};
 use dcc_avp::{Avp, read_list};
-use dcc_ccr::{Request, read_ccr};
+use dcc_ccr::{Request, Service, read_ccr};
 use std::alloc::Global;
 use std::time::CpuClock;
 
@@ -81,10 +81,19 @@ fn read_all(alloc: Global, avps: &[Avp<'_>], count: u32) -> Result<u64>
 /// A mark of what a request says.
 fn mark_of(request: &Request<'_>) -> u64 {
     let services = request.services();
-    let asked = services.last().and_then(|service| service.asked());
-    let octets = asked.map_or(0, |amounts| amounts.octets());
     u64::from(request.number())
         ^ (request.session().len() as u64) << 8
         ^ (services.len() as u64) << 16
-        ^ octets << 24
+        ^ octets_of(services) << 24
+}
+
+/// The octets that the last of the services asks for.
+fn octets_of(services: &[Service]) -> u64 {
+    let Some(service) = services.last() else {
+        return 0;
+    };
+    match service.asked() {
+        Some(amounts) => amounts.octets(),
+        None => 0,
+    }
 }

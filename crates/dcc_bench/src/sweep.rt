@@ -2,11 +2,11 @@
 
 use crate::debit::Debit;
 use crate::engines::{
-    MOMENT, connection, make_engine, make_plan, message, moment, subscriber, top_up,
+    MOMENT, connection, make_engine, make_plan, message, moment, run_one, subscriber, top_up,
 };
 use crate::rounds::Rounds;
 use anyhow::{Result, bail};
-use dcc_engine::{Engine, Event};
+use dcc_engine::{Engine, Event, Out};
 use dcc_records::MemoryRecords;
 use std::alloc::Global;
 use std::hash::RandomState;
@@ -31,13 +31,23 @@ pub fn measure<R: AllocGlobal + RandomSource + Print + Eprint + CpuClock>(
     subscribers: u32,
     shards: u8,
 ) -> Result<()> {
+    let hasher = RandomState::new(rt)?;
+    let sweeps = measured(rt, subscribers, shards, hasher)?;
+    sweeps.report(rt, subscribers, shards)
+}
+
+/// Measures on an engine just opened.
+fn measured(
+    rt: &(impl AllocGlobal + CpuClock),
+    subscribers: u32,
+    shards: u8,
+    hasher: RandomState,
+) -> Result<Sweeps> {
     let alloc = rt.alloc();
     let plan = make_plan(alloc)?;
     let hold = u64::from(plan.terms().hold);
-    let hasher = RandomState::new(rt)?;
     let mut engine = make_engine(alloc, plan, shards, hasher)?;
-    let sweeps = measure_on(rt, &mut engine, subscribers, hold)?;
-    sweeps.report(rt, subscribers, shards)
+    measure_on(rt, &mut engine, subscribers, hold)
 }
 
 /// Measures on this engine, which has nobody yet, and holds sessions for so many seconds.
@@ -147,9 +157,9 @@ impl Swept {
 
 /// Gives each subscriber its money.
 fn give_money(alloc: Global, engine: &mut Engine<MemoryRecords>, subscribers: u32) -> Result<()> {
-    engine.run(alloc, &[connection(alloc)?])?;
+    run_one(alloc, engine, connection(alloc)?)?;
     for number in 0..subscribers {
-        engine.run(alloc, &[top_up(alloc, number)?])?;
+        run_one(alloc, engine, top_up(alloc, number)?)?;
     }
     Ok(())
 }
@@ -167,11 +177,21 @@ fn open_sessions(
     for number in 0..subscribers {
         let lead = if number % EARLY == 0 { 0 } else { LEAD };
         debit.set_subscriber(number);
-        let moment = moment(opened.saturating_add(lead))?;
-        let request = message(alloc, moment, debit.initial(alloc)?.as_slice())?;
-        engine.run(alloc, &[request])?;
+        open_session(alloc, engine, &debit, opened.saturating_add(lead))?;
     }
     Ok(())
+}
+
+/// Opens a session of a subscriber, by the first request that the debit would have.
+fn open_session(
+    alloc: Global,
+    engine: &mut Engine<MemoryRecords>,
+    debit: &Debit,
+    seconds: u64,
+) -> Result<()> {
+    let moment = moment(seconds)?;
+    let octets = debit.initial(alloc)?;
+    run_one(alloc, engine, message(alloc, moment, octets.as_slice())?)
 }
 
 /// A sweep at this moment. It stands alone in a profile.
@@ -179,12 +199,15 @@ fn open_sessions(
 fn sweep(alloc: Global, engine: &mut Engine<MemoryRecords>, seconds: u64) -> Result<()> {
     let moment = moment(seconds)?;
     let outs = engine.run(alloc, &[Event::Sweep { moment }])?;
-    for out in &outs {
-        if out.refused_all || !out.refused.as_slice().is_empty() {
-            bail!("a refused expiry");
-        }
+    if refuses(&outs) {
+        bail!("a refused expiry");
     }
     Ok(())
+}
+
+/// Whether an expiry is refused in one of these.
+fn refuses(outs: &[Out]) -> bool {
+    outs.iter().any(|out| out.refused_all || !out.refused.as_slice().is_empty())
 }
 
 /// The acts of all subscribers.

@@ -39,9 +39,21 @@ fn read(alloc: Global, text: &String) -> Result<u64> {
 
 /// A plan whose groups have one tariff each, from group 10 on.
 pub fn plan_text(alloc: Global, count: u32) -> Result<String, AllocError> {
-    // What the sample plan says beside its tariffs.
-    let (head, _tariffs) = PLAN.split_once("tariff").unwrap_or((PLAN, ""));
-    let mut text = String::from_str(alloc, head)?;
+    let mut text = String::from_str(alloc, head_of(PLAN))?;
+    add_tariffs(&mut text, count)?;
+    Ok(text)
+}
+
+/// What a plan says before its tariffs.
+fn head_of(plan: &str) -> &str {
+    match plan.split_once("tariff") {
+        Some((head, _tariffs)) => head,
+        None => plan,
+    }
+}
+
+/// Adds so many tariffs.
+fn add_tariffs(text: &mut String, count: u32) -> Result<(), AllocError> {
     for i in 0..count {
         let group = u64::from(i) + 10;
         let price = i % 1000 + 5;
@@ -50,7 +62,7 @@ pub fn plan_text(alloc: Global, count: u32) -> Result<String, AllocError> {
             "[[tariff]]\ngroup = {group}\nunit = \"octets\"\nfrom = \"2020-01-01T00:00:00Z\"\nprice = {price}\nblock = 1000\n"
         )?;
     }
-    Ok(text)
+    Ok(())
 }
 
 /// A place in a sequence of groups without a pattern (a linear congruence, by Knuth's MMIX).
