@@ -172,7 +172,7 @@ fn success(alloc: Global) -> Result<Answer> {
     Ok(Answer {
         request: RequestType::Event,
         key: RequestKey {
-            sid: session(alloc)?,
+            sid: session(alloc, b"gw1.example;1;1")?,
             number: 0,
         },
         result: ResultCode::Success,
@@ -182,9 +182,9 @@ fn success(alloc: Global) -> Result<Answer> {
     })
 }
 
-/// The session of the answer.
-fn session(alloc: Global) -> Result<SessionId> {
-    SessionId::from_vec(b"gw1.example;1;1".to_vec(alloc)?).context("a session")
+/// A session's name. A name that is made of a literal in its place takes the prover minutes.
+fn session(alloc: Global, octets: &[u8]) -> Result<SessionId> {
+    SessionId::from_vec(octets.to_vec(alloc)?).context("a session")
 }
 
 /// The one service that is answered, with 1,001 octets.

@@ -53,12 +53,15 @@ pub(crate) fn run_one(
 
 /// The connection of peer 1, which is open at once.
 pub(crate) fn connection(alloc: Global) -> Result<Event> {
-    let name = OctetString::from_vec(b"gw1.example".to_vec(alloc)?);
-    let host = Host::from_octets(name).context("a host")?;
     Ok(Event::Connect {
         peer: 1,
-        host: Some(host),
+        host: Some(host(alloc, b"gw1.example")?),
     })
+}
+
+/// The host of this name.
+fn host(alloc: Global, name: &[u8]) -> Result<Host> {
+    Host::from_octets(OctetString::from_vec(name.to_vec(alloc)?)).context("a host")
 }
 
 /// One of a million subscribers, as the debit names it.
