@@ -146,7 +146,7 @@ impl Known {
     }
 
     /// Asserts that a shard holds the acts that were answered, and at most one beyond, and that each is told again as it was and
-    /// charged no second time. It gives how many there are.
+    /// charged no second time. It gives how many there are. Where one isn't told again, memory was refused.
     pub(crate) fn assert_kept<R: Records>(
         &self,
         rt: &impl Abort,
@@ -158,7 +158,9 @@ impl Known {
         assert!(rt; acts == answered || acts == answered.saturating_add(1));
         assert_standing(rt, shard, self.script, acts)?;
         for at in 0..acts {
-            assert!(rt; self.is_told(rt, alloc, shard, at, false)?);
+            if !self.is_told(rt, alloc, shard, at, false)? {
+                return Err("memory was refused".into());
+            }
         }
         assert_standing(rt, shard, self.script, acts)?;
         Ok(acts)
