@@ -2,7 +2,7 @@
 
 use crate::disks::{FileShard, left, reopened};
 use crate::known::Known;
-use crate::script::TWO_SERVICES;
+use crate::script::{CHARGED, Line, TWO_SERVICES};
 use crate::server::Server;
 use dcc_records::Records;
 use sqlite::Files;
@@ -101,20 +101,35 @@ fn run_twice<D: Crash + Drop>(
     assert_all(rt, alloc, known, &mut again)
 }
 
-/// For allocations that are refused one after another: what is asked for again is made once.
-#[test]
-fn a_refusal_loses_nothing(rt: HostRuntime) -> Result<(), Fail> {
-    let alloc = rt.alloc();
-    let server = Server::new(alloc, RandomState::new(&rt)?)?;
-    let known = Known::new(&rt, alloc, &server, TWO_SERVICES)?;
+/// Runs a script over empty files, and tells where memory was refused.
+fn run_refused(
+    rt: &impl Abort,
+    alloc: Global,
+    hasher: RandomState,
+    script: &'static [Line],
+) -> Result<(), Fail> {
+    let server = Server::new(alloc, hasher)?;
+    let known = Known::new(rt, alloc, &server, script)?;
     let files = Files {
         log: Memory::new(alloc),
         db: Memory::new(alloc),
     };
     let mut was_refused = false;
-    run_twice(&rt, alloc, &server, &known, files, &mut was_refused)?;
+    run_twice(rt, alloc, &server, &known, files, &mut was_refused)?;
     if was_refused {
         return Err("memory was refused".into());
     }
     Ok(())
+}
+
+/// For allocations that are refused one after another: what is asked for again is made once.
+#[test]
+fn a_refusal_loses_no_charge(rt: HostRuntime) -> Result<(), Fail> {
+    run_refused(&rt, rt.alloc(), RandomState::new(&rt)?, CHARGED)
+}
+
+/// The same, of requests of two services.
+#[test]
+fn a_refusal_loses_nothing(rt: HostRuntime) -> Result<(), Fail> {
+    run_refused(&rt, rt.alloc(), RandomState::new(&rt)?, TWO_SERVICES)
 }
