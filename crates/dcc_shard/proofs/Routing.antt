@@ -3,7 +3,7 @@ use Rattle.std.proofs.Common.{◌≡◌, ◌≢◌, ℕ, zero, suc, ◌+◌, ◌
 use Rattle.std.specs.Prelude.{sum}
 use Rattle.std.proofs.Math.Nat.{mod-lt}
 use Rattle.std.proofs.lemmas.Bool.{cases_Bool, false_from_ne_true, eqb-true, eq-eqb}
-use Rattle.std.proofs.lemmas.List.{length-set, get_or-set_same, get_or-set_other}
+use Rattle.std.proofs.lemmas.List.{length-set, get_or-set_same, get_or-set_other, get_or_default}
 use Rattle.dcc_tariff.specs.Terms.{TermsView}
 use Rattle.dcc_message.specs.declared.identity.Identity.{Identity}
 use Rattle.dcc_act.specs.declared.act.Act.{Act}
@@ -19,7 +19,7 @@ use Rattle.dcc_shard.specs.declared.answers.TopUpAnswer.{TopUpAnswer}
 use Rattle.dcc_shard.specs.declared.answers.ExpiryAnswer.{ExpiryAnswer}
 use Rattle.dcc_shard.specs.Shards.{ShardView, account_in, held_in, held, held_after, AreOwn, IsStep}
 use Rattle.dcc_shard.specs.Stored.{StoredView}
-use Rattle.dcc_shard.specs.Routes.{shard_of}
+use Rattle.dcc_shard.specs.Routes.{shard_of, IsPartStep}
 use Rattle.dcc_shard.specs.inner.Routed.{rows_from, as_one, AreShards}
 use Rattle.dcc_shard.proofs.Subs.{one_or_other}
 use Rattle.dcc_shard.proofs.BookRows.{Rows, acts_held}
@@ -184,6 +184,7 @@ shards_after {R} same law terms identity shards one none judged sub act are term
 pub record AreAfter {R : Type 0} (terms : TermsView) (identity : Identity) (shards new : List (StoredView R)) (judged : Bool) (sub : Sub) (act : Act) : Type 0 where
   pub are : AreShards terms identity new
   pub step : IsStep (as_one terms identity shards) (as_one terms identity new) judged sub act
+  pub parts : IsPartStep shards new judged sub act
 
 -- the shard of a subscriber, which stands at this index, as all of them
 pub record IsAtShard {R : Type 0} (terms : TermsView) (identity : Identity) (shards : List (StoredView R)) (row : StoredView R) (sub : Sub) : Type 0 where
@@ -215,6 +216,13 @@ one_steps {R} same law terms identity shards i row one judged sub act are i_is i
     subst Q (sym i_is) (record {
       are = shards_after same law terms identity shards one row judged sub act are (step.terms ∙ there.terms_are) (step.identity ∙ there.identity_is) all;
       step = all;
+      parts = record {
+        own = λ none.
+            let was : get_or shards n none ≡ row = get_or_default shards n none row (is_below shards are.some sub) ∙ at in
+            let becomes : get_or (set shards n one) n none ≡ one = get_or-set_same shards n one none (is_below shards are.some sub) in
+            rw (was, becomes) step;
+        others = λ k none apart. get_or-set_other shards n k one none apart;
+      };
     })
 
 -- of a subscriber that its own shard has something is held

@@ -6,7 +6,7 @@ ghost use Rattle.dcc_act.specs.declared.sub.Sub.{Sub};
 ghost use Rattle.dcc_model.specs.Keys.{request_key};
 ghost use Rattle.dcc_shard.specs.Shards.{held, AreOwn, IsStep, is_among, are_apart};
 ghost use Rattle.dcc_shard.specs.Stored.{StoredView};
-ghost use Rattle.dcc_shard.specs.Routes.{shard_of, route_order};
+ghost use Rattle.dcc_shard.specs.Routes.{shard_of, route_order, IsPartStep};
 ghost use Rattle.dcc_shard.specs.Answers.{IsAnswer, IsToldApart, IsTold, is_judged, is_judged_top_up, top_up_act};
 ghost use Rattle.dcc_shard.specs.Answers.{IsExpired, is_judged_expiry, expiry_act};
 
@@ -143,6 +143,8 @@ impl<R: Records> Shards<R> {
         requires { is_some (request_key act.kind) ≡ true }
         ensures answer { IsAnswer self.old.shard sub act header.now proxies.now result }
         ensures step { IsStep self.old.shard self.new.shard (is_judged result) sub act }
+        // It is made in the shard that keeps the subscriber, and in no other.
+        ensures parts { IsPartStep self.old.parts self.new.parts (is_judged result) sub act }
         ensures own { AreOwn self.new.shard }
         ensures apart { IsToldApart result }
         ensures count { length self.new.parts ≡ length self.old.parts }
@@ -165,6 +167,8 @@ impl<R: Records> Shards<R> {
     ) -> TopUpAnswer
         ensures answer { IsTold self.old.shard sub moment ticket amount result }
         ensures step { IsStep self.old.shard self.new.shard (is_judged_top_up result) sub (top_up_act moment ticket amount) }
+        // It is made in the shard that keeps the subscriber, and in no other.
+        ensures parts { IsPartStep self.old.parts self.new.parts (is_judged_top_up result) sub (top_up_act moment ticket amount) }
         ensures own { AreOwn self.new.shard }
         ensures count { length self.new.parts ≡ length self.old.parts }
     {
@@ -179,6 +183,8 @@ impl<R: Records> Shards<R> {
     pub fn expire(&mut self, alloc: Global, sub: Sub, moment: Moment) -> ExpiryAnswer
         ensures answer { IsExpired self.old.shard sub moment result }
         ensures step { IsStep self.old.shard self.new.shard (is_judged_expiry result) sub (expiry_act moment) }
+        // It is made in the shard that keeps the subscriber, and in no other.
+        ensures parts { IsPartStep self.old.parts self.new.parts (is_judged_expiry result) sub (expiry_act moment) }
         ensures own { AreOwn self.new.shard }
         ensures count { length self.new.parts ≡ length self.old.parts }
     {

@@ -21,6 +21,11 @@ returns-clause-step g c =
     rw (← c.self.view_is) (one_steps c.same_subscribers_are_equal.ensures c.leaving_out_changes_nothing.ensures.whole c.self.inside.terms c.self.inside.identity c.self.inside.shards.items c.shard_of-i.result
     c.index_mut-shard.result.now c.top_up.new.self (is_judged_top_up c.top_up.result) c.args.sub (top_up_act c.args.moment c.args.ticket c.args.amount) c.self.invariant (c.shard_of-i.ensures.value ∙ ap (shard_of c.args.sub) (c.len.ensures ∙ c.self.inside.shards.ok.0)) c.index_mut-shard.ensures.value c.top_up.ensures.step).step
 
+pub returns-clause-parts : goal.returns-clause-parts
+returns-clause-parts g c =
+    rw (← c.self.view_is) (one_steps c.same_subscribers_are_equal.ensures c.leaving_out_changes_nothing.ensures.whole c.self.inside.terms c.self.inside.identity c.self.inside.shards.items c.shard_of-i.result
+    c.index_mut-shard.result.now c.top_up.new.self (is_judged_top_up c.top_up.result) c.args.sub (top_up_act c.args.moment c.args.ticket c.args.amount) c.self.invariant (c.shard_of-i.ensures.value ∙ ap (shard_of c.args.sub) (c.len.ensures ∙ c.self.inside.shards.ok.0)) c.index_mut-shard.ensures.value c.top_up.ensures.step).parts
+
 pub returns-clause-own : goal.returns-clause-own
 returns-clause-own g c =
     (one_steps c.same_subscribers_are_equal.ensures c.leaving_out_changes_nothing.ensures.whole c.self.inside.terms c.self.inside.identity c.self.inside.shards.items c.shard_of-i.result
