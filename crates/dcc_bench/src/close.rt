@@ -36,6 +36,9 @@ struct InMemory {
 impl Stores for InMemory {
     type Records = MemoryRecords;
 
+    // Each is made anew.
+    ghost opens = { λ _ _ _ _ _. Unit {0} };
+
     fn open(
         &self,
         _folder: &str,

@@ -71,6 +71,9 @@ struct Funded {
 impl Stores for Funded {
     type Records = MemoryRecords;
 
+    // Each is made anew.
+    ghost opens = { λ _ _ _ _ _. Unit {0} };
+
     fn open(
         &self,
         _folder: &str,

@@ -2,3 +2,4 @@ pub mod Texts
 pub mod Ledgers
 pub mod TopUps
 pub mod Commands
+pub mod Openings

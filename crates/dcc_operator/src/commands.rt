@@ -1,10 +1,14 @@
 //! Commands over the stores in a folder.
 
-ghost use Rattle.std.specs.Prelude.{◌≡◌, ◌≢◌, false, IfOk, IfErr, option_map};
+ghost use Rattle.std.specs.Prelude.{◌≡◌, ◌≢◌, Bool, false, IfOk, IfErr, IfSome, option_map};
 ghost use Rattle.std.specs.Io.KnownBytes.{Keeps};
 ghost use Rattle.dcc_records.specs.Stops.{LeavesOnly};
-ghost use Rattle.dcc_shard.specs.Shards.{held};
+ghost use Rattle.dcc_shard.specs.Answers.{top_up_act};
+ghost use Rattle.dcc_shard.specs.Routes.{shard_of};
+ghost use Rattle.dcc_shard.specs.Shards.{held, IsStep};
+ghost use Rattle.dcc_shard.specs.Stored.{StoredView};
 ghost use Rattle.dcc_operator.specs.Commands.{IsToppedUp, IsToppedUpBegun, IsShown, IsShownBegun};
+ghost use Rattle.dcc_operator.specs.Openings.{IsOpenedOver};
 ghost use Rattle.dcc_operator.specs.declared.fault.OperatorFault.TheVariants.{Output};
 
 use crate::fault::OperatorFault;
@@ -49,6 +53,10 @@ pub fn top_up_in<S: Stores, W: Write>(
     // What was told is in the records, and a stop leaves it and nothing else.
     ensures left { IfOk result (λ shard. S.Records.is_stopped shard.records ≡ false
         → LeavesOnly shard.shard.terms (held shard.shard) (S.Records.may_leave shard.records)) }
+    // The store is that of the subscriber's shard, and this top-up is all that was made in it.
+    ensures opened { IfOk result (λ shard. (before : StoredView S.Records) × (judged : Bool)
+        × IsOpenedOver (S.opens stores.now folder.now plan.now (shard_of ask.sub plan.now.shards)) S.Records.may_leave before
+        × IsStep before.shard shard.shard judged ask.sub (top_up_act ask.moment ask.ticket ask.amount)) }
     ensures silent { IfErr result (λ fault. fault ≢ Output → Keeps (W.contents output.old) (W.contents output.new)) }
     ensures part { IfErr result (λ fault. fault ≡ Output → IsToppedUpBegun plan.now identity.now ask (W.contents output.old) (W.contents output.new)) }
 {
@@ -78,6 +86,9 @@ pub fn ledger_in<S: Stores, W: Write>(
     hasher: RandomState,
 ) -> Result<Option<Shard<S::Records>>, OperatorFault>
     ensures done { IfOk result (λ shard. IsShown plan.now identity.now sub (option_map (λ stored. stored.shard) shard) (W.contents output.old) (W.contents output.new)) }
+    // The store is that of the subscriber's shard, and nothing was made in it.
+    ensures opened { IfOk result (λ shard. IfSome shard
+        (IsOpenedOver (S.opens stores.now folder.now plan.now (shard_of sub plan.now.shards)) S.Records.may_leave)) }
     ensures silent { IfErr result (λ fault. fault ≢ Output → Keeps (W.contents output.old) (W.contents output.new)) }
     ensures part { IfErr result (λ fault. fault ≡ Output → IsShownBegun plan.now identity.now sub (W.contents output.old) (W.contents output.new)) }
 {

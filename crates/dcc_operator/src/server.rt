@@ -6,6 +6,7 @@ ghost use Rattle.dcc_records.specs.Stops.{LeavesOnly};
 ghost use Rattle.dcc_shard.specs.Shards.{held, AreOwn};
 ghost use Rattle.dcc_shard.specs.Routes.{shard_of};
 ghost use Rattle.dcc_shard.specs.Stored.{StoredView};
+ghost use Rattle.dcc_operator.specs.Openings.{IsOpenedOver};
 
 use crate::stores::{StoreRefusal, Stores, shard_over};
 use dcc_message::Identity;
@@ -43,6 +44,9 @@ pub fn shards_over<S: Stores>(
     ensures found { IfOk result (λ shards. (i : ℕ) (none : StoredView S.Records) → i < length shards.items
         → LeavesOnly (slice_index_or shards.items i none).shard.terms (held (slice_index_or shards.items i none).shard)
         (S.Records.may_leave (slice_index_or shards.items i none).records)) }
+    // Each is over the store of its index, and nothing was made in it.
+    ensures opened { IfOk result (λ shards. (i : ℕ) (none : StoredView S.Records) → i < length shards.items
+        → IsOpenedOver (S.opens stores.now folder.now plan.now i) S.Records.may_leave (slice_index_or shards.items i none)) }
 {
     let count = usize::from(plan.shards());
     let mut shards = Vec::with_capacity(alloc, count)?;

@@ -3,9 +3,11 @@
 ghost use Rattle.std.specs.Prelude.{◌≡◌, ◌↔◌, ◌≢◌, ◌<◌, ◌⊎◌, true, false, [], IfOk, IfErr, IfSome};
 ghost use Rattle.dcc_act.specs.declared.sub.Sub.{Sub};
 ghost use Rattle.dcc_records.specs.Faults.{fault_number};
+ghost use Rattle.dcc_records.specs.Contents.{Content};
 ghost use Rattle.dcc_records.specs.Stops.{LeavesOnly};
 ghost use Rattle.dcc_shard.specs.Shards.{held, AreOwn};
 ghost use Rattle.dcc_shard.specs.Routes.{shard_of};
+ghost use Rattle.dcc_shard.specs.Stored.{IsLeft};
 
 use dcc_message::Identity;
 use dcc_records::{Records, StoreFault};
@@ -40,7 +42,13 @@ impl From<StoreFault> for StoreRefusal {
 /// Where the records of shards are kept: a store for each, in a folder. What opening does to files has no contract here, but that
 /// records are under the plan's terms.
 pub trait Stores {
+    ghost use Rattle.std.specs.Prelude.{ℕ, List};
+    ghost use Rattle.dcc_tariff.specs.Plans.{PlanView};
+
     type Records: Records + Send + Sync + Drop;
+
+    /// The records that an opening may give: of a folder, under a plan, of the shard of an index.
+    ghost opens: { Self → List ℕ → PlanView → ℕ → Self.Records → Type 0 };
 
     /// The records of a shard, by its index, of a server under this plan, or none where there is no store yet. No store is made.
     fn open(
@@ -50,7 +58,8 @@ pub trait Stores {
         shard: usize,
         hasher: RandomState,
     ) -> Result<Option<Self::Records>, StoreRefusal>
-        ensures terms { IfOk result (λ found. IfSome found (λ records. Self.Records.terms records ≡ plan.now.terms)) };
+        ensures terms { IfOk result (λ found. IfSome found (λ records. Self.Records.terms records ≡ plan.now.terms)) }
+        ensures given { IfOk result (λ found. IfSome found (opens self.now folder.now plan.now shard)) };
 
     /// The same, and an empty store is made where there is none.
     fn open_or_make(
@@ -60,7 +69,8 @@ pub trait Stores {
         shard: usize,
         hasher: RandomState,
     ) -> Result<Self::Records, StoreRefusal>
-        ensures terms { IfOk result (λ records. Self.Records.terms records ≡ plan.now.terms) };
+        ensures terms { IfOk result (λ records. Self.Records.terms records ≡ plan.now.terms) }
+        ensures given { IfOk result (opens self.now folder.now plan.now shard) };
 }
 
 /// The shard of these records, whose subscribers have to be those that `dcc_shard::shard_of` gives the shard of this index, of so many. The
@@ -82,6 +92,10 @@ pub fn shard_over<R: Records + Drop>(
     // What it holds is what a stop leaves, and each subscriber is this shard's.
     ensures found { IfOk result (λ shard. LeavesOnly shard.shard.terms (held shard.shard) (R.may_leave shard.records)) }
     ensures placed { IfOk result (λ shard. (sub : Sub) → held shard.shard sub ≢ [] → shard_of sub count ≡ index) }
+    // Nothing was made in it: a stop before it left the same.
+    ensures same { IfOk result (λ shard. (found : Content) → R.may_leave shard.records found → R.may_leave records found) }
+    ensures there { IfOk result (λ shard. R.is_honest shard.records → IsLeft shard.shard.terms (held shard.shard) (R.may_leave shard.records)) }
+    ensures going { IfOk result (λ shard. R.is_stopped shard.records ≡ R.is_stopped records) }
     // The number of a fault: those of the records, each only where they have it, and 54.
     ensures device { IfErr result (λ refusal. refusal.0 ≡ 51 → R.is_stopped records ≡ false) }
     ensures stopped { IfErr result (λ refusal. refusal.0 ≡ 52 → R.is_stopped records ≡ true) }

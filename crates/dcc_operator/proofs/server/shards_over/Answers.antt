@@ -1,6 +1,7 @@
-use Rattle.std.proofs.Common.{rules, ◌≡◌, ◌∙◌, ℕ, length, List, sym, subst}
+use Rattle.std.proofs.Common.{rules, ◌≡◌, ◌∙◌, ℕ, length, get_or, List, sym, subst}
 use Rattle.dcc_shard.specs.Routes.{shard_of}
 use Rattle.dcc_shard.specs.Stored.{StoredView}
+use Rattle.dcc_operator.specs.Openings.{IsOpenedOver}
 use Rattle.dcc_operator.proofs.Served.{AreServed, from_zero, with_next}
 use Rattle.dcc_operator.proofs.server.shards_over.Goals as goal
 
@@ -8,19 +9,22 @@ pub loop-index-preserved : goal.loop-index-preserved
 loop-index-preserved g c =
     let e = c.in_ok-shard.ensures in
     let i = c.loop-index.invariant in
-    let more = with_next g.S.Records.Records.may_leave c.args.plan.now.terms c.args.identity.now c.from-count.result 0 c.loop-index.shards.items c.in_ok-shard.shard i.served
+    let more = with_next (g.S.Stores.opens c.args.stores.now c.args.folder.now c.args.plan.now) g.S.Records.Records.may_leave c.args.plan.now.terms c.args.identity.now c.from-count.result 0 c.loop-index.shards.items c.in_ok-shard.shard i.served
     (record {
       terms_are = e.terms ∙ c.in_ok-records.ensures.terms;
       identity_is = e.identity;
       placed = λ sub some. e.placed sub some ∙ sym i.many ∙ sym (from_zero (length c.loop-index.shards.items));
       own = e.own;
       found = e.found;
+      opened = subst (λ (n : ℕ). IsOpenedOver (g.S.Stores.opens c.args.stores.now c.args.folder.now c.args.plan.now n) g.S.Records.Records.may_leave c.in_ok-shard.shard)
+          (sym i.many ∙ sym (from_zero (length c.loop-index.shards.items)))
+          (record { given = c.in_ok-records.records; opened = c.in_ok-records.ensures.given; same = e.same; left = e.found });
     }) in
     record {
       many = search rules;
       room = search rules;
       within = search rules;
-      served = subst (λ shards. AreServed g.S.Records.Records.may_leave c.args.plan.now.terms c.args.identity.now c.from-count.result shards) (sym c.push_reserved.ensures.items) more;
+      served = subst (λ shards. AreServed (g.S.Stores.opens c.args.stores.now c.args.folder.now c.args.plan.now) g.S.Records.Records.may_leave c.args.plan.now.terms c.args.identity.now c.from-count.result shards) (sym c.push_reserved.ensures.items) more;
     }
 
 pub returns-clause-terms : goal.returns-clause-terms
@@ -39,3 +43,8 @@ returns-clause-own g c = λ i none below. (c.loop-index.invariant.served i none 
 
 pub returns-clause-found : goal.returns-clause-found
 returns-clause-found g c = λ i none below. (c.loop-index.invariant.served i none below).found
+
+pub returns-clause-opened : goal.returns-clause-opened
+returns-clause-opened g c = λ i none below.
+    subst (λ (n : ℕ). IsOpenedOver (g.S.Stores.opens c.args.stores.now c.args.folder.now c.args.plan.now n) g.S.Records.Records.may_leave (get_or c.loop-index.shards.items i none))
+    (from_zero i) (c.loop-index.invariant.served i none below).opened
