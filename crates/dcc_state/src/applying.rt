@@ -1,9 +1,9 @@
 //! Changes are made: of the money in the pool, and of the sessions with their holds.
 
-ghost use Rattle.std.specs.Prelude.{◌≡◌, ℕ, List, Some, if◌then◌else◌, ◌≤◌, ◌<◌, ◌+◌, ◌*◌, ◌∷◌, [], ◌++◌, filter, not, pos, ◌+ℤ◌, ◌-ℤ◌, sum_by, vec_len, vec_capacity};
+ghost use Rattle.std.specs.Prelude.{◌≡◌, ℕ, List, Some, None, if◌then◌else◌, ◌≤◌, ◌<◌, ◌+◌, ◌*◌, ◌∷◌, [], ◌++◌, filter, not, pos, ◌+ℤ◌, ◌-ℤ◌, sum_by, vec_len, vec_capacity};
 ghost use Rattle.dcc_escrow.specs.Pools.{free};
 ghost use Rattle.dcc_act.specs.declared.limits.TheConstants.{MAX_SERVICES};
-ghost use Rattle.dcc_expiry.specs.Deadlines.{deadline_of, same_session};
+ghost use Rattle.dcc_expiry.specs.Deadlines.{deadline_of, later_than, same_session};
 ghost use Rattle.dcc_session.specs.Grants.{prices, charges_in, overruns_in};
 ghost use Rattle.dcc_state.specs.Backed.{IsBorne, IsPosted, GoesOn, IsBacked};
 ghost use Rattle.dcc_state.specs.Known.{after_turn, changed, funds_after, overrun_with, prices_of, HoldsAll};
@@ -41,13 +41,9 @@ impl Change {
                 0
             }
             Change::Open(turn) => go_on(sessions, due, pool, turn),
-            Change::End { sid, services } => {
-                due.clear(&sid);
-                end(sessions, pool, &sid, &services)
-            }
+            Change::End { sid, services } => end(sessions, due, pool, &sid, &services),
             Change::Expire(moment) => {
-                due.clear_due(moment);
-                end_over(sessions, pool, moment);
+                end_over(sessions, due, pool, moment);
                 0
             }
         }
@@ -116,10 +112,11 @@ fn go_on(sessions: &mut Vec<OpenSession>, due: &mut Due, pool: &mut Pool, turn: 
     charges.overrun
 }
 
-/// A session ends, after what its services report is charged, and all that it holds is given back. What is charged beyond
-/// what they held is told.
+/// A session ends, after what its services report is charged, and all that it holds is given back; its deadline is kept no
+/// longer. What is charged beyond what they held is told.
 fn end(
     sessions: &mut Vec<OpenSession>,
+    due: &mut Due,
     pool: &mut Pool,
     sid: &SessionId,
     services: &Services,
@@ -128,24 +125,29 @@ fn end(
     requires holds { HoldsAll pool.old sessions.old.items }
     requires borne { IsBorne pool.old.committed (own_in sessions.old.items sid.now) services.now }
     ensures sessions { sessions.new.items ≡ filter (λ other. not (is_session sid.now other)) sessions.old.items }
+    ensures due { (other : List ℕ) → deadline_of due.new other
+        ≡ (if same_session sid.now other then None else deadline_of due.old other) }
     ensures holds { HoldsAll pool.new sessions.new.items }
     ensures funds { pool.new.committed ≡ pool.old.committed -ℤ pos (charges_in (own_in sessions.old.items sid.now) services.now) }
     ensures overrun { result ≡ overruns_in (own_in sessions.old.items sid.now) services.now }
     ensures bound { result ≤ MAX_SERVICES * MAX_PRICE }
 {
+    due.clear(sid);
     let mut open = resume(sessions, pool, sid);
     let charges = open.report_all(pool, services);
     open.end(pool);
     charges.overrun
 }
 
-/// The sessions end whose time is over at this moment, and all that they hold is given back.
-fn end_over(sessions: &mut Vec<OpenSession>, pool: &mut Pool, moment: Moment)
+/// The sessions end whose time is over at this moment, and all that they hold is given back; their deadlines are kept no longer.
+fn end_over(sessions: &mut Vec<OpenSession>, due: &mut Due, pool: &mut Pool, moment: Moment)
     requires { HoldsAll pool.old sessions.old.items }
     ensures sessions { sessions.new.items ≡ filter (λ other. not (is_over_at moment other)) sessions.old.items }
+    ensures due { (sid : List ℕ) → deadline_of due.new sid ≡ later_than moment (deadline_of due.old sid) }
     ensures holds { HoldsAll pool.new sessions.new.items }
     ensures funds { pool.new.committed ≡ pool.old.committed }
 {
+    due.clear_due(moment);
     while let Some(at) = place_over(sessions, moment) {
         let over = sessions.remove(at);
         over.session.resume().end(pool);

@@ -7,9 +7,9 @@ returns-in-Open-clause-due c =
 
 pub returns-in-End-clause-due : goal.returns-in-End-clause-due
 returns-in-End-clause-due c =
-    rw c.end.ensures.sessions (kept_end c.args.due.now c.clear.new.self _ c.args.sessions.now.items c.requires.due c.clear.ensures)
+    rw c.end.ensures.sessions (kept_end c.args.due.now c.end.new.due _ c.args.sessions.now.items c.requires.due c.end.ensures.due)
 
 pub returns-in-Expire-clause-due : goal.returns-in-Expire-clause-due
 returns-in-Expire-clause-due c =
     rw c.end_over.ensures.sessions
-    (kept_expire c.args.due.now c.clear_due.new.self c.in-Expire.moment c.args.sessions.now.items c.requires.apart c.requires.due c.clear_due.ensures)
+    (kept_expire c.args.due.now c.end_over.new.due c.in-Expire.moment c.args.sessions.now.items c.requires.apart c.requires.due c.end_over.ensures.due)
