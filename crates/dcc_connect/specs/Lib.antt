@@ -1,4 +1,5 @@
 pub mod Faults
+pub mod Clocks
 pub mod Streams
 pub mod Reading
 pub mod Writing

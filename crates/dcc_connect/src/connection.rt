@@ -1,5 +1,6 @@
 //! A whole connection, served by one thread.
 
+ghost use Rattle.dcc_connect.specs.Clocks.{timed};
 ghost use Rattle.dcc_connect.specs.Reading.{EndsAtEnd};
 ghost use Rattle.dcc_connect.specs.Serving.{ReadsAndServes};
 ghost use Rattle.dcc_connect.specs.inner.Answering.{AnswersReady};
@@ -47,7 +48,7 @@ pub fn serve_connection<I: Read, O: Write, C: Clock, A: Answerer>(
     answerer: &mut A,
     turns: u32,
 ) -> ConnectionEnd
-    ensures served { ReadsAndServes A.answers result turns (I.remaining input.old) (I.remaining input.new)
+    ensures served { ReadsAndServes (timed (C.tells clock.now) A.answers) result turns (I.remaining input.old) (I.remaining input.new)
         (O.contents output.old) (O.contents output.new) answerer.old answerer.new }
     ensures end { EndsAtEnd result (I.remaining input.new) }
 {
@@ -79,7 +80,7 @@ fn answer_ready<O: Write, C: Clock, A: Answerer>(
     answerer: &mut A,
     tally: &mut Tally,
 ) -> Result<(), ConnectionEnd>
-    ensures { AnswersReady A.answers result framer.old framer.new answerer.old answerer.new (O.contents output.old) (O.contents output.new)
+    ensures { AnswersReady (timed (C.tells clock.now) A.answers) result framer.old framer.new answerer.old answerer.new (O.contents output.old) (O.contents output.new)
         (record { left = tally.old.left; written = tally.old.written }) (record { left = tally.new.left; written = tally.new.written }) }
 {
     while let Some(message) = next_message(framer)? {

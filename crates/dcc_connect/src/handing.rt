@@ -5,8 +5,14 @@ use std::sync::Wait;
 
 /// The clock's moments.
 pub trait Clock {
+    ghost use Rattle.std.specs.Prelude.{ℕ};
+
+    /// The moments that it may tell.
+    ghost tells: { Self → ℕ → Type 0 };
+
     /// The moment as of now.
-    fn moment(&self) -> Moment;
+    fn moment(&self) -> Moment
+        ensures { tells self.now result };
 }
 
 /// Whether the connection stays behind a message.

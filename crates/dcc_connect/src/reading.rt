@@ -1,5 +1,6 @@
 //! The reader's side of a connection.
 
+ghost use Rattle.dcc_connect.specs.Clocks.{timed};
 ghost use Rattle.dcc_connect.specs.Reading.{ReadsAndHands, EndsAtEnd, HandsOn, HandsLast};
 ghost use Rattle.dcc_connect.specs.inner.Steps.{HandsReady};
 
@@ -28,7 +29,7 @@ pub fn read_side<W: Wait, I: Read, C: Clock, S: Submitter>(
     to: &mut S,
     turns: u32,
 ) -> ConnectionEnd
-    ensures handed { ReadsAndHands S.hands result turns (I.remaining input.old) (I.remaining input.new) to.old to.new }
+    ensures handed { ReadsAndHands (timed (C.tells clock.now) S.hands) result turns (I.remaining input.old) (I.remaining input.new) to.old to.new }
     ensures end { EndsAtEnd result (I.remaining input.new) }
 {
     stream_laws();
@@ -54,7 +55,7 @@ fn hand_ready<W: Wait, C: Clock, S: Submitter>(
     clock: &C,
     to: &mut S,
 ) -> Result<(), ConnectionEnd>
-    ensures { HandsReady (HandsOn S.hands) (HandsLast S.hands) result framer.old framer.new to.old to.new }
+    ensures { HandsReady (HandsOn (timed (C.tells clock.now) S.hands)) (HandsLast (timed (C.tells clock.now) S.hands)) result framer.old framer.new to.old to.new }
 {
     while let Some(message) = next_message(framer)? {
         match to.hand(rt, clock.moment(), message.as_slice()) {

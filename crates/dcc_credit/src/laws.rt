@@ -17,8 +17,16 @@ ghost use Rattle.dcc_act.specs.declared.outcome.Outcome.{Outcome};
 ghost use Rattle.dcc_credit.specs.Answers.{answer_avps, answer_octets, HasLimits};
 ghost use Rattle.dcc_credit.specs.Refusals.{Taken, taken_from, refusal_octets, unread_octets};
 
+use crate::answer::USER_UNKNOWN;
+use crate::use_of_grants::TERMINATE;
 use dcc_answer::busy_by_result;
 use dcc_request::shown_within;
+
+/// The numbers that answers cite by name are those of RFC 8506: DIAMETER_USER_UNKNOWN (section 9.2) and TERMINATE (section 8.35).
+pub fn numbers_are_given()
+    ensures unknown { USER_UNKNOWN ≡ 5030 }
+    ensures terminate { TERMINATE ≡ 0 }
+{}
 
 /// No answer of an outcome and no refusal is the busy answer, where the names, the outcome and what a refusal shows are within
 /// their limits and the proxies are Proxy-Info that can be spelled. Each of them has at least a header.

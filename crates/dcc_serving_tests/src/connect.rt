@@ -85,6 +85,10 @@ impl Write for Sink {
 struct Stopped(Moment);
 
 impl Clock for Stopped {
+    ghost use Rattle.std.specs.Prelude.{◌≡◌};
+
+    ghost tells = { λ clock moment. moment ≡ clock.0 };
+
     fn moment(&self) -> Moment {
         self.0
     }

@@ -1,11 +1,12 @@
 use Rattle.std.proofs.Common.{length}
 use Rattle.dcc_message.specs.Streams.{messages}
+use Rattle.dcc_connect.specs.Clocks.{timed}
 use Rattle.dcc_connect.specs.inner.Answering.{HasAnswered}
 use Rattle.dcc_connect.proofs.connection.answer_ready.Given as goal
 
 abbrev pub invariant-loop-message : goal.invariant-loop-message
 invariant-loop-message g l =
-    HasAnswered g.A.Answerer.answers l.fn.framer l.framer l.fn.answerer l.answerer (g.O.Write.contents l.fn.output) (g.O.Write.contents l.output)
+    HasAnswered (timed (g.C.Clock.tells l.fn.clock) g.A.Answerer.answers) l.fn.framer l.framer l.fn.answerer l.answerer (g.O.Write.contents l.fn.output) (g.O.Write.contents l.output)
     (record { left = l.fn.tally.left; written = l.fn.tally.written }) (record { left = l.tally.left; written = l.tally.written })
 
 abbrev pub decreases-loop-message : goal.decreases-loop-message
