@@ -5,6 +5,7 @@ use Rattle.std.proofs.lemmas.Bool.{cases_Bool}
 use Rattle.std.proofs.lemmas.Int.{ints}
 use Rattle.std.proofs.lemmas.List.{reverse-append, reverse-reverse, map-append, length-reverse, length_push}
 use Rattle.dcc_escrow.specs.Pools.{PoolView, free as left}
+use Rattle.dcc_expiry.specs.Deadlines.{DueView, deadline_of}
 use Rattle.dcc_tariff.specs.Terms.{TermsView}
 use Rattle.dcc_act.specs.declared.act.Act.{Act}
 use Rattle.dcc_act.specs.declared.entry.Entry.{Entry}
@@ -17,11 +18,12 @@ use Rattle.dcc_model.specs.Outcomes.{after, has_account, first_of, outcome_of, p
 use Rattle.dcc_model.specs.Entries.{entries_of, entries_with, entries}
 use Rattle.dcc_model.specs.Money.{funds_of, overrun_of, reserved_of, free_of}
 use Rattle.dcc_model.specs.Laws.{OneMoreAct, IsKeyed, AreKeyed}
+use Rattle.dcc_model.specs.Sessions.{Sid}
 use Rattle.dcc_state.specs.declared.facts.Facts.{Facts}
 use Rattle.dcc_state.specs.declared.change.Change.{Change}
 use Rattle.dcc_state.specs.Backed.{IsBacked}
 use Rattle.dcc_state.specs.Known.{was_opened_by, HoldsAll, IsKnown, IsWithin, MoneyIsWithin, SessionsHoldWhatIsReserved}
-use Rattle.dcc_state.specs.OpenSessions.{SessionView, AreOpen}
+use Rattle.dcc_state.specs.OpenSessions.{SessionView, AreOpen, KeepsDeadlines}
 use Rattle.dcc_account.specs.Accounts.{AccountView}
 use Rattle.dcc_account.specs.declared.indexes.Indexes.{Indexes}
 use Rattle.dcc_account.specs.inner.Indexed.{IsIndexed}
@@ -121,10 +123,10 @@ room_of size None more count room one h = omega (arith, one, h)
 room_of size (Some v) more count room one h = omega (arith, one, h)
 
 -- the money of the pool is that of the definitions
-pub free_is : SessionsHoldWhatIsReserved → (terms : TermsView) (made : List Done) (posted : List Entry) (pool : PoolView) (over : ℤ) (sessions : List SessionView) (indexes : Indexes)
-    → IsRunning terms made posted pool over sessions indexes → left pool ≡ free terms (map act_made made)
+pub free_is : SessionsHoldWhatIsReserved → (terms : TermsView) (made : List Done) (posted : List Entry) (pool : PoolView) (over : ℤ) (sessions : List SessionView) (due : DueView) (indexes : Indexes)
+    → IsRunning terms made posted pool over sessions due indexes → left pool ≡ free terms (map act_made made)
 unfolding funds free
-free_is law terms made posted pool over sessions indexes is =
+free_is law terms made posted pool over sessions due indexes is =
     let past = history terms (reverse (map act_made made)) in
     ap (λ (held : ℕ). pool.committed -ℤ pos held) (is.holds.reserved ∙ law terms (map act_made made) sessions is.sessions_are)
     ∙ ap (λ (money : ℤ). money -ℤ pos (reserved_of terms past)) is.funds_are
@@ -148,13 +150,13 @@ unfolding standing free
 free_in terms all money is = ap (λ (s : Standing). s.free) is
 
 -- what is known of the acts that were made
-pub known_at : (terms : TermsView) (made : List Done) (posted : List Entry) (pool : PoolView) (over : ℤ) (sessions given : List SessionView) (indexes : Indexes) (act : Act) (facts : Facts) (first : Option Outcome)
-    → IsRunning terms made posted pool over sessions indexes
+pub known_at : (terms : TermsView) (made : List Done) (posted : List Entry) (pool : PoolView) (over : ℤ) (sessions given : List SessionView) (due : DueView) (indexes : Indexes) (act : Act) (facts : Facts) (first : Option Outcome)
+    → IsRunning terms made posted pool over sessions due indexes
     → given ≡ sessions → facts.count ≡ length made → facts.has_account ≡ has_account (reverse made) → facts.was_opened ≡ was_opened_by (reverse made) (request_key act.kind)
     → facts.place ≡ place_of_key (map act_made (reverse made)) act.kind → first ≡ option_map outcome_of (first_of (reverse made) act.kind) → facts.standing ≡ standing terms (map act_made made)
     → IsKnown terms (map act_made made) act facts first given
 unfolding standing
-known_at terms made posted pool over sessions given indexes act facts first is same count account opened place first_is standing_is =
+known_at terms made posted pool over sessions given due indexes act facts first is same count account opened place first_is standing_is =
     let past = history terms (reverse (map act_made made)) in
     let own = is.kept.own in
     record {
@@ -169,11 +171,11 @@ known_at terms made posted pool over sessions given indexes act facts first is s
     }
 
 -- the money of an account can be reckoned with
-pub within_at : MoneyIsWithin → (terms : TermsView) (made : List Done) (posted : List Entry) (pool : PoolView) (over : ℤ) (sessions given : List SessionView) (indexes : Indexes)
-    → IsRunning terms made posted pool over sessions indexes → (money : Standing) → money ≡ standing terms (map act_made made)
+pub within_at : MoneyIsWithin → (terms : TermsView) (made : List Done) (posted : List Entry) (pool : PoolView) (over : ℤ) (sessions given : List SessionView) (due : DueView) (indexes : Indexes)
+    → IsRunning terms made posted pool over sessions due indexes → (money : Standing) → money ≡ standing terms (map act_made made)
     → given ≡ sessions → length made < 9_223_372_036_854_775_808 → IsWithin money given
 unfolding standing overrun
-within_at law terms made posted pool over sessions given indexes is money money_is same few =
+within_at law terms made posted pool over sessions given due indexes is money money_is same few =
     let past = history terms (reverse (map act_made made)) in
     let most = is.overrun_is in
     let over_is = is.overrun_are in
@@ -185,16 +187,17 @@ pub backed_by : (a b c d : ℤ) (sessions given : List SessionView) (change : Ch
 backed_by a b c d sessions given change is e f g = rw (e, f, g) is
 
 -- the sessions and the money after one more act
-pub running_with : (terms : TermsView) (made : List Done) (posted : List Entry) (pool : PoolView) (over : ℤ) (sessions : List SessionView) (indexes : Indexes) (done : Done)
-    → IsKept terms (made ++ done ∷ []) posted → AreOpen terms (with_act terms (history terms (reverse (map act_made made))) done.act) sessions → HoldsAll pool sessions
+pub running_with : (terms : TermsView) (made : List Done) (posted : List Entry) (pool : PoolView) (over : ℤ) (sessions : List SessionView) (due : DueView) (indexes : Indexes) (done : Done)
+    → IsKept terms (made ++ done ∷ []) posted → AreOpen terms (with_act terms (history terms (reverse (map act_made made))) done.act) sessions → KeepsDeadlines due sessions → HoldsAll pool sessions
     → pool.committed ≡ funds terms (map act_made made ++ done.act ∷ []) → over ≡ pos (overrun terms (map act_made made ++ done.act ∷ []))
-    → over ≤ℤ pos (MAX_OVERRUN * (length made + 1)) → IsIndexed (done ∷ reverse made) indexes → IsRunning terms (made ++ done ∷ []) posted pool over sessions indexes
-running_with terms made posted pool over sessions indexes done kept are holds funds_are overrun_are most indexed =
+    → over ≤ℤ pos (MAX_OVERRUN * (length made + 1)) → IsIndexed (done ∷ reverse made) indexes → IsRunning terms (made ++ done ∷ []) posted pool over sessions due indexes
+running_with terms made posted pool over sessions due indexes done kept are due_are holds funds_are overrun_are most indexed =
     let pushed : map act_made (made ++ done ∷ []) ≡ map act_made made ++ done.act ∷ [] = map-append act_made made (done ∷ []) in
     let more = length_push made done in
     record {
       kept = kept;
       sessions_are = subst (λ (past : List Done). AreOpen terms past sessions) (sym (ap (λ (xs : List Act). history terms (reverse xs)) pushed ∙ history_push terms (map act_made made) done.act)) are;
+      due_are = due_are;
       holds = holds;
       funds_are = funds_are ∙ sym (ap (funds terms) pushed);
       overrun_are = overrun_are ∙ sym (ap (λ (xs : List Act). pos (overrun terms xs)) pushed);
@@ -202,6 +205,11 @@ running_with terms made posted pool over sessions indexes done kept are holds fu
       indexed = subst (λ (past : List Done). IsIndexed past indexes) (sym (reverse-append made (done ∷ []))) indexed;
     }
 
-pub running_at : (terms : TermsView) (made made' : List Done) (posted posted' : List Entry) (pool : PoolView) (over : ℤ) (sessions : List SessionView) (indexes : Indexes)
-    → IsRunning terms made posted pool over sessions indexes → made' ≡ made → posted' ≡ posted → IsRunning terms made' posted' pool over sessions indexes
-running_at terms made made' posted posted' pool over sessions indexes is m p = rw (m, p) is
+pub running_at : (terms : TermsView) (made made' : List Done) (posted posted' : List Entry) (pool : PoolView) (over : ℤ) (sessions : List SessionView) (due : DueView) (indexes : Indexes)
+    → IsRunning terms made posted pool over sessions due indexes → made' ≡ made → posted' ≡ posted → IsRunning terms made' posted' pool over sessions due indexes
+running_at terms made made' posted posted' pool over sessions due indexes is m p = rw (m, p) is
+
+-- deadlines that are the same at each name are kept of the same sessions
+pub due_same : (before after : DueView) (sessions given : List SessionView) → KeepsDeadlines before sessions → ((sid : Sid) → deadline_of after sid ≡ deadline_of before sid) → given ≡ sessions
+    → KeepsDeadlines after given
+due_same before after sessions given kept same is = rw is (λ sid. same sid ∙ kept sid)

@@ -1,25 +1,27 @@
 -- Memory for more, which an account has or a step brings.
 use Rattle.std.specs.Prelude.{ℕ, Option}
 
--- how many keys an index has, and for how many more it has memory
+-- how many keys an index has, or deadlines are kept, and for how many more it has memory
 pub record Held : Type 0 where
   pub count : ℕ
   pub room : ℕ
 
--- for how many more acts, entries, open sessions and keys an account has memory
+-- for how many more acts, entries, open sessions, deadlines and keys an account has memory
 pub record Room : Type 0 where
   pub acts : ℕ
   pub entries : ℕ
   pub sessions : ℕ
+  pub due : Held
   pub requests : Held
   pub tickets : Held
   pub opened : Held
 
--- the capacities of the larger vectors and indexes that a step brings
+-- the capacities of the larger vectors, deadlines and indexes that a step brings
 pub record Space : Type 0 where
   pub acts : Option ℕ
   pub entries : Option ℕ
   pub sessions : Option ℕ
+  pub due : Option ℕ
   pub requests : Option ℕ
   pub tickets : Option ℕ
   pub opened : Option ℕ

@@ -15,6 +15,7 @@ use crate::new_keys::NewKeys;
 use crate::step::Step;
 use dcc_act::{Act, Entry, Looks, Outcome, RequestKey};
 use dcc_escrow::Pool;
+use dcc_expiry::Due;
 use dcc_model::{Done, Standing, funds_are_accounted_for, keys_are_apart, one_more_act};
 use dcc_state::{
     Facts, Judgement, OpenSession, POOL, judge, money_is_within, sessions_hold_what_is_reserved,
@@ -33,6 +34,7 @@ pub struct Account {
     pub(crate) pool: Pool,
     overrun: i128,
     sessions: Vec<OpenSession>,
+    due: Due,
     indexes: Indexes,
 }
 
@@ -41,6 +43,7 @@ impl Model for Account {
     ghost use Rattle.indexmap.specs.IndexMap as map;
     ghost use Rattle.indexmap.specs.IndexSet as set;
     ghost use Rattle.dcc_model.specs.Outcomes.{act_made};
+    ghost use Rattle.dcc_expiry.specs.Deadlines.{count_of};
     ghost use Rattle.dcc_account.specs.Accounts.{AccountView};
     ghost use Rattle.dcc_account.specs.inner.Kept.{IsRunning};
 
@@ -54,13 +57,14 @@ impl Model for Account {
         acts = vec_capacity a.acts - vec_len a.acts;
         entries = vec_capacity a.entries - vec_len a.entries;
         sessions = vec_capacity a.sessions - vec_len a.sessions;
+        due = record { count = count_of a.due; room = a.due.room };
         requests = record { count = map.index_map_len a.indexes.requests; room = map.spare a.indexes.requests };
         tickets = record { count = map.index_map_len a.indexes.tickets; room = map.spare a.indexes.tickets };
         opened = record { count = set.index_set_len a.indexes.opened; room = set.spare a.indexes.opened };
       };
     } };
 
-    ghost invariant = { λ a. IsRunning a.terms a.acts.items a.entries.items a.pool a.overrun a.sessions.items a.indexes };
+    ghost invariant = { λ a. IsRunning a.terms a.acts.items a.entries.items a.pool a.overrun a.sessions.items a.due a.indexes };
 }
 
 impl Account {
@@ -79,6 +83,7 @@ impl Account {
             pool: Pool::new(POOL),
             overrun: 0,
             sessions: Vec::new(alloc),
+            due: Due::new(alloc),
             indexes: Indexes::new(alloc, hasher),
         }
     }
@@ -174,6 +179,7 @@ impl Account {
             larger_acts: larger(alloc, &self.acts, more)?,
             larger_entries: larger(alloc, &self.entries, entries.len())?,
             larger_sessions: larger(alloc, &self.sessions, 1)?,
+            larger_due: self.due.larger()?,
             larger_indexes: self.indexes.larger(alloc, more)?,
             keys: NewKeys::of(&act.kind, &outcome)?,
             act,
@@ -199,6 +205,7 @@ impl Account {
             grow(&mut self.acts, step.larger_acts);
             grow(&mut self.entries, step.larger_entries);
             grow(&mut self.sessions, step.larger_sessions);
+            self.due.grow(step.larger_due);
             self.indexes.grow(step.larger_indexes);
             self.indexes.add(step.keys, self.acts.len() as u64 + 1);
             self.acts.push_reserved(Done {
@@ -206,7 +213,9 @@ impl Account {
                 outcome: step.outcome,
             });
             append(&mut self.entries, step.entries);
-            let overrun = step.change.apply(&mut self.sessions, &mut self.pool);
+            let overrun = step
+                .change
+                .apply(&mut self.sessions, &mut self.due, &mut self.pool);
             self.overrun += i128::from(overrun);
         }
     }
@@ -225,6 +234,7 @@ impl Account {
             &facts,
             first,
             &self.sessions,
+            &self.due,
             act,
             looks,
         )

@@ -5,6 +5,7 @@ ghost use Rattle.std.specs.Prelude.{◌≡◌};
 use crate::indexes::LargerIndexes;
 use crate::new_keys::NewKeys;
 use dcc_act::{Act, Entry, Outcome};
+use dcc_expiry::Due;
 use dcc_model::Done;
 use dcc_state::{Change, OpenSession};
 use std::marker::Model;
@@ -24,6 +25,7 @@ pub struct Step {
     pub(crate) larger_acts: Option<Vec<Done>>,
     pub(crate) larger_entries: Option<Vec<Entry>>,
     pub(crate) larger_sessions: Option<Vec<OpenSession>>,
+    pub(crate) larger_due: Option<Due>,
     pub(crate) larger_indexes: LargerIndexes,
 }
 
@@ -32,6 +34,7 @@ impl Model for Step {
     ghost use Rattle.std.specs.Option.{ForSome};
     ghost use Rattle.indexmap.specs.IndexMap as map;
     ghost use Rattle.indexmap.specs.IndexSet as set;
+    ghost use Rattle.dcc_expiry.specs.Deadlines.{count_of};
     ghost use Rattle.dcc_account.specs.Prepared.{StepView};
     ghost use Rattle.dcc_account.specs.inner.Indexed.{AreKeysOf, AreEmpty};
 
@@ -49,6 +52,7 @@ impl Model for Step {
         acts = option_map (λ v. vec_capacity v) s.larger_acts;
         entries = option_map (λ v. vec_capacity v) s.larger_entries;
         sessions = option_map (λ v. vec_capacity v) s.larger_sessions;
+        due = option_map (λ due. due.room) s.larger_due;
         requests = option_map (λ m. map.spare m) s.larger_indexes.requests;
         tickets = option_map (λ m. map.spare m) s.larger_indexes.tickets;
         opened = option_map (λ m. set.spare m) s.larger_indexes.opened;
@@ -56,7 +60,7 @@ impl Model for Step {
     } };
 
     ghost invariant = { λ s. ForSome s.larger_acts (λ v. v.items ≡ []) × ForSome s.larger_entries (λ v. v.items ≡ [])
-        × ForSome s.larger_sessions (λ v. v.items ≡ []) × AreEmpty s.larger_indexes × AreKeysOf s.act.kind s.outcome s.keys };
+        × ForSome s.larger_sessions (λ v. v.items ≡ []) × ForSome s.larger_due (λ due. count_of due ≡ 0) × AreEmpty s.larger_indexes × AreKeysOf s.act.kind s.outcome s.keys };
 }
 
 impl Step {

@@ -54,9 +54,9 @@ impl Stores for InMemory {
         _folder: &str,
         plan: &Plan,
         _shard: usize,
-        _hasher: RandomState,
+        hasher: RandomState,
     ) -> Result<MemoryRecords, StoreRefusal> {
-        Ok(MemoryRecords::new(self.alloc, plan.terms()))
+        Ok(MemoryRecords::new(self.alloc, plan.terms(), hasher))
     }
 }
 

@@ -92,7 +92,7 @@ impl Stores for Funded {
         hasher: RandomState,
     ) -> Result<MemoryRecords, StoreRefusal> {
         let identity = identity_of(self.alloc, plan)?;
-        let records = MemoryRecords::new(self.alloc, plan.terms());
+        let records = MemoryRecords::new(self.alloc, plan.terms(), hasher);
         let count = usize::from(plan.shards());
         let mut made = shard_over(self.alloc, &identity, records, shard, count, hasher)?;
         fund_all(self.alloc, &mut made, shard, count, self.moment)?;

@@ -1,12 +1,12 @@
 -- One row less, or one more, and the first of the rows.
-use Rattle.std.proofs.Common.{◌≡◌, ◌≤◌, ◌<◌, ℕ, zero, suc, true, false, not, cond, List, [], ◌∷◌, length, get_or, nat_le, Option, Some, None, refl, sym, ap, ◌∙◌, arith, inl, inr}
+use Rattle.std.proofs.Common.{◌≡◌, ◌≤◌, ◌<◌, ℕ, zero, suc, true, false, not, cond, List, [], ◌∷◌, length, get_or, drop, nat_le, Option, Some, None, refl, sym, ap, ◌∙◌, arith, inl, inr}
 use Rattle.std.specs.Prelude.{filter, is_none, slice_get, unwrap_or, IfSome}
 use Rattle.std.specs.List.{insert}
 use Rattle.std.specs.List.Sorted.{IsNonDecreasingBy, IsPartitionedBy}
 use Rattle.std.specs.Cmp.Lexicographic.{nat_list_eq_equiv}
 use Rattle.std.proofs.lemmas.Bool.{cases_Bool, and_parts, and_from}
 use Rattle.std.proofs.lemmas.Bool.Decides.{nat_tests}
-use Rattle.dcc_expiry.specs.Deadlines.{deadline_in, same_session}
+use Rattle.dcc_expiry.specs.Deadlines.{deadline_in, later_than, same_session}
 use Rattle.dcc_expiry.specs.declared.row.Row.{Row}
 use Rattle.dcc_expiry.specs.inner.Rows.{are_once}
 
@@ -105,3 +105,53 @@ first_least [] row low first ordered below sid = tt
 first_least (head ∷ rows) row low first ordered below sid =
     let same : head.deadline ≡ row.deadline = ap (λ (found : Option Row). (unwrap_or found row).deadline) first in
     none_below (head ∷ rows) low (λ k d lt. let up = ordered 0 k d (omega arith) lt in omega (arith, up, same, below)) sid
+
+-- what is later than a moment stays
+later_stay : (moment : ℕ) (deadline : Option ℕ) → IfSome deadline (λ until. suc moment ≤ until) → deadline ≡ later_than moment deadline
+later_stay moment None later = refl
+later_stay moment (Some until) later = let no : nat_le until moment ≡ false = grind (arith, nat_tests, later) in rw no refl
+
+is_none_is : (deadline : Option ℕ) → is_none deadline ≡ true → deadline ≡ None
+is_none_is None h = refl
+is_none_is (Some until) h = absurd cc
+
+-- two sessions that are one have one deadline
+alike_in : (rows : List Row) (a b : List ℕ) → same_session a b ≡ true → deadline_in rows a ≡ deadline_in rows b
+alike_in [] a b h = refl
+alike_in (row ∷ rows) a b h =
+    let rest = alike_in rows a b h in
+    let e : same_session row.session a ≡ same_session row.session b = turned row.session a ∙ alike a b row.session h ∙ turned b row.session in
+    elim (cases_Bool (same_session row.session b)) [
+      | inl here ↦ (let same = e ∙ here in rw (same, here) refl)
+      | inr gone ↦ (let same = e ∙ gone in rw (same, gone) rest)
+    ]
+
+pub no_rows : (rows : List Row) → length rows ≡ 0 → rows ≡ []
+no_rows [] h = refl
+no_rows (row ∷ rows) h = absurd (omega arith)
+
+-- where the moment has come to just those in front of a place, what is left behind it is what is later
+pub deadline_behind : (rows : List Row) (many moment : ℕ) (q : List ℕ) → ((k : ℕ) (d : Row) → k < many → (get_or rows k d).deadline ≤ moment)
+    → ((k : ℕ) (d : Row) → many ≤ k → k < length rows → suc moment ≤ (get_or rows k d).deadline) → are_once rows ≡ true
+    → deadline_in (drop many rows) q ≡ later_than moment (deadline_in rows q)
+deadline_behind [] zero moment q front behind once = refl
+deadline_behind [] (suc many) moment q front behind once = refl
+deadline_behind (row ∷ rows) zero moment q front behind once =
+    later_stay moment (deadline_in (row ∷ rows) q) (none_below (row ∷ rows) (suc moment) (λ k d lt. behind k d (omega arith) lt) q)
+deadline_behind (row ∷ rows) (suc many) moment q front behind once =
+    let parts = and_parts (is_none (deadline_in rows row.session)) (are_once rows) once in
+    let rest = deadline_behind rows many moment q (λ k d lt. front (suc k) d (omega arith)) (λ k d low lt. behind (suc k) d (omega arith) (omega arith)) parts.1 in
+    elim (cases_Bool (same_session row.session q)) [
+      | inl here ↦
+          let none : deadline_in rows row.session ≡ None = is_none_is (deadline_in rows row.session) parts.0 in
+          let gone : deadline_in rows q ≡ None = sym (alike_in rows row.session q here) ∙ none in
+          let come : nat_le row.deadline moment ≡ true = let low = front 0 row (omega arith) in grind (arith, nat_tests, low) in
+          rest ∙ ap (later_than moment) gone ∙ rw (here, come) refl
+      | inr gone ↦ rest ∙ rw gone refl
+    ]
+
+pub once_behind : (rows : List Row) (many : ℕ) → are_once rows ≡ true → are_once (drop many rows) ≡ true
+once_behind [] zero once = refl
+once_behind [] (suc many) once = refl
+once_behind (row ∷ rows) zero once = once
+once_behind (row ∷ rows) (suc many) once = once_behind rows many (and_parts (is_none (deadline_in rows row.session)) (are_once rows) once).1

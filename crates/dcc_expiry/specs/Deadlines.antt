@@ -1,11 +1,17 @@
 -- The deadlines of sessions.
-use Rattle.std.specs.Prelude.{◌≡◌, ℕ, ◌≤◌, Bool, if◌then◌else◌, List, [], ◌∷◌, Option, Some, None, IfSome, nat_eq}
+use Rattle.std.specs.Prelude.{◌≡◌, ℕ, ◌≤◌, Bool, if◌then◌else◌, List, [], ◌∷◌, length, Option, Some, None, IfSome, nat_eq, nat_le}
+use Rattle.std.specs.Option.{option_and_then}
 use Rattle.std.specs.Cmp.Lexicographic.{pointwise}
 use Rattle.dcc_expiry.specs.declared.row.Row.{Row}
 
--- sessions with their deadlines
+-- sessions with their deadlines, and for how many more there is memory
 pub record DueView : Type 0 where
   pub rows : List Row
+  pub room : ℕ
+
+-- how many sessions have a deadline
+abbrev pub count_of : DueView → ℕ
+count_of due = length due.rows
 
 -- whether two sessions are one: their names are the same octets
 abbrev pub same_session : List ℕ → List ℕ → Bool
@@ -18,6 +24,10 @@ deadline_in (row ∷ rows) sid = if same_session row.session sid then Some row.d
 
 unfoldable pub deadline_of : DueView → List ℕ → Option ℕ
 deadline_of due sid = deadline_in due.rows sid
+
+-- a deadline that the moment hasn't come to; none where it has
+abbrev pub later_than : ℕ → Option ℕ → Option ℕ
+later_than moment deadline = option_and_then (λ until. if nat_le until moment then None else Some until) deadline
 
 -- The session is due at the moment, and none has an earlier deadline.
 pub record IsFirstDue (due : DueView) (moment : ℕ) (sid : List ℕ) : Type 0 where

@@ -1,9 +1,10 @@
 //! The deadlines of one subscriber's open sessions.
 
-ghost use Rattle.std.specs.Prelude.{◌≡◌, ◌<◌, ◌≤◌, ℕ, List, Some, None, if◌then◌else◌, IfOk, OnOk, OnErr, IfSome, IfNone};
-ghost use Rattle.dcc_expiry.specs.Deadlines.{deadline_of, same_session, IsFirstDue};
+ghost use Rattle.std.specs.Prelude.{◌≡◌, ◌<◌, ◌≤◌, ◌+◌, ℕ, List, Some, None, if◌then◌else◌, IfOk, OnOk, OnErr, IfSome, IfNone, MatchOption};
+ghost use Rattle.std.specs.Option.{ForSome};
+ghost use Rattle.dcc_expiry.specs.Deadlines.{deadline_of, count_of, later_than, same_session, IsFirstDue};
 
-use crate::row::{Row, copied, put_in, take_out};
+use crate::row::{Row, copied, put_in, take_due, take_out};
 use dcc_act::{Moment, SessionId};
 use std::alloc::{AllocError, Global};
 use std::marker::Model;
@@ -17,12 +18,13 @@ pub struct Due {
 }
 
 impl Model for Due {
+    ghost use Rattle.std.specs.Prelude.{◌-◌, vec_len, vec_capacity};
     ghost use Rattle.dcc_expiry.specs.Deadlines.{DueView};
     ghost use Rattle.dcc_expiry.specs.inner.Rows.{AreRows};
 
     ghost Value = { DueView };
 
-    ghost view = { λ d. record { rows = d.rows.items } };
+    ghost view = { λ d. record { rows = d.rows.items; room = vec_capacity d.rows - vec_len d.rows } };
 
     ghost invariant = { λ d. AreRows d.rows.items };
 }
@@ -62,9 +64,25 @@ impl Due {
     {
         let session = sid.copy()?;
         self.rows.reserve(1)?;
-        take_out(&mut self.rows, &session);
-        put_in(&mut self.rows, Row { session, deadline });
+        self.set_reserved(session, deadline);
         Ok(())
+    }
+
+    /// The same with a name that is handed in, and with room for one more. It takes no memory.
+    #[tactic(auto, unfolding(crate::specs::Deadlines::deadline_of))]
+    pub fn set_reserved(&mut self, sid: SessionId, deadline: u64)
+        requires { 1 ≤ self.old.room }
+        ensures { (other : List ℕ) → deadline_of self.new other
+            ≡ (if same_session sid other then Some deadline else deadline_of self.old other) }
+    {
+        take_out(&mut self.rows, &sid);
+        put_in(
+            &mut self.rows,
+            Row {
+                session: sid,
+                deadline,
+            },
+        );
     }
 
     /// Takes away a session's deadline, where it has one. It takes no memory, and looks at each row once.
@@ -73,6 +91,15 @@ impl Due {
         ensures { (other : List ℕ) → deadline_of self.new other ≡ (if same_session sid.now other then None else deadline_of self.old other) }
     {
         take_out(&mut self.rows, sid);
+    }
+
+    /// Takes away each deadline that is the moment or before it. It takes no memory, finds by halving how many these are, and
+    /// moves the others.
+    #[tactic(auto, unfolding(crate::specs::Deadlines::deadline_of))]
+    pub fn clear_due(&mut self, moment: Moment)
+        ensures { (sid : List ℕ) → deadline_of self.new sid ≡ later_than moment (deadline_of self.old sid) }
+    {
+        take_due(&mut self.rows, moment.seconds());
     }
 
     /// A session that is due: one with the least deadline, if that is the moment or before it. It takes no memory, and looks
@@ -89,9 +116,39 @@ impl Due {
         Some(&row.session)
     }
 
+    /// Larger ones, without deadlines yet, where these have no room for one more. The only error is want of memory.
+    pub fn larger(&self) -> Result<Option<Due>, AllocError>
+        ensures empty { IfOk result (λ larger. ForSome larger (λ larger. count_of larger ≡ 0)) }
+        ensures room { IfOk result (λ larger. MatchOption larger (1 ≤ self.now.room)
+            (λ larger. count_of self.now + 1 ≤ larger.room)) }
+    {
+        let count = self.rows.len();
+        if count < self.rows.capacity() {
+            return Ok(None);
+        }
+        let wanted = count.saturating_mul(2).max(count + 1);
+        Ok(Some(Due {
+            rows: Vec::with_capacity(*self.rows.allocator(), wanted)?,
+        }))
+    }
+
+    /// Moves all deadlines into the larger ones, where there are some. It takes no memory.
+    #[tactic(auto, unfolding(crate::specs::Deadlines::deadline_of))]
+    pub fn grow(&mut self, larger: Option<Due>)
+        requires empty { ForSome larger (λ larger. count_of larger ≡ 0) }
+        requires room { MatchOption larger (1 ≤ self.old.room) (λ larger. count_of self.old + 1 ≤ larger.room) }
+        ensures deadlines { (sid : List ℕ) → deadline_of self.new sid ≡ deadline_of self.old sid }
+        ensures room { 1 ≤ self.new.room }
+    {
+        if let Some(mut larger) = larger {
+            larger.rows.append(&mut self.rows).unwrap();
+            *self = larger;
+        }
+    }
+
     /// Equal deadlines, where memory suffices. It takes memory for the rows at once, and for the name of each session.
     pub fn copy(&self) -> Result<Due, AllocError>
-        ensures { IfOk result (λ copy. copy ≡ self.now) }
+        ensures { IfOk result (λ copy. copy.rows ≡ self.now.rows) }
     {
         Ok(Due {
             rows: copied(*self.rows.allocator(), &self.rows)?,

@@ -1,7 +1,7 @@
 //! A session with its deadline, and rows of these in the order of their deadlines.
 
-ghost use Rattle.std.specs.Prelude.{◌≡◌, ◌<◌, ◌≤◌, ℕ, List, Some, None, if◌then◌else◌, vec_len, vec_capacity, IfOk};
-ghost use Rattle.dcc_expiry.specs.Deadlines.{deadline_in, same_session};
+ghost use Rattle.std.specs.Prelude.{◌≡◌, ◌<◌, ◌≤◌, ℕ, List, Some, None, if◌then◌else◌, drop, vec_len, vec_capacity, IfOk};
+ghost use Rattle.dcc_expiry.specs.Deadlines.{deadline_in, later_than, same_session};
 ghost use Rattle.dcc_expiry.specs.inner.Rows.{AreRows};
 
 use dcc_act::SessionId;
@@ -24,6 +24,27 @@ pub(crate) fn take_out(rows: &mut Vec<Row>, sid: &SessionId)
     ensures capacity { vec_capacity rows.new ≡ vec_capacity rows.old }
 {
     rows.retain(|row| row.session != *sid);
+}
+
+/// Takes out the sessions whose deadline is the moment or before it. It takes no memory, finds by halving how many these are,
+/// and moves the rows behind them.
+pub(crate) fn take_due(rows: &mut Vec<Row>, moment: u64)
+    requires { AreRows rows.old.items }
+    ensures rows { AreRows rows.new.items }
+    ensures deadlines { (other : List ℕ) → deadline_in rows.new.items other ≡ later_than moment (deadline_in rows.old.items other) }
+{
+    let many = rows
+        .as_slice()
+        .partition_point(|row| row.deadline <= moment);
+    take_front(rows, many);
+}
+
+/// Takes out so many of the first rows.
+fn take_front(rows: &mut Vec<Row>, many: usize)
+    requires { many ≤ vec_len rows.old }
+    ensures { rows.new.items ≡ drop many rows.old.items }
+{
+    rows.drain(..many);
 }
 
 /// Puts a session that isn't in behind those with its deadline or an earlier one. It takes no memory, finds the place by

@@ -3,7 +3,8 @@ use Rattle.std.specs.Prelude.{◌≡◌, ◌≢◌, ℕ, ◌+◌, ◌<◌, List,
 use Rattle.std.specs.List.{All}
 use mathlib.Core.List.{IsPrefix}
 use Rattle.atomic_table.specs.Seated.{TableId}
-use Rattle.crossbeam_queue.specs.Passes.{view}
+use Rattle.std.specs.Arc.{arc_value}
+use Rattle.crossbeam_queue.specs.Passes.{view, ruled_capacity}
 use Rattle.dcc_lane.specs.declared.rule.Tagged.{Tagged}
 use Rattle.dcc_lane.specs.declared.sender.Sender.{Sender}
 use Rattle.dcc_lane.specs.declared.receiver.Receiver.{Receiver}
@@ -26,6 +27,10 @@ module _ {T : Type 0} where
   -- every item that it put, in order
   abbrev pub put_of : Sender T → List T
   put_of s = (view s.pass).put
+
+  -- for how many items the lane has room
+  abbrev pub capacity_of : Receiver T → ℕ
+  capacity_of r = ruled_capacity (arc_value r.shared).queue
 
   abbrev pub senders_of : Receiver T → ℕ
   senders_of r = vec_len r.taken

@@ -1,7 +1,7 @@
 //! How a lane is made.
 ghost use Rattle.std.specs.Prelude.{◌≡◌, ◌<◌, [], IfOk, vec_len};
 ghost use Rattle.std.specs.List.{All};
-ghost use Rattle.dcc_lane.specs.Ends.{lane_of, senders_of, taken_of, AreNew, IsOfLane};
+ghost use Rattle.dcc_lane.specs.Ends.{lane_of, capacity_of, senders_of, taken_of, AreNew, IsOfLane};
 
 use crate::bell::Bell;
 use crate::receiver::Receiver;
@@ -28,6 +28,7 @@ impl<T: Drop> Lane<T> {
         requires senders { 0 < senders }
         ensures senders { IfOk result (λ r. AreNew (lane_of r.1) 0 r.0.items × (vec_len r.0 ≡ senders)) }
         ensures of_lane { IfOk result (λ r. All (IsOfLane (lane_of r.1)) r.0.items) }
+        ensures capacity { IfOk result (λ r. capacity_of r.1 ≡ capacity) }
         ensures receiver { IfOk result (λ r. (senders_of r.1 ≡ senders) × (taken_of r.1 ≡ [])) }
     {
         let taken = Vec::from_elem(alloc, 0, senders)?;

@@ -1,7 +1,6 @@
 -- One act more in rows, and in what they keep.
-use Rattle.std.proofs.Common.{◌≡◌, ◌+◌, Bool, cond, List, [], ◌∷◌, ◌++◌, length, Option, Some, None, refl, sym, subst, ap, ◌∙◌, inl, inr}
+use Rattle.std.proofs.Common.{◌≡◌, ◌+◌, cond, List, [], ◌∷◌, ◌++◌, length, Some, None, refl, sym, subst, ap, ◌∙◌, inl, inr}
 use Rattle.std.specs.Map.{lookup}
-use Rattle.std.specs.Ordering.{is_eq}
 use Rattle.std.proofs.Math.IntN.{+ℤ_idl}
 use Rattle.std.proofs.lemmas.Bool.{cases_Bool}
 use Rattle.std.proofs.lemmas.List.{length-append}
@@ -12,13 +11,12 @@ use Rattle.dcc_act.specs.declared.sub.Sub.{Sub}
 use Rattle.dcc_act.specs.Subs.{same_sub, SameAreEqual}
 use Rattle.dcc_model.specs.Outcomes.{acts}
 use Rattle.dcc_model.specs.Entries.{entries, sum_of}
-use Rattle.dcc_records.specs.Books.{Held, with_act, sub_order}
+use Rattle.dcc_records.specs.Books.{Held, with_act}
 use Rattle.dcc_records.specs.Contents.{Kept, IsContentOf, IsNext}
 use Rattle.dcc_records.specs.Laws.{AccountsGrow}
 use Rattle.dcc_records.specs.Memory.{RowView, kept_of, content_in}
 use Rattle.dcc_records.specs.inner.Rows.{AreRows, with_one}
 use Rattle.dcc_records.proofs.Sums.{sum-append, kept_with}
-use Rattle.dcc_records.proofs.Orders.{same_where_equal, same_found}
 
 -- a first row, and one more in a row
 pub first_kept : (act : Act) (more : List Entry) → kept_of (Some (record { acts = act ∷ []; entries = more })) ≡ with_one act more (kept_of None)
@@ -30,21 +28,13 @@ more_kept row act more =
     ap (λ n. kept_with (row.acts ++ act ∷ []) (row.entries ++ more) n (sum_of (row.entries ++ more))) (length-append row.acts (act ∷ []))
     ∙ ap (λ n. kept_with (row.acts ++ act ∷ []) (row.entries ++ more) (length row.acts + 1) n) (sum-append row.entries more)
 
--- what is kept is that of the row which is found
-pub found_kept : (rows : List (Sub × RowView)) (sub : Sub) (found : Option RowView) → found ≡ lookup (λ key. is_eq (sub_order sub key)) rows
-    → content_in rows sub ≡ kept_of found
-found_kept rows sub found is = ap kept_of (same_found rows sub ∙ sym is)
-
 -- what is kept of each subscriber once the row of one is written
 pub written : (rows new : List (Sub × RowView)) (sub : Sub) (act : Act) (more : List Entry) (row : RowView) → SameAreEqual
-    → ((q : Sub) → lookup (λ key. is_eq (sub_order q key)) new ≡ cond (is_eq (sub_order sub q)) (Some row) (lookup (λ key. is_eq (sub_order q key)) rows))
+    → ((other : Sub) → lookup (same_sub other) new ≡ cond (same_sub sub other) (Some row) (lookup (same_sub other) rows))
     → kept_of (Some row) ≡ with_one act more (content_in rows sub)
     → (other : Sub) → content_in new other ≡ cond (same_sub sub other) (with_one act more (content_in rows other)) (content_in rows other)
 written rows new sub act more row same updates own other =
-    let found : lookup (λ key. same_sub key other) new ≡ cond (same_sub sub other) (Some row) (lookup (λ key. same_sub key other) rows) =
-    same_found new other ∙ updates other ∙ ap (λ (b : Bool). cond b (Some row) (lookup (λ key. is_eq (sub_order other key)) rows)) (sym (same_where_equal sub other))
-    ∙ ap (λ (o : Option RowView). cond (same_sub sub other) (Some row) o) (sym (same_found rows other)) in
-    let new_is : content_in new other ≡ kept_of (cond (same_sub sub other) (Some row) (lookup (λ key. same_sub key other) rows)) = ap kept_of found in
+    let new_is : content_in new other ≡ kept_of (cond (same_sub sub other) (Some row) (lookup (same_sub other) rows)) = ap kept_of (updates other) in
     elim (cases_Bool (same_sub sub other)) [
       | inl one ↦
           let e : sub ≡ other = (same sub other).0 one in
@@ -95,3 +85,10 @@ next_rows terms rows new sub act more same added next are = record { own = λ ot
 -- what is kept stays where the rows are the same
 pub same_content : (rows new : List (Sub × RowView)) → new ≡ rows → (other : Sub) → content_in new other ≡ content_in rows other
 same_content rows new same other = ap (λ (all : List (Sub × RowView)). content_in all other) same
+
+-- rows that keep the same of each subscriber are rows as well
+pub rows_alike : (terms : TermsView) (rows new : List (Sub × RowView)) → ((other : Sub) → content_in new other ≡ content_in rows other) → AreRows rows terms → AreRows new terms
+rows_alike terms rows new same are = record {
+  own = λ other. rw (same other) (are.own other);
+  entries_are = λ other. rw (same other) (are.entries_are other);
+}

@@ -1,14 +1,16 @@
 -- Pages in the order of their subscribers, and subscribers that compare equal.
-use Rattle.std.proofs.Common.{◌≡◌, ℕ, suc, ◌+◌, ◌<◌, List, [], ◌∷◌, length, map, get_or, ◌-◌, ◌≤◌, true, false, refl, sym, subst, ap, ◌∙◌, arith, rules}
-use Rattle.std.specs.Map.{lookup, keys_of}
-use Rattle.std.specs.Cmp.{IsTotalOrder, eq_by_cmp_equiv}
+use Rattle.std.proofs.Common.{◌≡◌, ℕ, suc, ◌+◌, ◌<◌, Bool, List, [], ◌∷◌, length, map, get_or, ◌-◌, ◌≤◌, true, false, refl, sym, subst, ap, ◌∙◌, arith, rules}
+use Rattle.std.specs.Map.{keys_of}
+use Rattle.std.specs.Cmp.{IsTotalOrder}
 use Rattle.std.specs.Cmp.Rules.{comparing}
 use Rattle.std.specs.declared.cmp.Ordering.{Ordering}
 use Rattle.std.specs.declared.cmp.Ordering.TheVariants.{Less}
-use Rattle.std.specs.Ordering.{is_eq, is_lt}
-use Rattle.std.specs.List.Sorted.{IsStrictlySortedBy}
+use Rattle.std.specs.Ordering.{eq_by_cmp, is_lt}
+use Rattle.std.specs.List.{dedup, dedup_from, AllByRecursion, IsDistinct}
+use Rattle.std.specs.List.Sorted.{IsSorted, IsStrictlySortedBy}
 use Rattle.std.proofs.Math.ListN.{get_or-map}
 use Rattle.std.proofs.lemmas.List.{get_or_default}
+use Rattle.std.proofs.lemmas.List.Kept.{IsStrictlySortedBy-dedup}
 use Rattle.std.proofs.lemmas.Map.Keys.{Less-from_sorted, sorted_from_all_adjacent}
 use Rattle.dcc_act.specs.declared.sub.Sub.{Sub}
 use Rattle.dcc_act.specs.Subs.{same_sub}
@@ -16,20 +18,12 @@ use Rattle.dcc_records.specs.Books.{PageView, sub_order, AreInOrder}
 use Rattle.dcc_records.specs.Memory.{RowView}
 use Rattle.dcc_records.specs.inner.Rows.{pages_of}
 
-pub is_total : IsTotalOrder sub_order
+is_total : IsTotalOrder sub_order
 is_total = search (comparing, rules)
 
--- subscribers are one just where they compare equal
-pub same_where_equal : (a b : Sub) → same_sub a b ≡ is_eq (sub_order a b)
-same_where_equal = search (comparing, rules)
-
--- and compare equal either way
-turned : (a b : Sub) → is_eq (sub_order a b) ≡ is_eq (sub_order b a)
-turned a b = (eq_by_cmp_equiv is_total).symm a b
-
-pub same_found : (rows : List (Sub × RowView)) (sub : Sub) → lookup (λ key. same_sub key sub) rows ≡ lookup (λ key. is_eq (sub_order sub key)) rows
-same_found [] sub = refl
-same_found (row ∷ rows) sub = rw (same_where_equal row.0 sub, turned row.0 sub, same_found rows sub) refl
+-- subscribers are one either way
+pub turned : (a b : Sub) → same_sub a b ≡ same_sub b a
+turned = search (comparing, rules)
 
 no_page : PageView
 no_page = record { sub = record { kind = 0; name = [] }; acts = [] }
@@ -65,6 +59,28 @@ before_next pages k page sorted below =
 pub same_subs : (rows : List (Sub × RowView)) → map (λ (page : PageView). page.sub) (pages_of rows) ≡ keys_of rows
 same_subs [] = refl
 same_subs (row ∷ rows) = ap (λ (subs : List Sub). row.0 ∷ subs) (same_subs rows)
+
+-- whether the second is the first
+abbrev is_again : Sub → Sub → Bool
+is_again a b = same_sub b a
+
+ties : (a b : Sub) → is_again a b ≡ eq_by_cmp sub_order a b
+ties = search (comparing, rules)
+
+-- subscribers that differ all stay where those that follow an equal one are left out
+kept_behind : (first : Sub) (subs : List Sub) → AllByRecursion (λ one. same_sub first one ≡ false) subs → IsDistinct same_sub subs → dedup_from is_again first subs ≡ first ∷ subs
+unfolding IsDistinct
+kept_behind first [] apart distinct = refl
+kept_behind first (sub ∷ subs) apart distinct = rw apart.0 (ap (λ (all : List Sub). first ∷ all) (kept_behind sub subs distinct.0 distinct.1))
+
+all_kept : (subs : List Sub) → IsDistinct same_sub subs → dedup is_again subs ≡ subs
+unfolding IsDistinct
+all_kept [] distinct = refl
+all_kept (sub ∷ subs) distinct = kept_behind sub subs distinct.0 distinct.1
+
+-- so sorted ones that differ all are each before the next
+pub strictly_sorted : (subs : List Sub) → IsSorted sub_order subs → IsDistinct same_sub subs → IsStrictlySortedBy sub_order subs
+strictly_sorted subs sorted distinct = subst (IsStrictlySortedBy sub_order) (all_kept subs distinct) (IsStrictlySortedBy-dedup is_total {E = is_again} ties subs sorted)
 
 pub pages_ordered : (rows : List (Sub × RowView)) → IsStrictlySortedBy sub_order (keys_of rows) → AreInOrder (pages_of rows)
 pages_ordered rows sorted = let P : List Sub → Type 0 = IsStrictlySortedBy sub_order in subst P (sym (same_subs rows)) sorted

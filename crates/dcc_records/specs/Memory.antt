@@ -26,7 +26,7 @@ kept_of None = record { acts = []; entries = []; account = record { acts = 0; fu
 kept_of (Some row) = record { acts = row.acts; entries = row.entries; account = record { acts = length row.acts; funds = sum_of row.entries } }
 
 abbrev pub content_in : List (Sub × RowView) → Content
-content_in rows sub = kept_of (lookup (λ key. same_sub key sub) rows)
+content_in rows sub = kept_of (lookup (same_sub sub) rows)
 
 -- what they keep of each subscriber
 abbrev pub content_of : MemoryView → Content

@@ -9,24 +9,25 @@ use crate::book::Book;
 use crate::fault::StoreFault;
 use crate::laws::new_acts_come_next;
 use crate::records::Records;
-use crate::row::{Row, add, copied, pages};
+use crate::row::{Row, add, copied, pages, sort};
 use dcc_act::{Act, Entry, Sub, same_subscribers_are_equal};
 use dcc_model::{funds_are_accounted_for, leaving_out_changes_nothing};
 use dcc_tariff::Terms;
+use indexmap::IndexMap;
 use std::alloc::Global;
-use std::collections::BTreeMap;
+use std::hash::RandomState;
 use std::marker::Model;
 
 /// Records in memory, which never fail. They end with their process: what contracts say that a stop leaves is what they keep at
 /// that moment, as of a store that stays.
 ///
-/// They keep the entries too, as a store does. Subscribers are found in the order in which a book has them, so that a book is
-/// read off, and no hash has to be chosen against names that are sent.
+/// They keep the entries too, as a store does. A subscriber is found by a hash that nobody outside can know beforehand, and the
+/// rows are put in the order of their subscribers when a book is asked for.
 #[derive(Drop)]
 pub struct MemoryRecords {
     alloc: Global,
     terms: Terms,
-    rows: BTreeMap<Sub, Row>,
+    rows: IndexMap<Sub, Row, RandomState>,
 }
 
 impl Model for MemoryRecords {
@@ -41,8 +42,8 @@ impl Model for MemoryRecords {
 }
 
 impl MemoryRecords {
-    /// Records without acts, whose content is judged by these terms. It takes no memory.
-    pub fn new(alloc: Global, terms: &Terms) -> MemoryRecords
+    /// Records without acts, whose content is judged by these terms, and whose subscribers are found by `hasher`. It takes no memory.
+    pub fn new(alloc: Global, terms: &Terms, hasher: RandomState) -> MemoryRecords
         ensures terms { result.terms ≡ terms.now }
         ensures empty { IsContentOf terms.now no_acts (content_of result) }
     {
@@ -51,7 +52,7 @@ impl MemoryRecords {
         MemoryRecords {
             alloc,
             terms: *terms,
-            rows: BTreeMap::new(alloc),
+            rows: IndexMap::with_hasher(alloc, hasher),
         }
     }
 }
@@ -90,6 +91,7 @@ impl Records for MemoryRecords {
 
     fn load(&mut self) -> Result<Book, StoreFault> {
         funds_are_accounted_for();
+        sort(&mut self.rows)?;
         let pages = pages(self.alloc, &self.rows)?;
         Ok(Book::of(pages))
     }

@@ -1,8 +1,8 @@
 //! Records that fail once.
 
-ghost use Rattle.std.specs.Prelude.{◌≡◌, ◌≢◌, ◌-◌, true, false, Err, OnOk, OnErr};
-ghost use Rattle.dcc_records.specs.Books.{Held, with_act};
-ghost use Rattle.dcc_records.specs.Contents.{Content, IsNext};
+ghost use Rattle.std.specs.Prelude.{◌≡◌, ◌≢◌, ◌-◌, true, false, Err, IfOk, OnOk, OnErr};
+ghost use Rattle.dcc_records.specs.Books.{Held, with_act, acts_in, IsBook};
+ghost use Rattle.dcc_records.specs.Contents.{Content, IsContentOf, IsNext};
 ghost use Rattle.dcc_records.specs.Stops.{LeavesOnly, LeavesEither};
 ghost use Rattle.dcc_records.specs.Memory.{leaves_of};
 
@@ -113,7 +113,19 @@ impl Records for OnceRecords {
         self.inner.append(sub, act, entries)
     }
 
-    fn load(&mut self) -> Result<Book, StoreFault> {
+    fn load(&mut self) -> Result<Book, StoreFault>
+        ensures to_go { self.new.to_go ≡ self.old.to_go }
+        ensures terms { self.new.inner.terms ≡ self.old.inner.terms }
+        ensures book { IfOk result (λ book. IsBook self.old.inner.terms (acts_in book)) }
+        ensures found { IfOk result (λ book. LeavesOnly self.old.inner.terms (acts_in book) (leaves_of self.new.inner)) }
+        ensures there { IfOk result (λ book. Unit {0}
+            → ∥ ((content : Content) × IsContentOf self.old.inner.terms (acts_in book) content × leaves_of self.new.inner content) ∥₁) }
+        ensures same { (found : Content) → leaves_of self.new.inner found → leaves_of self.old.inner found }
+        ensures device { result ≡ Err StoreFault.Device → (self.old.stopped ≡ false) × (self.new.stopped ≡ true) }
+        ensures going { result ≢ Err StoreFault.Device → self.new.stopped ≡ self.old.stopped }
+        ensures stopped { result ≡ Err StoreFault.Stopped → self.old.stopped ≡ true }
+        ensures frozen { self.old.stopped ≡ true → result ≡ Err StoreFault.Stopped }
+    {
         if self.is_stopped() {
             return Err(StoreFault::Stopped);
         }

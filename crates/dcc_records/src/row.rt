@@ -1,16 +1,19 @@
 //! Rows of records in memory, one for each subscriber that has acts.
 
 ghost use Rattle.std.specs.Prelude.{◌≡◌, ◌≢◌, ◌+◌, [], ◌∷◌, ◌++◌, if◌then◌else◌, IfOk, OnOk, OnErr};
+ghost use Rattle.std.specs.List.Sorted.{IsStrictlySortedBy};
+ghost use Rattle.std.specs.Map.{keys_of};
 ghost use Rattle.dcc_act.specs.declared.sub.Sub.{Sub};
 ghost use Rattle.dcc_act.specs.Subs.{same_sub};
-ghost use Rattle.dcc_records.specs.Books.{AreInOrder};
+ghost use Rattle.dcc_records.specs.Books.{sub_order, AreInOrder};
 ghost use Rattle.dcc_records.specs.Memory.{content_in};
 ghost use Rattle.dcc_records.specs.inner.Rows.{with_one, pages_of};
 
 use crate::page::Page;
 use dcc_act::{Act, Entry, Sub, same_subscribers_are_equal};
+use indexmap::IndexMap;
 use std::alloc::{AllocError, Global};
-use std::collections::BTreeMap;
+use std::hash::RandomState;
 use std::marker::Model;
 
 /// The acts of a subscriber, of which there is one at least, and their entries, in order.
@@ -71,7 +74,7 @@ impl Row {
 
 /// Adds an act of a subscriber, with its entries, or changes nothing.
 pub(crate) fn add(
-    rows: &mut BTreeMap<Sub, Row>,
+    rows: &mut IndexMap<Sub, Row, RandomState>,
     alloc: Global,
     sub: Sub,
     act: Act,
@@ -104,8 +107,21 @@ pub(crate) fn copied(alloc: Global, entries: &[Entry]) -> Result<Vec<Entry>, All
     Ok(copies)
 }
 
-/// A page of each row, in the order of the subscribers.
-pub(crate) fn pages(alloc: Global, rows: &BTreeMap<Sub, Row>) -> Result<Vec<Page>, AllocError>
+/// Puts the rows in the order of their subscribers. The only error is want of memory; what is kept of each stays as it was.
+pub(crate) fn sort(rows: &mut IndexMap<Sub, Row, RandomState>) -> Result<(), AllocError>
+    ensures ordered { OnOk result (IsStrictlySortedBy sub_order (keys_of rows.new.entries)) }
+    ensures kept { (other : Sub) → content_in rows.new.entries other ≡ content_in rows.old.entries other }
+{
+    rows.sort_keys()?;
+    Ok(())
+}
+
+/// A page of each row, in their order, which is that of the subscribers.
+pub(crate) fn pages(
+    alloc: Global,
+    rows: &IndexMap<Sub, Row, RandomState>,
+) -> Result<Vec<Page>, AllocError>
+    requires { IsStrictlySortedBy sub_order (keys_of rows.now.entries) }
     ensures pages { IfOk result (λ pages. pages.items ≡ pages_of rows.now.entries) }
     ensures ordered { IfOk result (λ pages. AreInOrder pages.items) }
 {

@@ -50,7 +50,7 @@ fn reopened<S: Abort + RandomSource + AllocGlobal, R: Records + Drop>(
 #[test]
 fn two_gateways_at_once(rt: HostRuntime) -> Result<(), Fail> {
     let alloc = rt.alloc();
-    let shards = one(&rt, in_memory(alloc))?;
+    let shards = one(&rt, in_memory(&rt)?)?;
     let mut first = Caller::new(alloc, &shards, b"491700000001", b"gw1.example;1;1")?;
     let mut second = Caller::new(alloc, &shards, b"491700000001", b"gw2.example;1;1")?;
     let topped = first.top_up(&rt, alloc, &shards, 1, 1000);

@@ -92,7 +92,7 @@ fn count<W: Wait, R: Records>(rt: &W, alloc: Global, shards: &Shards<R>) -> Resu
 
 #[test]
 fn each_call_gives_its_receipt(rt: HostRuntime) -> Result<(), Fail> {
-    let shards = one(&rt, in_memory(rt.alloc()))?;
+    let shards = one(&rt, in_memory(&rt)?)?;
     let mut caller = caller(rt.alloc(), &shards)?;
     top_up_thrice(&rt, &shards, &mut caller);
     end_session(&rt, &shards, &mut caller);
@@ -121,7 +121,7 @@ fn close_twice<R: Records + Drop>(
 
 #[test]
 fn a_seat_is_missing(rt: HostRuntime) -> Result<(), Fail> {
-    let shards = one(&rt, in_memory(rt.alloc()))?;
+    let shards = one(&rt, in_memory(&rt)?)?;
     let mut caller = caller(rt.alloc(), &shards)?;
     top_up_thrice(&rt, &shards, &mut caller);
     let seat = caller.stand_up(rt.alloc(), &shards)?;
@@ -131,8 +131,8 @@ fn a_seat_is_missing(rt: HostRuntime) -> Result<(), Fail> {
 
 #[test]
 fn a_receipt_is_stray(rt: HostRuntime) -> Result<(), Fail> {
-    let shards = one(&rt, in_memory(rt.alloc()))?;
-    let others = one(&rt, in_memory(rt.alloc()))?;
+    let shards = one(&rt, in_memory(&rt)?)?;
+    let others = one(&rt, in_memory(&rt)?)?;
     let mut caller = caller(rt.alloc(), &shards)?;
     top_up_thrice(&rt, &others, &mut caller);
     let seat = caller.stand_up(rt.alloc(), &shards)?;
@@ -145,7 +145,7 @@ fn ask_others<S: Wait + Abort + RandomSource + AllocGlobal>(
     rt: &S,
     caller: &mut Caller,
 ) -> Result<(), Fail> {
-    let others = one(rt, in_memory(rt.alloc()))?;
+    let others = one(rt, in_memory(rt)?)?;
     let answer = caller.debit(rt, rt.alloc(), &others, 0);
     assert!(rt; answer.is_none());
     Ok(())
@@ -153,7 +153,7 @@ fn ask_others<S: Wait + Abort + RandomSource + AllocGlobal>(
 
 #[test]
 fn receipts_are_out_of_order(rt: HostRuntime) -> Result<(), Fail> {
-    let shards = one(&rt, in_memory(rt.alloc()))?;
+    let shards = one(&rt, in_memory(&rt)?)?;
     let mut caller = caller(rt.alloc(), &shards)?;
     top_up_thrice(&rt, &shards, &mut caller);
     ask_others(&rt, &mut caller)?;
@@ -180,7 +180,7 @@ fn topped(amount: u64) -> Option<Act> {
 
 #[test]
 fn receipts_of_one_seat(rt: HostRuntime) -> Result<(), Fail> {
-    let shards = one(&rt, in_memory(rt.alloc()))?;
+    let shards = one(&rt, in_memory(&rt)?)?;
     let mut caller = caller(rt.alloc(), &shards)?;
     top_up_thrice(&rt, &shards, &mut caller);
     let acts = [topped(1000).ok_or("an act")?];

@@ -64,7 +64,7 @@ fn turns(
     sub: Sub,
 ) -> Result<Vec<Turn>, Fail> {
     let alloc = rt.alloc();
-    let mut engine = engine_over(rt, in_memory(alloc), in_memory(alloc))?;
+    let mut engine = engine_over(rt, in_memory(rt)?, in_memory(rt)?)?;
     turns_of(alloc, &mut engine, history, sub)
 }
 
@@ -102,8 +102,8 @@ fn failing_engine(
     let (first, second) = if index == 0 { (n, 0) } else { (0, n) };
     engine_over(
         rt,
-        OnceRecords::new(in_memory(alloc), first),
-        OnceRecords::new(in_memory(alloc), second),
+        OnceRecords::new(in_memory(rt)?, first),
+        OnceRecords::new(in_memory(rt)?, second),
     )
 }
 

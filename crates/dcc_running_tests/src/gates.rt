@@ -41,8 +41,8 @@ fn a_shard_answers_beside_an_append(rt: HostRuntime) -> Result<(), Fail> {
     let alloc = rt.alloc();
     let (shut, open) = (Gate::new(), Gate::new());
     open.open();
-    let first = GateRecords::new(in_memory(alloc), &shut);
-    let second = GateRecords::new(in_memory(alloc), &open);
+    let first = GateRecords::new(in_memory(&rt)?, &shut);
+    let second = GateRecords::new(in_memory(&rt)?, &open);
     let shards = two(&rt, first, second)?;
     let mut held = Caller::new(alloc, &shards, b"491700000001", b"gw1.example;1;1")?;
     let mut beside = Caller::new(alloc, &shards, b"491700000002", b"gw2.example;1;1")?;

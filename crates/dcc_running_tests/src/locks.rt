@@ -36,8 +36,9 @@ fn identity(alloc: Global) -> Result<Identity, Fail> {
 }
 
 /// Records in memory without acts.
-pub(crate) fn in_memory(alloc: Global) -> MemoryRecords {
-    MemoryRecords::new(alloc, &TERMS)
+pub(crate) fn in_memory<S: RandomSource + AllocGlobal>(rt: &S) -> Result<MemoryRecords, Fail> {
+    let hasher = RandomState::new(rt)?;
+    Ok(MemoryRecords::new(rt.alloc(), &TERMS, hasher))
 }
 
 /// A shard of what these records hold.

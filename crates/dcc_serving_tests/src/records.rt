@@ -10,6 +10,7 @@ use crate::top_ups::{TERMS, posted, subscriber, top_up};
 use dcc_act::{Act, Entry, Kind, Sub};
 use dcc_records::{Book, MemoryRecords, OnceRecords, Page, Records, StoreFault, acts_stand_apart};
 use std::alloc::Global;
+use std::hash::RandomState;
 use std::process::Abort;
 use std::test::Fail;
 
@@ -103,7 +104,8 @@ fn two_subscribers_are_read_in_their_order(rt: HostRuntime) -> Result<(), Fail> 
     let later = subscriber(b"491700000002")?;
     let earlier = subscriber(b"491700000001")?;
     assert!(rt; later != earlier && earlier != later);
-    let mut records = MemoryRecords::new(rt.alloc(), &TERMS);
+    let hasher = RandomState::new(&rt)?;
+    let mut records = MemoryRecords::new(rt.alloc(), &TERMS, hasher);
     assert_eq!(rt; fill(&mut records, later, earlier)?, 3);
     let book = loaded(&mut records)?;
     assert_in_order(&rt, book.as_slice(), earlier, later)?;
@@ -142,7 +144,8 @@ fn the_second_append_fails(rt: HostRuntime) -> Result<(), Fail> {
     let later = subscriber(b"491700000002")?;
     let earlier = subscriber(b"491700000001")?;
     assert!(rt; later != earlier && earlier != later);
-    let mut records = OnceRecords::new(MemoryRecords::new(rt.alloc(), &TERMS), 2);
+    let hasher = RandomState::new(&rt)?;
+    let mut records = OnceRecords::new(MemoryRecords::new(rt.alloc(), &TERMS, hasher), 2);
     assert_eq!(rt; fill(&mut records, later, earlier)?, 1);
     assert_stopped(&rt, &mut records, earlier)?;
     assert_one(&rt, loaded(&mut records.healed())?, later)
@@ -171,7 +174,8 @@ fn a_refused_growth_leaves_what_was_held(rt: HostRuntime) -> Result<(), Fail> {
     let later = subscriber(b"491700000002")?;
     let earlier = subscriber(b"491700000001")?;
     assert!(rt; later != earlier && earlier != later);
-    let mut records = MemoryRecords::new(rt.alloc(), &TERMS);
+    let hasher = RandomState::new(&rt)?;
+    let mut records = MemoryRecords::new(rt.alloc(), &TERMS, hasher);
     let appended = fill(&mut records, later, earlier)?;
     assert_eq!(rt;
         count(loaded_again(&mut records)?.as_slice()),
@@ -186,7 +190,8 @@ fn none_of_the_appends_fails(rt: HostRuntime) -> Result<(), Fail> {
     let later = subscriber(b"491700000002")?;
     let earlier = subscriber(b"491700000001")?;
     assert!(rt; later != earlier && earlier != later);
-    let mut records = OnceRecords::new(MemoryRecords::new(rt.alloc(), &TERMS), 0);
+    let hasher = RandomState::new(&rt)?;
+    let mut records = OnceRecords::new(MemoryRecords::new(rt.alloc(), &TERMS, hasher), 0);
     assert_eq!(rt; fill(&mut records, later, earlier)?, 3);
     assert_eq!(rt; loaded(&mut records)?.as_slice().len(), 2);
     Ok(())

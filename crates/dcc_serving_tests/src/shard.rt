@@ -40,7 +40,8 @@ fn terms(alloc: Global) -> Result<Terms, Fail> {
 
 fn shard<R: RandomSource + AllocGlobal>(rt: &R) -> Result<Shard<MemoryRecords>, Fail> {
     let terms = terms(rt.alloc())?;
-    shard_over(rt, MemoryRecords::new(rt.alloc(), &terms))
+    let hasher = RandomState::new(rt)?;
+    shard_over(rt, MemoryRecords::new(rt.alloc(), &terms, hasher))
 }
 
 /// The header of the sample's request.
@@ -302,7 +303,8 @@ fn debit_and_stop<R: Records>(
 #[test]
 fn a_store_that_fails_stops_its_shard(rt: HostRuntime) -> Result<(), Fail> {
     let terms = terms(rt.alloc())?;
-    let records = OnceRecords::new(MemoryRecords::new(rt.alloc(), &terms), 2);
+    let hasher = RandomState::new(&rt)?;
+    let records = OnceRecords::new(MemoryRecords::new(rt.alloc(), &terms, hasher), 2);
     let mut shard = shard_over(&rt, records)?;
     debit_and_stop(&rt, &mut shard)?;
     assert_eq!(rt; reopened(&rt, shard)?.as_str(), ANSWER);

@@ -49,7 +49,7 @@ fn shard_in_memory(
     ensures nothing { IfOk result (λ shard. (sub : Sub) → held shard.shard sub ≡ []) }
 {
     content_has_one_book();
-    let records = MemoryRecords::new(alloc, terms);
+    let records = MemoryRecords::new(alloc, terms, hasher);
     match Shard::new(alloc, identity, records, hasher) {
         Ok(shard) => Ok(shard),
         Err(_) => Err(AllocError),

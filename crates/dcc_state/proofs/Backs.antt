@@ -43,8 +43,8 @@ use Rattle.dcc_state.proofs.Money.{no_charges}
 -- what a request's answers grant stands on the money that it finds
 served_goes : (funds free : ℤ) (own : List Held) (turn : Turn) → are_apart (map service_key turn.services) ≡ true
     → turn.granted.grants ≡ filter_map held_by (answers_in free own turn.services [] turn.services) → turn.granted.room ≡ length own → IsBorne funds own turn.services
-    → GoesOn funds free own turn
-served_goes funds free own turn apart is room borne =
+    → turn.name ≡ turn.sid → GoesOn funds free own turn
+served_goes funds free own turn apart is room borne named =
     let services = turn.services in
     let answers = answers_in free own services [] services in
     let cost = ap prices is ∙ prices_made answers in
@@ -57,6 +57,7 @@ served_goes funds free own turn apart is room borne =
       apart = rw is (grants_apart free own services apart);
       named = rw is (grants_named free own services [] services);
       room = omega arith;
+      named_so = named;
     }
 
 -- an update or a termination that isn't refused is served, and the funds bear its charges
@@ -148,7 +149,7 @@ change_backed terms facts sessions moment (kind.Initial opening) keyed low high 
           let served = begun_served facts sessions opening.key services t in
           let nothing = no_charges own opening.services in
           let apart = ap are_apart (same_keys_reported opening.services) ∙ keyed in
-          rw t (served_goes facts.standing.funds facts.standing.free own (turn_after terms sessions moment opening.key.sid services outcome) apart (ap (filter_map held_by) served) refl (omega (arith, ints)))
+          rw t (served_goes facts.standing.funds facts.standing.free own (turn_after terms sessions moment opening.key.sid services outcome) apart (ap (filter_map held_by) served) refl (omega (arith, ints)) refl)
     ]
 change_backed terms facts sessions moment (kind.Update report) keyed low high =
     let services = looked_at (kind.Update report) in
@@ -160,7 +161,7 @@ change_backed terms facts sessions moment (kind.Update report) keyed low high =
           let served = reported_served facts sessions request.Update report.key services f in
           elim (cases_Bool (succeeded outcome)) [
             | inr g ↦ rw (f, g) served.1
-            | inl t ↦ rw (f, t) (served_goes facts.standing.funds facts.standing.free own (turn_after terms sessions moment report.key.sid services outcome) keyed (ap (filter_map held_by) served.0) refl served.1)
+            | inl t ↦ rw (f, t) (served_goes facts.standing.funds facts.standing.free own (turn_after terms sessions moment report.key.sid services outcome) keyed (ap (filter_map held_by) served.0) refl served.1 refl)
           ]
     ]
 change_backed terms facts sessions moment (kind.Termination report) keyed low high =

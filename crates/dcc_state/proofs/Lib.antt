@@ -8,6 +8,7 @@ mod Totals
 mod Decided
 mod NextSessions
 mod NewSessions
+mod Deadlines
 mod Judged
 mod Within
 pub mod Backing

@@ -62,17 +62,17 @@ apart_push (session ∷ sessions) last apart h =
     (any_push session.sid sessions last apart.0 (flipped last.sid session.sid ∙ parts.0), apart_push sessions last apart.1 parts.1)
 
 -- of the sessions but one, that one is not found, and each other as before
-out_of : (own sid : Sid) (sessions : List SessionView) → bytes_eq own sid ≡ true → session_in (filter (is_other_session own) sessions) sid ≡ None
+pub out_of : (own sid : Sid) (sessions : List SessionView) → bytes_eq own sid ≡ true → session_in (filter (is_other_session own) sessions) sid ≡ None
 out_of own sid sessions t =
     find_dropped (is_session sid) (is_other_session own) sessions
     (λ session h. let same : bytes_eq session.sid own ≡ true = ap (bytes_eq session.sid) (same_sid own sid t) ∙ h in rw same refl)
 
-still_in : (own sid : Sid) (sessions : List SessionView) → bytes_eq own sid ≡ false → session_in (filter (is_other_session own) sessions) sid ≡ session_in sessions sid
+pub still_in : (own sid : Sid) (sessions : List SessionView) → bytes_eq own sid ≡ false → session_in (filter (is_other_session own) sessions) sid ≡ session_in sessions sid
 still_in own sid sessions f =
     find_kept (is_session sid) (is_other_session own) sessions
     (λ session h. let other : bytes_eq session.sid own ≡ false = ap (λ (name : Sid). bytes_eq name own) (same_sid session.sid sid h) ∙ flipped sid own ∙ f in rw other refl)
 
-or_none : (found : Option SessionView) → option_or found None ≡ found
+pub or_none : (found : Option SessionView) → option_or found None ≡ found
 or_none None = refl
 or_none (Some session) = refl
 

@@ -67,7 +67,7 @@ behind first (session ∷ rest) whole others found =
     (let other : bytes_eq first.sid session.sid ≡ false = flipped first.sid session.sid ∙ others.0 in rw other found.0, behind first rest whole others.1 found.1)
 
 -- each of different sessions is found by its name
-each_found : (sessions : List SessionView) → AreApart sessions → AllByRecursion (λ (session : SessionView). session_in sessions session.sid ≡ Some session) sessions
+pub each_found : (sessions : List SessionView) → AreApart sessions → AllByRecursion (λ (session : SessionView). session_in sessions session.sid ≡ Some session) sessions
 each_found [] apart = tt
 each_found (session ∷ sessions) apart =
     (rw (sid_is_own session.sid) refl, behind session sessions sessions (others_of session.sid sessions apart.0) (each_found sessions apart.1))

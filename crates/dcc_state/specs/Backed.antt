@@ -27,13 +27,14 @@ IsAffordable free own services made =
     (prices made ≡ 0) ⊎ (pos (prices made) ≤ℤ ((free +ℤ pos (given_back own services)) -ℤ pos (charges_in own services)))
 
 -- a session has its turn where the funds bear its charges and what is free its grants, which are to services that are named
--- and to none twice, with room for all that it holds
+-- and to none twice, with room for all that it holds, and with its own name once more
 pub record GoesOn (funds free : ℤ) (own : List Held) (turn : Turn) : Type 0 where
   pub borne : IsBorne funds own turn.services
   pub affordable : IsAffordable free own turn.services turn.granted.grants
   pub apart : are_apart (map key_of_held turn.granted.grants) ≡ true
   pub named : AllByRecursion (λ held. is_given_back turn.services held ≡ true) turn.granted.grants
   pub room : length own ≤ turn.granted.room
+  pub named_so : turn.name ≡ turn.sid
 
 -- what is debited is nothing, or within what is free, and what is credited leaves the funds below the ceiling
 pub record IsPosted (funds free : ℤ) (credit debit : ℕ) : Type 0 where

@@ -1,8 +1,9 @@
 -- The sessions that are open, each with its live grants.
-use Rattle.std.specs.Prelude.{◌≡◌, ℕ, Bool, false, nat_le, if◌then◌else◌, List, [], ◌∷◌, map, filter, find, bytes_eq, Option, Some, None}
+use Rattle.std.specs.Prelude.{◌≡◌, ℕ, Bool, false, nat_le, if◌then◌else◌, List, [], ◌∷◌, map, filter, find, bytes_eq, Option, Some, None, option_map}
 use Rattle.std.specs.List.{list_any}
 use Rattle.std.specs.Option.{option_map_or}
 use Rattle.dcc_tariff.specs.Terms.{TermsView}
+use Rattle.dcc_expiry.specs.Deadlines.{DueView, deadline_of}
 use Rattle.dcc_act.specs.declared.act.Kind.{Kind}
 use Rattle.dcc_act.specs.declared.act.Kind.TheVariants as kind
 use Rattle.dcc_model.specs.declared.done.Done.{Done}
@@ -36,6 +37,14 @@ is_session sid session = bytes_eq session.sid sid
 -- the session of this name among these
 abbrev pub session_in : List SessionView → Sid → Option SessionView
 session_in sessions sid = find (is_session sid) sessions
+
+-- its deadline
+abbrev pub deadline_at : List SessionView → Sid → Option ℕ
+deadline_at sessions sid = option_map (λ (session : SessionView). session.deadline) (session_in sessions sid)
+
+-- what is kept of deadlines is those of these sessions: at each name its session's, and none where there is no session
+abbrev pub KeepsDeadlines : DueView → List SessionView → Type 0
+KeepsDeadlines due sessions = (sid : Sid) → deadline_of due sid ≡ deadline_at sessions sid
 
 -- the grants of a session among these
 abbrev pub own_in : List SessionView → Sid → List Held

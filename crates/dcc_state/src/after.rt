@@ -111,6 +111,7 @@ fn turn_with(
     let made = granted(alloc, answers_of(outcome))?;
     Ok(Turn {
         sid: sid.copy()?,
+        name: sid.copy()?,
         deadline: moment.seconds() + u64::from(terms.hold),
         services,
         granted: Granted::new(alloc, made, own.len())?,

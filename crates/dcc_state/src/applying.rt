@@ -1,29 +1,34 @@
 //! Changes are made: of the money in the pool, and of the sessions with their holds.
 
-ghost use Rattle.std.specs.Prelude.{◌≡◌, ◌≤◌, ◌<◌, ◌+◌, ◌*◌, ◌∷◌, [], ◌++◌, filter, not, pos, ◌+ℤ◌, ◌-ℤ◌, sum_by, vec_len, vec_capacity};
+ghost use Rattle.std.specs.Prelude.{◌≡◌, ℕ, List, Some, None, if◌then◌else◌, ◌≤◌, ◌<◌, ◌+◌, ◌*◌, ◌∷◌, [], ◌++◌, filter, not, pos, ◌+ℤ◌, ◌-ℤ◌, sum_by, vec_len, vec_capacity};
 ghost use Rattle.dcc_escrow.specs.Pools.{free};
 ghost use Rattle.dcc_act.specs.declared.limits.TheConstants.{MAX_SERVICES};
+ghost use Rattle.dcc_expiry.specs.Deadlines.{deadline_of, later_than, same_session};
 ghost use Rattle.dcc_session.specs.Grants.{prices, charges_in, overruns_in};
 ghost use Rattle.dcc_state.specs.Backed.{IsBorne, IsPosted, GoesOn, IsBacked};
 ghost use Rattle.dcc_state.specs.Known.{after_turn, changed, funds_after, overrun_with, prices_of, HoldsAll};
-ghost use Rattle.dcc_state.specs.OpenSessions.{is_session, is_over_at, own_in, AreApart};
+ghost use Rattle.dcc_state.specs.OpenSessions.{is_session, is_over_at, own_in, AreApart, KeepsDeadlines};
 ghost use Rattle.dcc_state.specs.declared.limits.TheConstants.{POOL};
 
 use crate::change::{Change, Turn};
 use crate::open_session::{OpenSession, place_over, take_out};
 use dcc_act::{MAX_SERVICES, Moment, Services, SessionId};
 use dcc_escrow::Pool;
+use dcc_expiry::Due;
 use dcc_session::{Idle, Open};
 use dcc_tariff::MAX_PRICE;
 
 impl Change {
     /// Makes the change, and tells what it charges beyond what the services held, in minor units. It takes no memory.
-    pub fn apply(self, sessions: &mut Vec<OpenSession>, pool: &mut Pool) -> u64
+    pub fn apply(self, sessions: &mut Vec<OpenSession>, due: &mut Due, pool: &mut Pool) -> u64
         requires room { vec_len sessions.old < vec_capacity sessions.old }
+        requires room_due { 1 ≤ due.old.room }
         requires apart { AreApart sessions.old.items }
+        requires due { KeepsDeadlines due.old sessions.old.items }
         requires holds { HoldsAll pool.old sessions.old.items }
         requires backed { IsBacked pool.old.committed (free pool.old) sessions.old.items self }
         ensures sessions { sessions.new.items ≡ changed self sessions.old.items }
+        ensures due { KeepsDeadlines due.new sessions.new.items }
         ensures holds { HoldsAll pool.new sessions.new.items }
         ensures funds { pool.new.committed ≡ funds_after self pool.old.committed sessions.old.items }
         ensures overrun { result ≡ overrun_with self sessions.old.items }
@@ -35,10 +40,10 @@ impl Change {
                 post(pool, credit, debit);
                 0
             }
-            Change::Open(turn) => go_on(sessions, pool, turn),
-            Change::End { sid, services } => end(sessions, pool, &sid, &services),
+            Change::Open(turn) => go_on(sessions, due, pool, turn),
+            Change::End { sid, services } => end(sessions, due, pool, &sid, &services),
             Change::Expire(moment) => {
-                end_over(sessions, pool, moment);
+                end_over(sessions, due, pool, moment);
                 0
             }
         }
@@ -73,13 +78,16 @@ fn resume(sessions: &mut Vec<OpenSession>, pool: &Pool, sid: &SessionId) -> Open
 }
 
 /// A session has its turn: what its services report is charged, what is granted to them is held, and the session is held
-/// until its deadline. What is charged beyond what they held is told.
-fn go_on(sessions: &mut Vec<OpenSession>, pool: &mut Pool, turn: Turn) -> u64
+/// until its deadline, which is kept. What is charged beyond what they held is told.
+fn go_on(sessions: &mut Vec<OpenSession>, due: &mut Due, pool: &mut Pool, turn: Turn) -> u64
     requires room { vec_len sessions.old < vec_capacity sessions.old }
+    requires room_due { 1 ≤ due.old.room }
     requires apart { AreApart sessions.old.items }
     requires holds { HoldsAll pool.old sessions.old.items }
     requires goes_on { GoesOn pool.old.committed (free pool.old) (own_in sessions.old.items turn.sid) turn }
     ensures sessions { sessions.new.items ≡ filter (λ other. not (is_session turn.sid other)) sessions.old.items ++ after_turn turn sessions.old.items ∷ [] }
+    ensures due { (other : List ℕ) → deadline_of due.new other
+        ≡ (if same_session turn.sid other then Some turn.deadline else deadline_of due.old other) }
     ensures holds { HoldsAll pool.new sessions.new.items }
     ensures funds { pool.new.committed ≡ pool.old.committed -ℤ pos (charges_in (own_in sessions.old.items turn.sid) turn.services) }
     ensures overrun { result ≡ overruns_in (own_in sessions.old.items turn.sid) turn.services }
@@ -87,10 +95,12 @@ fn go_on(sessions: &mut Vec<OpenSession>, pool: &mut Pool, turn: Turn) -> u64
 {
     let Turn {
         sid,
+        name,
         deadline,
         services,
         granted,
     } = turn;
+    due.set_reserved(name, deadline);
     let mut open = resume(sessions, pool, &sid);
     let charges = open.report_all(pool, &services);
     open.grant_all(pool, granted);
@@ -102,10 +112,11 @@ fn go_on(sessions: &mut Vec<OpenSession>, pool: &mut Pool, turn: Turn) -> u64
     charges.overrun
 }
 
-/// A session ends, after what its services report is charged, and all that it holds is given back. What is charged beyond
-/// what they held is told.
+/// A session ends, after what its services report is charged, and all that it holds is given back; its deadline is kept no
+/// longer. What is charged beyond what they held is told.
 fn end(
     sessions: &mut Vec<OpenSession>,
+    due: &mut Due,
     pool: &mut Pool,
     sid: &SessionId,
     services: &Services,
@@ -114,24 +125,29 @@ fn end(
     requires holds { HoldsAll pool.old sessions.old.items }
     requires borne { IsBorne pool.old.committed (own_in sessions.old.items sid.now) services.now }
     ensures sessions { sessions.new.items ≡ filter (λ other. not (is_session sid.now other)) sessions.old.items }
+    ensures due { (other : List ℕ) → deadline_of due.new other
+        ≡ (if same_session sid.now other then None else deadline_of due.old other) }
     ensures holds { HoldsAll pool.new sessions.new.items }
     ensures funds { pool.new.committed ≡ pool.old.committed -ℤ pos (charges_in (own_in sessions.old.items sid.now) services.now) }
     ensures overrun { result ≡ overruns_in (own_in sessions.old.items sid.now) services.now }
     ensures bound { result ≤ MAX_SERVICES * MAX_PRICE }
 {
+    due.clear(sid);
     let mut open = resume(sessions, pool, sid);
     let charges = open.report_all(pool, services);
     open.end(pool);
     charges.overrun
 }
 
-/// The sessions end whose time is over at this moment, and all that they hold is given back.
-fn end_over(sessions: &mut Vec<OpenSession>, pool: &mut Pool, moment: Moment)
+/// The sessions end whose time is over at this moment, and all that they hold is given back; their deadlines are kept no longer.
+fn end_over(sessions: &mut Vec<OpenSession>, due: &mut Due, pool: &mut Pool, moment: Moment)
     requires { HoldsAll pool.old sessions.old.items }
     ensures sessions { sessions.new.items ≡ filter (λ other. not (is_over_at moment other)) sessions.old.items }
+    ensures due { (sid : List ℕ) → deadline_of due.new sid ≡ later_than moment (deadline_of due.old sid) }
     ensures holds { HoldsAll pool.new sessions.new.items }
     ensures funds { pool.new.committed ≡ pool.old.committed }
 {
+    due.clear_due(moment);
     while let Some(at) = place_over(sessions, moment) {
         let over = sessions.remove(at);
         over.session.resume().end(pool);

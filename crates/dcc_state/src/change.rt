@@ -8,6 +8,8 @@ use dcc_session::Granted;
 pub struct Turn {
     /// The session's name.
     pub sid: SessionId,
+    /// The same once more, for its deadline among those that are kept.
+    pub name: SessionId,
     /// Until when it is held then, in seconds.
     pub deadline: u64,
     /// The services as the request looks at them: what they report and ask for.

@@ -12,7 +12,7 @@ ghost use Rattle.dcc_model.specs.Sessions.{looked_at};
 ghost use Rattle.dcc_state.specs.Backed.{IsBacked};
 ghost use Rattle.dcc_state.specs.Known.{changed, funds_after, overrun_with, IsWithin, IsKnown};
 ghost use Rattle.dcc_state.specs.Looks.{most_looks};
-ghost use Rattle.dcc_state.specs.OpenSessions.{own_by, is_over_at, AreOpen};
+ghost use Rattle.dcc_state.specs.OpenSessions.{own_by, is_over_at, AreApart, AreOpen, KeepsDeadlines};
 ghost use Rattle.dcc_state.specs.inner.Judged.{expired_in, decided_in, settled_in, judged_in, is_made_in, place_in, entries_by_in, change_of, entries_after, change_after};
 
 use crate::after::{change_of, entries_by};
@@ -23,6 +23,7 @@ use crate::limits::FARTHEST;
 use crate::open_session::{OpenSession, is_over};
 use crate::requests::{begun, own_of, reported};
 use dcc_act::{Act, Kind, Looks, MAX_SERVICES, Moment, Outcome, RequestType, Service, Services};
+use dcc_expiry::Due;
 use dcc_model::{
     CEILING, acts_come_to_their_own, decide_event, decide_top_up, is_expiry, keys_are_apart,
     request_key, services_looked_at, sessions_open_once, unknown,
@@ -32,20 +33,24 @@ use dcc_tariff::Terms;
 use std::alloc::{AllocError, Global};
 
 /// What one more act comes to after those that were made, and what it does, by what is known of these: a few facts, what the
-/// one that has its key came to, and the sessions that are open. It looks at the grants of the act's own session alone, each
-/// once, and counts them. The only error is want of memory.
+/// one that has its key came to, and the sessions that are open, with their deadlines in order. It looks at the grants of the
+/// act's own session alone, each once, and counts them; where no session is due, an expiry looks at none. The only error is want
+/// of memory.
 pub fn judge(
     alloc: Global,
     terms: &Terms,
     facts: &Facts,
     first: Option<&Outcome>,
     sessions: &[OpenSession],
+    due: &Due,
     act: &Act,
     looks: &mut Looks,
 ) -> Result<Judgement, AllocError>
     requires fresh { looks.old ≡ 0 }
     requires within { IsWithin facts.now.standing sessions.now }
     requires few { facts.now.count + 1 < 2 ^ 64 }
+    requires apart { AreApart sessions.now }
+    requires due { KeepsDeadlines due.now sessions.now }
     ensures outcome { (xs : List Act) → IsKnown terms.now xs act.now facts.now (option_copied first.entry) sessions.now
         → IfOk result (λ judgement. judgement.outcome ≡ judged terms.now (history terms.now (reverse xs)) act.now) }
     ensures is_new { (xs : List Act) → IsKnown terms.now xs act.now facts.now (option_copied first.entry) sessions.now
@@ -68,7 +73,7 @@ pub fn judge(
 {
     acts_come_to_their_own();
     sessions_open_once();
-    judge_known(alloc, terms, facts, first, sessions, act, looks)
+    judge_known(alloc, terms, facts, first, sessions, due, act, looks)
 }
 
 /// What one more act comes to, and what it does, by what is known.
@@ -78,12 +83,15 @@ fn judge_known(
     facts: &Facts,
     first: Option<&Outcome>,
     sessions: &[OpenSession],
+    due: &Due,
     act: &Act,
     looks: &mut Looks,
 ) -> Result<Judgement, AllocError>
     requires fresh { looks.old ≡ 0 }
     requires within { IsWithin facts.now.standing sessions.now }
     requires few { facts.now.count + 1 < 2 ^ 64 }
+    requires apart { AreApart sessions.now }
+    requires due { KeepsDeadlines due.now sessions.now }
     ensures outcome { IfOk result (λ judgement. judgement.outcome ≡ judged_in facts.now (option_copied first.entry) sessions.now act.now) }
     ensures is_new { IfOk result (λ judgement. judgement.is_new ≡ is_made_in facts.now (option_copied first.entry) sessions.now act.now) }
     ensures place { IfOk result (λ judgement. judgement.place ≡ place_in facts.now judgement.is_new) }
@@ -96,8 +104,8 @@ fn judge_known(
     let own = own_of(sessions, &act.kind, looks);
     let services = services_of(alloc, &act.kind)?;
     let looked = services.as_slice();
-    let outcome = outcome(alloc, facts, first, sessions, own, act, looked)?;
-    if !is_made(facts, first, sessions, act) {
+    let outcome = outcome(alloc, facts, first, sessions, due, own, act, looked)?;
+    if !is_made(facts, first, sessions, due, act) {
         return Ok(Judgement {
             outcome,
             is_new: false,
@@ -132,6 +140,7 @@ fn outcome(
     facts: &Facts,
     first: Option<&Outcome>,
     sessions: &[OpenSession],
+    due: &Due,
     own: &[Held],
     act: &Act,
     services: &[Service],
@@ -142,14 +151,16 @@ fn outcome(
     requires own { own.now ≡ own_by sessions.now act.now.kind }
     requires free_low { neg_ℤ FARTHEST ≤ℤ facts.now.standing.free }
     requires free_high { facts.now.standing.free ≤ℤ CEILING }
+    requires apart { AreApart sessions.now }
+    requires due { KeepsDeadlines due.now sessions.now }
     ensures { IfOk result (λ outcome. outcome ≡ judged_in facts.now (option_copied first.entry) sessions.now act.now) }
 {
     if facts.has_account {
-        return settled(alloc, facts, first, sessions, own, act, services);
+        return settled(alloc, facts, first, sessions, due, own, act, services);
     }
     match unknown(&act.kind)? {
         Some(outcome) => Ok(outcome),
-        None => settled(alloc, facts, first, sessions, own, act, services),
+        None => settled(alloc, facts, first, sessions, due, own, act, services),
     }
 }
 
@@ -159,6 +170,7 @@ fn settled(
     facts: &Facts,
     first: Option<&Outcome>,
     sessions: &[OpenSession],
+    due: &Due,
     own: &[Held],
     act: &Act,
     services: &[Service],
@@ -169,11 +181,15 @@ fn settled(
     requires own { own.now ≡ own_by sessions.now act.now.kind }
     requires free_low { neg_ℤ FARTHEST ≤ℤ facts.now.standing.free }
     requires free_high { facts.now.standing.free ≤ℤ CEILING }
+    requires apart { AreApart sessions.now }
+    requires due { KeepsDeadlines due.now sessions.now }
     ensures { IfOk result (λ outcome. outcome ≡ settled_in facts.now (option_copied first.entry) sessions.now act.now) }
 {
     match first {
         Some(outcome) => outcome.copy(),
-        None => decide(alloc, facts, sessions, own, act.moment, &act.kind, services),
+        None => decide(
+            alloc, facts, sessions, due, own, act.moment, &act.kind, services,
+        ),
     }
 }
 
@@ -182,6 +198,7 @@ fn decide(
     alloc: Global,
     facts: &Facts,
     sessions: &[OpenSession],
+    due: &Due,
     own: &[Held],
     moment: Moment,
     kind: &Kind,
@@ -193,6 +210,8 @@ fn decide(
     requires own { own.now ≡ own_by sessions.now kind.now }
     requires free_low { neg_ℤ FARTHEST ≤ℤ facts.now.standing.free }
     requires free_high { facts.now.standing.free ≤ℤ CEILING }
+    requires apart { AreApart sessions.now }
+    requires due { KeepsDeadlines due.now sessions.now }
     ensures { IfOk result (λ outcome. outcome ≡ decided_in facts.now sessions.now moment kind.now) }
 {
     let money = &facts.standing;
@@ -201,7 +220,7 @@ fn decide(
         Kind::Event(event) => return decide_event(alloc, money.funds, money.free, event),
         Kind::Expiry => {
             return Ok(Outcome::Expired {
-                sessions: expired(sessions, moment),
+                sessions: expired(sessions, due, moment),
             });
         }
         Kind::Initial(opening) => return begun(alloc, facts, sessions, own, &opening.key, services),
@@ -211,8 +230,20 @@ fn decide(
     reported(alloc, facts, sessions, own, request, &report.key, services)
 }
 
-/// How many of these sessions an expiry at this moment ends.
-fn expired(sessions: &[OpenSession], moment: Moment) -> u64
+/// How many of these sessions an expiry at this moment ends. Where none is due, it looks at one deadline and at no session.
+fn expired(sessions: &[OpenSession], due: &Due, moment: Moment) -> u64
+    requires apart { AreApart sessions.now }
+    requires due { KeepsDeadlines due.now sessions.now }
+    ensures { result ≡ expired_in sessions.now moment }
+{
+    match due.first_due(moment) {
+        Some(_) => count_over(sessions, moment),
+        None => 0,
+    }
+}
+
+/// How many of these sessions are over at this moment.
+fn count_over(sessions: &[OpenSession], moment: Moment) -> u64
     ensures { result ≡ expired_in sessions.now moment }
 {
     let mut count = 0;
@@ -225,11 +256,19 @@ fn expired(sessions: &[OpenSession], moment: Moment) -> u64
 }
 
 /// Whether an act is made.
-fn is_made(facts: &Facts, first: Option<&Outcome>, sessions: &[OpenSession], act: &Act) -> bool
+fn is_made(
+    facts: &Facts,
+    first: Option<&Outcome>,
+    sessions: &[OpenSession],
+    due: &Due,
+    act: &Act,
+) -> bool
+    requires apart { AreApart sessions.now }
+    requires due { KeepsDeadlines due.now sessions.now }
     ensures { result ≡ is_made_in facts.now (option_copied first.entry) sessions.now act.now }
 {
     if is_expiry(&act.kind) {
-        expired(sessions, act.moment) > 0
+        expired(sessions, due, act.moment) > 0
     } else {
         (facts.has_account || request_key(&act.kind).is_none()) && first.is_none()
     }

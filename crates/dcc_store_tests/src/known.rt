@@ -82,7 +82,7 @@ impl Known {
         server: &Server,
         script: &'static [Line],
     ) -> Result<Known, Fail> {
-        let records = MemoryRecords::new(alloc, &TERMS);
+        let records = MemoryRecords::new(alloc, &TERMS, server.hasher);
         let Ok(mut shard) = Shard::new(alloc, &server.identity, records, server.hasher) else {
             return Err("memory was refused".into());
         };

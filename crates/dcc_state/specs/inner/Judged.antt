@@ -98,6 +98,7 @@ abbrev pub turn_with : TermsView → List Held → ℕ → Sid → List ServiceV
 turn_with terms own moment sid services outcome =
     record {
       sid = sid;
+      name = sid;
       deadline = moment + terms.hold;
       services = services;
       granted = record { grants = filter_map held_by (answers_of outcome); room = length own };

@@ -8,4 +8,4 @@ pub returns-clause-ordered : goal.returns-clause-ordered
 returns-clause-ordered c =
     let all : c.loop-sub.pages.items ≡ pages_of c.args.rows.now.entries = search rules in
     let P : List PageView → Type 0 = AreInOrder in
-    subst P (sym all) (pages_ordered c.args.rows.now.entries c.len.ensures.ordered)
+    subst P (sym all) (pages_ordered c.args.rows.now.entries c.requires)

@@ -9,7 +9,7 @@ returns-clause-value c =
     rw (← c.self.view_is)
     (let found = c.free.ensures in
     let own = c.self.inside in
-    let kept = free_is c.sessions_hold_what_is_reserved.ensures own.terms own.acts.items own.entries.items own.pool own.overrun own.sessions.items own.indexes c.self.invariant in
+    let kept = free_is c.sessions_hold_what_is_reserved.ensures own.terms own.acts.items own.entries.items own.pool own.overrun own.sessions.items own.due own.indexes c.self.invariant in
     omega (arith, ints))
 
 pub returns-clause-covered : goal.returns-clause-covered
@@ -17,6 +17,6 @@ returns-clause-covered c =
     rw (← c.self.view_is)
     (let found = c.free.ensures in
     let own = c.self.inside in
-    let kept = free_is c.sessions_hold_what_is_reserved.ensures own.terms own.acts.items own.entries.items own.pool own.overrun own.sessions.items own.indexes c.self.invariant in
+    let kept = free_is c.sessions_hold_what_is_reserved.ensures own.terms own.acts.items own.entries.items own.pool own.overrun own.sessions.items own.due own.indexes c.self.invariant in
     let law = c.funds_are_accounted_for.ensures.covered own.terms (map act_made own.acts.items) c.self.invariant.kept.keyed in
     omega (arith, ints))

@@ -8,15 +8,19 @@ use Rattle.dcc_state.specs.Known.{changed, funds_after, overrun_with}
 use Rattle.dcc_state.specs.OpenSessions.{SessionView, AreOpen}
 use Rattle.dcc_account.specs.Accounts.{AccountView}
 use Rattle.dcc_account.specs.Prepared.{StepView}
-use Rattle.dcc_account.proofs.Steps.{free_is, backed_by, kept_with, running_with, running_at, acts_with, prepared_at}
+use Rattle.dcc_account.proofs.Steps.{free_is, due_same, backed_by, kept_with, running_with, running_at, acts_with, prepared_at}
 use Rattle.dcc_account.proofs.account.Account.install.Goals as goal
 
 pub apply-overrun-requires-clause-backed : goal.apply-overrun-requires-clause-backed
 apply-overrun-requires-clause-backed c =
     let own = c.self.inside in
     let is = prepared_at _ _ _ _ c.requires c.self.view_is c.step.view_is in
-    let free = free_is c.sessions_hold_what_is_reserved.ensures own.terms own.acts.items own.entries.items own.pool own.overrun own.sessions.items own.indexes c.self.invariant in
+    let free = free_is c.sessions_hold_what_is_reserved.ensures own.terms own.acts.items own.entries.items own.pool own.overrun own.sessions.items own.due own.indexes c.self.invariant in
     backed_by _ _ _ _ _ _ c.step.inside.change is.judged.backed c.self.invariant.funds_are free c.grow-then-step-2.ensures.items
+
+pub apply-overrun-requires-clause-due : goal.apply-overrun-requires-clause-due
+apply-overrun-requires-clause-due c =
+    due_same c.self.inside.due c.grow-then-step-3.new.self c.self.inside.sessions.items _ c.self.invariant.due_are c.grow-then-step-3.ensures.deadlines c.grow-then-step-2.ensures.items
 
 pub invariant_of-self : goal.invariant_of-self
 invariant_of-self c =
@@ -27,10 +31,10 @@ invariant_of-self c =
     let all = map act_made made in
     let done : Done = record { act = step.act; outcome = step.outcome } in
     let kept = kept_with own.terms made own.entries.items step.entries.items step.act step.outcome c.self.invariant.kept is.judged.outcome_is (sym is.judged.new_is ∙ c.if-step.true) is.judged.entries_are c.keys_are_apart.ensures in
-    let grown = c.grow-then-step-3.ensures.indexed (reverse made) c.self.invariant.indexed in
+    let grown = c.grow-then-step-4.ensures.indexed (reverse made) c.self.invariant.indexed in
     let held = length-reverse made in
     let stay = ap (λ (made : List Done). length made) c.grow.ensures.items in
-    let indexed = c.add.ensures (reverse made) done grown c.step.invariant.4 (omega (arith, held, stay)) in
+    let indexed = c.add.ensures (reverse made) done grown c.step.invariant.5 (omega (arith, held, stay)) in
     let sessions = c.grow-then-step-2.ensures.items in
     let applied = c.apply-overrun.ensures in
     let are = subst (λ (now : List SessionView). AreOpen own.terms (with_act own.terms (history own.terms (reverse all)) step.act) now) (sym (applied.sessions ∙ ap (changed step.change) sessions)) is.judged.sessions_are in
@@ -42,8 +46,8 @@ invariant_of-self c =
     let before = c.self.invariant.overrun_are in
     let most = c.self.invariant.overrun_is in
     let bound = applied.bound in
-    running_at own.terms _ _ _ _ _ _ _ _
-    (running_with own.terms made (own.entries.items ++ step.entries.items) _ _ _ _ done kept are applied.holds funds_are (omega (arith, ints)) (omega (arith, ints)) indexed)
+    running_at own.terms _ _ _ _ _ _ _ _ _
+    (running_with own.terms made (own.entries.items ++ step.entries.items) _ _ _ _ _ done kept are applied.due applied.holds funds_are (omega (arith, ints)) (omega (arith, ints)) indexed)
     (c.push_reserved.ensures.items ∙ ap (λ (made : List Done). made ++ done ∷ []) c.grow.ensures.items)
     (c.append.ensures ∙ ap (λ (es : List Entry). es ++ step.entries.items) c.grow-then-step.ensures.items)
 

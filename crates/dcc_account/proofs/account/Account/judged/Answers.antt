@@ -7,7 +7,7 @@ use Rattle.dcc_model.specs.declared.judgement.Standing.{Standing}
 use Rattle.dcc_model.specs.Outcomes.{act_made, after, is_new, place, standing, funds, overrun, history, with_act}
 use Rattle.dcc_state.specs.declared.facts.Facts.{Facts}
 use Rattle.dcc_state.specs.Known.{IsKnown, IsWithin, changed, funds_after, overrun_with}
-use Rattle.dcc_state.specs.OpenSessions.{SessionView, AreOpen}
+use Rattle.dcc_state.specs.OpenSessions.{SessionView, AreApart, AreOpen, KeepsDeadlines}
 use Rattle.dcc_account.specs.Accounts.{AccountView}
 use Rattle.dcc_account.proofs.Steps.{entries_at, funds_at, overrun_at, funds_in, free_in, backed_by}
 use Rattle.dcc_account.proofs.account.Account.judged.Goals as goal
@@ -64,3 +64,9 @@ pub returns-clause-looks : goal.returns-clause-looks
 returns-clause-looks c =
     let known = known_of _ _ c.args.act.now _ _ c.deref.result.now c.self.view_is c.deref.ensures.value c.known.ensures.known in
     rw (← c.self.view_is) (c.judge.ensures.looks _ known)
+
+pub judge-requires-clause-apart : goal.judge-requires-clause-apart
+judge-requires-clause-apart c = subst AreApart (sym c.deref.ensures.value) c.self.invariant.sessions_are.apart
+
+pub judge-requires-clause-due : goal.judge-requires-clause-due
+judge-requires-clause-due c = subst (KeepsDeadlines c.self.inside.due) (sym c.deref.ensures.value) c.self.invariant.due_are

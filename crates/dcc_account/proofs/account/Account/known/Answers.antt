@@ -12,7 +12,7 @@ returns-clause-known c =
     let made = own.acts.items in
     let indexed = c.self.invariant.indexed in
     rw (← c.self.view_is)
-    (known_at own.terms made own.entries.items own.pool own.overrun own.sessions.items own.sessions.items own.indexes c.args.act.now _ (option_copied c.outcome_at.result) c.self.invariant refl (omega arith)
+    (known_at own.terms made own.entries.items own.pool own.overrun own.sessions.items own.sessions.items own.due own.indexes c.args.act.now _ (option_copied c.outcome_at.result) c.self.invariant refl (omega arith)
     (ap not c.is_empty.ensures ∙ has_some own.terms made own.acts.len c.self.invariant.kept.own (omega arith))
     (c.was_opened.ensures (reverse made) indexed)
     (c.place-place.ensures (reverse made) indexed)
@@ -23,4 +23,4 @@ pub returns-clause-within : goal.returns-clause-within
 returns-clause-within c =
     let own = c.self.inside in
     rw (← c.self.view_is)
-    (within_at c.money_is_within.ensures own.terms own.acts.items own.entries.items own.pool own.overrun own.sessions.items own.sessions.items own.indexes c.self.invariant c.standing.result (c.standing.ensures ∙ sym (ap (λ (a : AccountView). standing a.terms a.acts) c.self.view_is)) refl (omega arith))
+    (within_at c.money_is_within.ensures own.terms own.acts.items own.entries.items own.pool own.overrun own.sessions.items own.sessions.items own.due own.indexes c.self.invariant c.standing.result (c.standing.ensures ∙ sym (ap (λ (a : AccountView). standing a.terms a.acts) c.self.view_is)) refl (omega arith))

@@ -12,9 +12,10 @@ invariant_of-result c = rw (c.new.ensures.items, c.new-2.ensures.items, c.new-4.
     (record {
       kept = record { keyed = tt; own = refl; entries_are = refl };
       sessions_are = record { found = λ sid. refl; apart = tt };
+      due_are = c.new-5.ensures;
       holds = record { id = ap (λ (p : PoolView). p.id) c.new-3.ensures; reserved = ap (λ (p : PoolView). p.reserved) c.new-3.ensures };
       funds_are = ap (λ (p : PoolView). p.committed) c.new-3.ensures;
       overrun_are = refl;
       overrun_is = omega (arith, ints);
-      indexed = none_indexed _ c.new-5.ensures.requests c.new-5.ensures.tickets c.new-5.ensures.opened;
+      indexed = none_indexed _ c.new-6.ensures.requests c.new-6.ensures.tickets c.new-6.ensures.opened;
     })
