@@ -8,7 +8,7 @@ ghost use Rattle.dcc_state.specs.Looks.{most_looks};
 ghost use Rattle.dcc_account.specs.Accounts.{reserved};
 ghost use Rattle.dcc_model.specs.declared.decide.TheConstants.{CEILING};
 
-use crate::growth::{append, grow, larger};
+use crate::growth::{LEAST, append, grow, larger};
 use crate::indexes::Indexes;
 use crate::kept::outcome_at;
 use crate::new_keys::NewKeys;
@@ -176,9 +176,9 @@ impl Account {
         let alloc = *self.acts.allocator();
         let more = usize::from(is_new);
         Ok(Step {
-            larger_acts: larger(alloc, &self.acts, more)?,
-            larger_entries: larger(alloc, &self.entries, entries.len())?,
-            larger_sessions: larger(alloc, &self.sessions, 1)?,
+            larger_acts: larger(alloc, &self.acts, more, LEAST)?,
+            larger_entries: larger(alloc, &self.entries, entries.len(), LEAST)?,
+            larger_sessions: larger(alloc, &self.sessions, 1, 1)?,
             larger_due: self.due.larger()?,
             larger_indexes: self.indexes.larger(alloc, more)?,
             keys: NewKeys::of(&act.kind, &outcome)?,

@@ -9,11 +9,15 @@ use indexmap::{IndexMap, IndexSet};
 use std::alloc::{AllocError, Global};
 use std::hash::{Hash, RandomState};
 
-/// A larger vector, with no items yet, where these have no room for more.
+/// The room with which acts, entries and indexes begin, so that the first few acts of an account move nothing.
+pub(crate) const LEAST: usize = 4;
+
+/// A larger vector, with no items yet and room for so many at least, where these have no room for more.
 pub(crate) fn larger<T: Drop>(
     alloc: Global,
     items: &Vec<T>,
     more: usize,
+    least: usize,
 ) -> Result<Option<Vec<T>>, AllocError>
     requires { vec_len items.now + more < 2 ^ 64 }
     ensures empty { IfOk result (λ larger. ForSome larger (λ larger. larger.items ≡ [])) }
@@ -24,7 +28,7 @@ pub(crate) fn larger<T: Drop>(
     if count + more <= items.capacity() {
         return Ok(None);
     }
-    let doubled = count.saturating_mul(2);
+    let doubled = count.saturating_mul(2).max(least);
     Ok(Some(Vec::with_capacity(alloc, doubled.max(count + more))?))
 }
 
@@ -65,7 +69,7 @@ pub(crate) fn larger_map<K: Eq + Hash + Drop, V: Drop>(
     if count + more <= entries.capacity() {
         return Ok(None);
     }
-    let wanted = (count + more).max(count + count);
+    let wanted = (count + more).max(count + count).max(LEAST);
     let hasher = *entries.hasher();
     Ok(Some(IndexMap::with_capacity_and_hasher(alloc, wanted, hasher)?))
 }
