@@ -12,12 +12,13 @@ use crate::shapes::{SHAPES, Shape, exchange, message, outcome};
 use crate::tariffs::plan_text;
 use anyhow::{Result, bail};
 use dcc_act::{Moment, Outcome};
+use dcc_answer::Proxies;
 use dcc_avp::{Avp, read_list};
 use dcc_base::Peer;
 use dcc_ccr::{Request, Service, read_ccr};
 use dcc_credit::write_cca;
 use dcc_dispatch::{Dispatched, dispatch};
-use dcc_message::Identity;
+use dcc_message::{Header, Identity};
 use dcc_octets::OctetString;
 use dcc_replay::identity_of;
 use dcc_request::{Command, check};
@@ -239,11 +240,21 @@ fn answer(
             act: _,
             header,
             proxies,
-        } => {
-            let answer = write_cca(alloc, identity, plan.terms(), &header, &proxies, said)?;
-            Ok(OctetString::from_vec(answer))
-        }
+        } => written(alloc, server, &header, &proxies, said),
     }
+}
+
+/// The answer that says this, under a request's header and with its proxies.
+fn written(
+    alloc: Global,
+    server: &Server,
+    header: &Header,
+    proxies: &Proxies,
+    said: &Outcome,
+) -> Result<OctetString> {
+    let terms = server.plan.terms();
+    let answer = write_cca(alloc, &server.identity, terms, header, proxies, said)?;
+    Ok(OctetString::from_vec(answer))
 }
 
 /// Answers a request to exchange capabilities so often, each of a gateway that waits.
