@@ -1,7 +1,7 @@
-// The same work in plain Rust, as one would write it without a framework: a debit request parsed into borrowed AVPs, and its
-// answer written; and the requests of sessions read. `rustc -O baseline.rs`; no crates. It prints what `dcc_bench codec N` and
-// `dcc_bench request N` print.
+// The same work in plain Rust, as one would write it without a framework: `rustc -O baseline.rs`; no crates. It prints what `dcc_bench codec N`,
+// `dcc_bench request N` and `dcc_bench engine SUBSCRIBERS HELD SHARDS` print, and of `dcc_bench account ACCOUNTS HELD` what stands for debits and repeats.
 
+use std::hint::black_box;
 use std::time::Duration;
 
 const ROUNDS: usize = 7;
@@ -13,24 +13,50 @@ const REQUEST: &str = "010000e4c0000110000000040000000000000000\
 000001a04000000c000000040000019f4000000c00000000000001b44000000c00000000000001bb40000028\
 000001c24000000c00000000000001bc40000014343931373030303030303030000001b540000018000001a54000001000000000000003e9";
 
-include!("codec.rs");
+const EXCHANGE: &str = "0100006c80000101000000000000000300000004\
+00000108400000136777312e6578616d706c6500000001284000000f6578616d706c6500000001014000000e00017f0000010000\
+0000010a4000000c000000000000010d0000000a67770000000001024000000c00000004";
 
-#[derive(Debug)]
-enum Fault {
-    Header,
-    Avp,
-    Request,
+const MOMENT: u64 = 1_751_328_000;
+
+include!("codec.rs");
+include!("dispatch.rs");
+include!("accounts.rs");
+
+type Measured<T> = Result<T, &'static str>;
+
+fn octets_of(hex: &str) -> Vec<u8> {
+    let digits: Vec<u8> = hex.bytes().map(|c| (c as char).to_digit(16).expect("hex") as u8).collect();
+    digits.chunks(2).map(|pair| pair[0] << 4 | pair[1]).collect()
 }
 
-fn read(octets: &[u8]) -> Result<(Header, Vec<u8>), Fault> {
-    let header = read_header(octets).ok_or(Fault::Header)?;
-    let avps = read_list(&octets[20..]).ok_or(Fault::Avp)?;
-    let proxies = proxies(&avps);
-    if header.flags & 0xa0 != 0x80 || header.code != 272 || header.app != 4 {
-        return Err(Fault::Request);
-    }
-    std::hint::black_box(read_request(&avps).ok_or(Fault::Request)?);
-    Ok((header, proxies))
+/// The server under a plan of so many groups, of which each has one tariff.
+fn make_server() -> Server {
+    Server { host: b"ocs.example".to_vec(), realm: b"example".to_vec(), validity: 600 }
+}
+
+fn make_plan(groups: u32) -> Plan {
+    let rating = |place| Rating {
+        group: 10 + place,
+        unit: Unit::Octets,
+        tariffs: vec![(1_577_836_800, Tariff { price: 5 + place, block: 1000 })],
+    };
+    Plan { ratings: (0..groups).map(rating).collect(), default_group: 10, quantum: 100_000 }
+}
+
+/// The outcome of a request whose services are granted 1,001 octets each, of groups of their own; none where they don't ask.
+fn success(kind: u32, number: u32, services: u32, asks: bool) -> Outcome {
+    let form = if kind == 4 { Form::Single } else { Form::Multi };
+    let granted = |place| Granted {
+        form,
+        group: (kind != 4).then_some(10 + place),
+        ids: Vec::new(),
+        result: 2001,
+        grant: asks.then_some((Unit::Octets, 1001)),
+        is_final: false,
+    };
+    let services = (0..services).map(granted).collect();
+    Outcome { session: b"gw1.example;1;1".to_vec(), kind, number, result: 2001, services }
 }
 
 fn set(debit: &mut [u8], i: u32) {
@@ -43,18 +69,33 @@ fn marked(mark: u64, octets: &[u8], place: u32) -> u64 {
     mark.rotate_left(5) ^ u64::from(octets.get((place & 127) as usize).copied().unwrap_or(0))
 }
 
-fn list_all(debit: &mut [u8], count: u32) -> Result<u64, Fault> {
+const START: u64 = 0xcbf2_9ce4_8422_2325;
+
+fn summed(sum: u64, octets: &[u8]) -> u64 {
+    octets.iter().fold(sum, |sum, octet| (sum ^ u64::from(*octet)).wrapping_mul(0x0000_0100_0000_01b3))
+}
+
+/// A debit read whole: its header, its list, its proxies, and what it asks for.
+fn read(octets: &[u8]) -> Measured<(Header, Vec<u8>)> {
+    let header = read_header(octets).ok_or("no header")?;
+    let avps = read_list(&octets[20..]).map_err(|_| "no list")?;
+    let proxies = proxies(&avps);
+    black_box(read_request(&avps).map_err(|_| "no request")?);
+    Ok((header, proxies))
+}
+
+fn list_all(debit: &mut [u8], count: u32) -> Measured<u64> {
     let mut mark = 0u64;
     for i in 0..count {
         set(debit, i);
-        let header = read_header(debit).ok_or(Fault::Header)?;
-        let avps = read_list(&debit[20..]).ok_or(Fault::Avp)?;
-        mark = mark.rotate_left(5) ^ u64::from(header.hop) ^ std::hint::black_box(&avps).len() as u64;
+        let header = read_header(debit).ok_or("no header")?;
+        let avps = read_list(&debit[20..]).map_err(|_| "no list")?;
+        mark = mark.rotate_left(5) ^ u64::from(header.hop) ^ black_box(&avps).len() as u64;
     }
     Ok(mark)
 }
 
-fn read_all(debit: &mut [u8], count: u32) -> Result<u64, Fault> {
+fn read_all(debit: &mut [u8], count: u32) -> Measured<u64> {
     let mut mark = 0u64;
     for i in 0..count {
         set(debit, i);
@@ -64,86 +105,55 @@ fn read_all(debit: &mut [u8], count: u32) -> Result<u64, Fault> {
     Ok(mark)
 }
 
-fn write_all(reply: &Reply, debit: &[u8], count: u32) -> Result<u64, Fault> {
-    let mut header = read_header(debit).ok_or(Fault::Header)?;
+fn write_all(server: &Server, said: &Outcome, debit: &[u8], count: u32) -> Measured<u64> {
+    let mut header = read_header(debit).ok_or("no header")?;
     let mut mark = 0;
     for i in 0..count {
         header.hop = i;
         header.end_to_end = i;
-        mark = marked(mark, &write_answer(reply, &header, &[]), i);
+        mark = marked(mark, &write_answer(server, said, &header, &[]), i);
     }
     Ok(mark)
 }
 
-fn answer_all(reply: &Reply, debit: &mut [u8], count: u32) -> Result<u64, Fault> {
+fn answer(server: &Server, said: &Outcome, octets: &[u8]) -> Measured<Vec<u8>> {
+    let (header, proxies) = read(octets)?;
+    Ok(write_answer(server, said, &header, &proxies))
+}
+
+fn answer_all(server: &Server, said: &Outcome, debit: &mut [u8], count: u32) -> Measured<u64> {
     let mut mark = 0;
     for i in 0..count {
         set(debit, i);
-        let (header, proxies) = read(debit)?;
-        mark = marked(mark, &write_answer(reply, &header, &proxies), i);
+        mark = marked(mark, &answer(server, said, debit)?, i);
     }
     Ok(mark)
 }
 
-fn sum_of_answers(reply: &Reply, debit: &mut [u8], count: u32) -> Result<u64, Fault> {
-    let mut sum = 0xcbf2_9ce4_8422_2325u64;
+fn sum_of_answers(server: &Server, said: &Outcome, debit: &mut [u8], count: u32) -> Measured<u64> {
+    let mut sum = START;
     for i in 0..count {
         set(debit, i);
-        let (header, proxies) = read(debit)?;
-        for octet in write_answer(reply, &header, &proxies) {
-            sum = (sum ^ u64::from(octet)).wrapping_mul(0x0000_0100_0000_01b3);
-        }
+        sum = summed(sum, &answer(server, said, debit)?);
     }
     Ok(sum)
 }
 
-/// The list of an initial request, as `dcc_bench` makes it.
-fn initial(debit: &[u8], services: u8) -> Vec<u8> {
-    let mut list = debit[20..136].to_vec();
-    list.extend_from_slice(&[0, 0, 0, 1]);
-    list.extend_from_slice(&debit[140..152]);
-    list.extend_from_slice(&debit[164..204]);
-    for group in 0..services {
-        list.extend_from_slice(&[0, 0, 1, 200, 0x40, 0, 0, 44, 0, 0, 1, 176, 0x40, 0, 0, 12, 0, 0, 0, group]);
-        list.extend_from_slice(&debit[204..228]);
-    }
-    list
-}
-
-fn requests_all(avps: &[Avp<'_>], count: u32) -> Result<u64, Fault> {
-    let mut mark = 0u64;
-    for _ in 0..count {
-        let request = read_request(std::hint::black_box(avps)).ok_or(Fault::Request)?;
-        let asked = request.services.last().and_then(|service| service.asked);
-        let octets = asked.map_or(0, |amounts| amounts.octets);
-        let said = u64::from(request.number) ^ (request.session.len() as u64) << 8 ^ (request.services.len() as u64) << 16;
-        mark = mark.rotate_left(5) ^ said ^ octets << 24;
-    }
-    Ok(mark)
-}
-
-/// The requests of `dcc_bench request N`, each of a list that is there already.
-fn requests(debit: &[u8], count: u32) -> Result<(), Fault> {
-    let mut mark = 0u64;
-    for services in [0, 1, 2, 4, 8, 16] {
-        let (name, list) = match services {
-            0 => ("debit".to_string(), debit[20..].to_vec()),
-            _ => (services.to_string(), initial(debit, services)),
-        };
-        let avps = read_list(&list).ok_or(Fault::Avp)?;
-        let mut rounds = Vec::new();
-        let mut one = 0;
-        for _ in 0..ROUNDS {
-            let begin = now();
-            one ^= requests_all(&avps, count)?;
-            rounds.push(now() - begin);
-        }
-        report(&format!("request {name}"), rounds, count);
-        mark = mark.rotate_left(5) ^ one;
-    }
-    println!("request {count} mark {mark:016x}");
+/// The debits of `dcc_bench codec N`.
+fn codec(count: u32) -> Measured<()> {
+    let (server, said) = (make_server(), success(4, 0, 1, true));
+    let mut debit = octets_of(REQUEST);
+    let mut mark = timed("codec list", count, || list_all(&mut debit, count))?;
+    mark ^= timed("codec read", count, || read_all(&mut debit, count))?;
+    mark ^= timed("codec write", count, || write_all(&server, &said, &debit, count))?;
+    mark ^= timed("codec both", count, || answer_all(&server, &said, &mut debit, count))?;
+    let sum = sum_of_answers(&server, &said, &mut debit, count)?;
+    println!("codec {count} answers {sum:016x} mark {mark:016x}");
     Ok(())
 }
+
+include!("requests.rs");
+include!("growth.rs");
 
 #[repr(C)]
 struct Timespec {
@@ -162,6 +172,19 @@ fn now() -> Duration {
     Duration::new(time.seconds as u64, time.nanos as u32)
 }
 
+/// Measures a thing in rounds of so many items, each of which gives the same mark, and tells the times for one item.
+fn timed(name: &str, items: u32, mut round: impl FnMut() -> Measured<u64>) -> Measured<u64> {
+    let mut rounds = Vec::new();
+    let mut mark = 0;
+    for _ in 0..ROUNDS {
+        let begin = now();
+        mark ^= round()?;
+        rounds.push(now() - begin);
+    }
+    report(name, rounds, items);
+    Ok(mark)
+}
+
 fn report(name: &str, mut rounds: Vec<Duration>, items: u32) {
     rounds.sort_unstable();
     let picoseconds = |round: Duration| round.as_nanos() as u64 * 1000 / u64::from(items.max(1));
@@ -169,45 +192,14 @@ fn report(name: &str, mut rounds: Vec<Duration>, items: u32) {
     eprintln!("{name}: median {median}, least {least}, most {most} picoseconds, {ROUNDS} rounds of {items}");
 }
 
-fn main() -> Result<(), Fault> {
-    let usage = "usage: baseline codec|request N";
-    let what = std::env::args().nth(1).expect(usage);
-    let count: u32 = std::env::args().nth(2).and_then(|word| word.parse().ok()).expect(usage);
-    let octets: Vec<u8> = REQUEST.as_bytes().iter().map(|c| (*c as char).to_digit(16).expect("hex") as u8).collect();
-    let mut debit: Vec<u8> = octets.chunks(2).map(|pair| pair[0] << 4 | pair[1]).collect();
-    if what == "request" {
-        debit[148..152].copy_from_slice(&[0; 4]);
-        return requests(&debit, count);
+fn main() -> Measured<()> {
+    let words: Vec<String> = std::env::args().skip(1).collect();
+    let numbers: Option<Vec<u32>> = words.iter().skip(1).map(|word| word.parse().ok()).collect();
+    match (words.first().map(String::as_str), numbers.as_deref()) {
+        (Some("codec"), Some(&[count])) => codec(count),
+        (Some("request"), Some(&[count])) => requests(count),
+        (Some("account"), Some(&[accounts, held])) => accounts_of(accounts, held),
+        (Some("engine"), Some(&[subscribers, held, shards])) => engine(subscribers, held, shards as usize),
+        _ => Err("usage: codec N | request N | account ACCOUNTS HELD | engine SUBSCRIBERS HELD SHARDS"),
     }
-    let reply = Reply {
-        host: b"ocs.example".to_vec(),
-        realm: b"example".to_vec(),
-        session: b"gw1.example;1;1".to_vec(),
-        number: 0,
-        granted: 1001,
-    };
-    let (mut listing, mut reading, mut writing, mut both) = (Vec::new(), Vec::new(), Vec::new(), Vec::new());
-    let mut mark = 0;
-    for _ in 0..ROUNDS {
-        let start = now();
-        mark ^= list_all(&mut debit, count)?;
-        let begin = now();
-        mark ^= read_all(&mut debit, count)?;
-        let between = now();
-        mark ^= write_all(&reply, &debit, count)?;
-        let end = now();
-        mark ^= answer_all(&reply, &mut debit, count)?;
-        let last = now();
-        listing.push(begin - start);
-        reading.push(between - begin);
-        writing.push(end - between);
-        both.push(last - end);
-    }
-    report("codec list", listing, count);
-    report("codec read", reading, count);
-    report("codec write", writing, count);
-    report("codec both", both, count);
-    let sum = sum_of_answers(&reply, &mut debit, count)?;
-    println!("codec {count} answers {sum:016x} mark {mark:016x}");
-    Ok(())
 }

@@ -3,7 +3,7 @@
 //
 //     load charge PORT GATEWAYS WINDOW REQUESTS PID    charges, and prints what it took: of the clock, and of the processor in the server PID
 //     load idle PORT GATEWAYS SECONDS PID              exchanges capabilities, sends nothing, and prints the server's clock ticks meanwhile
-//     load disk FOLDER SECONDS FILES                   prints how many times a second so many files take 4,096 octets more each with fdatasync
+//     load disk FOLDER SECONDS FILES OCTETS            prints how many times a second so many files take so many octets more each with fdatasync
 //
 // Each answer's length, identifier and Result-Code are looked at. The sum that is printed is one of all answers' octets, in whatever order they
 // came.
@@ -258,11 +258,12 @@ fn idle(port: u16, gateways: u32, seconds: u64, server: i32) -> io::Result<()> {
 }
 
 /// Appends to a new file, each time with what makes it lasting; how many.
-fn commits(path: &str, begun: Instant, seconds: u64) -> io::Result<u64> {
+fn commits(path: &str, begun: Instant, seconds: u64, octets: u64) -> io::Result<u64> {
     let file = File::create(path)?;
+    let piece = vec![1; octets as usize];
     let mut count = 0;
     while begun.elapsed().as_secs() < seconds {
-        file.write_all_at(&[1; 4096], 4096 * count)?;
+        file.write_all_at(&piece, octets * count)?;
         file.sync_data()?;
         count += 1;
     }
@@ -271,12 +272,12 @@ fn commits(path: &str, begun: Instant, seconds: u64) -> io::Result<u64> {
 }
 
 /// So many files at once, each in a thread of its own.
-fn disk(folder: &str, seconds: u64, files: u32) -> io::Result<()> {
+fn disk(folder: &str, seconds: u64, files: u32, octets: u64) -> io::Result<()> {
     let begun = Instant::now();
     let threads: Vec<_> = (0..files)
         .map(|number| {
             let path = format!("{folder}/commits-{number}");
-            thread::spawn(move || commits(&path, begun, seconds))
+            thread::spawn(move || commits(&path, begun, seconds, octets))
         })
         .collect();
     let counts: io::Result<Vec<u64>> = threads.into_iter().map(|thread| thread.join().expect("a file's thread")).collect();
@@ -296,7 +297,7 @@ fn main() -> io::Result<()> {
         (Some("idle"), Some(port), Some(gateways), Some(seconds), Some(server), None) => {
             idle(port as u16, gateways, u64::from(seconds), server as i32)
         }
-        (Some("disk"), None, Some(seconds), Some(files), None, None) => disk(&words[1], u64::from(seconds), files),
-        _ => Err(Error::other("usage: charge PORT GATEWAYS WINDOW REQUESTS PID, idle PORT GATEWAYS SECONDS PID, or disk FOLDER SECONDS FILES")),
+        (Some("disk"), None, Some(seconds), Some(files), Some(octets), None) => disk(&words[1], u64::from(seconds), files, u64::from(octets)),
+        _ => Err(Error::other("usage: charge PORT GATEWAYS WINDOW REQUESTS PID, idle PORT GATEWAYS SECONDS PID, or disk FOLDER SECONDS FILES OCTETS")),
     }
 }

@@ -181,20 +181,24 @@ fn submit<W: Wait>(
     if !matches!(act.kind, Kind::Event(_)) {
         return;
     }
-    let header = Header {
+    let proxies = Proxies::none(alloc);
+    let job = Job {
+        sub,
+        act,
+        header: header(number),
+        proxies,
+    };
+    let _answer = shards.submit(rt, alloc, seat, job);
+}
+
+/// The header of a credit-control request under these identifiers.
+pub(crate) fn header(number: u32) -> Header {
+    Header {
         length: 20,
         flags: 192,
         code: 272,
         app: 4,
         hop: number,
         end_to_end: number,
-    };
-    let proxies = Proxies::none(alloc);
-    let job = Job {
-        sub,
-        act,
-        header,
-        proxies,
-    };
-    let _answer = shards.submit(rt, alloc, seat, job);
+    }
 }

@@ -4,18 +4,16 @@ ghost use Rattle.std.specs.Prelude.{◌≤◌, length};
 
 use crate::checksum::{START, marked, summed};
 use crate::debit::Debit;
+use crate::outcomes::debited;
 use crate::rounds::timed;
 use anyhow::{Context, Result, bail};
-use dcc_act::{
-    Answer, Form, Grant, Outcome, RequestKey, RequestType, ResultCode, ServiceAnswer,
-    ServiceAnswers, ServiceIds, SessionId,
-};
+use dcc_act::Outcome;
 use dcc_answer::Proxies;
 use dcc_avp::read_list;
 use dcc_ccr::read_ccr;
 use dcc_credit::write_cca;
 use dcc_message::{DiameterIdentity, Header, Identity, read_header};
-use dcc_tariff::{Tariff, Terms, UnitKind};
+use dcc_tariff::Terms;
 use std::alloc::Global;
 use std::time::CpuClock;
 
@@ -149,7 +147,7 @@ fn written(alloc: Global, reply: &Reply, header: &Header, proxies: &Proxies) -> 
 /// The answer to a debit of 1,001 octets.
 pub(crate) fn make_reply(alloc: Global) -> Result<Reply> {
     let identity = identity(alloc)?;
-    Ok((identity, Outcome::Answered(success(alloc)?)))
+    Ok((identity, debited(alloc)?))
 }
 
 /// The server's names and address.
@@ -164,45 +162,4 @@ fn identity(alloc: Global) -> Result<Identity> {
 /// A server's name.
 fn name(alloc: Global, octets: &[u8]) -> Result<DiameterIdentity> {
     DiameterIdentity::from_vec(octets.to_vec(alloc)?).context("a name")
-}
-
-/// What is answered.
-fn success(alloc: Global) -> Result<Answer> {
-    let services = services(alloc)?;
-    Ok(Answer {
-        request: RequestType::Event,
-        key: RequestKey {
-            sid: session(alloc, b"gw1.example;1;1")?,
-            number: 0,
-        },
-        result: ResultCode::Success,
-        services,
-        cost: None,
-        balance: None,
-    })
-}
-
-/// A session's name. A name that is made of a literal in its place takes the prover minutes.
-fn session(alloc: Global, octets: &[u8]) -> Result<SessionId> {
-    SessionId::from_vec(octets.to_vec(alloc)?).context("a session")
-}
-
-/// The one service that is answered, with 1,001 octets.
-fn services(alloc: Global) -> Result<ServiceAnswers> {
-    let service = ServiceAnswer {
-        group: None,
-        ids: ServiceIds::new(alloc),
-        form: Form::Single,
-        result: ResultCode::Success,
-        grant: Some(Grant {
-            unit: UnitKind::Octets,
-            units: 1001,
-            tariff: Tariff {
-                price: 5,
-                block: 1000,
-            },
-        }),
-        is_final: false,
-    };
-    ServiceAnswers::from_vec(vec![in alloc; service]?).context("services")
 }

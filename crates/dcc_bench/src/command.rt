@@ -7,7 +7,7 @@ pub enum Command<'a> {
     Codec {
         count: u32,
     },
-    /// Requests of some services read, of lists that are there already.
+    /// Requests read, refused and answered.
     Request {
         count: u32,
     },
@@ -45,12 +45,18 @@ pub enum Command<'a> {
         subscribers: u32,
         shards: u8,
     },
+    /// So many appends to the stores of so many shards in a folder.
+    Append {
+        folder: &'a str,
+        shards: u8,
+        count: u32,
+    },
     /// The server with records in memory, for so many gateways, under the plan of this file.
     Serve {
         plan: &'a str,
         gates: u32,
     },
-    /// A little of each but the server.
+    /// A little of each but the stores and the server.
     Sample,
 }
 
@@ -62,7 +68,7 @@ pub fn command_of<'a>(words: &'a [String]) -> Option<Command<'a>> {
         [_, name, first, second] => command_with_two(name.as_str(), first, number(second)?),
         [_, name, first, second, third] => command_with_three(
             name.as_str(),
-            number(first)?,
+            first,
             number(second)?,
             number(third)?,
         ),
@@ -113,12 +119,22 @@ fn command_with_two<'a>(name: &str, first: &'a String, second: u32) -> Option<Co
     }
 }
 
-fn command_with_three<'a>(name: &str, first: u32, second: u32, third: u32) -> Option<Command<'a>> {
+fn command_with_three<'a>(
+    name: &str,
+    first: &'a String,
+    second: u32,
+    third: u32,
+) -> Option<Command<'a>> {
     match name {
         "engine" => Some(Command::Engine {
-            subscribers: million(first)?,
+            subscribers: million(number(first)?)?,
             held: second,
             shards: shards(third)?,
+        }),
+        "append" => Some(Command::Append {
+            folder: first.as_str(),
+            shards: shards(second)?,
+            count: third,
         }),
         _ => None,
     }

@@ -60,7 +60,7 @@ pub(crate) fn connection(alloc: Global) -> Result<Event> {
 }
 
 /// The host of this name.
-fn host(alloc: Global, name: &[u8]) -> Result<Host> {
+pub(crate) fn host(alloc: Global, name: &[u8]) -> Result<Host> {
     Host::from_octets(OctetString::from_vec(name.to_vec(alloc)?)).context("a host")
 }
 

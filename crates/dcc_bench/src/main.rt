@@ -1,7 +1,7 @@
-//! The program that measures the path of a direct debit, and the reader of requests: `codec N`, `request N`,
+//! The program that measures the path of a direct debit, and how requests are read, refused and answered: `codec N`, `request N`,
 //! `framer OCTETS PIECE`, `plan N`, `account ACCOUNTS HELD`, `close N`, `replay SUBSCRIBERS REQUESTS`,
-//! `engine SUBSCRIBERS HELD SHARDS`, `sweep SUBSCRIBERS SHARDS`, and `sample`, a little of each; and
-//! `serve PLAN GATES`, the server with records in memory, which `bench/serve` measures from outside.
+//! `engine SUBSCRIBERS HELD SHARDS`, `sweep SUBSCRIBERS SHARDS`, and `sample`, a little of each; and for `bench/serve`
+//! `append FOLDER SHARDS N`, the appends to stores alone, and `serve PLAN GATES`, the server with records in memory, which is measured from outside.
 //!
 //! It stands on the crates of that path, and calls them as the server does. Standard output has only what the arguments
 //! determine: counts, and a checksum of what was answered. Times go to standard error, one line for each thing that is
@@ -9,6 +9,7 @@
 #![tactic(auto)]
 
 mod account;
+mod append;
 mod checksum;
 mod close;
 mod codec;
@@ -16,16 +17,19 @@ mod command;
 mod debit;
 mod engine;
 mod engines;
+mod outcomes;
 mod replay;
 mod requests;
 mod rounds;
 mod server;
+mod shapes;
 mod stream;
 mod sweep;
 mod tariffs;
 
 use anyhow::{Result, bail};
 use command::{Command, command_of};
+use dcc_files::FileStores;
 use std::env;
 use std::random::RandomSource;
 use std::sync::Wait;
@@ -60,14 +64,21 @@ fn main(rt: HostRuntime) -> Result<()> {
                 shards,
             },
         ) => sweep::measure(&rt, subscribers, shards),
+        Some(
+            Command::Append {
+                folder,
+                shards,
+                count,
+            },
+        ) => append::measure(&rt, &FileStores::new(&rt), folder, shards, count),
         Some(Command::Serve { plan, gates }) => server::run(&rt, plan, gates),
         None => bail!(
-            "usage: codec N | request N | framer OCTETS PIECE | plan N | account ACCOUNTS HELD | close N | replay SUBSCRIBERS REQUESTS | engine SUBSCRIBERS HELD SHARDS | sweep SUBSCRIBERS SHARDS | serve PLAN GATES | sample"
+            "usage: codec N | request N | framer OCTETS PIECE | plan N | account ACCOUNTS HELD | close N | replay SUBSCRIBERS REQUESTS | engine SUBSCRIBERS HELD SHARDS | sweep SUBSCRIBERS SHARDS | append FOLDER SHARDS N | serve PLAN GATES | sample"
         ),
     }
 }
 
-/// A little of each but the server, by which the gate sees that it runs.
+/// A little of each but the stores and the server, by which the gate sees that it runs.
 fn sample<R: AllocGlobal + RandomSource + Print + Eprint + CpuClock + Wait>(rt: &R) -> Result<()> {
     codec::measure(rt, 100)?;
     requests::measure(rt, 10)?;

@@ -1,67 +1,177 @@
-//! Requests read whole, of lists that are there already: the debit, and the first requests of sessions.
+//! Requests read, refused and answered: the debit, requests of sessions with some services, and the exchange of capabilities.
 
-ghost use Rattle.std.specs.Prelude.{◌+◌, ◌≤◌};
+ghost use Rattle.std.specs.Prelude.{◌+◌, ◌≤◌, IfOk, length};
 ghost use Rattle.std.specs.List.{sum_by};
 ghost use Rattle.dcc_avp.specs.Spelling.{padded_len};
 ghost use Rattle.dcc_message.specs.declared.length.TheConstants.{HEADER_LENGTH, MAX_LENGTH};
 
-use crate::debit::Debit;
+use crate::checksum::{START, marked, summed};
+use crate::engines::{MOMENT, host, moment};
 use crate::rounds::timed;
+use crate::shapes::{SHAPES, Shape, exchange, message, outcome};
+use crate::tariffs::plan_text;
 use anyhow::{Result, bail};
+use dcc_act::{Moment, Outcome};
+use dcc_answer::Proxies;
 use dcc_avp::{Avp, read_list};
+use dcc_base::Peer;
 use dcc_ccr::{Request, Service, read_ccr};
+use dcc_credit::write_cca;
+use dcc_dispatch::{Dispatched, dispatch};
+use dcc_message::{Header, Identity};
+use dcc_octets::OctetString;
+use dcc_replay::identity_of;
+use dcc_request::{Command, check};
+use dcc_tariff::Plan;
 use std::alloc::Global;
 use std::time::CpuClock;
 
-/// How many services the requests of sessions have.
-const SERVICES: [u8; 5] = [1, 2, 4, 8, 16];
+/// The tariffs of the plan: each service that is asked for has one.
+const TARIFFS: u32 = 16;
 
-/// What stands in front of a Rating-Group's number and a Requested-Service-Unit in a Multiple-Services-Credit-Control.
-const SERVICE: [u8; 16] = [0, 0, 1, 200, 0x40, 0, 0, 44, 0, 0, 1, 176, 0x40, 0, 0, 12];
+/// Who answers, and when.
+#[derive(Drop)]
+struct Server {
+    plan: Plan,
+    identity: Identity,
+    moment: Moment,
+}
 
-/// Measures the debit, and requests of some services.
+/// What all answers are: a mark of the rounds, and the checksum of one of each.
+#[derive(Drop)]
+struct Sums {
+    mark: u64,
+    sum: u64,
+}
+
+/// Measures reading each request, refusing it where it lacks an AVP, and answering it.
 pub fn measure<R: AllocGlobal + Print + Eprint + CpuClock>(rt: &R, count: u32) -> Result<()> {
     let alloc = rt.alloc();
-    let debit = Debit::new()?;
-    let mut mark = measured(rt, "request debit", &debit.as_slice()[20..], count)?;
-    for services in SERVICES {
-        let list = initial(alloc, services)?;
-        let name = format!(in alloc; "request {services}")?;
-        mark = mark.rotate_left(5) ^ measured(rt, name.as_str(), list.as_slice(), count)?;
+    let server = make_server(alloc)?;
+    let mut sums = Sums {
+        mark: 0,
+        sum: START,
+    };
+    for shape in SHAPES {
+        measure_shape(rt, &server, shape, count, &mut sums)?;
     }
-    println!(rt; "request {count} mark {mark:016x}")?;
+    measure_exchange(rt, &server, count, &mut sums)?;
+    let Sums { mark, sum } = sums;
+    println!(rt; "request {count} answers {sum:016x} mark {mark:016x}")?;
     Ok(())
 }
 
-/// The list of an initial request, whose services each ask for what the debit does, of a group of their own.
-fn initial(alloc: Global, services: u8) -> Result<Vec<u8>> {
-    let debit = Debit::new()?;
-    let octets = debit.as_slice();
-    let mut list = Vec::from_slice(alloc, &octets[20..136])?;
-    list.extend_from_slice(&[0, 0, 0, 1])?;
-    list.extend_from_slice(&octets[140..152])?;
-    list.extend_from_slice(&octets[164..204])?;
-    for group in 0..services {
-        list.extend_from_slice(&SERVICE)?;
-        list.extend_from_slice(&[0, 0, 0, group])?;
-        list.extend_from_slice(&octets[204..228])?;
-    }
-    Ok(list)
+/// The server under a plan of some tariffs.
+fn make_server(alloc: Global) -> Result<Server> {
+    let text = plan_text(alloc, TARIFFS)?;
+    let plan = Plan::read(alloc, text.as_str())?;
+    let identity = identity_of(alloc, &plan)?;
+    Ok(Server {
+        plan,
+        identity,
+        moment: moment(MOMENT)?,
+    })
 }
 
-/// Measures a request of this list.
-fn measured<R: AllocGlobal + Eprint + CpuClock>(
-    rt: &R,
+/// Measures a credit-control request, of a gateway that is open.
+fn measure_shape(
+    rt: &(impl AllocGlobal + Eprint + CpuClock),
+    server: &Server,
+    shape: Shape,
+    count: u32,
+    sums: &mut Sums,
+) -> Result<()> {
+    let alloc = rt.alloc();
+    let whole = message(alloc, shape, false)?;
+    let lacking = message(alloc, shape, true)?;
+    let said = outcome(alloc, shape)?;
+    let mut peer = Peer::Open(host(alloc, b"gw1.example")?);
+    sums.add(read_rounds(rt, shape.name, whole.as_slice(), count)?);
+    for (verb, octets) in [("refuse", &lacking), ("answer", &whole)] {
+        let octets = octets.as_slice();
+        let name = format!(in alloc; "request {verb} {}", shape.name)?;
+        sums.add(timed(rt, name.as_str(), u64::from(count), || {
+            answer_all(alloc, server, &mut peer, octets, &said, count)
+        })?);
+        sums.sum = summed(
+            sums.sum,
+            answer(alloc, server, &mut peer, octets, &said)?.as_slice(),
+        );
+    }
+    Ok(())
+}
+
+/// Measures the exchange of capabilities, of a gateway that waits for it.
+fn measure_exchange(
+    rt: &(impl AllocGlobal + Eprint + CpuClock),
+    server: &Server,
+    count: u32,
+    sums: &mut Sums,
+) -> Result<()> {
+    let alloc = rt.alloc();
+    let whole = exchange(alloc, false)?;
+    let lacking = exchange(alloc, true)?;
+    sums.add(check_rounds(rt, whole.as_slice(), count)?);
+    for (verb, octets) in [("refuse", &lacking), ("answer", &whole)] {
+        let octets = octets.as_slice();
+        let name = format!(in alloc; "request {verb} exchange")?;
+        sums.add(timed(rt, name.as_str(), u64::from(count), || {
+            exchange_all(alloc, server, octets, count)
+        })?);
+        sums.sum = summed(sums.sum, exchanged(alloc, server, octets)?.as_slice());
+    }
+    Ok(())
+}
+
+impl Sums {
+    /// Adds a mark.
+    fn add(&mut self, mark: u64) {
+        self.mark = self.mark.rotate_left(5) ^ mark;
+    }
+}
+
+/// Measures reading a credit-control request, of a list that is there already.
+fn read_rounds(
+    rt: &(impl AllocGlobal + Eprint + CpuClock),
     name: &str,
-    list: &[u8],
+    octets: &[u8],
     count: u32,
 ) -> Result<u64> {
     let alloc = rt.alloc();
-    if list.len() > 65_000 {
-        bail!("a long request");
+    let avps = read_list(alloc, list_of(octets)?)?;
+    let name = format!(in alloc; "request read {name}")?;
+    timed(
+        rt,
+        name.as_str(),
+        u64::from(count),
+        || read_all(alloc, &avps, count),
+    )
+}
+
+/// Measures checking a request to exchange capabilities, of a list that is there already.
+fn check_rounds(
+    rt: &(impl AllocGlobal + Eprint + CpuClock),
+    octets: &[u8],
+    count: u32,
+) -> Result<u64> {
+    let alloc = rt.alloc();
+    let avps = read_list(alloc, list_of(octets)?)?;
+    timed(
+        rt,
+        "request read exchange",
+        u64::from(count),
+        || check_all(alloc, &avps, count),
+    )
+}
+
+/// The octets of a message's list.
+fn list_of(octets: &[u8]) -> Result<&[u8]>
+    ensures { IfOk result (λ list. length list.now ≤ 65_000) }
+{
+    match octets.get(20..) {
+        Some(list) if list.len() <= 65_000 => Ok(list),
+        _ => bail!("no list of a message"),
     }
-    let avps = read_list(alloc, list)?;
-    timed(rt, name, u64::from(count), || read_all(alloc, &avps, count))
 }
 
 /// Reads the request so often.
@@ -76,6 +186,98 @@ fn read_all(alloc: Global, avps: &[Avp<'_>], count: u32) -> Result<u64>
         mark = mark.rotate_left(5) ^ mark_of(&request);
     }
     Ok(mark)
+}
+
+/// Checks the request so often.
+fn check_all(alloc: Global, avps: &[Avp<'_>], count: u32) -> Result<u64> {
+    let mut mark = 0u64;
+    for _ in 0..count {
+        let Ok(groups) = check(alloc, Command::CapabilitiesExchange, avps) else {
+            bail!("no request");
+        };
+        mark = mark.rotate_left(5) ^ groups.len() as u64 ^ avps.len() as u64;
+    }
+    Ok(mark)
+}
+
+/// Answers a message so often, from its octets to the answer's.
+fn answer_all(
+    alloc: Global,
+    server: &Server,
+    peer: &mut Peer,
+    octets: &[u8],
+    said: &Outcome,
+    count: u32,
+) -> Result<u64> {
+    let mut mark = 0;
+    for i in 0..count {
+        mark = marked(
+            mark,
+            answer(alloc, server, peer, octets, said)?.as_slice(),
+            i,
+        );
+    }
+    Ok(mark)
+}
+
+/// What a message of this gateway is answered, where its account says this of what it asks for.
+fn answer(
+    alloc: Global,
+    server: &Server,
+    peer: &mut Peer,
+    octets: &[u8],
+    said: &Outcome,
+) -> Result<OctetString> {
+    let Server {
+        plan,
+        identity,
+        moment,
+    } = server;
+    match dispatch(alloc, plan, identity, peer, *moment, octets) {
+        Dispatched::Replied(reply) => Ok(reply.octets),
+        Dispatched::Asked {
+            sub: _,
+            act: _,
+            header,
+            proxies,
+        } => written(alloc, server, &header, &proxies, said),
+    }
+}
+
+/// The answer that says this, under a request's header and with its proxies.
+fn written(
+    alloc: Global,
+    server: &Server,
+    header: &Header,
+    proxies: &Proxies,
+    said: &Outcome,
+) -> Result<OctetString> {
+    let terms = server.plan.terms();
+    let answer = write_cca(alloc, &server.identity, terms, header, proxies, said)?;
+    Ok(OctetString::from_vec(answer))
+}
+
+/// Answers a request to exchange capabilities so often, each of a gateway that waits.
+fn exchange_all(alloc: Global, server: &Server, octets: &[u8], count: u32) -> Result<u64> {
+    let mut mark = 0;
+    for i in 0..count {
+        mark = marked(mark, exchanged(alloc, server, octets)?.as_slice(), i);
+    }
+    Ok(mark)
+}
+
+/// What a gateway that waits is answered.
+fn exchanged(alloc: Global, server: &Server, octets: &[u8]) -> Result<OctetString> {
+    let Server {
+        plan,
+        identity,
+        moment,
+    } = server;
+    let mut peer = Peer::Wait;
+    match dispatch(alloc, plan, identity, &mut peer, *moment, octets) {
+        Dispatched::Replied(reply) => Ok(reply.octets),
+        Dispatched::Asked { .. } => bail!("a request before capabilities"),
+    }
 }
 
 /// A mark of what a request says.
