@@ -118,7 +118,7 @@ fn what_has_come_is_taken_away(rt: HostRuntime) -> Result<(), Fail> {
 #[test]
 fn a_deadline_is_set_in_room_that_was_brought(rt: HostRuntime) -> Result<(), Fail> {
     let mut due = played(rt.alloc(), &[(b'a', Some(20))])?;
-    let larger = due.larger()?;
+    let larger = due.larger(1)?;
     due.grow(larger);
     due.set_reserved(named(rt.alloc(), b'b')?, 10);
     assert_eq!(rt; first_due(&due, 10), Some(b'b'));

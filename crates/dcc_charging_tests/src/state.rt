@@ -49,7 +49,7 @@ fn session_opens(rt: HostRuntime) -> Result<(), Fail> {
     let alloc = rt.alloc();
     let mut sessions: Vec<OpenSession> = Vec::with_capacity(alloc, 1)?;
     let mut due = Due::new(alloc);
-    let larger = due.larger()?;
+    let larger = due.larger(1)?;
     due.grow(larger);
     let mut pool = Pool::new(POOL);
     pool.credit(1000)?;
