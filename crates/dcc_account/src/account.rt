@@ -179,7 +179,7 @@ impl Account {
             larger_acts: larger(alloc, &self.acts, more, LEAST)?,
             larger_entries: larger(alloc, &self.entries, entries.len(), LEAST)?,
             larger_sessions: larger(alloc, &self.sessions, 1, 1)?,
-            larger_due: self.due.larger()?,
+            larger_due: self.due.larger(more)?,
             larger_indexes: self.indexes.larger(alloc, more)?,
             keys: NewKeys::of(&act.kind, &outcome)?,
             act,

@@ -1,5 +1,6 @@
 //! Each public call once, on its happy path.
 
+use crate::acts::moment;
 use dcc_act::{Moment, SessionId};
 use dcc_expiry::Due;
 use std::alloc::Global;
@@ -100,5 +101,27 @@ fn a_copy_is_changed(rt: HostRuntime) -> Result<(), Fail> {
     play(rt.alloc(), &mut copy, b'a', Some(30))?;
     assert_eq!(rt; first_due(&copy, 20), Some(b'b'));
     assert_eq!(rt; first_due(&due, 20), Some(b'a'));
+    Ok(())
+}
+
+#[test]
+fn what_has_come_is_taken_away(rt: HostRuntime) -> Result<(), Fail> {
+    let steps = [(b'a', Some(10)), (b'b', Some(30)), (b'c', Some(20))];
+    let mut due = played(rt.alloc(), &steps)?;
+    due.clear_due(moment(20)?);
+    assert_eq!(rt; deadline_of(rt.alloc(), &due, b'c')?, None);
+    assert!(rt; first_due(&due, 29).is_none());
+    assert_eq!(rt; first_due(&due, 30), Some(b'b'));
+    Ok(())
+}
+
+#[test]
+fn a_deadline_is_set_in_room_that_was_brought(rt: HostRuntime) -> Result<(), Fail> {
+    let mut due = played(rt.alloc(), &[(b'a', Some(20))])?;
+    let larger = due.larger(1)?;
+    due.grow(larger);
+    due.set_reserved(named(rt.alloc(), b'b')?, 10);
+    assert_eq!(rt; first_due(&due, 10), Some(b'b'));
+    assert_eq!(rt; deadline_of(rt.alloc(), &due, b'a')?, Some(20));
     Ok(())
 }

@@ -3,6 +3,7 @@
 use crate::acts::{TERMS, key, moment};
 use dcc_act::{Act, Form, Kind, Looks, Outcome, Service, ServiceIds, Services, SessionRequest};
 use dcc_escrow::Pool;
+use dcc_expiry::Due;
 use dcc_model::Standing;
 use dcc_state::{Facts, OpenSession, POOL, judge};
 use dcc_tariff::{Tariff, UnitKind};
@@ -47,6 +48,9 @@ fn opening(alloc: Global) -> Result<SessionRequest, Fail> {
 fn session_opens(rt: HostRuntime) -> Result<(), Fail> {
     let alloc = rt.alloc();
     let mut sessions: Vec<OpenSession> = Vec::with_capacity(alloc, 1)?;
+    let mut due = Due::new(alloc);
+    let larger = due.larger(1)?;
+    due.grow(larger);
     let mut pool = Pool::new(POOL);
     pool.credit(1000)?;
     let act = Act {
@@ -54,14 +58,21 @@ fn session_opens(rt: HostRuntime) -> Result<(), Fail> {
         kind: Kind::Initial(opening(alloc)?),
     };
     let mut looks = Looks::new();
-    let opened = judge(alloc, &TERMS, &FACTS, None, &sessions, &act, &mut looks)?;
+    let opened = judge(
+        alloc, &TERMS, &FACTS, None, &sessions, &due, &act, &mut looks,
+    )?;
     assert_eq!(rt; looks.count(), 0);
     assert!(rt; opened.is_new && matches!(opened.outcome, Outcome::Answered(_)));
     assert!(rt; opened.place == Some(2) && opened.entries.is_empty());
-    let overrun = opened.change.apply(&mut sessions, &mut pool);
+    let overrun = opened.change.apply(&mut sessions, &mut due, &mut pool);
     assert_eq!(rt;
         (sessions.len(), pool.committed(), pool.free(), overrun),
         (1, 1000, 500, 0)
+    );
+    let sid = key(alloc, b's', 0)?.sid;
+    assert_eq!(rt;
+        due.deadline_of(&sid),
+        Some(1_748_736_000 + u64::from(TERMS.hold))
     );
     Ok(())
 }

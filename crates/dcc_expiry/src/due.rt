@@ -116,17 +116,19 @@ impl Due {
         Some(&row.session)
     }
 
-    /// Larger ones, without deadlines yet, where these have no room for one more. The only error is want of memory.
-    pub fn larger(&self) -> Result<Option<Due>, AllocError>
+    /// Larger ones, without deadlines yet, where these have no room for so many more, one at most. The only error is want of
+    /// memory.
+    pub fn larger(&self, more: usize) -> Result<Option<Due>, AllocError>
+        requires { more ≤ 1 }
         ensures empty { IfOk result (λ larger. ForSome larger (λ larger. count_of larger ≡ 0)) }
-        ensures room { IfOk result (λ larger. MatchOption larger (1 ≤ self.now.room)
-            (λ larger. count_of self.now + 1 ≤ larger.room)) }
+        ensures room { IfOk result (λ larger. MatchOption larger (more ≤ self.now.room)
+            (λ larger. count_of self.now + more ≤ larger.room)) }
     {
         let count = self.rows.len();
-        if count < self.rows.capacity() {
+        if count + more <= self.rows.capacity() {
             return Ok(None);
         }
-        let wanted = count.saturating_mul(2).max(count + 1);
+        let wanted = count.saturating_mul(2).max(count + more);
         Ok(Some(Due {
             rows: Vec::with_capacity(*self.rows.allocator(), wanted)?,
         }))

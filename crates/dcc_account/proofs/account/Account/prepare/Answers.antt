@@ -37,7 +37,7 @@ returns-clause-prepared c =
                 fits_of (λ v. vec_capacity v) c.in_ok-larger-2.field-0 own.entries.len c.len.result own.entries.cap _ (length found.entries.items)
                 (sym (written ∙ ap (λ (es : List Entry). length es) c.self.invariant.kept.entries_are)) (sym more) c.in_ok-larger-2.ensures.room;
             sessions = fits_of (λ v. vec_capacity v) c.in_ok-larger-3.field-0 own.sessions.len 1 own.sessions.cap (length own.sessions.items) 1 (sym open_ones) refl c.in_ok-larger-3.ensures.room;
-            due = room_of (λ (due : DueView). due.room) c.in_ok-larger-4.field-0 1 _ _ refl c.in_ok-larger-4.ensures.room;
+            due = room_of (λ (due : DueView). due.room) c.in_ok-larger-4.field-0 c.from-more.result _ _ one c.in_ok-larger-4.ensures.room;
             requests = room_of (λ m. map_spare m) c.in_ok-larger-5.field-0.requests c.from-more.result _ _ one c.in_ok-larger-5.ensures.room.requests;
             tickets = room_of (λ m. map_spare m) c.in_ok-larger-5.field-0.tickets c.from-more.result _ _ one c.in_ok-larger-5.ensures.room.tickets;
             opened = room_of (λ s. set_spare s) c.in_ok-larger-5.field-0.opened c.from-more.result _ _ one c.in_ok-larger-5.ensures.room.opened;
