@@ -1,7 +1,7 @@
 -- One row less, or one more, and the first of the rows.
-use Rattle.std.proofs.Common.{◌≡◌, ◌≤◌, ◌<◌, ℕ, zero, suc, true, false, not, cond, List, [], ◌∷◌, length, get_or, drop, nat_le, Option, Some, None, refl, sym, ap, ◌∙◌, arith, inl, inr}
-use Rattle.std.specs.Prelude.{filter, is_none, slice_get, unwrap_or, IfSome}
-use Rattle.std.specs.List.{insert}
+use Rattle.std.proofs.Common.{◌≡◌, ◌≤◌, ◌<◌, ◌+◌, ℕ, zero, suc, true, false, not, cond, List, [], ◌∷◌, length, get_or, drop, nat_le, Option, Some, None, refl, sym, ap, ◌∙◌, arith, inl, inr}
+use Rattle.std.specs.Prelude.{filter, is_none, position, remove, slice_get, unwrap_or, nat_lt, IfSome}
+use Rattle.std.specs.List.{insert, position_or_len}
 use Rattle.std.specs.List.Sorted.{IsNonDecreasingBy, IsPartitionedBy}
 use Rattle.std.specs.Cmp.Lexicographic.{nat_list_eq_equiv}
 use Rattle.std.proofs.lemmas.Bool.{cases_Bool, and_parts, and_from}
@@ -20,6 +20,56 @@ turned a b = nat_list_eq_equiv.symm a b
 -- a row of another session stays in front
 past : (row : Row) (rows : List Row) (sid : List ℕ) → same_session row.session sid ≡ false → deadline_in (row ∷ rows) sid ≡ deadline_in rows sid
 past row rows sid h = rw h refl
+
+head_apart : (row : Row) (rows : List Row) (sid : List ℕ)
+    → deadline_in (row ∷ rows) sid ≡ None → (same_session row.session sid ≡ false) × (deadline_in rows sid ≡ None)
+head_apart row rows sid none = grind (arith, none)
+
+-- where the test passes nowhere, all stay
+pub nowhere : (rows : List Row) (sid : List ℕ) → position (λ (row : Row). same_session row.session sid) rows ≡ None
+    → filter (λ row. not (same_session row.session sid)) rows ≡ rows
+nowhere rows sid none = stays rows sid (elim (cases_Bool (nat_lt (position_or_len (λ (row : Row). same_session row.session sid) rows) (length rows))) [
+  | inl t ↦ let some : Some (position_or_len (λ (row : Row). same_session row.session sid) rows) ≡ None = rw t at none in absurd cc
+  | inr f ↦ grind (arith, nat_tests, f)
+])
+  where
+    stays : (rows : List Row) (sid : List ℕ) → length rows ≤ position_or_len (λ (row : Row). same_session row.session sid) rows
+        → filter (λ row. not (same_session row.session sid)) rows ≡ rows
+    stays [] sid h = refl
+    stays (row ∷ rows) sid h =
+        elim (cases_Bool (same_session row.session sid)) [
+          | inl t ↦ let short : length (row ∷ rows) ≤ 0 = rw t at h in absurd (omega arith)
+          | inr f ↦
+              let short : length (row ∷ rows) ≤ 1 + position_or_len (λ (row : Row). same_session row.session sid) rows = rw f at h in
+              rw f (ap (λ (rest : List Row). row ∷ rest) (stays rows sid (omega arith)))
+        ]
+
+-- no row behind a session's own is its own
+others_stay : (rows : List Row) (own sid : List ℕ) → same_session own sid ≡ true → deadline_in rows own ≡ None
+    → filter (λ row. not (same_session row.session sid)) rows ≡ rows
+others_stay [] own sid same none = refl
+others_stay (row ∷ rows) own sid same none =
+    let apart = head_apart row rows own none in
+    let e : same_session row.session own ≡ same_session row.session sid = turned row.session own ∙ alike own sid row.session same ∙ turned sid row.session in
+    let other : same_session row.session sid ≡ false = sym e ∙ apart.0 in
+    rw other (ap (λ (rest : List Row). row ∷ rest) (others_stay rows own sid same apart.1))
+
+is_none_is : (deadline : Option ℕ) → is_none deadline ≡ true → deadline ≡ None
+is_none_is None h = refl
+is_none_is (Some until) h = absurd cc
+
+-- so without the first that passes, those that pass are gone
+pub without_at : (rows : List Row) (sid : List ℕ) (at : ℕ) (d : Row) → at < length rows → same_session (get_or rows at d).session sid ≡ true
+    → ((k : ℕ) → k < at → same_session (get_or rows k d).session sid ≡ false) → are_once rows ≡ true
+    → remove rows at ≡ filter (λ row. not (same_session row.session sid)) rows
+without_at [] sid at d below here before once = absurd (omega (arith, below))
+without_at (row ∷ rows) sid zero d below here before once =
+    let parts = and_parts (is_none (deadline_in rows row.session)) (are_once rows) once in
+    rw here (sym (others_stay rows row.session sid here (is_none_is (deadline_in rows row.session) parts.0)))
+without_at (row ∷ rows) sid (suc at) d below here before once =
+    let parts = and_parts (is_none (deadline_in rows row.session)) (are_once rows) once in
+    let first = before 0 (omega arith) in
+    rw first (ap (λ (rest : List Row). row ∷ rest) (without_at rows sid at d (omega arith) here (λ k lt. before (suc k) (omega arith)) parts.1))
 
 -- what a filter that lets a session's rows go leaves
 pub deadline_without : (rows : List Row) (sid q : List ℕ)
@@ -45,10 +95,6 @@ once_without (row ∷ rows) sid once =
       | inl own ↦ grind (arith, later, own)
       | inr other ↦ (let t = turned row.session sid in grind (arith, later, other, left, parts.0, t))
     ]
-
-head_apart : (row : Row) (rows : List Row) (sid : List ℕ)
-    → deadline_in (row ∷ rows) sid ≡ None → (same_session row.session sid ≡ false) × (deadline_in rows sid ≡ None)
-head_apart row rows sid none = grind (arith, none)
 
 -- what is in with one more row, at any place
 pub deadline_with : (rows : List Row) (at : ℕ) (row : Row) (q : List ℕ) → deadline_in rows row.session ≡ None
@@ -110,10 +156,6 @@ first_least (head ∷ rows) row low first ordered below sid =
 later_stay : (moment : ℕ) (deadline : Option ℕ) → IfSome deadline (λ until. suc moment ≤ until) → deadline ≡ later_than moment deadline
 later_stay moment None later = refl
 later_stay moment (Some until) later = let no : nat_le until moment ≡ false = grind (arith, nat_tests, later) in rw no refl
-
-is_none_is : (deadline : Option ℕ) → is_none deadline ≡ true → deadline ≡ None
-is_none_is None h = refl
-is_none_is (Some until) h = absurd cc
 
 -- two sessions that are one have one deadline
 alike_in : (rows : List Row) (a b : List ℕ) → same_session a b ≡ true → deadline_in rows a ≡ deadline_in rows b

@@ -54,7 +54,7 @@ impl Due {
     }
 
     /// Gives a session this deadline, whatever it had before: a later one, an earlier one or none. Where memory is refused,
-    /// nothing has changed. It looks at each row once, finds the new place by halving, and takes memory for the session's name
+    /// nothing has changed. It looks at each row until the session's, finds the new place by halving, and takes memory for the session's name
     /// and, where there is no room, for rows.
     #[tactic(auto, unfolding(crate::specs::Deadlines::deadline_of))]
     pub fn set(&mut self, sid: &SessionId, deadline: u64) -> Result<(), AllocError>
@@ -85,7 +85,7 @@ impl Due {
         );
     }
 
-    /// Takes away a session's deadline, where it has one. It takes no memory, and looks at each row once.
+    /// Takes away a session's deadline, where it has one. It takes no memory, and looks at each row until the session's.
     #[tactic(auto, unfolding(crate::specs::Deadlines::deadline_of))]
     pub fn clear(&mut self, sid: &SessionId)
         ensures { (other : List ℕ) → deadline_of self.new other ≡ (if same_session sid.now other then None else deadline_of self.old other) }

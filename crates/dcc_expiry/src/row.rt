@@ -1,7 +1,8 @@
 //! A session with its deadline, and rows of these in the order of their deadlines.
 
-ghost use Rattle.std.specs.Prelude.{◌≡◌, ◌<◌, ◌≤◌, ℕ, List, Some, None, if◌then◌else◌, drop, vec_len, vec_capacity, IfOk};
+ghost use Rattle.std.specs.Prelude.{◌≡◌, ◌<◌, ◌≤◌, ℕ, List, Some, None, if◌then◌else◌, drop, position, vec_len, vec_capacity, IfOk};
 ghost use Rattle.dcc_expiry.specs.Deadlines.{deadline_in, later_than, same_session};
+ghost use Rattle.dcc_expiry.specs.declared.row.Row.{Row};
 ghost use Rattle.dcc_expiry.specs.inner.Rows.{AreRows};
 
 use dcc_act::SessionId;
@@ -14,7 +15,15 @@ pub struct Row {
     pub(crate) deadline: u64,
 }
 
-/// Takes a session out, where it is in. It takes no memory, and looks at each row.
+/// Where the session of this name stands. It looks at each row until the session's: a session that has its turn again stands in
+/// front, where no other's deadline was set before.
+fn place(rows: &[Row], sid: &SessionId) -> Option<usize>
+    ensures { result ≡ position (λ (row : Row). same_session row.session sid.now) rows.now }
+{
+    rows.iter().position(|row| row.session == *sid)
+}
+
+/// Takes a session out, where it is in. It takes no memory.
 pub(crate) fn take_out(rows: &mut Vec<Row>, sid: &SessionId)
     requires { AreRows rows.old.items }
     ensures rows { AreRows rows.new.items }
@@ -23,7 +32,9 @@ pub(crate) fn take_out(rows: &mut Vec<Row>, sid: &SessionId)
     ensures len { vec_len rows.new ≤ vec_len rows.old }
     ensures capacity { vec_capacity rows.new ≡ vec_capacity rows.old }
 {
-    rows.retain(|row| row.session != *sid);
+    if let Some(at) = place(rows, sid) {
+        rows.remove(at);
+    }
 }
 
 /// Takes out the sessions whose deadline is the moment or before it. It takes no memory, finds by halving how many these are,
