@@ -7,7 +7,8 @@ ghost use Rattle.dcc_records.specs.Contents.{Content};
 ghost use Rattle.dcc_records.specs.Stops.{LeavesOnly};
 ghost use Rattle.dcc_shard.specs.Shards.{held, AreOwn};
 ghost use Rattle.dcc_shard.specs.Routes.{shard_of};
-ghost use Rattle.dcc_shard.specs.Stored.{IsLeft};
+ghost use Rattle.dcc_shard.specs.Stored.{IsLeft, StoredView};
+ghost use Rattle.dcc_operator.specs.Openings.{IsOpenedOver};
 
 use dcc_message::Identity;
 use dcc_records::{Records, StoreFault};
@@ -99,6 +100,8 @@ pub fn shard_over<R: Records + Drop>(
     // The number of a fault: those of the records, each only where they have it, and 54.
     ensures device { IfErr result (λ refusal. refusal.0 ≡ 51 → R.is_stopped records ≡ false) }
     ensures stopped { IfErr result (λ refusal. refusal.0 ≡ 52 → R.is_stopped records ≡ true) }
+    ensures others { IfErr result (λ refusal. refusal.0 ≡ 54 → (stored : StoredView R) × IsOpenedOver (λ given. given ≡ records) R.may_leave stored
+        × (¬ ((sub : Sub) → held stored.shard sub ≢ [] → shard_of sub count ≡ index))) }
     ensures number { IfErr result (λ refusal. (refusal.0 ≡ 50) ⊎ (refusal.0 ≡ 51) ⊎ (refusal.0 ≡ 52) ⊎ (refusal.0 ≡ 54)) }
 {
     match Shard::new(alloc, identity, records, hasher) {
