@@ -1,5 +1,5 @@
-//! Steps of accounts that hold many acts: a direct debit, an update of one of 64 open sessions, a repeat of a late and of any act, and a
-//! top-up.
+//! Steps of accounts that hold many acts: a direct debit, an update of one of the open sessions, a repeat of a late and of any act, and a
+//! top-up; and the looks of updates.
 
 ghost use Rattle.std.specs.Prelude.{◌≡◌, ◌≤◌, true, is_some};
 ghost use Rattle.std.specs.Option.{ForSome};
@@ -18,8 +18,8 @@ use std::hash::RandomState;
 use std::random::RandomSource;
 use std::time::CpuClock;
 
-/// The sessions that each account has open, each with one service.
-const SESSIONS: u32 = 64;
+/// The session of debits, by its number: those from 0 up to it may be open.
+const DEBITS: u32 = 64;
 
 /// The group of all services.
 const GROUP: u32 = 10;
@@ -36,6 +36,8 @@ pub(crate) struct Setting {
     pub alloc: Global,
     pub moment: Moment,
     pub tariff: Tariff,
+    /// So many sessions each account has open, each with one service.
+    pub sessions: u32,
 }
 
 /// Measures each kind of step on accounts that hold so many acts each, taken in turn.
@@ -43,24 +45,26 @@ pub fn measure<R: AllocGlobal + RandomSource + Print + Eprint + CpuClock>(
     rt: &R,
     accounts: u32,
     held: u32,
+    sessions: u32,
 ) -> Result<()> {
     let alloc = rt.alloc();
     let hasher = RandomState::new(rt)?;
     let plan = make_plan(alloc)?;
-    let setting = setting_of(alloc, &plan)?;
+    let setting = setting_of(alloc, &plan, sessions)?;
     let mut all = Vec::new(alloc);
     add_all(&setting, plan.terms(), hasher, &mut all, accounts, held)?;
     measure_on(rt, &setting, &mut all, held)
 }
 
 /// What all acts under this plan have in common.
-pub(crate) fn setting_of(alloc: Global, plan: &Plan) -> Result<Setting> {
+pub(crate) fn setting_of(alloc: Global, plan: &Plan, sessions: u32) -> Result<Setting> {
     let moment = moment(MOMENT)?;
     let (_unit, tariff) = plan.at(GROUP, MOMENT).context("a tariff")?;
     Ok(Setting {
         alloc,
         moment,
         tariff,
+        sessions,
     })
 }
 
@@ -129,8 +133,10 @@ fn measure_on(
         || top_up_all(setting, all, &mut next),
     )?;
     let funds = funds_of(all);
+    let sessions = setting.sessions;
+    let looks = looks_of(setting, all, &mut next)?;
     println!(rt;
-        "account {accounts} {held} new {debits} {updates} {late} {repeats} {top_ups} funds {funds}"
+        "account {accounts} {held} new {debits} {updates} {late} {repeats} {top_ups} funds {funds} sessions {sessions} looks {looks}"
     )?;
     Ok(())
 }
@@ -138,10 +144,10 @@ fn measure_on(
 /// Gives an account its money, opens its sessions, and makes direct debits up to so many acts.
 fn fill(setting: &Setting, account: &mut Account, held: u32) -> Result<()> {
     step(account, top_up(setting, 0)?)?;
-    for session in 0..SESSIONS {
+    for session in 0..setting.sessions {
         step(account, first(setting, session)?)?;
     }
-    for number in SESSIONS + 1..held {
+    for number in setting.sessions.saturating_add(1)..held {
         step(account, debit(setting, number)?)?;
     }
     Ok(())
@@ -168,14 +174,16 @@ fn update_all(setting: &Setting, all: &mut [Account], next: &mut u32) -> Result<
     let mut made = 0u64;
     for i in 0..STEPS as usize {
         *next = next.wrapping_add(1);
-        made = made.wrapping_add(stepped(all, i, update(setting, *next % SESSIONS, *next)?)?);
+        made = made.wrapping_add(stepped(all, i, update(setting, *next, *next)?)?);
     }
     Ok(made)
 }
 
 fn repeat_late(setting: &Setting, all: &mut [Account], held: u32) -> Result<u64> {
     let mut made = 0u64;
-    let debits = held.saturating_sub(SESSIONS + 1).max(1);
+    let debits = held
+        .saturating_sub(setting.sessions.saturating_add(1))
+        .max(1);
     for i in 0..STEPS {
         // As a gateway sends again what it has just sent.
         let back = (i % debits).wrapping_add(1);
@@ -190,10 +198,16 @@ fn repeat_late(setting: &Setting, all: &mut [Account], held: u32) -> Result<u64>
 
 fn repeat_all(setting: &Setting, all: &mut [Account], held: u32) -> Result<u64> {
     let mut made = 0u64;
+    let begin = setting.sessions.saturating_add(1);
+    let debits = held.saturating_sub(begin).max(1);
     for i in 0..STEPS {
         // Steps that are far from one another, so that they aren't in the caches.
-        let number = i.wrapping_mul(7_919) % held.saturating_sub(SESSIONS + 1).max(1);
-        made = made.wrapping_add(stepped(all, i as usize, debit(setting, SESSIONS + 1 + number)?)?);
+        let number = i.wrapping_mul(7_919) % debits;
+        made = made.wrapping_add(stepped(
+            all,
+            i as usize,
+            debit(setting, begin.wrapping_add(number))?,
+        )?);
     }
     Ok(made)
 }
@@ -205,6 +219,20 @@ fn top_up_all(setting: &Setting, all: &mut [Account], next: &mut u32) -> Result<
         made = made.wrapping_add(stepped(all, i, top_up(setting, u64::from(*next))?)?);
     }
     Ok(made)
+}
+
+/// The looks of so many updates, in turn.
+fn looks_of(setting: &Setting, all: &mut [Account], next: &mut u32) -> Result<u64> {
+    let mut looks = 0u64;
+    for account in all {
+        for _ in 0..setting.sessions {
+            *next = next.wrapping_add(1);
+            let step = account.prepare(update(setting, *next, *next)?)?;
+            looks = looks.wrapping_add(step.looks());
+            account.install(step);
+        }
+    }
+    Ok(looks)
 }
 
 /// Makes an act of one of the accounts, in turn.
@@ -227,7 +255,7 @@ fn top_up(setting: &Setting, ticket: u64) -> Result<Act> {
 /// A direct debit of 1,000 octets.
 pub(crate) fn debit(setting: &Setting, number: u32) -> Result<Act> {
     let event = OneTimeEvent {
-        key: key(setting, SESSIONS, number)?,
+        key: key(setting, DEBITS, number)?,
         action: Action::DirectDebiting,
         service: service(setting, false),
     };
@@ -249,8 +277,9 @@ fn first(setting: &Setting, session: u32) -> Result<Act> {
     })
 }
 
-/// A further request of a session, which reports what it was granted.
-fn update(setting: &Setting, session: u32, number: u32) -> Result<Act> {
+/// A further request of one of the sessions in turn, which reports what it was granted.
+fn update(setting: &Setting, turn: u32, number: u32) -> Result<Act> {
+    let session = turn % setting.sessions.max(1);
     let request = SessionRequest {
         key: key(setting, session, number)?,
         services: services(setting, true)?,

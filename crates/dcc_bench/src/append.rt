@@ -56,7 +56,7 @@ fn measure_under<S: Stores>(
     hasher: RandomState,
 ) -> Result<u64> {
     let alloc = rt.alloc();
-    let setting = setting_of(alloc, plan)?;
+    let setting = setting_of(alloc, plan, 0)?;
     let identity = identity_of(alloc, plan)?;
     let Ok(mut shards) = shards_over(alloc, stores, folder, plan, &identity, hasher) else {
         bail!("no stores");

@@ -68,7 +68,7 @@ pub fn measure<R: AllocGlobal + RandomSource + Print + Eprint + CpuClock + Wait>
     let alloc = rt.alloc();
     let hasher = RandomState::new(rt)?;
     let plan = make_plan(alloc)?;
-    let setting = setting_of(alloc, &plan)?;
+    let setting = setting_of(alloc, &plan, 0)?;
     let mut rounds = Rounds::new(alloc);
     let mut receipts = 0usize;
     for _ in 0..ROUNDS {

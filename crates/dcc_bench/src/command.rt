@@ -20,10 +20,11 @@ pub enum Command<'a> {
     Plan {
         count: u32,
     },
-    /// Steps of so many accounts, which hold so many acts each.
+    /// Steps of so many accounts, which hold so many acts each, and have so many sessions open.
     Account {
         accounts: u32,
         held: u32,
+        sessions: u32,
     },
     /// The end of shards in which so many debits were made.
     Close {
@@ -40,10 +41,11 @@ pub enum Command<'a> {
         held: u32,
         shards: u8,
     },
-    /// Sweeps over so many subscribers in so many shards.
+    /// Sweeps over so many subscribers in so many shards, so many times of each kind.
     Sweep {
         subscribers: u32,
         shards: u8,
+        rounds: u32,
     },
     /// So many appends to the stores of so many shards in a folder.
     Append {
@@ -99,17 +101,9 @@ fn command_with_two<'a>(name: &str, first: &'a String, second: u32) -> Option<Co
             octets: number(first)?,
             piece: second,
         }),
-        "account" => Some(Command::Account {
-            accounts: number(first)?,
-            held: second,
-        }),
         "replay" => Some(Command::Replay {
             subscribers: number(first)?,
             requests: second,
-        }),
-        "sweep" => Some(Command::Sweep {
-            subscribers: million(number(first)?)?,
-            shards: shards(second)?,
         }),
         "serve" => Some(Command::Serve {
             plan: first.as_str(),
@@ -126,10 +120,20 @@ fn command_with_three<'a>(
     third: u32,
 ) -> Option<Command<'a>> {
     match name {
+        "account" => Some(Command::Account {
+            accounts: number(first)?,
+            held: second,
+            sessions: third,
+        }),
         "engine" => Some(Command::Engine {
             subscribers: million(number(first)?)?,
             held: second,
             shards: shards(third)?,
+        }),
+        "sweep" => Some(Command::Sweep {
+            subscribers: million(number(first)?)?,
+            shards: shards(second)?,
+            rounds: third,
         }),
         "append" => Some(Command::Append {
             folder: first.as_str(),

@@ -1,6 +1,6 @@
 //! The program that measures the path of a direct debit, and how requests are read, refused and answered: `codec N`, `request N`,
-//! `framer OCTETS PIECE`, `plan N`, `account ACCOUNTS HELD`, `close N`, `replay SUBSCRIBERS REQUESTS`,
-//! `engine SUBSCRIBERS HELD SHARDS`, `sweep SUBSCRIBERS SHARDS`, and `sample`, a little of each; and for `bench/serve`
+//! `framer OCTETS PIECE`, `plan N`, `account ACCOUNTS HELD SESSIONS`, `close N`, `replay SUBSCRIBERS REQUESTS`,
+//! `engine SUBSCRIBERS HELD SHARDS`, `sweep SUBSCRIBERS SHARDS ROUNDS`, and `sample`, a little of each; and for `bench/serve`
 //! `append FOLDER SHARDS N`, the appends to stores alone, and `serve PLAN GATES`, the server with records in memory, which is measured from outside.
 //!
 //! It stands on the crates of that path, and calls them as the server does. Standard output has only what the arguments
@@ -43,7 +43,13 @@ fn main(rt: HostRuntime) -> Result<()> {
         Some(Command::Request { count }) => requests::measure(&rt, count),
         Some(Command::Framer { octets, piece }) => stream::measure(&rt, octets, piece),
         Some(Command::Plan { count }) => tariffs::measure(&rt, count),
-        Some(Command::Account { accounts, held }) => account::measure(&rt, accounts, held),
+        Some(
+            Command::Account {
+                accounts,
+                held,
+                sessions,
+            },
+        ) => account::measure(&rt, accounts, held, sessions),
         Some(Command::Close { count }) => close::measure(&rt, count),
         Some(
             Command::Replay {
@@ -62,8 +68,9 @@ fn main(rt: HostRuntime) -> Result<()> {
             Command::Sweep {
                 subscribers,
                 shards,
+                rounds,
             },
-        ) => sweep::measure(&rt, subscribers, shards),
+        ) => sweep::measure(&rt, subscribers, shards, rounds),
         Some(
             Command::Append {
                 folder,
@@ -73,7 +80,7 @@ fn main(rt: HostRuntime) -> Result<()> {
         ) => append::measure(&rt, &FileStores::new(&rt), folder, shards, count),
         Some(Command::Serve { plan, gates }) => server::run(&rt, plan, gates),
         None => bail!(
-            "usage: codec N | request N | framer OCTETS PIECE | plan N | account ACCOUNTS HELD | close N | replay SUBSCRIBERS REQUESTS | engine SUBSCRIBERS HELD SHARDS | sweep SUBSCRIBERS SHARDS | append FOLDER SHARDS N | serve PLAN GATES | sample"
+            "usage: codec N | request N | framer OCTETS PIECE | plan N | account ACCOUNTS HELD SESSIONS | close N | replay SUBSCRIBERS REQUESTS | engine SUBSCRIBERS HELD SHARDS | sweep SUBSCRIBERS SHARDS ROUNDS | append FOLDER SHARDS N | serve PLAN GATES | sample"
         ),
     }
 }
@@ -84,9 +91,10 @@ fn sample<R: AllocGlobal + RandomSource + Print + Eprint + CpuClock + Wait>(rt: 
     requests::measure(rt, 10)?;
     stream::measure(rt, 10_000, 7)?;
     tariffs::measure(rt, 30)?;
-    account::measure(rt, 2, 100)?;
+    account::measure(rt, 2, 100, 64)?;
+    account::measure(rt, 2, 100, 8)?;
     close::measure(rt, 300)?;
     replay::measure(rt, 3, 30)?;
     engine::measure(rt, 7, 50, 2)?;
-    sweep::measure(rt, 3, 2)
+    sweep::measure(rt, 3, 2, 3)
 }

@@ -13,9 +13,6 @@ use std::hash::RandomState;
 use std::random::RandomSource;
 use std::time::CpuClock;
 
-/// How often sessions are opened and swept.
-const ROUNDS: u32 = 3;
-
 /// One subscriber of so many opens its session before the others.
 const EARLY: u32 = 1_000;
 
@@ -25,14 +22,15 @@ const LEAD: u64 = 600;
 /// From one opening to the next, in seconds.
 const DAY: u64 = 86_400;
 
-/// Measures sweeps over so many subscribers.
+/// Measures sweeps over so many subscribers, whose sessions are opened and swept so many times.
 pub fn measure<R: AllocGlobal + RandomSource + Print + Eprint + CpuClock>(
     rt: &R,
     subscribers: u32,
     shards: u8,
+    rounds: u32,
 ) -> Result<()> {
     let hasher = RandomState::new(rt)?;
-    let sweeps = measured(rt, subscribers, shards, hasher)?;
+    let sweeps = measured(rt, subscribers, shards, rounds, hasher)?;
     sweeps.report(rt, subscribers, shards)
 }
 
@@ -41,13 +39,14 @@ fn measured(
     rt: &(impl AllocGlobal + CpuClock),
     subscribers: u32,
     shards: u8,
+    rounds: u32,
     hasher: RandomState,
 ) -> Result<Sweeps> {
     let alloc = rt.alloc();
     let plan = make_plan(alloc)?;
     let hold = u64::from(plan.terms().hold);
     let mut engine = make_engine(alloc, plan, shards, hasher)?;
-    measure_on(rt, &mut engine, subscribers, hold)
+    measure_on(rt, &mut engine, subscribers, rounds, hold)
 }
 
 /// Measures on this engine, which has nobody yet, and holds sessions for so many seconds.
@@ -55,12 +54,13 @@ fn measure_on(
     rt: &(impl AllocGlobal + CpuClock),
     engine: &mut Engine<MemoryRecords>,
     subscribers: u32,
+    rounds: u32,
     hold: u64,
 ) -> Result<Sweeps> {
     let alloc = rt.alloc();
     give_money(alloc, engine, subscribers)?;
     let mut sweeps = Sweeps::new(alloc);
-    for round in 0..ROUNDS {
+    for round in 0..rounds {
         let opened = MOMENT.saturating_add(u64::from(round).saturating_mul(DAY));
         open_sessions(alloc, engine, subscribers, round, opened)?;
         sweeps.add(rt, engine, subscribers, opened, hold)?;
