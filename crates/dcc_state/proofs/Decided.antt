@@ -30,7 +30,7 @@ use Rattle.dcc_session.specs.Grants.{charges_in, overruns_in}
 use Rattle.dcc_state.specs.declared.facts.Facts.{Facts}
 use Rattle.dcc_session.specs.declared.held.Held.{Held}
 use Rattle.dcc_state.specs.Known.{was_opened_by}
-use Rattle.dcc_state.specs.Looks.{many_of, most_looks}
+use Rattle.dcc_state.specs.Looks.{many_of, most_looks, least_looks}
 use Rattle.dcc_state.specs.OpenSessions.{SessionView, AreOpen, held_of, is_of, grants_of, own_in, own_by as held_by_kind}
 use Rattle.dcc_state.specs.inner.Grants.{served_in, charge_entries_in}
 use Rattle.dcc_state.specs.inner.Judged.{begun_in, reported_in, decided_in, settled_in, judged_in, is_made_in, charged_in, overran_in, entries_by_in}
@@ -164,3 +164,20 @@ looks_are terms past standing sessions knows moment kind.Expiry = omega arith
 looks_are terms past standing sessions knows moment (kind.Initial opening) = few_own terms past standing sessions knows opening.key.sid
 looks_are terms past standing sessions knows moment (kind.Update report) = few_own terms past standing sessions knows report.key.sid
 looks_are terms past standing sessions knows moment (kind.Termination report) = few_own terms past standing sessions knows report.key.sid
+
+all_own : (terms : TermsView) (past : List Done) (standing : Standing) (sessions : List SessionView) → Knows terms past standing sessions → (sid : Sid)
+    → many_of terms past sid ≤ length (own_in sessions sid)
+all_own terms past standing sessions knows sid =
+    let own = ap (λ (held : List Held). length held) (own_by terms past standing sessions knows sid) in
+    let many = length-map (filter (is_of sid) (lives terms past)) held_of in
+    omega arith
+
+-- and no fewer than are live in its session
+pub looks_reach : (terms : TermsView) (past : List Done) (standing : Standing) (sessions : List SessionView) → Knows terms past standing sessions → (k : Kind)
+    → least_looks terms past k ≤ length (held_by_kind sessions k)
+looks_reach terms past standing sessions knows (kind.TopUp top_up) = omega arith
+looks_reach terms past standing sessions knows (kind.Event event) = omega arith
+looks_reach terms past standing sessions knows kind.Expiry = omega arith
+looks_reach terms past standing sessions knows (kind.Initial opening) = all_own terms past standing sessions knows opening.key.sid
+looks_reach terms past standing sessions knows (kind.Update report) = all_own terms past standing sessions knows report.key.sid
+looks_reach terms past standing sessions knows (kind.Termination report) = all_own terms past standing sessions knows report.key.sid

@@ -11,7 +11,7 @@ ghost use Rattle.dcc_model.specs.Outcomes.{judged, is_made, place_of, with_act, 
 ghost use Rattle.dcc_model.specs.Sessions.{looked_at};
 ghost use Rattle.dcc_state.specs.Backed.{IsBacked};
 ghost use Rattle.dcc_state.specs.Known.{changed, funds_after, overrun_with, IsWithin, IsKnown};
-ghost use Rattle.dcc_state.specs.Looks.{most_looks};
+ghost use Rattle.dcc_state.specs.Looks.{most_looks, least_looks};
 ghost use Rattle.dcc_state.specs.OpenSessions.{own_by, is_over_at, AreApart, AreOpen, KeepsDeadlines};
 ghost use Rattle.dcc_state.specs.inner.Judged.{expired_in, decided_in, settled_in, judged_in, is_made_in, place_in, entries_by_in, change_of, entries_after, change_after};
 
@@ -70,6 +70,8 @@ pub fn judge(
     ensures backed { IfOk result (λ judgement. IsBacked facts.now.standing.funds facts.now.standing.free sessions.now judgement.change) }
     ensures looks { (xs : List Act) → IsKnown terms.now xs act.now facts.now (option_copied first.entry) sessions.now
         → looks.new ≤ most_looks terms.now (history terms.now (reverse xs)) act.now.moment act.now.kind }
+    ensures counted { (xs : List Act) → IsKnown terms.now xs act.now facts.now (option_copied first.entry) sessions.now
+        → least_looks terms.now (history terms.now (reverse xs)) act.now.kind ≤ looks.new }
 {
     acts_come_to_their_own();
     sessions_open_once();

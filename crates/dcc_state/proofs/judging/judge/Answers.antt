@@ -3,7 +3,7 @@ use Rattle.std.proofs.lemmas.Result.{IfOk-weaker}
 use Rattle.dcc_state.proofs.Judged.{knows, outcome_at, new_at, place_at, entries_at, sessions_at, funds_at, overrun_at, both}
 use Rattle.std.proofs.Common.{reverse, arith}
 use Rattle.dcc_model.specs.Outcomes.{history}
-use Rattle.dcc_state.proofs.Decided.{looks_are}
+use Rattle.dcc_state.proofs.Decided.{looks_are, looks_reach}
 use Rattle.dcc_state.proofs.judging.judge.Goals as goal
 
 pub returns-clause-outcome : goal.returns-clause-outcome
@@ -79,5 +79,14 @@ returns-clause-looks c =
     let laws = c.sessions_open_once.ensures in
     let have = knows laws.found laws.live laws.once c.args.terms.now xs c.args.act.now c.args.facts.now (option_copied c.args.first) c.args.sessions.now known in
     let most = looks_are c.args.terms.now (history c.args.terms.now (reverse xs)) c.args.facts.now.standing c.args.sessions.now have c.args.act.now.moment c.args.act.now.kind in
+    let found = c.judge_known.ensures.looks in
+    omega arith
+
+pub returns-clause-counted : goal.returns-clause-counted
+returns-clause-counted c =
+    λ xs known.
+    let laws = c.sessions_open_once.ensures in
+    let have = knows laws.found laws.live laws.once c.args.terms.now xs c.args.act.now c.args.facts.now (option_copied c.args.first) c.args.sessions.now known in
+    let least = looks_reach c.args.terms.now (history c.args.terms.now (reverse xs)) c.args.facts.now.standing c.args.sessions.now have c.args.act.now.kind in
     let found = c.judge_known.ensures.looks in
     omega arith
