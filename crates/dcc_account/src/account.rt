@@ -4,7 +4,7 @@ ghost use Rattle.std.specs.Prelude.{◌≡◌, [], ◌∷◌, ◌++◌, map, rev
 ghost use Rattle.std.specs.Option.{option_copied};
 ghost use Rattle.dcc_model.specs.Outcomes.{act_made, history, acts, standing, funds, overrun, free, kept};
 ghost use Rattle.dcc_model.specs.Entries.{entries};
-ghost use Rattle.dcc_state.specs.Looks.{most_looks};
+ghost use Rattle.dcc_state.specs.Looks.{most_looks, least_looks};
 ghost use Rattle.dcc_account.specs.Accounts.{reserved};
 ghost use Rattle.dcc_model.specs.declared.decide.TheConstants.{CEILING};
 
@@ -163,6 +163,8 @@ impl Account {
             ≡ (if step.is_new then self.now.acts ++ act ∷ [] else self.now.acts)) }
         ensures looks { IfOk result (λ step. step.looks
             ≤ most_looks self.now.terms (history self.now.terms (reverse self.now.acts)) act.moment act.kind) }
+        ensures counted { IfOk result (λ step. least_looks self.now.terms (history self.now.terms (reverse self.now.acts)) act.kind
+            ≤ step.looks) }
     {
         one_more_act();
         let mut looks = Looks::new();
@@ -226,6 +228,7 @@ impl Account {
         ensures judged { IfOk result (λ judgement. IsJudged self.now act.now (in_view judgement)) }
         ensures looks { looks.new
             ≤ most_looks self.now.terms (history self.now.terms (reverse self.now.acts)) act.now.moment act.now.kind }
+        ensures counted { least_looks self.now.terms (history self.now.terms (reverse self.now.acts)) act.now.kind ≤ looks.new }
     {
         let (facts, first) = self.known(act);
         judge(

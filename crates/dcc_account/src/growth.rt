@@ -1,6 +1,6 @@
 //! Memory that is brought before it is needed.
 
-ghost use Rattle.std.specs.Prelude.{◌≡◌, ◌+◌, ◌-◌, ◌≤◌, ◌<◌, ◌^◌, ◌++◌, [], length, IfOk, vec_len, vec_capacity, MatchOption, option_map};
+ghost use Rattle.std.specs.Prelude.{◌≡◌, ◌+◌, ◌-◌, ◌*◌, ◌≤◌, ◌<◌, ◌^◌, ◌++◌, [], length, IfOk, vec_len, vec_capacity, MatchOption, option_map};
 ghost use Rattle.std.specs.Option.{ForSome};
 ghost use Rattle.indexmap.specs.IndexMap as map;
 ghost use Rattle.indexmap.specs.IndexSet as set;
@@ -12,7 +12,7 @@ use std::hash::{Hash, RandomState};
 /// The room with which acts, entries and indexes begin, so that the first few acts of an account move nothing.
 pub(crate) const LEAST: usize = 4;
 
-/// A larger vector, with no items yet and room for so many at least, where these have no room for more.
+/// A larger vector, with no items yet and room for so many at least, and for twice these, where these have no room for more.
 pub(crate) fn larger<T: Drop>(
     alloc: Global,
     items: &Vec<T>,
@@ -23,6 +23,7 @@ pub(crate) fn larger<T: Drop>(
     ensures empty { IfOk result (λ larger. ForSome larger (λ larger. larger.items ≡ [])) }
     ensures room { IfOk result (λ larger. MatchOption larger (vec_len items.now + more ≤ vec_capacity items.now)
         (λ larger. vec_len items.now + more ≤ vec_capacity larger)) }
+    ensures doubled { IfOk result (λ larger. ForSome larger (λ larger. 2 * vec_len items.now < 2 ^ 64 → 2 * vec_len items.now ≤ vec_capacity larger)) }
 {
     let count = items.len();
     if count + more <= items.capacity() {
@@ -54,7 +55,7 @@ pub(crate) fn append<T: Drop>(items: &mut Vec<T>, mut more: Vec<T>)
     items.append(&mut more).unwrap();
 }
 
-/// A larger map, with no entries yet, where this one has no room for so many more, one at most.
+/// A larger map, with no entries yet and room for twice these, where this one has no room for so many more, one at most.
 pub(crate) fn larger_map<K: Eq + Hash + Drop, V: Drop>(
     alloc: Global,
     entries: &IndexMap<K, V, RandomState>,
@@ -64,6 +65,7 @@ pub(crate) fn larger_map<K: Eq + Hash + Drop, V: Drop>(
     ensures empty { IfOk result (λ larger. ForSome larger map.IsEmpty) }
     ensures room { IfOk result (λ larger. MatchOption larger (more ≤ map.spare entries.now)
         (λ larger. map.index_map_len entries.now + more ≤ map.spare larger)) }
+    ensures doubled { IfOk result (λ larger. ForSome larger (λ larger. 2 * map.index_map_len entries.now ≤ map.spare larger)) }
 {
     let count = entries.len();
     if count + more <= entries.capacity() {
@@ -92,7 +94,7 @@ pub(crate) fn grow_map<K: Eq + Hash + Drop, V: Drop>(
     }
 }
 
-/// A larger set, with no keys yet, where this one has no room for so many more, one at most.
+/// A larger set, with no keys yet and room for twice these, where this one has no room for so many more, one at most.
 pub(crate) fn larger_set<T: Eq + Hash + Drop>(
     alloc: Global,
     keys: &IndexSet<T, RandomState>,
@@ -102,6 +104,7 @@ pub(crate) fn larger_set<T: Eq + Hash + Drop>(
     ensures empty { IfOk result (λ larger. ForSome larger set.IsEmpty) }
     ensures room { IfOk result (λ larger. MatchOption larger (more ≤ set.spare keys.now)
         (λ larger. set.index_set_len keys.now + more ≤ set.spare larger)) }
+    ensures doubled { IfOk result (λ larger. ForSome larger (λ larger. 2 * set.index_set_len keys.now ≤ set.spare larger)) }
 {
     let count = keys.len();
     if count + more <= keys.capacity() {

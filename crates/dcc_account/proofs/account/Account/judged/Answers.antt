@@ -65,6 +65,11 @@ returns-clause-looks c =
     let known = known_of _ _ c.args.act.now _ _ c.deref.result.now c.self.view_is c.deref.ensures.value c.known.ensures.known in
     rw (← c.self.view_is) (c.judge.ensures.looks _ known)
 
+pub returns-clause-counted : goal.returns-clause-counted
+returns-clause-counted c =
+    let known = known_of _ _ c.args.act.now _ _ c.deref.result.now c.self.view_is c.deref.ensures.value c.known.ensures.known in
+    rw (← c.self.view_is) (c.judge.ensures.counted _ known)
+
 pub judge-requires-clause-apart : goal.judge-requires-clause-apart
 judge-requires-clause-apart c = subst AreApart (sym c.deref.ensures.value) c.self.invariant.sessions_are.apart
 
