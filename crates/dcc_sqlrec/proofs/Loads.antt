@@ -82,12 +82,12 @@ module _ (terms : TermsView) (old new : State) (tallies : List (Sub × Tally)) (
 
       pub found_only : Settles new → LeavesOnly terms held (leaves terms new)
       found_only settles found left = ∥∥₁_elim (kept (was_clean left.0)) (content_prop terms held found) (λ k.
-          along terms k.0 held found (same_as left.0 k) (only_kept terms new k.0 differ settles (kept_undone terms old new k.0 k.1 (still left.0 k.1.schema (λ _. k.1.settled))) found left))
+          along terms k.0 held found (same_as left.0 k) (only_kept terms new k.0 settles (kept_undone terms old new k.0 k.1 (still left.0 k.1.schema (λ _. k.1.settled))) found left))
 
       pub found_there : (IsTrue new.is_open → new.may_leave new.committed.trees) → HasCleanDisk new → ∥ ((content : Content) × IsContentOf terms held content × leaves terms new content) ∥₁
       found_there stays now = ∥∥₁_map (kept (was_clean now)) (λ k.
           let next = kept_undone terms old new k.0 k.1 (still now k.1.schema (λ _. k.1.settled)) in
-          (λ sub. kept_by terms (k.0 sub), along terms k.0 held (λ sub. kept_by terms (k.0 sub)) (same_as now k) (λ sub. refl), kept_leaves terms new k.0 (stays next.is_open) now next))
+          (λ sub. kept_by terms (k.0 sub), along terms k.0 held (λ sub. kept_by terms (k.0 sub)) (same_as now k) (λ sub. refl), kept_leaves terms new k.0 differ (stays next.is_open) now next))
 
 -- ---- a book that was read
 

@@ -51,10 +51,10 @@ module _ (terms : TermsView) (old new : State) (tallies : List (Sub × Tally)) (
       let now = left.0 in
       let was = was_clean now in
       ∥∥₁_elim (kept was) (content_prop terms known found) (λ k.
-      let same = same_held terms old k.0 known (stays k.1.is_open) was k.1 only in
+      let same = same_held terms old k.0 known differ (stays k.1.is_open) was k.1 only in
       let it : IsContentOf terms k.0 found = elim (undone now) [
-        | inl u ↦ only_kept terms new k.0 differ settled (kept_undone terms old new k.0 k.1 u) found left
-        | inr e ↦ only_kept terms old k.0 differ settles k.1 found (subst (λ (s : State). leaves terms s found) e left)
+        | inl u ↦ only_kept terms new k.0 settled (kept_undone terms old new k.0 k.1 u) found left
+        | inr e ↦ only_kept terms old k.0 settles k.1 found (subst (λ (s : State). leaves terms s found) e left)
       ] in
       along terms k.0 known found same it)
 
@@ -64,7 +64,7 @@ module _ (terms : TermsView) (old new : State) (tallies : List (Sub × Tally)) (
     Adds = HasCleanDisk new → old.now.schema ≡ layout → IsKeyed (old.now.trees account_tree) → HasCommitted (Appends (sub_octets sub) n.acts (record_of act) more n.funds) old new
 
     is_next : HasCleanDisk old → (k : KeepsBook terms old tallies) → IsNext terms (k.0 sub) act more
-    is_next was k = next (λ s. kept_by terms (k.0 s)) (kept_leaves terms old k.0 (stays k.1.is_open) was k.1)
+    is_next was k = next (λ s. kept_by terms (k.0 s)) (kept_leaves terms old k.0 differ (stays k.1.is_open) was k.1)
 
     place_is : (k : KeepsBook terms old tallies) → n.acts ≡ length (k.0 sub) + 1
     place_is k = n_acts ∙ ap (λ (it : Tally). it.acts + 1) (t_is ∙ k.2 sub)
@@ -94,17 +94,17 @@ module _ (terms : TermsView) (old new : State) (tallies : List (Sub × Tally)) (
         let now = left.0 in
         let was = was_clean now in
         ∥∥₁_elim (kept was) (content_prop terms (with_act sub act known) found) (λ k.
-        let alike = same_held terms old k.0 known (stays k.1.is_open) was k.1 only in
-        grown_along terms sub act k.0 known found alike (only_kept terms new (with_act sub act k.0) differ settled (grown added now k) found left))
+        let alike = same_held terms old k.0 known differ (stays k.1.is_open) was k.1 only in
+        grown_along terms sub act k.0 known found alike (only_kept terms new (with_act sub act k.0) settled (grown added now k) found left))
 
     pub crash_of : (old.now.schema ≡ layout → IsKeyed (old.now.trees account_tree) → Survives old new (Appends (sub_octets sub) n.acts (record_of act) more n.funds old.now.trees))
         → (known : Held) → LeavesOnly terms known (leaves terms old) → LeavesEither terms known (with_act sub act known) (leaves terms new)
     crash_of survives known only found left =
         let was = was_clean left.0 in
         decided terms own known sub act found (∥∥₁_map (kept was) (λ k.
-        let alike = same_held terms old k.0 known (stays k.1.is_open) was k.1 only in
+        let alike = same_held terms old k.0 known differ (stays k.1.is_open) was k.1 only in
         let one : IsContentOf terms k.0 found ⊎ IsContentOf terms (with_act sub act k.0) found =
-        either_left terms same old new k.0 sub act more n.acts n.funds k.1 (is_next was k) fit (place_is k) (funds_are was k) differ settles (survives k.1.schema k.1.keyed) found left in
+        either_left terms same old new k.0 sub act more n.acts n.funds k.1 (is_next was k) fit (place_is k) (funds_are was k) settles (survives k.1.schema k.1.keyed) found left in
         let r : IsContentOf terms known found ⊎ IsContentOf terms (with_act sub act known) found = elim one [
           | inl x ↦ inl (along terms k.0 known found alike x)
           | inr y ↦ inr (grown_along terms sub act k.0 known found alike y)

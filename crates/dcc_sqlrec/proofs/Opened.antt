@@ -24,7 +24,8 @@ use Rattle.dcc_sqlrec.specs.inner.Reading.{IsSettled, HasOtherLayout}
 use Rattle.dcc_sqlrec.specs.inner.Keeping.{Keeps, KeepsBook}
 use Rattle.dcc_sqlrec.proofs.Answering.{shows_acts, shows_entries, shows_accounts}
 use Rattle.dcc_sqlrec.proofs.Loads.{just_along}
-use Rattle.dcc_sqlrec.proofs.Stopping.{Differ, Settles, only_kept}
+use Rattle.dcc_sqlrec.proofs.Books.{one_book}
+use Rattle.dcc_sqlrec.proofs.Stopping.{Differ, Settles, only_kept, along}
 
 -- ---- one read after another
 
@@ -80,12 +81,13 @@ module _ (acts : PagesHoldTheirActs) (entries : PagesHoldTheirEntries) (accounts
       (acts_in pages, kept, tallied)
 
 -- the records that are opened hold the book that the tables had
-pub finds_book : (terms : TermsView) (old new : State) (tallies : List (Sub × Tally)) → Differ → Settles new → IsUndone old new → KeepsBook terms new tallies → FindsBook terms old.committed.trees (leaves terms new)
-finds_book terms old new tallies differ settles it k =
-    (k.0, subst (λ (d : Database). HoldsBook terms d.trees k.0) it.now_is k.1.holds, only_kept terms new k.0 differ settles k.1)
+pub finds_book : (terms : TermsView) (old new : State) (tallies : List (Sub × Tally)) → Settles new → IsUndone old new → KeepsBook terms new tallies → FindsBook terms old.committed.trees (leaves terms new)
+finds_book terms old new tallies settles it k =
+    (k.0, subst (λ (d : Database). HoldsBook terms d.trees k.0) it.now_is k.1.holds, only_kept terms new k.0 settles k.1)
 
 -- what a store is opened with after a stop is among what the stop left
-pub left_by_stop : (terms before : TermsView) (old mid new : State) → terms ≡ before → HasCleanDisk old → old.may_leave mid.committed.trees → FindsBook terms mid.committed.trees (leaves terms new)
+pub left_by_stop : (terms before : TermsView) (old mid new : State) → Differ → terms ≡ before → HasCleanDisk old → old.may_leave mid.committed.trees → FindsBook terms mid.committed.trees (leaves terms new)
     → (found : Content) → leaves terms new found → leaves before old found
-left_by_stop terms before old mid new same clean may book found left =
-    subst (λ (t : TermsView). leaves t old found) same (clean, (mid.committed.trees, may, (book.0, book.1, book.2 found left)))
+left_by_stop terms before old mid new differ same clean may book found left =
+    subst (λ (t : TermsView). leaves t old found) same
+    (clean, (mid.committed.trees, may, λ held is. along terms book.0 held found (one_book terms mid.committed.trees differ book.0 held book.1 is) (book.2 found left)))

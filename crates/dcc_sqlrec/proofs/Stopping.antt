@@ -40,15 +40,15 @@ pub content_prop : (terms : TermsView) (held : Held) (found : Content) → IsPro
 content_prop terms held found = hlevel props
 
 -- what a connection that keeps a book is left as
-pub kept_leaves : (terms : TermsView) (s : State) (held : Held) → s.may_leave s.committed.trees → HasCleanDisk s → Keeps terms s held → leaves terms s (λ sub. kept_by terms (held sub))
-kept_leaves terms s held stays clean k = (clean, (s.committed.trees, stays, (held, subst (λ (d : Database). HoldsBook terms d.trees held) k.settled k.holds, λ sub. refl)))
+pub kept_leaves : (terms : TermsView) (s : State) (held : Held) → Differ → s.may_leave s.committed.trees → HasCleanDisk s → Keeps terms s held → leaves terms s (λ sub. kept_by terms (held sub))
+kept_leaves terms s held differ stays clean k =
+    let holds : HoldsBook terms s.committed.trees held = subst (λ (d : Database). HoldsBook terms d.trees held) k.settled k.holds in
+    (clean, (s.committed.trees, stays, λ other is sub. ap (kept_by terms) (one_book terms s.committed.trees differ held other holds is sub)))
 
-pub only_kept : (terms : TermsView) (s : State) (held : Held) → Differ → Settles s → Keeps terms s held → LeavesOnly terms held (leaves terms s)
-only_kept terms s held differ settles k found h =
-    let db = h.1.0 in
-    let same : db ≡ s.now.trees = settles k.is_open db h.1.1 ∙ ap (λ (d : Database). d.trees) (sym k.settled) in
-    let other = h.1.2 in
-    content_along terms other.0 held found (one_book terms s.now.trees differ other.0 held (subst (λ (t : Trees). HoldsBook terms t other.0) same other.1) k.holds) other.2
+pub only_kept : (terms : TermsView) (s : State) (held : Held) → Settles s → Keeps terms s held → LeavesOnly terms held (leaves terms s)
+only_kept terms s held settles k found h =
+    let same : h.1.0 ≡ s.now.trees = settles k.is_open h.1.0 h.1.1 ∙ ap (λ (d : Database). d.trees) (sym k.settled) in
+    h.1.2 held (subst (λ (t : Trees). HoldsBook terms t held) (sym same) k.holds)
 
 pub kept_undone : (terms : TermsView) (old new : State) (held : Held) → Keeps terms old held → IsUndone old new → Keeps terms new held
 kept_undone terms old new held k it =
@@ -78,18 +78,18 @@ module _ (terms : TermsView) (same : SameAreEqual) (old new : State) (held : Hel
     holds = grown new.now.trees it.changes;
   }
 
-  pub either_left : Differ → Settles old → Survives old new (Appends (sub_octets sub) place (record_of act) more funds_now old.now.trees) → LeavesEither terms held (with_act sub act held) (leaves terms new)
-  either_left differ settles survives found h =
+  pub either_left : Settles old → Survives old new (Appends (sub_octets sub) place (record_of act) more funds_now old.now.trees) → LeavesEither terms held (with_act sub act held) (leaves terms new)
+  either_left settles survives found h =
       elim (survives.crash h.0 h.1.0 h.1.1) [
-        | inl before ↦ inl (only_kept terms old held differ settles k found (omega (arith, survives.clean, h.0), (h.1.0, before, h.1.2)))
-        | inr added ↦ let other = h.1.2 in inr (content_along terms other.0 (with_act sub act held) found (one_book terms h.1.0 differ other.0 (with_act sub act held) other.1 (grown h.1.0 added)) other.2)
+        | inl before ↦ inl (only_kept terms old held settles k found (omega (arith, survives.clean, h.0), (h.1.0, before, h.1.2)))
+        | inr added ↦ inr (h.1.2 (with_act sub act held) (grown h.1.0 added))
       ]
 
 -- ---- the book that the caller knows of
 
 -- a book of which a stop leaves the content and nothing else is the one that is kept
-pub same_held : (terms : TermsView) (s : State) (held known : Held) → s.may_leave s.committed.trees → HasCleanDisk s → Keeps terms s held → LeavesOnly terms known (leaves terms s) → (sub : Sub) → held sub ≡ known sub
-same_held terms s held known stays clean k only sub = ap (λ (kept : Kept). kept.acts) (only (λ t. kept_by terms (held t)) (kept_leaves terms s held stays clean k) sub)
+pub same_held : (terms : TermsView) (s : State) (held known : Held) → Differ → s.may_leave s.committed.trees → HasCleanDisk s → Keeps terms s held → LeavesOnly terms known (leaves terms s) → (sub : Sub) → held sub ≡ known sub
+same_held terms s held known differ stays clean k only sub = ap (λ (kept : Kept). kept.acts) (only (λ t. kept_by terms (held t)) (kept_leaves terms s held differ stays clean k) sub)
 
 with_same : (sub : Sub) (act : Act) (a b : Held) → ((s : Sub) → a s ≡ b s) → (s : Sub) → with_act sub act a s ≡ with_act sub act b s
 with_same sub act a b same s = ap (λ (xs : List Act). cond (same_sub sub s) (xs ++ act ∷ []) xs) (same s)

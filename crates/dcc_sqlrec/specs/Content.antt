@@ -20,6 +20,7 @@ pub record HoldsBook (terms : TermsView) (db : Trees) (held : Held) : Type 0 whe
   pub entries : AreJust (entry_rows db) (IsEntryRow terms held)
   pub accounts : AreJust (account_rows db) (IsAccountRow terms held)
 
--- What an open after a stop may find, where the disk has returned what was written: the content of a book that the tables hold.
+-- What an open after a stop may find, where the disk has returned what was written: the content of the book that the tables hold, and anything
+-- at all where they hold none. So who says that a stop leaves some book's content, and nothing else, says that no tables in disarray are left.
 abbrev pub leaves : TermsView → State → Content → Type 0
-leaves terms s content = HasCleanDisk s × ((db : Trees) × s.may_leave db × ((held : Held) × HoldsBook terms db held × IsContentOf terms held content))
+leaves terms s content = HasCleanDisk s × ((db : Trees) × s.may_leave db × ((held : Held) → HoldsBook terms db held → IsContentOf terms held content))

@@ -8,6 +8,7 @@ ghost use Rattle.dcc_sqlrec.specs.Content.{leaves};
 
 use crate::setting::Setting;
 use crate::sql_records::SqlRecords;
+use dcc_record::records_differ;
 use sqlite::{Connection, FileStore, Options};
 use sqlite_disk::Crash;
 use std::alloc::Global;
@@ -43,6 +44,7 @@ pub fn stop_and_reopen<D: Crash + Drop>(
     ensures found { HasCleanDisk (file_state records.conn) → setting.now.terms ≡ records.terms → IfSome result (λ again. (found : Content)
         → leaves again.terms (file_state again.conn) found → ∥ leaves records.terms (file_state records.conn) found ∥₁) }
 {
+    records_differ();
     let (alloc, hasher) = (records.alloc, records.hasher);
     let conn = records.into_connection();
     let again = stop_and_open(alloc, conn, options)?;

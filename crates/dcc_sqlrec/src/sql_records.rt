@@ -19,7 +19,6 @@ use crate::opening::open_store;
 use crate::setting::Setting;
 use dcc_act::Sub;
 use dcc_model::{funds_are_accounted_for, leaving_out_changes_nothing};
-use dcc_record::records_differ;
 use dcc_records::StoreFault;
 use dcc_sqlrows::Tally;
 use dcc_tariff::Terms;
@@ -77,7 +76,6 @@ impl<S: Alter> SqlRecords<S> {
     {
         leaving_out_changes_nothing();
         funds_are_accounted_for();
-        records_differ();
         if !conn.is_autocommit() {
             return Err((CreateFault::Device, conn));
         }
@@ -134,7 +132,6 @@ impl<S: Alter> SqlRecords<S> {
             → (failed.1 ≡ conn) ⊎ IsUndone (state S.Store conn) (state S.Store failed.1)) }
         ensures left { IfErr result (λ failed. Survives (state S.Store conn) (state S.Store failed.1) (λ _. ⊥)) }
     {
-        records_differ();
         if !conn.is_autocommit() {
             return Err((OpenFault::Device, conn));
         }

@@ -12,4 +12,4 @@ returns-in-Ok-clause-found g c was same found left =
     let early : HasCleanDisk (file_state c.in_ok-again.again) = omega (arith, c.in-Ok.ensures.crash.clean, left.0) in
     ∥∥₁_elim (rw c.into_connection-conn.ensures.same at c.in_ok-again.ensures.found early) (hlevel props)
     (λ may. ∥∥₁_map (c.in-Ok.ensures.found left.0)
-    (λ book. left_by_stop records.terms c.args.records.terms (file_state c.args.records.conn) (file_state c.in_ok-again.again) (file_state records.conn) (c.in-Ok.ensures.terms ∙ same) was may book found left))
+    (λ book. left_by_stop records.terms c.args.records.terms (file_state c.args.records.conn) (file_state c.in_ok-again.again) (file_state records.conn) c.records_differ.ensures.one (c.in-Ok.ensures.terms ∙ same) was may book found left))

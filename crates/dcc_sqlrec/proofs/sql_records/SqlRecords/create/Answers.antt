@@ -25,4 +25,4 @@ returns-in-Ok-clause-empty g c =
     let blank : c.args.conn.schema ≡ no_schema = search rules in
     let settled : Settles new = λ is_open db may. g.met.S.Store.settled conn.store db is_open may in
     let terms = c.args.setting.now.terms in
-    λ found left. only_kept terms new no_acts c.records_differ.ensures.one settled (keeps_nothing terms old new c.leaving_out_changes_nothing.ensures.none (without_setting c.args.setting.now old new (c.in-Ok.ensures.made left.0 blank))) found left
+    λ found left. only_kept terms new no_acts settled (keeps_nothing terms old new c.leaving_out_changes_nothing.ensures.none (without_setting c.args.setting.now old new (c.in-Ok.ensures.made left.0 blank))) found left

@@ -16,7 +16,7 @@ returns-in-Ok-clause-found g c clean =
     let old = state g.S.Store c.args.conn in
     let conn = c.open_store.new.conn in
     let settles : Settles (state g.S.Store conn) = λ is_open db may. g.met.S.Store.settled conn.store db is_open may in
-    ∣ finds_book c.args.setting.now.terms old (state g.S.Store conn) c.in-Ok.tallies.entries c.records_differ.ensures.one settles (c.in-Ok.ensures.still clean has (λ e. absurd cc)) (c.in-Ok.ensures.kept clean has) ∣₁
+    ∣ finds_book c.args.setting.now.terms old (state g.S.Store conn) c.in-Ok.tallies.entries settles (c.in-Ok.ensures.still clean has (λ e. absurd cc)) (c.in-Ok.ensures.kept clean has) ∣₁
 
 pub returns-in-Ok-clause-setting : goal.returns-in-Ok-clause-setting
 returns-in-Ok-clause-setting g c clean =
