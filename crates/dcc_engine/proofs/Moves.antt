@@ -62,12 +62,13 @@ ask_moved setting a b sub same (events.Message peer moment octets) = ap (λ (p :
 ask_moved setting a b sub same (events.TopUp moment owner ticket amount) = refl
 ask_moved setting a b sub same (events.Sweep moment) = refl
 
-out_moved : (setting : Setting) (a b : Before) (out : Out) → ((id : ℕ) → a.peers id ≡ b.peers id) → (event : Event) → IsOut setting a event out → IsOut setting b event out
-out_moved setting a b out same (events.Connect peer host) is = is
-out_moved setting a b out same (events.Disconnect peer) is = is
-out_moved setting a b out same (events.Message peer moment octets) is = subst (λ (p : Option Peer). IsMessageOut setting moment (received_on p octets) peer out) (same peer) is
-out_moved setting a b out same (events.TopUp moment owner ticket amount) is = is
-out_moved setting a b out same (events.Sweep moment) is = is
+out_moved : (setting : Setting) (a b : Before) (out : Out) → ((id : ℕ) → a.peers id ≡ b.peers id)
+    → ((sub : Sub) → acts setting.plan.terms (a.own sub) ≡ acts setting.plan.terms (b.own sub)) → (event : Event) → IsOut setting a event out → IsOut setting b event out
+out_moved setting a b out same alike (events.Connect peer host) is = is
+out_moved setting a b out same alike (events.Disconnect peer) is = is
+out_moved setting a b out same alike (events.Message peer moment octets) is = subst (λ (p : Option Peer). IsMessageOut setting moment (received_on p octets) peer out) (same peer) is
+out_moved setting a b out same alike (events.TopUp moment owner ticket amount) is = is
+out_moved setting a b out same alike (events.Sweep moment) is = (is.0, is.1, is.2, λ sub there none. is.3 sub there (alike sub ∙ none))
 
 -- the same turn, from what comes to the same
 pub next_moved : AreStable → (setting : Setting) (a b : Before) (turn : Turn) → ((id : ℕ) → a.peers id ≡ b.peers id)
@@ -75,7 +76,7 @@ pub next_moved : AreStable → (setting : Setting) (a b : Before) (turn : Turn) 
 next_moved stable setting a b turn same alike next =
     record {
       subscribers = λ sub ask is. answered_moved stable setting ask sub turn.out (a.own sub) (b.own sub) (alike sub) (next.subscribers sub ask (ask_moved setting a b sub same turn.event ∙ is));
-      whole = out_moved setting a b turn.out same turn.event next.whole;
+      whole = out_moved setting a b turn.out same alike turn.event next.whole;
     }
 
 -- what is said is by who answers and by the terms

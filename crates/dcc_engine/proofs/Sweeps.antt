@@ -172,15 +172,15 @@ expired_or_none setting old terms subs sub act none moment is =
 
 -- each subscriber expired, or is among the refused
 pub swept_judged : (setting : Setting) (peers : ℕ → Option Peer) (old new : ShardView) (moment : ℕ) (subs refused : List Sub) → old.terms ≡ setting.plan.terms → AreOwn old
-    → ((sub : Sub) → is_among sub subs ≡ false → held old sub ≡ []) → IsSwept old new subs refused (expiry_act moment) → Judged setting peers old new moment refused false
-swept_judged setting peers old new moment subs refused terms own none swept =
+    → ((sub : Sub) → is_among sub subs ≡ true → held old sub ≢ []) → ((sub : Sub) → is_among sub subs ≡ false → held old sub ≡ []) → IsSwept old new subs refused (expiry_act moment) → Judged setting peers old new moment refused false
+swept_judged setting peers old new moment subs refused terms own some none swept =
     let act = expiry_act moment in
     record {
       next = record {
         subscribers = λ sub ask asks_it.
             let asks : ask ≡ record { act = act; source = Sweep } = cc in
             rw asks (elim (cases_Bool (is_among sub refused)) [ inl t ↦ rw t tt | inr f ↦ rw f refl ]);
-        whole = (refl, swept.once, λ all. absurd cc);
+        whole = (refl, swept.once, λ all. absurd cc, λ sub there nothing. some sub (swept.within sub there) (sym (own_acts setting old terms own sub) ∙ nothing));
       };
       held = λ sub. elim (cases_Bool (is_among sub refused)) [
         | inl t ↦ rw t (swept.held_is sub ∙ ap (λ (b : Bool). held_after old.terms (b && not (is_among sub refused)) (held old sub) act) (swept.within sub t)
@@ -196,7 +196,7 @@ all_refused setting peers old new moment terms own same = record {
     subscribers = λ sub ask asks_it.
         let asks : ask ≡ record { act = expiry_act moment; source = Sweep } = cc in
         rw asks tt;
-    whole = (refl, refl, λ all. refl);
+    whole = (refl, refl, λ all. refl, λ sub there nothing. absurd cc);
   };
   held = λ sub. ap (λ (s : ShardView). held s sub) same ∙ sym (own_acts setting old terms own sub);
 }

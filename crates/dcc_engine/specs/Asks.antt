@@ -1,13 +1,14 @@
 -- What an event asks of a subscriber, what is told of it, and where it leaves its peer.
-use Rattle.std.specs.Prelude.{◌≡◌, ℕ, Bool, true, false, ◌&&◌, ◌||◌, ◌==◌, if◌then◌else◌, List, [], ◌∷◌, ◌++◌}
+use Rattle.std.specs.Prelude.{◌≡◌, ◌≢◌, ℕ, Bool, true, false, ◌&&◌, ◌||◌, ◌==◌, if◌then◌else◌, List, [], ◌∷◌, ◌++◌}
 use Rattle.std.specs.Prelude.{Option, Some, None, option_map, MatchBool}
+use Rattle.dcc_tariff.specs.Terms.{TermsView}
 use Rattle.dcc_message.specs.declared.identity.Identity.{Identity}
 use Rattle.dcc_act.specs.declared.act.Act.{Act}
 use Rattle.dcc_act.specs.declared.outcome.Outcome.{Outcome}
 use Rattle.dcc_act.specs.declared.sub.Sub.{Sub}
 use Rattle.dcc_act.specs.Subs.{same_sub}
 use Rattle.dcc_act.specs.TopUps.{is_amount}
-use Rattle.dcc_model.specs.Outcomes.{place, is_new}
+use Rattle.dcc_model.specs.Outcomes.{acts, place, is_new}
 use Rattle.dcc_credit.specs.Answers.{answer_octets}
 use Rattle.dcc_base.specs.Peers.{hears, replied}
 use Rattle.dcc_base.specs.declared.peer.Peer.{Peer}
@@ -175,6 +176,10 @@ IsMessageOut setting moment (Received.Base from message) peer out =
     ((out ≡ out_octets (Some peer) out.octets) × IsBusyOrNothing setting.identity message out.octets)
     (out ≡ out_reply peer (reply_to setting from message).0)
 
+-- each of these subscribers has acts: those that its own entries make
+abbrev pub HaveActs : TermsView → (Sub → List Act) → List Sub → Type 0
+HaveActs terms own subs = (sub : Sub) → is_among sub subs ≡ true → acts terms (own sub) ≢ []
+
 -- The whole out of an event: its form, and what is in it that is no subscriber's.
 abbrev pub IsOut : Setting → Before → Event → Out → Type 0
 IsOut setting before (events.Connect peer host) out = out ≡ out_octets (Some peer) []
@@ -185,6 +190,7 @@ IsOut setting before (events.TopUp moment sub ticket amount) out =
     (answer : TopUpAnswer) × (out ≡ out_top_up answer) × (is_amount amount ≡ false → answer ≡ BadAmount)
 IsOut setting before (events.Sweep moment) out =
     (out ≡ out_sweep out.refused out.refused_all) × (are_apart out.refused ≡ true) × (out.refused_all ≡ true → out.refused ≡ [])
+    × HaveActs setting.plan.terms before.own out.refused
 
 -- whether an event is of this peer
 abbrev pub is_from : ℕ → Event → Bool

@@ -49,8 +49,8 @@ pub struct Out {
     pub close: bool,
     /// What a top-up is told.
     pub top_up: Option<TopUpAnswer>,
-    /// The subscribers whose expiry a sweep refused, each once, by shard and then by type and data: memory was short for it, or its
-    /// shard's records failed or were stopped, and nothing that is held of it has changed.
+    /// The subscribers whose expiry a sweep refused, each once, by shard and then by type and data, and each one that has acts: memory
+    /// was short for it, or its shard's records failed or were stopped, and nothing that is held of it has changed.
     pub refused: Subs,
     /// Whether a sweep refused the expiry of all subscribers, as memory was short to tell who they are.
     pub refused_all: bool,

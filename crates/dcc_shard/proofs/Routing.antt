@@ -203,6 +203,12 @@ at_shard {R} same terms identity shards i row sub are i_is is =
       held_is = ap (λ (v : StoredView R). held v.shard sub) at ∙ sym (held_where_kept same terms identity shards row sub below);
     }
 
+-- the shard of a subscriber stands there, whatever would stand for none
+pub part_is : {R : Type 0} → (terms : TermsView) (identity : Identity) (shards : List (StoredView R)) (i : ℕ) (row : StoredView R) (sub : Sub) → AreShards terms identity shards
+    → i ≡ shard_of sub (length shards) → row ≡ get_or shards i row → (none : StoredView R) → get_or shards (shard_of sub (length shards)) none ≡ row
+part_is terms identity shards i row sub are i_is is none =
+    get_or_default shards (shard_of sub (length shards)) none row (is_below shards are.some sub) ∙ sym (is ∙ ap (λ n. get_or shards n row) i_is)
+
 pub one_steps : {R : Type 0} → SameAreEqual → ActsAreActs → (terms : TermsView) (identity : Identity) (shards : List (StoredView R)) (i : ℕ) (row one : StoredView R) (judged : Bool) (sub : Sub) (act : Act)
     → AreShards terms identity shards → i ≡ shard_of sub (length shards) → row ≡ get_or shards i row → IsStep row.shard one.shard judged sub act
     → AreAfter terms identity shards (set shards i one) judged sub act

@@ -21,6 +21,10 @@ pub record ShardsView (R : Type 0) : Type 0 where
   pub shard : ShardView
   pub parts : List (StoredView R)
 
+-- of several shards the one that keeps a subscriber
+abbrev pub part_of : {R : Type 0} → List (StoredView R) → Sub → StoredView R → StoredView R
+part_of parts sub none = slice_index_or parts (shard_of sub (length parts)) none
+
 -- One act of one subscriber was judged in the shard that keeps it, or nothing changed there. Each other shard is as it was, and so are
 -- its records.
 pub record IsPartStep {R : Type 0} (old new : List (StoredView R)) (is_judged : Bool) (sub : Sub) (act : Act) : Type 0 where

@@ -6,7 +6,7 @@ ghost use Rattle.dcc_act.specs.declared.sub.Sub.{Sub};
 ghost use Rattle.dcc_model.specs.Keys.{request_key};
 ghost use Rattle.dcc_shard.specs.Shards.{held, AreOwn, IsStep, is_among, are_apart};
 ghost use Rattle.dcc_shard.specs.Stored.{StoredView};
-ghost use Rattle.dcc_shard.specs.Routes.{shard_of, route_order, IsPartStep};
+ghost use Rattle.dcc_shard.specs.Routes.{shard_of, route_order, part_of, IsPartStep};
 ghost use Rattle.dcc_shard.specs.Answers.{IsAnswer, IsToldApart, IsTold, is_judged, is_judged_top_up, top_up_act};
 ghost use Rattle.dcc_shard.specs.Answers.{IsExpired, is_judged_expiry, expiry_act};
 
@@ -145,6 +145,8 @@ impl<R: Records> Shards<R> {
         ensures step { IsStep self.old.shard self.new.shard (is_judged result) sub act }
         // It is made in the shard that keeps the subscriber, and in no other.
         ensures parts { IsPartStep self.old.parts self.new.parts (is_judged result) sub act }
+        // Where that shard's records are stopped, it judges nothing.
+        ensures stopped { (none : StoredView R) → R.is_stopped (part_of self.old.parts sub none).records ≡ true → is_judged result ≡ false }
         ensures own { AreOwn self.new.shard }
         ensures apart { IsToldApart result }
         ensures count { length self.new.parts ≡ length self.old.parts }
@@ -169,6 +171,8 @@ impl<R: Records> Shards<R> {
         ensures step { IsStep self.old.shard self.new.shard (is_judged_top_up result) sub (top_up_act moment ticket amount) }
         // It is made in the shard that keeps the subscriber, and in no other.
         ensures parts { IsPartStep self.old.parts self.new.parts (is_judged_top_up result) sub (top_up_act moment ticket amount) }
+        // Where that shard's records are stopped, it judges nothing.
+        ensures stopped { (none : StoredView R) → R.is_stopped (part_of self.old.parts sub none).records ≡ true → is_judged_top_up result ≡ false }
         ensures own { AreOwn self.new.shard }
         ensures count { length self.new.parts ≡ length self.old.parts }
     {
@@ -185,6 +189,8 @@ impl<R: Records> Shards<R> {
         ensures step { IsStep self.old.shard self.new.shard (is_judged_expiry result) sub (expiry_act moment) }
         // It is made in the shard that keeps the subscriber, and in no other.
         ensures parts { IsPartStep self.old.parts self.new.parts (is_judged_expiry result) sub (expiry_act moment) }
+        // Where that shard's records are stopped, it judges nothing.
+        ensures stopped { (none : StoredView R) → R.is_stopped (part_of self.old.parts sub none).records ≡ true → is_judged_expiry result ≡ false }
         ensures own { AreOwn self.new.shard }
         ensures count { length self.new.parts ≡ length self.old.parts }
     {

@@ -19,7 +19,7 @@ returns-in-Ok-expire_each-clause-done g c =
     let moment = c.args.moment in
     let refused = c.in-Ok-expire_each.refused in
     let swept = subst (λ (subs : List Sub). IsSwept inside.shards.shard new subs refused (expiry_act moment)) c.deref.ensures.value c.in-Ok-expire_each.ensures.swept in
-    let judged = swept_judged setting (peer_in inside.peers.rows) inside.shards.shard new moment c.in-Ok.subs.items refused c.self.invariant.0 c.self.invariant.2 c.in-Ok.ensures.none swept in
+    let judged = swept_judged setting (peer_in inside.peers.rows) inside.shards.shard new moment c.in-Ok.subs.items refused c.self.invariant.0 c.self.invariant.2 c.in-Ok.ensures.some c.in-Ok.ensures.none swept in
     let before : EngineView = record { setting = setting; peers = inside.peers; shard = inside.shards.shard; shards = length inside.shards.parts } in
     let after : EngineView = record { setting = setting; peers = inside.peers; shard = new; shards = length c.expire_each.new.shards.parts } in
     let done : IsTurnDone before after (record { event = Sweep moment; out = out_sweep refused false }) = record { judged = judged; peers = λ id. refl; setting = refl } in

@@ -1,8 +1,9 @@
-use Rattle.std.proofs.Common.{◌∙◌, ap}
+use Rattle.std.proofs.Common.{◌≡◌, ◌∙◌, true, ap, subst}
 use Rattle.dcc_shard.specs.Routes.{shard_of}
 use Rattle.dcc_shard.specs.Answers.{is_judged, top_up_act, expiry_act}
+use Rattle.dcc_shard.specs.Stored.{StoredView}
 use Rattle.dcc_shard.specs.inner.Routed.{as_one}
-use Rattle.dcc_shard.proofs.Routing.{at_shard, one_steps, answer_of_one}
+use Rattle.dcc_shard.proofs.Routing.{at_shard, part_is, one_steps, answer_of_one}
 use Rattle.dcc_shard.proofs.shards.Shards.step.Goals as goal
 
 pub invariant_of-self : goal.invariant_of-self
@@ -30,3 +31,9 @@ pub returns-clause-own : goal.returns-clause-own
 returns-clause-own g c =
     (one_steps c.same_subscribers_are_equal.ensures c.leaving_out_changes_nothing.ensures.whole c.self.inside.terms c.self.inside.identity c.self.inside.shards.items c.shard_of-i.result
     c.index_mut-shard.result.now c.step.new.self (is_judged c.step.result) c.args.sub c.args.act c.self.invariant (c.shard_of-i.ensures.value ∙ ap (shard_of c.args.sub) (c.len.ensures ∙ c.self.inside.shards.ok.0)) c.index_mut-shard.ensures.value c.step.ensures.step).are.own
+
+pub returns-clause-stopped : goal.returns-clause-stopped
+returns-clause-stopped g c =
+    rw (← c.self.view_is) (λ none stopped. c.step.ensures.stopped (subst (λ (v : StoredView g.row.R.Denot). g.R.Records.is_stopped v.records ≡ true)
+    (part_is c.self.inside.terms c.self.inside.identity c.self.inside.shards.items c.shard_of-i.result c.index_mut-shard.result.now c.args.sub c.self.invariant
+    (c.shard_of-i.ensures.value ∙ ap (shard_of c.args.sub) (c.len.ensures ∙ c.self.inside.shards.ok.0)) c.index_mut-shard.ensures.value none) stopped))

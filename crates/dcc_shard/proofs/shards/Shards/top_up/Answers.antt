@@ -1,8 +1,9 @@
-use Rattle.std.proofs.Common.{◌∙◌, ap}
+use Rattle.std.proofs.Common.{◌≡◌, ◌∙◌, true, ap, subst}
 use Rattle.dcc_shard.specs.Routes.{shard_of}
 use Rattle.dcc_shard.specs.Answers.{is_judged_top_up, top_up_act, expiry_act}
+use Rattle.dcc_shard.specs.Stored.{StoredView}
 use Rattle.dcc_shard.specs.inner.Routed.{as_one}
-use Rattle.dcc_shard.proofs.Routing.{at_shard, one_steps, told_of_one}
+use Rattle.dcc_shard.proofs.Routing.{at_shard, part_is, one_steps, told_of_one}
 use Rattle.dcc_shard.proofs.shards.Shards.top_up.Goals as goal
 
 pub invariant_of-self : goal.invariant_of-self
@@ -30,3 +31,9 @@ pub returns-clause-own : goal.returns-clause-own
 returns-clause-own g c =
     (one_steps c.same_subscribers_are_equal.ensures c.leaving_out_changes_nothing.ensures.whole c.self.inside.terms c.self.inside.identity c.self.inside.shards.items c.shard_of-i.result
     c.index_mut-shard.result.now c.top_up.new.self (is_judged_top_up c.top_up.result) c.args.sub (top_up_act c.args.moment c.args.ticket c.args.amount) c.self.invariant (c.shard_of-i.ensures.value ∙ ap (shard_of c.args.sub) (c.len.ensures ∙ c.self.inside.shards.ok.0)) c.index_mut-shard.ensures.value c.top_up.ensures.step).are.own
+
+pub returns-clause-stopped : goal.returns-clause-stopped
+returns-clause-stopped g c =
+    rw (← c.self.view_is) (λ none stopped. c.top_up.ensures.stopped (subst (λ (v : StoredView g.row.R.Denot). g.R.Records.is_stopped v.records ≡ true)
+    (part_is c.self.inside.terms c.self.inside.identity c.self.inside.shards.items c.shard_of-i.result c.index_mut-shard.result.now c.args.sub c.self.invariant
+    (c.shard_of-i.ensures.value ∙ ap (shard_of c.args.sub) (c.len.ensures ∙ c.self.inside.shards.ok.0)) c.index_mut-shard.ensures.value none) stopped))
