@@ -6,7 +6,7 @@ ghost use Rattle.dcc_shard.specs.Answers.{IsToldApart, IsRefusedBy, session_of_a
 ghost use Rattle.dcc_running.specs.Calls.{IsAnswerTo, IsToldOf, IsEndOf, receipts_of, top_up_receipts, told_receipts, expiry_receipts, plain_receipt};
 
 use crate::job::Job;
-use crate::room::{copied, for_an_answer};
+use crate::room::{MOST, twice};
 use crate::seat::Seat;
 use crate::shards::Shards;
 use dcc_act::{Act, Kind, Moment, Sub, TopUp};
@@ -40,14 +40,14 @@ impl<R: Records> Shards<R> {
         ensures apart { IsToldApart result }
         ensures receipt { seat.new ≡ seat.old ++ receipts_of job result }
     {
-        let Ok((act, room)) = room_for(alloc, &mut seat.receipts, &job.act) else {
+        let Ok(act) = room_for(&mut seat.receipts, &mut seat.spare, &job.act) else {
             return busy(alloc, &self.identity, &job);
         };
         let i = shard_of(&job.sub, self.locks.len());
         let answer = self.locks[i]
             .lock(rt)
             .step(alloc, job.sub, act, &job.header, &job.proxies);
-        keep(rt, &mut seat.receipts, room, job, answer)
+        keep(rt, alloc, &mut seat.receipts, &mut seat.spare, job, answer)
     }
 }
 
@@ -114,21 +114,18 @@ impl<R: Records> Shards<R> {
     }
 }
 
-/// Room for one receipt more, a copy of its act, and room for a copy of any answer. The only error is want of memory.
-fn room_for(
-    alloc: Global,
-    receipts: &mut Vec<Receipt>,
-    act: &Act,
-) -> Result<(Act, Vec<u8>), AllocError>
+/// Room for one receipt more, spare room for a copy of any answer, where it isn't there from a call before, and a copy of the act. The only
+/// error is want of memory.
+fn room_for(receipts: &mut Vec<Receipt>, spare: &mut Vec<u8>, act: &Act) -> Result<Act, AllocError>
     ensures items { receipts.new.items ≡ receipts.old.items }
+    ensures spare { spare.new.items ≡ spare.old.items }
     ensures room { OnOk result (vec_len receipts.new + 1 ≤ vec_capacity receipts.new) }
-    ensures act { IfOk result (λ taken. taken.0 ≡ act.now) }
-    ensures empty { IfOk result (λ taken. taken.1.items ≡ []) }
+    ensures act { IfOk result (λ copy. copy ≡ act.now) }
 {
     let act = act.copy()?;
-    let room = for_an_answer(alloc)?;
+    spare.reserve(MOST)?;
     receipts.reserve(1)?;
-    Ok((act, room))
+    Ok(act)
 }
 
 /// The answer to a job for whose receipt there is no room: busy, or none.
@@ -147,17 +144,19 @@ fn busy(alloc: Global, identity: &Identity, job: &Job) -> RequestAnswer
     }
 }
 
-/// Adds the receipt of an answer to a job, where it gives one, and gives the answer back: the copy goes to the caller.
+/// Adds the receipt of an answer to a job, where it gives one, and gives the answer back.
 fn keep<W: Wait>(
     rt: &W,
+    alloc: Global,
     receipts: &mut Vec<Receipt>,
-    room: Vec<u8>,
+    spare: &mut Vec<u8>,
     job: Job,
     answer: RequestAnswer,
 ) -> RequestAnswer
     requires room { vec_len receipts.old + 1 ≤ vec_capacity receipts.old }
-    requires empty { room.items ≡ [] }
+    requires empty { spare.old.items ≡ [] }
     ensures same { result ≡ answer }
+    ensures spare { spare.new.items ≡ [] }
     ensures receipt { receipts.new.items ≡ receipts.old.items ++ receipts_of job answer }
 {
     let Job {
@@ -172,8 +171,8 @@ fn keep<W: Wait>(
             place,
             fresh,
         } => {
-            let copy = copied(rt, room, &octets);
-            let answer = Told::Octets(octets);
+            let (kept, octets) = twice(rt, alloc, spare, octets);
+            let answer = Told::Octets(kept);
             receipts.push_reserved(Receipt {
                 sub,
                 place,
@@ -184,14 +183,14 @@ fn keep<W: Wait>(
                 fresh,
             });
             RequestAnswer::Done {
-                octets: copy,
+                octets,
                 place,
                 fresh,
             }
         }
         RequestAnswer::Unknown { octets } => {
-            let copy = copied(rt, room, &octets);
-            let answer = Told::Octets(octets);
+            let (kept, octets) = twice(rt, alloc, spare, octets);
+            let answer = Told::Octets(kept);
             receipts.push_reserved(Receipt {
                 sub,
                 place: 0,
@@ -201,7 +200,7 @@ fn keep<W: Wait>(
                 answer,
                 fresh: false,
             });
-            RequestAnswer::Unknown { octets: copy }
+            RequestAnswer::Unknown { octets }
         }
         RequestAnswer::Busy { octets } => RequestAnswer::Busy { octets },
         RequestAnswer::Silent => RequestAnswer::Silent,

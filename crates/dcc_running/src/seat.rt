@@ -10,15 +10,19 @@ use std::marker::Model;
 #[derive(Debug, Drop)]
 pub struct Seat {
     pub(crate) receipts: Vec<Receipt>,
+    /// Room for a copy of one answer more, where memory for it is refused: none before the first call, nor once it was used up.
+    pub(crate) spare: Vec<u8>,
 }
 
 impl Model for Seat {
-    ghost use Rattle.std.specs.Prelude.{List};
+    ghost use Rattle.std.specs.Prelude.{◌≡◌, List, []};
     ghost use Rattle.dcc_receipts.specs.declared.receipt.Receipt.{Receipt};
 
     ghost Value = { List Receipt };
 
     ghost view = { λ s. s.receipts.items };
+
+    ghost invariant = { λ s. s.spare.items ≡ [] };
 }
 
 /// For how many receipts there is room at first.
@@ -31,6 +35,7 @@ impl Seat {
     {
         Ok(Seat {
             receipts: Vec::with_capacity(alloc, ROOM)?,
+            spare: Vec::new(alloc),
         })
     }
 
