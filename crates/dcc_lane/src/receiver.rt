@@ -84,10 +84,7 @@ impl<T: Drop> Receiver<T> {
         let mut patience = Patience::new();
         for _ in rt.forever() {
             match self.try_take(rt) {
-                Some(item) => {
-                    patience.end(&self.shared.items);
-                    return item;
-                }
+                Some(item) => return item,
                 None => patience.pause(rt, &self.shared.items),
             }
         }

@@ -41,10 +41,7 @@ impl<T: Drop> Sender<T> {
         let mut patience = Patience::new();
         for _ in rt.forever() {
             match self.try_put(rt, item) {
-                Ok(()) => {
-                    patience.end(&self.shared.room);
-                    return;
-                }
+                Ok(()) => return,
                 Err(back) => {
                     item = back;
                     patience.pause(rt, &self.shared.room);
