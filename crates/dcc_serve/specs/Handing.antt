@@ -4,7 +4,7 @@ use Rattle.dcc_base.specs.declared.peer.Peer.{Peer}
 use Rattle.dcc_connect.specs.declared.handing.Handed.{Handed}
 use Rattle.dcc_connect.specs.declared.handing.Handed.TheVariants.{Stays, Closes}
 use Rattle.dcc_connect.specs.declared.writing.Item.{Item}
-use Rattle.dcc_connect.specs.declared.writing.Item.TheVariants.{Octets}
+use Rattle.dcc_connect.specs.declared.writing.Item.TheVariants.{Octets, End}
 use Rattle.dcc_dispatch.specs.Dispatches.{IfAsked, IfReplied, IsAsked, IsRepliedTo}
 use Rattle.dcc_dispatch.specs.Messages.{message_view, received}
 use Rattle.dcc_dispatch.specs.Messages.Received.{Charging}
@@ -83,3 +83,9 @@ abbrev pub Hands : Setting → ℕ → List ℕ → Handed → Reader → Reader
 Hands setting moment message handed old new =
     (word : Dispatched) × (between : Reading) × IsDispatched setting moment message old.peer new.peer word
     × Passes old.gate word handed (reading_of old) between × AsksSweep moment between (reading_of new) × (new.gate ≡ old.gate)
+
+-- a reader that has ended said so last, to each shard as this gateway's, and to its writer
+abbrev pub HasEnded : ℕ → Reader → Type 0
+HasEnded gate reader =
+    (asked : List (List Work)) × (replied : List Item) × (all_put reader.workers.items ≡ put_all (work.End gate) asked)
+    × (put_of reader.writer ≡ replied ++ End ∷ [])

@@ -3,3 +3,5 @@ pub mod Lines
 pub mod Lanes
 pub mod Working
 pub mod Handing
+pub mod Writing
+pub mod Counting

@@ -66,6 +66,15 @@ pub(crate) fn put_into<W: Wait, T: Drop>(rt: &W, lanes: &mut Vec<Sender<T>>, ind
     lanes[index].put(rt, item);
 }
 
+/// Tells each worker that the gateway of this index asks for nothing more.
+pub(crate) fn end_all<W: Wait>(rt: &W, workers: &mut Vec<Sender<Work>>, gate: usize)
+    ensures { all_put workers.new.items ≡ put_all (work.End gate) (all_put workers.old.items) }
+{
+    for index in 0..workers.len() {
+        put_into(rt, workers, index, Work::End(gate));
+    }
+}
+
 /// Asks each worker for a sweep.
 pub(crate) fn ask_all_to_sweep<W: Wait>(rt: &W, workers: &mut Vec<Sender<Work>>, moment: Moment)
     ensures { all_put workers.new.items ≡ put_all (work.Sweep moment) (all_put workers.old.items) }

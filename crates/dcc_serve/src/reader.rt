@@ -5,13 +5,13 @@ ghost use Rattle.dcc_dispatch.specs.Dispatches.{IfAsked};
 ghost use Rattle.dcc_dispatch.specs.declared.decide.Dispatched.TheVariants.{Replied};
 ghost use Rattle.dcc_lane.specs.Ends.{put_of};
 ghost use Rattle.dcc_model.specs.Keys.{request_key};
-ghost use Rattle.dcc_serve.specs.Handing.{AsksSweep, Passes, reading_of, replies, one_more, is_due, since_then};
+ghost use Rattle.dcc_serve.specs.Handing.{AsksSweep, HasEnded, Passes, reading_of, replies, one_more, is_due, since_then};
 ghost use Rattle.dcc_serve.specs.Lanes.{all_put, put_into};
 ghost use Rattle.dcc_serve.specs.declared.work.Work.TheVariants as work;
 ghost use Rattle.dcc_shard.specs.Routes.{shard_of};
 
 use crate::face::{Notice, Notices};
-use crate::lanes::{ask_all_to_sweep, put_into};
+use crate::lanes::{ask_all_to_sweep, end_all, put_into};
 use crate::work::{Request, Work};
 use dcc_act::Moment;
 use dcc_base::{Peer, Reply};
@@ -188,12 +188,11 @@ impl Reader {
         ask_all_to_sweep(rt, &mut self.workers, moment);
     }
 
-    /// Says that it ends to all that take from it.
-    fn end<W: Wait>(&mut self, rt: &W) {
-        let gate = self.gate;
-        for worker in &mut self.workers {
-            worker.put(rt, Work::End(gate));
-        }
+    /// Says that it ends to all that take from it, as the reader of the gateway of this index.
+    fn end<W: Wait>(&mut self, rt: &W, gate: usize)
+        ensures { HasEnded gate self.new }
+    {
+        end_all(rt, &mut self.workers, gate);
         self.writer.put(rt, Item::End);
     }
 }
@@ -219,7 +218,8 @@ pub(crate) fn read_gate<W: Wait, I: Read, C: Clock, N: Notices>(
     input: &mut I,
     reader: &mut Reader,
 ) -> ConnectionEnd {
-    let gate = reader.gate.saturating_add(1);
+    let index = reader.gate;
+    let gate = index.saturating_add(1);
     let mut judge = Judge {
         alloc,
         plan,
@@ -228,7 +228,7 @@ pub(crate) fn read_gate<W: Wait, I: Read, C: Clock, N: Notices>(
         reader,
     };
     let end = read_side(rt, alloc, input, clock, &mut judge, TURNS);
-    judge.reader.end(rt);
+    judge.reader.end(rt, index);
     notices.tell(rt, Notice::Read { gate, end });
     end
 }

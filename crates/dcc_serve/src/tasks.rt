@@ -1,6 +1,7 @@
 //! What the threads of a round do.
 
 ghost use Rattle.std.specs.Prelude.{◌≡◌};
+ghost use Rattle.dcc_serve.specs.Counting.{requests_in, answers_in, seat_in};
 
 use crate::face::{Notices, Shut};
 use crate::reader::{Reader, read_gate};
@@ -86,7 +87,9 @@ impl<I: Read, O: Write + Shut> Task<I, O> {
 
 impl<I, O> Task<I, O> {
     /// How many requests it handed to shards.
-    pub fn requests(&self) -> u64 {
+    pub fn requests(&self) -> u64
+        ensures { result ≡ requests_in self.now }
+    {
         match self {
             Task::Read { input: _, reader } => reader.requests,
             Task::Write { .. } | Task::Work(_) => 0,
@@ -94,7 +97,9 @@ impl<I, O> Task<I, O> {
     }
 
     /// How many answers it wrote whole.
-    pub fn answers(&self) -> u64 {
+    pub fn answers(&self) -> u64
+        ensures { result ≡ answers_in self.now }
+    {
         match self {
             Task::Write {
                 gate: _,
@@ -117,7 +122,9 @@ impl<I, O> Task<I, O> {
 
 impl<I: Drop, O: Drop> Task<I, O> {
     /// The seat of a worker.
-    pub fn into_seat(self) -> Option<Seat> {
+    pub fn into_seat(self) -> Option<Seat>
+        ensures { result ≡ seat_in self }
+    {
         match self {
             Task::Work(worker) => Some(worker.into_seat()),
             Task::Read { .. } | Task::Write { .. } => None,

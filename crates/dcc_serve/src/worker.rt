@@ -87,7 +87,9 @@ impl Worker {
     }
 
     /// Its seat.
-    pub fn into_seat(self) -> Seat {
+    pub fn into_seat(self) -> Seat
+        ensures { result ≡ self.seat }
+    {
         let Worker {
             shard: _,
             seat,

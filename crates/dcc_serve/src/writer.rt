@@ -1,5 +1,7 @@
 //! The writer of a gateway.
 
+ghost use Rattle.dcc_serve.specs.Writing.{WritesOut};
+
 use crate::face::{Notice, Notices, Shut};
 use crate::reader::TURNS;
 use dcc_connect::{Item, WriteEnd, write_side};
@@ -42,7 +44,9 @@ pub(crate) fn write_gate<W: Wait, O: Write + Shut, N: Notices>(
     gate: usize,
     output: &mut O,
     from: &mut Receiver<Item>,
-) -> WriteEnd {
+) -> WriteEnd
+    ensures { WritesOut result from.old from.new }
+{
     let mut ending = Ending { output };
     let end = write_side(rt, &mut ending, from, TURNS);
     ending.output.shut();
