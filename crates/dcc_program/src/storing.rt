@@ -2,7 +2,7 @@
 
 ghost use Rattle.std.specs.Prelude.{◌≡◌, ◌≢◌, ◌⊎◌, IfErr, OnOk};
 ghost use Rattle.std.specs.Io.KnownBytes.{Keeps};
-ghost use Rattle.dcc_program.specs.Stores.{IsTopUp, IsTopUpBegun, IsTopUpOver, IsLedger, IsLedgerBegun, IsLedgerOver, IsStoreFailure};
+ghost use Rattle.dcc_program.specs.Stores.{IsTopUp, IsTopUpBegun, IsLedger, IsLedgerBegun, IsStoreFailure};
 ghost use Rattle.dcc_program.specs.declared.failure.Failure.TheVariants.{Io};
 
 use crate::failure::Failure;
@@ -28,8 +28,6 @@ pub fn top_up<P: Read, S: Stores, W: Write>(
     hasher: RandomState,
 ) -> Result<(), Failure>
     ensures whole { OnOk result (IsTopUp (P.remaining file.old) ask (W.contents output.old) (W.contents output.new)) }
-    ensures over { OnOk result (IsTopUpOver S.Records (S.opens stores.now folder.now) S.Records.may_leave (P.remaining file.old) ask
-        (W.contents output.old) (W.contents output.new)) }
     ensures failure { IfErr result (IsStoreFailure (P.remaining file.old)) }
     ensures silent { IfErr result (λ failure. failure ≢ Io → Keeps (W.contents output.old) (W.contents output.new)) }
     ensures part { IfErr result (λ failure. failure ≡ Io → Keeps (W.contents output.old) (W.contents output.new)
@@ -55,8 +53,6 @@ pub fn ledger<P: Read, S: Stores, W: Write>(
     hasher: RandomState,
 ) -> Result<(), Failure>
     ensures whole { OnOk result (IsLedger (P.remaining file.old) sub (W.contents output.old) (W.contents output.new)) }
-    ensures over { OnOk result (IsLedgerOver S.Records (S.opens stores.now folder.now) S.Records.may_leave (P.remaining file.old) sub
-        (W.contents output.old) (W.contents output.new)) }
     ensures failure { IfErr result (IsStoreFailure (P.remaining file.old)) }
     ensures silent { IfErr result (λ failure. failure ≢ Io → Keeps (W.contents output.old) (W.contents output.new)) }
     ensures part { IfErr result (λ failure. failure ≡ Io → Keeps (W.contents output.old) (W.contents output.new)
