@@ -6,7 +6,7 @@ use Rattle.std.specs.List.{list_any}
 use Rattle.std.specs.Map.{lookup}
 use Rattle.std.proofs.lemmas.Bool.{cases_Bool}
 use Rattle.std.proofs.lemmas.Bool.Decides.{nat_tests}
-use Rattle.std.proofs.lemmas.List.{reverse-append, reverse-reverse, length-reverse, length-map}
+use Rattle.std.proofs.lemmas.List.{reverse-append, length-reverse, length-map}
 use Rattle.indexmap.specs.IndexMap as index_map
 use Rattle.indexmap.specs.IndexSet as index_set
 use Rattle.dcc_tariff.specs.Terms.{TermsView}
@@ -22,7 +22,7 @@ use Rattle.dcc_model.specs.Keys.{request_key, same_request, same_key, is_top_up}
 use Rattle.dcc_model.specs.Outcomes.{act_made, outcome_of, place_of_key, first_of, kept_of, has_account, history, is_made}
 use Rattle.dcc_model.specs.Sessions.{Sid}
 use Rattle.dcc_account.specs.declared.indexes.Indexes.{Indexes}
-use Rattle.dcc_account.specs.inner.Indexed.{place_by, is_request, is_top_up_of, same_name, IsIndexed, done_at}
+use Rattle.dcc_account.specs.inner.Indexed.{place_by, is_request, is_top_up_of, same_name, IsIndexed, outcome_in}
 
 -- the definition's place is that of the latest act of the same key
 place_is : (past : List Done) (kind : Kind) → place_of_key (map act_made past) kind ≡ place_by (λ done. same_key kind done.act.kind) past
@@ -85,21 +85,21 @@ indexed_at past old new is requests tickets opened = record {
   opened_are = λ q. opened q ∙ is.opened_are q;
 }
 
-slice_get-before : (xs ys : List Done) (i : ℕ) → i < length xs → slice_get (xs ++ ys) i ≡ slice_get xs i
+slice_get-before : (xs ys : List Outcome) (i : ℕ) → i < length xs → slice_get (xs ++ ys) i ≡ slice_get xs i
 slice_get-before [] ys i h = absurd (omega (arith, h))
 slice_get-before (x ∷ xs) ys zero h = refl
 slice_get-before (x ∷ xs) ys (suc i) h = slice_get-before xs ys i (omega (arith, h))
 
-slice_get-last : (xs : List Done) (y : Done) → slice_get (xs ++ y ∷ []) (length xs) ≡ Some y
+slice_get-last : (xs : List Outcome) (y : Outcome) → slice_get (xs ++ y ∷ []) (length xs) ≡ Some y
 slice_get-last [] y = refl
 slice_get-last (x ∷ xs) y = slice_get-last xs y
 
-done_at-before : (xs ys : List Done) (place : ℕ) → place ≤ length xs → done_at (xs ++ ys) place ≡ done_at xs place
-done_at-before xs ys zero h = refl
-done_at-before xs ys (suc i) h = slice_get-before xs ys i (omega (arith, h))
+outcome_in-before : (xs ys : List Outcome) (place : ℕ) → place ≤ length xs → outcome_in (xs ++ ys) place ≡ outcome_in xs place
+outcome_in-before xs ys zero h = refl
+outcome_in-before xs ys (suc i) h = slice_get-before xs ys i (omega (arith, h))
 
-done_at-last : (xs : List Done) (y : Done) (n : ℕ) → n ≡ length xs → done_at (xs ++ y ∷ []) (n + 1) ≡ Some y
-done_at-last xs y n h = let e : n + 1 ≡ suc (length xs) = omega (arith, h) in rw e (slice_get-last xs y)
+outcome_in-last : (xs : List Outcome) (y : Outcome) (n : ℕ) → n ≡ length xs → outcome_in (xs ++ y ∷ []) (n + 1) ≡ Some y
+outcome_in-last xs y n h = let e : n + 1 ≡ suc (length xs) = omega (arith, h) in rw e (slice_get-last xs y)
 
 place_within : (test : Done → Bool) (past : List Done) (place : ℕ) → place_by test past ≡ Some place → place ≤ length past
 place_within test [] place h = absurd cc
@@ -109,26 +109,33 @@ place_within test (done ∷ past) place h =
       | inr f ↦ let e : place_by test past ≡ Some place = (rw f at h) in let n = place_within test past place e in omega (arith, n)
     ]
 
--- the act that a look back finds stands at the place that it finds
-found_back : (test : Done → Bool) (past : List Done) → find test past ≡ option_and_then (done_at (reverse past)) (place_by test past)
+-- what these acts came to, in their order
+came : List Done → List Outcome
+came past = reverse (map outcome_of past)
+
+many_came : (past : List Done) → length (came past) ≡ length past
+unfolding came
+many_came past = length-reverse (map outcome_of past) ∙ length-map past outcome_of
+
+came_more : (done : Done) (past : List Done) → came (done ∷ past) ≡ came past ++ done.outcome ∷ []
+unfolding came
+came_more done past = reverse-append (done.outcome ∷ []) (map outcome_of past)
+
+-- what the act that a look back finds came to stands at the place that it finds
+found_back : (test : Done → Bool) (past : List Done) → option_map outcome_of (find test past) ≡ option_and_then (outcome_in (came past)) (place_by test past)
 found_back test [] = refl
 found_back test (done ∷ past) =
-    let turned = reverse-append (done ∷ []) past in
     elim (cases_Bool (test done)) [
-      | inl t ↦ rw t (sym (ap (λ (made : List Done). done_at made (length past + 1)) turned ∙ done_at-last (reverse past) done (length past) (sym (length-reverse past))))
+      | inl t ↦ rw t (sym (ap (λ (all : List Outcome). outcome_in all (length past + 1)) (came_more done past) ∙ outcome_in-last (came past) done.outcome (length past) (sym (many_came past))))
       | inr f ↦ rw f (found_back test past ∙ stays (place_by test past) (place_within test past))
     ]
   where
-    stays : (p : Option ℕ) → ((place : ℕ) → p ≡ Some place → place ≤ length past) → option_and_then (done_at (reverse past)) p ≡ option_and_then (done_at (reverse (done ∷ past))) p
+    stays : (p : Option ℕ) → ((place : ℕ) → p ≡ Some place → place ≤ length past) → option_and_then (outcome_in (came past)) p ≡ option_and_then (outcome_in (came (done ∷ past))) p
     stays None within = refl
     stays (Some place) within =
-        let many = length-reverse past in
+        let many = many_came past in
         let few = within place refl in
-        sym (ap (λ (made : List Done). done_at made place) (reverse-append (done ∷ []) past) ∙ done_at-before (reverse past) (done ∷ []) place (omega (arith, many, few)))
-
-pub found_at : (test : Done → Bool) (made : List Done) → option_and_then (done_at made) (place_by test (reverse made)) ≡ find test (reverse made)
-found_at test made =
-    sym (found_back test (reverse made) ∙ ap (λ (all : List Done). option_and_then (done_at all) (place_by test (reverse made))) (reverse-reverse made))
+        sym (ap (λ (all : List Outcome). outcome_in all place) (came_more done past) ∙ outcome_in-before (came past) (done.outcome ∷ []) place (omega (arith, many, few)))
 
 -- the acts of an account begin with a top-up
 one_begins : (terms : TermsView) (act : Act) → is_made terms [] act ≡ true → is_top_up act.kind ≡ true
@@ -157,33 +164,36 @@ begun terms (act ∷ earlier) =
     or_true true = refl
     or_true false = refl
 
-none_made : (made : List Done) → reverse made ≡ [] → length made ≡ 0
-none_made made h = sym (length-reverse made) ∙ ap (λ (past : List Done). length past) h
+some_acts : (past : List Done) → has_account past ≡ true → 0 < length past
+some_acts [] h = absurd cc
+some_acts (done ∷ past) h = omega arith
 
 -- there is an account just where there are acts
-pub has_some : (terms : TermsView) (made : List Done) (count : ℕ) → reverse made ≡ history terms (reverse (map act_made made)) → count ≡ length made → not (count == 0) ≡ has_account (reverse made)
-has_some terms [] count own many = rw many refl
-has_some terms (done ∷ made) count own many =
-    let some : (count == 0) ≡ false = grind (arith, nat_tests, many) in
-    elim (begun terms (reverse (map act_made (done ∷ made)))) [
-      | inl none ↦ let zero = none_made (done ∷ made) (own ∙ none) in absurd (omega (arith, zero))
-      | inr there ↦ rw some (sym (ap has_account own ∙ there))
+pub has_some : (terms : TermsView) (earlier : List Act) (count : ℕ) → count ≡ length (history terms earlier) → not (count == 0) ≡ has_account (history terms earlier)
+has_some terms earlier count many =
+    elim (begun terms earlier) [
+      | inl none ↦ let zero : count ≡ 0 = many ∙ ap (λ (past : List Done). length past) none in rw zero (sym (ap has_account none))
+      | inr there ↦
+          let more = some_acts (history terms earlier) there in
+          let some : (count == 0) ≡ false = grind (arith, nat_tests, many, more) in rw some (sym there)
     ]
 
 -- what the first act of a key came to stands at its place
-pub first_at : (made given : List Done) (kind : Kind) (place : Option ℕ) (found : Option Outcome) → given ≡ made → place ≡ place_of_key (map act_made (reverse made)) kind
-    → found ≡ option_map outcome_of (option_and_then (done_at given) place) → found ≡ option_map outcome_of (first_of (reverse made) kind)
-first_at made given kind place found same place_is_it is =
-    is ∙ ap (λ (all : List Done). option_map outcome_of (option_and_then (done_at all) place)) same
-    ∙ ap (λ (p : Option ℕ). option_map outcome_of (option_and_then (done_at made) p)) (place_is_it ∙ place_is (reverse made) kind)
-    ∙ ap (option_map outcome_of) (found_at (λ done. same_key kind done.act.kind) made)
+pub first_at : (past : List Done) (given : List Outcome) (kind : Kind) (place : Option ℕ) (found : Option Outcome) → given ≡ reverse (map outcome_of past) → place ≡ place_of_key (map act_made past) kind
+    → found ≡ option_and_then (outcome_in given) place → found ≡ option_map outcome_of (first_of past kind)
+unfolding came
+first_at past given kind place found same place_is_it is =
+    is ∙ ap (λ (all : List Outcome). option_and_then (outcome_in all) place) same
+    ∙ ap (λ (p : Option ℕ). option_and_then (outcome_in (reverse (map outcome_of past))) p) (place_is_it ∙ place_is past kind)
+    ∙ sym (found_back (λ done. same_key kind done.act.kind) past)
 
-pub kept_at_place : (made given : List Done) (key : RequestKey) (place : Option ℕ) (found : Option Outcome) → given ≡ made → place ≡ place_by (is_request key) (reverse made)
-    → found ≡ option_map outcome_of (option_and_then (done_at given) place) → found ≡ kept_of (reverse made) key
-kept_at_place made given key place found same place_is_it is =
-    is ∙ ap (λ (all : List Done). option_map outcome_of (option_and_then (done_at all) place)) same
-    ∙ ap (λ (p : Option ℕ). option_map outcome_of (option_and_then (done_at made) p)) place_is_it
-    ∙ ap (option_map outcome_of) (found_at (is_request key) made)
+pub kept_at_place : (past : List Done) (given : List Outcome) (key : RequestKey) (place : Option ℕ) (found : Option Outcome) → given ≡ reverse (map outcome_of past) → place ≡ place_by (is_request key) past
+    → found ≡ option_and_then (outcome_in given) place → found ≡ kept_of past key
+unfolding came
+kept_at_place past given key place found same place_is_it is =
+    is ∙ ap (λ (all : List Outcome). option_and_then (outcome_in all) place) same
+    ∙ ap (λ (p : Option ℕ). option_and_then (outcome_in (reverse (map outcome_of past))) p) place_is_it
+    ∙ sym (found_back (is_request key) past)
 
 -- indexes without keys
 pub none_indexed : (indexes : Indexes) → index_map.IsEmpty indexes.requests → index_map.IsEmpty indexes.tickets → index_set.IsEmpty indexes.opened → IsIndexed [] indexes

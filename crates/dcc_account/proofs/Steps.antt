@@ -3,7 +3,7 @@ use Rattle.std.proofs.Common.{◌≡◌, ℕ, ◌+◌, ◌-◌, ◌*◌, ◌<◌
 use Rattle.std.specs.Prelude.{MatchOption}
 use Rattle.std.proofs.lemmas.Bool.{cases_Bool}
 use Rattle.std.proofs.lemmas.Int.{ints}
-use Rattle.std.proofs.lemmas.List.{reverse-append, reverse-reverse, map-append, length-reverse, length_push}
+use Rattle.std.proofs.lemmas.List.{reverse-append, reverse-reverse, length-reverse, length-map, length_push}
 use Rattle.dcc_escrow.specs.Pools.{PoolView, free as left}
 use Rattle.dcc_expiry.specs.Deadlines.{DueView, deadline_of}
 use Rattle.dcc_tariff.specs.Terms.{TermsView}
@@ -31,17 +31,22 @@ use Rattle.dcc_account.specs.inner.Kept.{IsKept, IsRunning, MAX_OVERRUN}
 use Rattle.dcc_account.specs.Fits.{HasMemory, HasPlace}
 use Rattle.dcc_account.specs.Prepared.{StepView, IsPrepared}
 
-map_reverse : (past : List Done) → map act_made (reverse past) ≡ reverse (map act_made past)
-map_reverse [] = refl
-map_reverse (done ∷ past) =
-    ap (map act_made) (reverse-append (done ∷ []) past) ∙ map-append act_made (reverse past) (done ∷ [])
-    ∙ ap (λ (xs : List Act). xs ++ done.act ∷ []) (map_reverse past) ∙ sym (reverse-append (done.act ∷ []) (map act_made past))
-
 -- the acts of an account are their own
-pub own_acts : (terms : TermsView) (made : List Done) (posted : List Entry) → IsKept terms made posted → acts terms (map act_made made) ≡ map act_made made
+pub own_acts : (terms : TermsView) (all : List Act) (came : List Outcome) (posted : List Entry) → IsKept terms all came posted → acts terms all ≡ all
 unfolding acts
-own_acts terms made posted kept =
-    ap (λ (past : List Done). reverse (map act_made past)) (sym kept.own) ∙ ap reverse (map_reverse made) ∙ reverse-reverse (map act_made made)
+own_acts terms all came posted kept = ap reverse kept.own ∙ reverse-reverse all
+
+-- how many acts there are, and how many outcomes
+pub many_made : (terms : TermsView) (all : List Act) (came : List Outcome) (posted : List Entry) → IsKept terms all came posted → length all ≡ length (history terms (reverse all))
+many_made terms all came posted kept =
+    sym (length-reverse all) ∙ sym (ap (λ (xs : List Act). length xs) kept.own) ∙ length-map (history terms (reverse all)) act_made
+
+pub many_came : (terms : TermsView) (all : List Act) (came : List Outcome) (posted : List Entry) → IsKept terms all came posted → length came ≡ length (history terms (reverse all))
+many_came terms all came posted kept =
+    ap (λ (xs : List Outcome). length xs) kept.came_are ∙ length-reverse (map outcome_of (history terms (reverse all))) ∙ length-map (history terms (reverse all)) outcome_of
+
+pub as_many : (terms : TermsView) (all : List Act) (came : List Outcome) (posted : List Entry) → IsKept terms all came posted → length came ≡ length all
+as_many terms all came posted kept = many_came terms all came posted kept ∙ sym (many_made terms all came posted kept)
 
 history_push : (terms : TermsView) (all : List Act) (act : Act) → history terms (reverse (all ++ act ∷ [])) ≡ with_act terms (history terms (reverse all)) act
 history_push terms all act = ap (history terms) (reverse-append all (act ∷ []))
@@ -74,38 +79,40 @@ keyed_push : (all : List Act) (act : Act) → AreKeyed all → IsKeyed act → A
 keyed_push [] act keyed one = (one, tt)
 keyed_push (first ∷ all) act keyed one = (keyed.0, keyed_push all act keyed.1 one)
 
--- what an account keeps after a new act
-pub kept_with : (terms : TermsView) (made : List Done) (posted more : List Entry) (act : Act) (outcome : Outcome) → IsKept terms made posted
-    → outcome ≡ after terms (map act_made made) act → is_new terms (map act_made made) act ≡ true
-    → entries terms (map act_made made ++ act ∷ []) ≡ entries terms (map act_made made) ++ more → IsKeyed act
-    → IsKept terms (made ++ record { act = act; outcome = outcome } ∷ []) (posted ++ more)
+-- the past with a new act
+pub history_more : (terms : TermsView) (all : List Act) (act : Act) (outcome : Outcome) → outcome ≡ after terms all act → is_new terms all act ≡ true
+    → history terms (reverse (all ++ act ∷ [])) ≡ record { act = act; outcome = outcome } ∷ history terms (reverse all)
 unfolding after is_new
-kept_with terms made posted more act outcome kept outcome_is new entries_are one_keyed =
-    let one : Done = record { act = act; outcome = outcome } in
-    let all = map act_made made in
-    let pushed : map act_made (made ++ one ∷ []) ≡ all ++ act ∷ [] = map-append act_made made (one ∷ []) in
+history_more terms all act outcome is new =
+    history_push terms all act ∙ rw new (ap (λ (o : Outcome). record { act = act; outcome = o } ∷ history terms (reverse all)) (sym is))
+
+-- what an account keeps after a new act
+pub kept_with : (terms : TermsView) (all : List Act) (came : List Outcome) (posted more : List Entry) (act : Act) (outcome : Outcome) → IsKept terms all came posted
+    → outcome ≡ after terms all act → is_new terms all act ≡ true → entries terms (all ++ act ∷ []) ≡ entries terms all ++ more → IsKeyed act
+    → IsKept terms (all ++ act ∷ []) (came ++ outcome ∷ []) (posted ++ more)
+kept_with terms all came posted more act outcome kept outcome_is new entries_are one_keyed =
+    let past = history terms (reverse all) in
+    let pushed = history_more terms all act outcome outcome_is new in
     record {
-      keyed = subst AreKeyed (sym pushed) (keyed_push all act kept.keyed one_keyed);
-      own =
-          reverse-append made (one ∷ []) ∙ ap (λ (past : List Done). one ∷ past) kept.own
-          ∙ sym (ap (λ (xs : List Act). history terms (reverse xs)) pushed ∙ history_push terms all act ∙ rw new (ap (λ (o : Outcome). record { act = act; outcome = o } ∷ history terms (reverse all)) (sym outcome_is)));
-      entries_are = ap (λ (es : List Entry). es ++ more) kept.entries_are ∙ sym entries_are ∙ sym (ap (entries terms) pushed);
+      keyed = keyed_push all act kept.keyed one_keyed;
+      own = ap (map act_made) pushed ∙ ap (λ (xs : List Act). act ∷ xs) kept.own ∙ sym (reverse-append all (act ∷ []));
+      came_are =
+          ap (λ (xs : List Outcome). xs ++ outcome ∷ []) kept.came_are ∙ sym (reverse-append (outcome ∷ []) (map outcome_of past))
+          ∙ sym (ap (λ (made : List Done). reverse (map outcome_of made)) pushed);
+      entries_are = ap (λ (es : List Entry). es ++ more) kept.entries_are ∙ sym entries_are;
     }
 
 -- the acts with one more
-pub acts_with : OneMoreAct → (terms : TermsView) (made : List Done) (posted : List Entry) (act : Act) (new : Bool) → IsKept terms made posted
-    → new ≡ is_new terms (map act_made made) act → acts terms (map act_made made ++ act ∷ []) ≡ cond new (map act_made made ++ act ∷ []) (map act_made made)
-acts_with one_more terms made posted act new kept new_is =
-    let all = map act_made made in
-    one_more terms all act ∙ ap (λ (own : List Act). cond (is_new terms all act) (own ++ act ∷ []) own) (own_acts terms made posted kept)
+pub acts_with : OneMoreAct → (terms : TermsView) (all : List Act) (came : List Outcome) (posted : List Entry) (act : Act) (new : Bool) → IsKept terms all came posted
+    → new ≡ is_new terms all act → acts terms (all ++ act ∷ []) ≡ cond new (all ++ act ∷ []) all
+acts_with one_more terms all came posted act new kept new_is =
+    one_more terms all act ∙ ap (λ (own : List Act). cond (is_new terms all act) (own ++ act ∷ []) own) (own_acts terms all came posted kept)
     ∙ ap (λ (b : Bool). cond b (all ++ act ∷ []) all) (sym new_is)
 
 -- the outcome that was kept
-pub kept_in : (terms : TermsView) (made given : List Done) (posted : List Entry) (key : RequestKey) (found : Option Outcome) → IsKept terms made posted → given ≡ made
-    → found ≡ kept_of (reverse given) key → found ≡ kept terms (map act_made made) key
+pub kept_in : (terms : TermsView) (all : List Act) (key : RequestKey) (found : Option Outcome) → found ≡ kept_of (history terms (reverse all)) key → found ≡ kept terms all key
 unfolding kept
-kept_in terms made given posted key found is_kept same is =
-    is ∙ ap (λ (past : List Done). kept_of (reverse past) key) same ∙ ap (λ (past : List Done). kept_of past key) is_kept.own
+kept_in terms all key found is = is
 
 pub prepared_at : (a b : AccountView) (s t : StepView) → IsPrepared b t → a ≡ b → s ≡ t → IsPrepared a s
 prepared_at a b s t is e f = rw (e, f) is
@@ -116,6 +123,15 @@ pub fits_of : {X : Type 0} (size : X → ℕ) (larger : Option X) (held more cap
 fits_of size None held more capacity count wanted c w h = omega arith
 fits_of size (Some v) held more capacity count wanted c w h = omega arith
 
+-- what a larger vector was made for, it has room for, and so has the vector that grew
+pub grows_for : {X : Type 0} (size : X → ℕ) (larger : Option X) (held count room : ℕ) → held ≡ count → HasMemory count 1 room (option_map size larger) → (v : X) → larger ≡ Some v → held ≤ size v
+grows_for size larger held count room same memory v is = let there = rw is at memory in omega (arith, same, there)
+
+pub room_for : {X : Type 0} (size : X → ℕ) (larger : Option X) (held count before after : ℕ) → held ≡ count → HasMemory count 1 (before - held) (option_map size larger)
+    → MatchOption larger (after ≡ before) (λ v. size v ≤ after) → held + 1 ≤ after
+room_for size None held count before after same memory grown = omega (arith, same, memory, grown)
+room_for size (Some v) held count before after same memory grown = omega (arith, same, memory, grown)
+
 -- and where an index has room, or the larger one is made for its keys
 pub room_of : {X : Type 0} (size : X → ℕ) (larger : Option X) (more count room : ℕ) → 1 ≡ more → MatchOption larger (more ≤ room) (λ v. count + more ≤ size v)
     → HasPlace (record { count = count; room = room }) (option_map size larger)
@@ -123,13 +139,12 @@ room_of size None more count room one h = omega (arith, one, h)
 room_of size (Some v) more count room one h = omega (arith, one, h)
 
 -- the money of the pool is that of the definitions
-pub free_is : SessionsHoldWhatIsReserved → (terms : TermsView) (made : List Done) (posted : List Entry) (pool : PoolView) (over : ℤ) (sessions : List SessionView) (due : DueView) (indexes : Indexes)
-    → IsRunning terms made posted pool over sessions due indexes → left pool ≡ free terms (map act_made made)
+pub free_is : SessionsHoldWhatIsReserved → (terms : TermsView) (all : List Act) (came : List Outcome) (posted : List Entry) (pool : PoolView) (over : ℤ) (sessions : List SessionView) (due : DueView) (indexes : Indexes)
+    → IsRunning terms all came posted pool over sessions due indexes → left pool ≡ free terms all
 unfolding funds free
-free_is law terms made posted pool over sessions due indexes is =
-    let past = history terms (reverse (map act_made made)) in
-    ap (λ (held : ℕ). pool.committed -ℤ pos held) (is.holds.reserved ∙ law terms (map act_made made) sessions is.sessions_are)
-    ∙ ap (λ (money : ℤ). money -ℤ pos (reserved_of terms past)) is.funds_are
+free_is law terms all came posted pool over sessions due indexes is =
+    ap (λ (held : ℕ). pool.committed -ℤ pos held) (is.holds.reserved ∙ law terms all sessions is.sessions_are)
+    ∙ ap (λ (money : ℤ). money -ℤ pos (reserved_of terms (history terms (reverse all)))) is.funds_are
 
 pub standing_is : (terms : TermsView) (all : List Act) (money : Standing) → money.funds ≡ funds terms all → money.free ≡ free terms all → money.overrun ≡ pos (overrun terms all)
     → money ≡ standing terms all
@@ -150,64 +165,62 @@ unfolding standing free
 free_in terms all money is = ap (λ (s : Standing). s.free) is
 
 -- what is known of the acts that were made
-pub known_at : (terms : TermsView) (made : List Done) (posted : List Entry) (pool : PoolView) (over : ℤ) (sessions given : List SessionView) (due : DueView) (indexes : Indexes) (act : Act) (facts : Facts) (first : Option Outcome)
-    → IsRunning terms made posted pool over sessions due indexes
-    → given ≡ sessions → facts.count ≡ length made → facts.has_account ≡ has_account (reverse made) → facts.was_opened ≡ was_opened_by (reverse made) (request_key act.kind)
-    → facts.place ≡ place_of_key (map act_made (reverse made)) act.kind → first ≡ option_map outcome_of (first_of (reverse made) act.kind) → facts.standing ≡ standing terms (map act_made made)
-    → IsKnown terms (map act_made made) act facts first given
+pub known_at : (terms : TermsView) (all : List Act) (came : List Outcome) (posted : List Entry) (pool : PoolView) (over : ℤ) (sessions given : List SessionView) (due : DueView) (indexes : Indexes) (act : Act) (facts : Facts)
+    (first : Option Outcome) → IsRunning terms all came posted pool over sessions due indexes
+    → given ≡ sessions → facts.count ≡ length all → facts.has_account ≡ has_account (history terms (reverse all)) → facts.was_opened ≡ was_opened_by (history terms (reverse all)) (request_key act.kind)
+    → facts.place ≡ place_of_key (map act_made (history terms (reverse all))) act.kind → first ≡ option_map outcome_of (first_of (history terms (reverse all)) act.kind) → facts.standing ≡ standing terms all
+    → IsKnown terms all act facts first given
 unfolding standing
-known_at terms made posted pool over sessions given due indexes act facts first is same count account opened place first_is standing_is =
-    let past = history terms (reverse (map act_made made)) in
-    let own = is.kept.own in
+known_at terms all came posted pool over sessions given due indexes act facts first is same count account opened place first_is standing_is =
     record {
       keyed = is.kept.keyed;
-      count_is = count ∙ sym (length-reverse made) ∙ ap (λ (before : List Done). length before) own;
-      account_is = account ∙ ap has_account own;
-      opened_is = opened ∙ ap (λ (before : List Done). was_opened_by before (request_key act.kind)) own;
-      first_is = first_is ∙ ap (λ (before : List Done). option_map outcome_of (first_of before act.kind)) own;
-      place_is = place ∙ ap (λ (before : List Done). place_of_key (map act_made before) act.kind) own;
+      count_is = count ∙ many_made terms all came posted is.kept;
+      account_is = account;
+      opened_is = opened;
+      first_is = first_is;
+      place_is = place;
       standing_is = standing_is;
-      sessions_are = subst (AreOpen terms past) (sym same) is.sessions_are;
+      sessions_are = subst (AreOpen terms (history terms (reverse all))) (sym same) is.sessions_are;
     }
 
 -- the money of an account can be reckoned with
-pub within_at : MoneyIsWithin → (terms : TermsView) (made : List Done) (posted : List Entry) (pool : PoolView) (over : ℤ) (sessions given : List SessionView) (due : DueView) (indexes : Indexes)
-    → IsRunning terms made posted pool over sessions due indexes → (money : Standing) → money ≡ standing terms (map act_made made)
-    → given ≡ sessions → length made < 9_223_372_036_854_775_808 → IsWithin money given
+pub within_at : MoneyIsWithin → (terms : TermsView) (all : List Act) (came : List Outcome) (posted : List Entry) (pool : PoolView) (over : ℤ) (sessions given : List SessionView) (due : DueView) (indexes : Indexes)
+    → IsRunning terms all came posted pool over sessions due indexes → (money : Standing) → money ≡ standing terms all
+    → given ≡ sessions → length all < 9_223_372_036_854_775_808 → IsWithin money given
 unfolding standing overrun
-within_at law terms made posted pool over sessions given due indexes is money money_is same few =
-    let past = history terms (reverse (map act_made made)) in
+within_at law terms all came posted pool over sessions given due indexes is money money_is same few =
+    let past = history terms (reverse all) in
     let most = is.overrun_is in
     let over_is = is.overrun_are in
     let money_over = ap (λ (s : Standing). s.overrun) money_is in
-    law terms (map act_made made) money given is.kept.keyed money_is (subst (AreOpen terms past) (sym same) is.sessions_are) (omega (arith, ints))
+    law terms all money given is.kept.keyed money_is (subst (AreOpen terms past) (sym same) is.sessions_are) (omega (arith, ints))
 
 -- what stands behind a change, by the money of the pool
 pub backed_by : (a b c d : ℤ) (sessions given : List SessionView) (change : Change) → IsBacked a b sessions change → c ≡ a → d ≡ b → given ≡ sessions → IsBacked c d given change
 backed_by a b c d sessions given change is e f g = rw (e, f, g) is
 
 -- the sessions and the money after one more act
-pub running_with : (terms : TermsView) (made : List Done) (posted : List Entry) (pool : PoolView) (over : ℤ) (sessions : List SessionView) (due : DueView) (indexes : Indexes) (done : Done)
-    → IsKept terms (made ++ done ∷ []) posted → AreOpen terms (with_act terms (history terms (reverse (map act_made made))) done.act) sessions → KeepsDeadlines due sessions → HoldsAll pool sessions
-    → pool.committed ≡ funds terms (map act_made made ++ done.act ∷ []) → over ≡ pos (overrun terms (map act_made made ++ done.act ∷ []))
-    → over ≤ℤ pos (MAX_OVERRUN * (length made + 1)) → IsIndexed (done ∷ reverse made) indexes → IsRunning terms (made ++ done ∷ []) posted pool over sessions due indexes
-running_with terms made posted pool over sessions due indexes done kept are due_are holds funds_are overrun_are most indexed =
-    let pushed : map act_made (made ++ done ∷ []) ≡ map act_made made ++ done.act ∷ [] = map-append act_made made (done ∷ []) in
-    let more = length_push made done in
+pub running_with : (terms : TermsView) (all : List Act) (came : List Outcome) (posted : List Entry) (pool : PoolView) (over : ℤ) (sessions : List SessionView) (due : DueView) (indexes : Indexes) (done : Done)
+    → IsKept terms (all ++ done.act ∷ []) came posted → AreOpen terms (with_act terms (history terms (reverse all)) done.act) sessions → KeepsDeadlines due sessions → HoldsAll pool sessions
+    → pool.committed ≡ funds terms (all ++ done.act ∷ []) → over ≡ pos (overrun terms (all ++ done.act ∷ []))
+    → over ≤ℤ pos (MAX_OVERRUN * (length all + 1)) → IsIndexed (done ∷ history terms (reverse all)) indexes → history terms (reverse (all ++ done.act ∷ [])) ≡ done ∷ history terms (reverse all)
+    → IsRunning terms (all ++ done.act ∷ []) came posted pool over sessions due indexes
+running_with terms all came posted pool over sessions due indexes done kept are due_are holds funds_are overrun_are most indexed past =
+    let more = length_push all done.act in
     record {
       kept = kept;
-      sessions_are = subst (λ (past : List Done). AreOpen terms past sessions) (sym (ap (λ (xs : List Act). history terms (reverse xs)) pushed ∙ history_push terms (map act_made made) done.act)) are;
+      sessions_are = subst (λ (past : List Done). AreOpen terms past sessions) (sym (history_push terms all done.act)) are;
       due_are = due_are;
       holds = holds;
-      funds_are = funds_are ∙ sym (ap (funds terms) pushed);
-      overrun_are = overrun_are ∙ sym (ap (λ (xs : List Act). pos (overrun terms xs)) pushed);
+      funds_are = funds_are;
+      overrun_are = overrun_are;
       overrun_is = subst (λ (n : ℕ). over ≤ℤ pos (MAX_OVERRUN * n)) (sym more) most;
-      indexed = subst (λ (past : List Done). IsIndexed past indexes) (sym (reverse-append made (done ∷ []))) indexed;
+      indexed = subst (λ (past : List Done). IsIndexed past indexes) (sym past) indexed;
     }
 
-pub running_at : (terms : TermsView) (made made' : List Done) (posted posted' : List Entry) (pool : PoolView) (over : ℤ) (sessions : List SessionView) (due : DueView) (indexes : Indexes)
-    → IsRunning terms made posted pool over sessions due indexes → made' ≡ made → posted' ≡ posted → IsRunning terms made' posted' pool over sessions due indexes
-running_at terms made made' posted posted' pool over sessions due indexes is m p = rw (m, p) is
+pub running_at : (terms : TermsView) (all all' : List Act) (came came' : List Outcome) (posted posted' : List Entry) (pool : PoolView) (over : ℤ) (sessions : List SessionView) (due : DueView) (indexes : Indexes)
+    → IsRunning terms all came posted pool over sessions due indexes → all' ≡ all → came' ≡ came → posted' ≡ posted → IsRunning terms all' came' posted' pool over sessions due indexes
+running_at terms all all' came came' posted posted' pool over sessions due indexes is a m p = rw (a, m, p) is
 
 -- deadlines that are the same at each name are kept of the same sessions
 pub due_same : (before after : DueView) (sessions given : List SessionView) → KeepsDeadlines before sessions → ((sid : Sid) → deadline_of after sid ≡ deadline_of before sid) → given ≡ sessions

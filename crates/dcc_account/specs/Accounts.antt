@@ -1,8 +1,9 @@
 -- What contracts see of an account.
-use Rattle.std.specs.Prelude.{List, ℤ, ◌-ℤ◌}
+use Rattle.std.specs.Prelude.{List, map, reverse, ℤ, ◌-ℤ◌}
 use Rattle.dcc_tariff.specs.Terms.{TermsView}
 use Rattle.dcc_act.specs.declared.act.Act.{Act}
-use Rattle.dcc_model.specs.Outcomes.{funds, free}
+use Rattle.dcc_act.specs.declared.outcome.Outcome.{Outcome}
+use Rattle.dcc_model.specs.Outcomes.{outcome_of, history, funds, free}
 use Rattle.dcc_state.specs.OpenSessions.{SessionView}
 use Rattle.dcc_account.specs.Memory.{Room}
 
@@ -13,6 +14,10 @@ pub record AccountView : Type 0 where
   pub acts : List Act
   pub sessions : List SessionView
   pub room : Room
+
+-- what each of these acts came to, in their order
+abbrev pub outcomes : TermsView → List Act → List Outcome
+outcomes terms acts = reverse (map outcome_of (history terms (reverse acts)))
 
 -- what live grants hold of the funds
 abbrev pub reserved : TermsView → List Act → ℤ

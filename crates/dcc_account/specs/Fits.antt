@@ -12,10 +12,11 @@ HasMemory count more room larger = MatchOption larger (more ≤ room) (λ capaci
 abbrev pub HasPlace : Held → Option ℕ → Type 0
 HasPlace held larger = HasMemory held.count 1 held.room larger
 
--- there is memory for one more act of the account, so many more entries, one more open session and its
+-- there is memory for one more act of the account and what it comes to, so many more entries, one more open session and its
 -- deadline, and one more key of each index
 pub record Fits (account : AccountView) (space : Space) (more : ℕ) : Type 0 where
   pub acts : HasMemory (length account.acts) 1 account.room.acts space.acts
+  pub outcomes : HasMemory (length account.acts) 1 account.room.outcomes space.outcomes
   pub entries : HasMemory (length (entries account.terms account.acts)) more account.room.entries space.entries
   pub sessions : HasMemory (length account.sessions) 1 account.room.sessions space.sessions
   pub due : HasPlace account.room.due space.due

@@ -6,9 +6,10 @@ pub record Held : Type 0 where
   pub count : ℕ
   pub room : ℕ
 
--- for how many more acts, entries, open sessions, deadlines and keys an account has memory
+-- for how many more acts, outcomes, entries, open sessions, deadlines and keys an account has memory
 pub record Room : Type 0 where
   pub acts : ℕ
+  pub outcomes : ℕ
   pub entries : ℕ
   pub sessions : ℕ
   pub due : Held
@@ -16,9 +17,10 @@ pub record Room : Type 0 where
   pub tickets : Held
   pub opened : Held
 
--- the capacities of the larger vectors, deadlines and indexes that a step brings
+-- the room of the larger journal, and the capacities of the larger vectors, deadlines and indexes, that a step brings
 pub record Space : Type 0 where
   pub acts : Option ℕ
+  pub outcomes : Option ℕ
   pub entries : Option ℕ
   pub sessions : Option ℕ
   pub due : Option ℕ

@@ -1,22 +1,22 @@
 //! Accounts.
 
-ghost use Rattle.std.specs.Prelude.{◌≡◌, [], ◌∷◌, ◌++◌, map, reverse, pos, neg_ℤ, ◌+◌, ◌+ℤ◌, ◌<◌, ◌^◌, ◌≤ℤ◌, ◌≤◌, if◌then◌else◌, IfOk};
+ghost use Rattle.std.specs.Prelude.{◌≡◌, [], ◌∷◌, ◌++◌, reverse, pos, neg_ℤ, ◌+◌, ◌+ℤ◌, ◌<◌, ◌^◌, ◌≤ℤ◌, ◌≤◌, if◌then◌else◌, IfOk};
 ghost use Rattle.std.specs.Option.{option_copied};
-ghost use Rattle.dcc_model.specs.Outcomes.{act_made, history, acts, standing, funds, overrun, free, kept};
+ghost use Rattle.dcc_model.specs.Outcomes.{history, acts, standing, funds, overrun, free, kept};
 ghost use Rattle.dcc_model.specs.Entries.{entries};
 ghost use Rattle.dcc_state.specs.Looks.{most_looks, least_looks};
-ghost use Rattle.dcc_account.specs.Accounts.{reserved};
+ghost use Rattle.dcc_account.specs.Accounts.{outcomes, reserved};
 ghost use Rattle.dcc_model.specs.declared.decide.TheConstants.{CEILING};
 
-use crate::growth::{LEAST, append, grow, larger};
+use crate::growth::{LEAST, append, grow, grow_journal, larger, larger_journal};
 use crate::indexes::Indexes;
 use crate::kept::outcome_at;
 use crate::new_keys::NewKeys;
 use crate::step::Step;
-use dcc_act::{Act, Entry, Looks, Outcome, RequestKey};
+use dcc_act::{Act, Entry, Journal, Looks, Outcome, RequestKey};
 use dcc_escrow::Pool;
 use dcc_expiry::Due;
-use dcc_model::{Done, Standing, funds_are_accounted_for, keys_are_apart, one_more_act};
+use dcc_model::{Standing, funds_are_accounted_for, keys_are_apart, one_more_act};
 use dcc_state::{
     Facts, Judgement, OpenSession, POOL, judge, money_is_within, sessions_hold_what_is_reserved,
 };
@@ -29,7 +29,8 @@ use std::marker::Model;
 #[derive(Drop)]
 pub struct Account {
     terms: Terms,
-    acts: Vec<Done>,
+    acts: Journal,
+    outcomes: Vec<Outcome>,
     entries: Vec<Entry>,
     pub(crate) pool: Pool,
     overrun: i128,
@@ -39,10 +40,9 @@ pub struct Account {
 }
 
 impl Model for Account {
-    ghost use Rattle.std.specs.Prelude.{◌-◌, map, vec_len, vec_capacity};
+    ghost use Rattle.std.specs.Prelude.{◌-◌, vec_len, vec_capacity};
     ghost use Rattle.indexmap.specs.IndexMap as map;
     ghost use Rattle.indexmap.specs.IndexSet as set;
-    ghost use Rattle.dcc_model.specs.Outcomes.{act_made};
     ghost use Rattle.dcc_expiry.specs.Deadlines.{count_of};
     ghost use Rattle.dcc_account.specs.Accounts.{AccountView};
     ghost use Rattle.dcc_account.specs.inner.Kept.{IsRunning};
@@ -51,10 +51,11 @@ impl Model for Account {
 
     ghost view = { λ a. record {
       terms = a.terms;
-      acts = map act_made a.acts.items;
+      acts = a.acts.acts;
       sessions = a.sessions.items;
       room = record {
-        acts = vec_capacity a.acts - vec_len a.acts;
+        acts = a.acts.spare;
+        outcomes = vec_capacity a.outcomes - vec_len a.outcomes;
         entries = vec_capacity a.entries - vec_len a.entries;
         sessions = vec_capacity a.sessions - vec_len a.sessions;
         due = record { count = count_of a.due; room = a.due.room };
@@ -64,7 +65,7 @@ impl Model for Account {
       };
     } };
 
-    ghost invariant = { λ a. IsRunning a.terms a.acts.items a.entries.items a.pool a.overrun a.sessions.items a.due a.indexes };
+    ghost invariant = { λ a. IsRunning a.terms a.acts.acts a.outcomes.items a.entries.items a.pool a.overrun a.sessions.items a.due a.indexes };
 }
 
 impl Account {
@@ -78,7 +79,8 @@ impl Account {
     {
         Account {
             terms: *terms,
-            acts: Vec::new(alloc),
+            acts: Journal::new(alloc),
+            outcomes: Vec::new(alloc),
             entries: Vec::new(alloc),
             pool: Pool::new(POOL),
             overrun: 0,
@@ -95,13 +97,19 @@ impl Account {
         &self.terms
     }
 
-    /// The acts that were made, in order, each with what it came to.
-    pub fn acts(&self) -> &[Done]
-        ensures value { map act_made result.now ≡ self.now.acts }
-        ensures outcomes { reverse result.now ≡ history self.now.terms (reverse self.now.acts) }
+    /// The acts that were made, in order: what reads one of them counts it.
+    pub fn acts(&self) -> &Journal
+        ensures acts { result.now.acts ≡ self.now.acts }
         ensures own { acts self.now.terms self.now.acts ≡ self.now.acts }
     {
         &self.acts
+    }
+
+    /// What each act that was made came to, in order.
+    pub fn outcomes(&self) -> &[Outcome]
+        ensures { result.now ≡ outcomes self.now.terms self.now.acts }
+    {
+        &self.outcomes
     }
 
     /// The entries of the acts, in order.
@@ -150,7 +158,7 @@ impl Account {
     pub fn kept(&self, key: &RequestKey) -> Option<&Outcome>
         ensures { option_copied result ≡ kept self.now.terms self.now.acts key.now }
     {
-        outcome_at(&self.acts, self.indexes.place_of_request(key))
+        outcome_at(&self.outcomes, self.indexes.place_of_request(key))
     }
 
     /// The step of the act: what it comes to after those that were made, whether it is made, its place and its entries,
@@ -175,10 +183,11 @@ impl Account {
             entries,
             change,
         } = self.judged(&act, &mut looks)?;
-        let alloc = *self.acts.allocator();
+        let alloc = *self.outcomes.allocator();
         let more = usize::from(is_new);
         Ok(Step {
-            larger_acts: larger(alloc, &self.acts, more, LEAST)?,
+            larger_acts: larger_journal(alloc, &self.acts, more)?,
+            larger_outcomes: larger(alloc, &self.outcomes, more, LEAST)?,
             larger_entries: larger(alloc, &self.entries, entries.len(), LEAST)?,
             larger_sessions: larger(alloc, &self.sessions, 1, 1)?,
             larger_due: self.due.larger(more)?,
@@ -204,16 +213,15 @@ impl Account {
         if step.is_new {
             keys_are_apart(&step.act);
             sessions_hold_what_is_reserved();
-            grow(&mut self.acts, step.larger_acts);
+            grow_journal(&mut self.acts, step.larger_acts);
+            grow(&mut self.outcomes, step.larger_outcomes);
             grow(&mut self.entries, step.larger_entries);
             grow(&mut self.sessions, step.larger_sessions);
             self.due.grow(step.larger_due);
             self.indexes.grow(step.larger_indexes);
             self.indexes.add(step.keys, self.acts.len() as u64 + 1);
-            self.acts.push_reserved(Done {
-                act: step.act,
-                outcome: step.outcome,
-            });
+            self.acts.push(step.act);
+            self.outcomes.push_reserved(step.outcome);
             append(&mut self.entries, step.entries);
             let overrun = step
                 .change
@@ -232,7 +240,7 @@ impl Account {
     {
         let (facts, first) = self.known(act);
         judge(
-            *self.acts.allocator(),
+            *self.outcomes.allocator(),
             &self.terms,
             &facts,
             first,
@@ -253,12 +261,12 @@ impl Account {
         let place = self.indexes.place(&act.kind);
         let facts = Facts {
             count: self.acts.len() as u64,
-            has_account: !self.acts.is_empty(),
+            has_account: !self.outcomes.is_empty(),
             was_opened: self.indexes.was_opened(&act.kind),
             place,
             standing: self.standing(),
         };
-        (facts, outcome_at(&self.acts, place))
+        (facts, outcome_at(&self.outcomes, place))
     }
 
     /// The money of the account.

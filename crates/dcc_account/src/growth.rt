@@ -5,6 +5,7 @@ ghost use Rattle.std.specs.Option.{ForSome};
 ghost use Rattle.indexmap.specs.IndexMap as map;
 ghost use Rattle.indexmap.specs.IndexSet as set;
 
+use dcc_act::Journal;
 use indexmap::{IndexMap, IndexSet};
 use std::alloc::{AllocError, Global};
 use std::hash::{Hash, RandomState};
@@ -53,6 +54,39 @@ pub(crate) fn append<T: Drop>(items: &mut Vec<T>, mut more: Vec<T>)
     ensures { items.new.items ≡ items.old.items ++ more.items }
 {
     items.append(&mut more).unwrap();
+}
+
+/// A larger journal, with no acts yet and room for twice these, where this one has no room for so many more.
+pub(crate) fn larger_journal(
+    alloc: Global,
+    acts: &Journal,
+    more: usize,
+) -> Result<Option<Journal>, AllocError>
+    requires { length acts.now.acts + more < 2 ^ 64 }
+    ensures empty { IfOk result (λ larger. ForSome larger (λ larger. larger.acts ≡ [])) }
+    ensures room { IfOk result (λ larger. MatchOption larger (more ≤ acts.now.spare)
+        (λ larger. length acts.now.acts + more ≤ larger.spare)) }
+    ensures doubled { IfOk result (λ larger. ForSome larger (λ larger. 2 * length acts.now.acts < 2 ^ 64 → 2 * length acts.now.acts ≤ larger.spare)) }
+{
+    if more <= acts.spare() {
+        return Ok(None);
+    }
+    let count = acts.len();
+    let doubled = count.saturating_mul(2).max(LEAST);
+    Ok(Some(Journal::with_room(alloc, doubled.max(count + more))?))
+}
+
+/// Moves the acts into the larger journal, where there is one.
+pub(crate) fn grow_journal(acts: &mut Journal, larger: Option<Journal>)
+    requires empty { ForSome larger (λ larger. larger.acts ≡ []) }
+    requires room { MatchOption larger (1 ≤ acts.old.spare) (λ larger. length acts.old.acts + 1 ≤ larger.spare) }
+    ensures acts { acts.new.acts ≡ acts.old.acts }
+    ensures room { 1 ≤ acts.new.spare }
+{
+    if let Some(mut larger) = larger {
+        larger.take_all(acts);
+        *acts = larger;
+    }
 }
 
 /// A larger map, with no entries yet and room for twice these, where this one has no room for so many more, one at most.

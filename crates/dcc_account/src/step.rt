@@ -4,9 +4,8 @@ ghost use Rattle.std.specs.Prelude.{◌≡◌};
 
 use crate::indexes::LargerIndexes;
 use crate::new_keys::NewKeys;
-use dcc_act::{Act, Entry, Outcome};
+use dcc_act::{Act, Entry, Journal, Outcome};
 use dcc_expiry::Due;
-use dcc_model::Done;
 use dcc_state::{Change, OpenSession};
 use std::marker::Model;
 
@@ -22,7 +21,8 @@ pub struct Step {
     pub(crate) change: Change,
     pub(crate) looks: u64,
     pub(crate) keys: NewKeys,
-    pub(crate) larger_acts: Option<Vec<Done>>,
+    pub(crate) larger_acts: Option<Journal>,
+    pub(crate) larger_outcomes: Option<Vec<Outcome>>,
     pub(crate) larger_entries: Option<Vec<Entry>>,
     pub(crate) larger_sessions: Option<Vec<OpenSession>>,
     pub(crate) larger_due: Option<Due>,
@@ -49,7 +49,8 @@ impl Model for Step {
       change = s.change;
       looks = s.looks;
       space = record {
-        acts = option_map (λ v. vec_capacity v) s.larger_acts;
+        acts = option_map (λ journal. journal.spare) s.larger_acts;
+        outcomes = option_map (λ v. vec_capacity v) s.larger_outcomes;
         entries = option_map (λ v. vec_capacity v) s.larger_entries;
         sessions = option_map (λ v. vec_capacity v) s.larger_sessions;
         due = option_map (λ due. due.room) s.larger_due;
@@ -59,7 +60,7 @@ impl Model for Step {
       };
     } };
 
-    ghost invariant = { λ s. ForSome s.larger_acts (λ v. v.items ≡ []) × ForSome s.larger_entries (λ v. v.items ≡ [])
+    ghost invariant = { λ s. ForSome s.larger_acts (λ journal. journal.acts ≡ []) × ForSome s.larger_outcomes (λ v. v.items ≡ []) × ForSome s.larger_entries (λ v. v.items ≡ [])
         × ForSome s.larger_sessions (λ v. v.items ≡ []) × ForSome s.larger_due (λ due. count_of due ≡ 0) × AreEmpty s.larger_indexes × AreKeysOf s.act.kind s.outcome s.keys };
 }
 

@@ -1,6 +1,6 @@
 //! Journals.
 
-ghost use Rattle.std.specs.Prelude.{◌≡◌, ◌≤◌, ◌+◌, ◌<◌, ◌^◌, ◌++◌, ◌∷◌, [], length, IfOk};
+ghost use Rattle.std.specs.Prelude.{◌≡◌, ◌≤◌, ◌+◌, ◌<◌, ◌^◌, ◌++◌, ◌∷◌, [], length, get_or, IfOk};
 ghost use Rattle.std.specs.Option.{option_copied};
 ghost use Rattle.dcc_act.specs.Journals.{act_at};
 
@@ -44,9 +44,10 @@ impl Journal {
         })
     }
 
-    /// How many acts there are.
+    /// How many acts there are: fewer than 2^63.
     pub fn len(&self) -> usize
-        ensures { result ≡ length self.now.acts }
+        ensures value { result ≡ length self.now.acts }
+        ensures few { result < 2 ^ 63 }
     {
         self.acts.len()
     }
@@ -76,6 +77,17 @@ impl Journal {
         looks.add(1);
         let before = place.checked_sub(1)?;
         self.acts.get(before as usize)
+    }
+
+    /// The act behind so many others, which there is: one look.
+    pub fn behind(&self, before: usize, looks: &mut Looks) -> &Act
+        requires there { before < length self.now.acts }
+        requires room { looks.old + 1 < 2 ^ 64 }
+        ensures value { result.now ≡ get_or self.now.acts before result.now }
+        ensures looks { looks.new ≡ looks.old + 1 }
+    {
+        looks.add(1);
+        &self.acts[before]
     }
 
     /// Moves the other's acts to the end of these, for which there is memory. It takes none.

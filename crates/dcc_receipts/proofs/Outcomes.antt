@@ -1,8 +1,8 @@
 -- What acts that were made came to is what is defined at their places.
-use Rattle.std.proofs.Common.{◌≡◌, ℕ, suc, ◌+◌, ◌-◌, ◌<◌, ◌≤◌, ◌==◌, Bool, true, false, cond, List, [], ◌∷◌, ◌++◌, length, map, reverse, take, drop, get_or, slice_get, Option, Some, None, option_map, refl, sym, ap, ◌∙◌, subst, inl, inr, arith, append_assoc, length-append, drop-cons}
+use Rattle.std.proofs.Common.{◌≡◌, ℕ, zero, suc, ◌+◌, ◌-◌, ◌<◌, ◌≤◌, ◌==◌, Bool, true, false, cond, List, [], ◌∷◌, ◌++◌, length, map, reverse, take, drop, get_or, slice_get, Option, Some, None, option_map, refl, sym, ap, ◌∙◌, subst, inl, inr, arith, append_assoc, length-append, drop-cons}
 use Rattle.std.proofs.lemmas.Bool.{cases_Bool}
 use Rattle.std.proofs.lemmas.Grind.{common_steps}
-use Rattle.std.proofs.lemmas.List.{reverse-append, map-append, take-append-drop, get_or-map, length-map, take-map}
+use Rattle.std.proofs.lemmas.List.{reverse-append, reverse-reverse, map-append, take-append-drop, get_or-map, length-map, take-map}
 use Rattle.std.proofs.lemmas.Option.{slice_get_read, slice_get_past}
 use Rattle.dcc_tariff.specs.Terms.{TermsView}
 use Rattle.dcc_act.specs.declared.act.Act.{Act}
@@ -11,7 +11,7 @@ use Rattle.dcc_message.specs.declared.identity.Identity.{Identity}
 use Rattle.dcc_receipts.specs.Audit.{is_answered, tells}
 use Rattle.dcc_receipts.specs.declared.receipt.Receipt.{Receipt}
 use Rattle.dcc_model.specs.declared.done.Done.{Done}
-use Rattle.dcc_model.specs.Outcomes.{act_made, history, with_act, is_made, judged, after, outcome}
+use Rattle.dcc_model.specs.Outcomes.{act_made, outcome_of, history, with_act, is_made, judged, after, outcome, acts}
 
 -- acts, the latest first, each with what it came to after those before
 abbrev IsPast : TermsView → List Done → Type 0
@@ -69,7 +69,7 @@ parts made k d within at =
     ∙ (ap (λ l. l ++ reverse (take k made)) (reverse-append (d ∷ []) (drop (suc k) made)) ∙ append_assoc (reverse (drop (suc k) made)) (d ∷ []) (reverse (take k made))))
 
 -- so at each place stands what its act came to
-pub outcome_at : (terms : TermsView) (made : List Done) (k : ℕ) (d : Done) → reverse made ≡ history terms (reverse (map act_made made))
+outcome_at : (terms : TermsView) (made : List Done) (k : ℕ) (d : Done) → reverse made ≡ history terms (reverse (map act_made made))
     → k < length made → d ≡ get_or made k d → outcome terms (map act_made made) (suc k) ≡ Some d.outcome
 unfolding outcome after
 outcome_at terms made k d is within at =
@@ -83,27 +83,59 @@ outcome_at terms made k d is within at =
     ap (λ (l : List Act). history terms (reverse l)) (take-map act_made k made) ∙ (ap (history terms) (reverse-map (take k made)) ∙ sym s.1) in
     rw there (ap Some (ap (λ (past : List Done). judged terms past d.act) h ∙ sym s.0))
 
+-- acts that are their own, each with what it came to
+abbrev made_of : TermsView → List Act → List Done
+made_of terms all = reverse (history terms (reverse all))
+
+own_made : (terms : TermsView) (all : List Act) → acts terms all ≡ all → map act_made (made_of terms all) ≡ all
+unfolding acts
+own_made terms all own = sym (reverse-map (history terms (reverse all))) ∙ own
+
+own_past : (terms : TermsView) (all : List Act) → acts terms all ≡ all → reverse (made_of terms all) ≡ history terms (reverse (map act_made (made_of terms all)))
+own_past terms all own = reverse-reverse (history terms (reverse all)) ∙ ap (λ (xs : List Act). history terms (reverse xs)) (sym (own_made terms all own))
+
+reverse-came : (xs : List Done) → reverse (map outcome_of xs) ≡ map outcome_of (reverse xs)
+reverse-came [] = refl
+reverse-came (x ∷ xs) =
+    reverse-append (x.outcome ∷ []) (map outcome_of xs) ∙ ap (λ (l : List Outcome). l ++ x.outcome ∷ []) (reverse-came xs)
+    ∙ (sym (map-append outcome_of (reverse xs) (x ∷ [])) ∙ ap (map outcome_of) (sym (reverse-append (x ∷ []) xs)))
+
+stands : (made : List Done) (k : ℕ) → k < length made → (d : Done) × (d ≡ get_or made k d)
+stands [] k within = absurd (omega (arith, within))
+stands (d ∷ made) zero within = (d, refl)
+stands (d ∷ made) (suc k) within = let rest = stands made k (omega (arith, within)) in (rest.0, rest.1)
+
 -- so a receipt is answered where it was told what stands at its place
-pub answered_at : (identity : Identity) (terms : TermsView) (made : List Done) (r : Receipt) (d : Done) → reverse made ≡ history terms (reverse (map act_made made))
-    → 0 < r.place → r.place ≤ length made → d ≡ get_or made (r.place - 1) d
-    → is_answered identity terms (map act_made made) r ≡ tells identity terms r r.answer d.outcome
-answered_at identity terms made r d is some within at =
+pub answered_at : (identity : Identity) (terms : TermsView) (all : List Act) (outcomes : List Outcome) (r : Receipt) (come : Outcome) → acts terms all ≡ all
+    → outcomes ≡ reverse (map outcome_of (history terms (reverse all))) → 0 < r.place → r.place ≤ length outcomes → come ≡ get_or outcomes (r.place - 1) come
+    → is_answered identity terms all r ≡ tells identity terms r r.answer come
+answered_at identity terms all outcomes r come own came some within at =
+    let made = made_of terms all in
+    let same : outcomes ≡ map outcome_of made = came ∙ reverse-came (history terms (reverse all)) in
+    let many : length outcomes ≡ length made = ap (λ (xs : List Outcome). length xs) same ∙ length-map made outcome_of in
+    let there = stands made (r.place - 1) (omega (arith, many)) in
+    let d = there.0 in
+    let is : d.outcome ≡ come =
+    ap outcome_of there.1 ∙ sym (get_or-map outcome_of made (r.place - 1) d come (omega (arith, many))) ∙ ap (λ (xs : List Outcome). get_or xs (r.place - 1) come) (sym same) ∙ sym at in
     let place : suc (r.place - 1) ≡ r.place = omega arith in
-    let come : outcome terms (map act_made made) r.place ≡ Some d.outcome =
-    ap (outcome terms (map act_made made)) (sym place) ∙ outcome_at terms made (r.place - 1) d is (omega arith) at in
+    let found : outcome terms all r.place ≡ Some come =
+    ap (outcome terms all) (sym place) ∙ ap (λ (xs : List Act). outcome terms xs (suc (r.place - 1))) (sym (own_made terms all own))
+    ∙ outcome_at terms made (r.place - 1) d (own_past terms all own) (omega (arith, many)) there.1 ∙ ap Some is in
     let no : (r.place == 0) ≡ false = grind (arith, common_steps) in
-    rw (no, come) refl
+    rw (no, found) refl
 
 nothing_past : (terms : TermsView) (all : List Act) (k : ℕ) → length all ≤ k → outcome terms all (suc k) ≡ None
 unfolding outcome
 nothing_past terms all k past = rw (slice_get_past all k past) refl
 
-pub answered_past : (identity : Identity) (terms : TermsView) (made : List Done) (r : Receipt) → 0 < r.place → length made < r.place
-    → is_answered identity terms (map act_made made) r ≡ false
-answered_past identity terms made r some past =
+pub answered_past : (identity : Identity) (terms : TermsView) (all : List Act) (outcomes : List Outcome) (r : Receipt) → acts terms all ≡ all
+    → outcomes ≡ reverse (map outcome_of (history terms (reverse all))) → 0 < r.place → length outcomes < r.place → is_answered identity terms all r ≡ false
+answered_past identity terms all outcomes r own came some past =
+    let made = made_of terms all in
+    let came_many : length outcomes ≡ length made = ap (λ (xs : List Outcome). length xs) (came ∙ reverse-came (history terms (reverse all))) ∙ length-map made outcome_of in
+    let made_many : length all ≡ length made = sym (ap (λ (xs : List Act). length xs) (own_made terms all own)) ∙ length-map made act_made in
     let place : suc (r.place - 1) ≡ r.place = omega arith in
-    let n = length-map made act_made in
-    let come : outcome terms (map act_made made) r.place ≡ None =
-    ap (outcome terms (map act_made made)) (sym place) ∙ nothing_past terms (map act_made made) (r.place - 1) (omega (arith, n)) in
+    let come : outcome terms all r.place ≡ None =
+    ap (outcome terms all) (sym place) ∙ nothing_past terms all (r.place - 1) (omega (arith, came_many, made_many)) in
     let no : (r.place == 0) ≡ false = grind (arith, common_steps) in
     rw (no, come) refl

@@ -1,14 +1,13 @@
 //! Whether a receipt agrees with its subscriber's acts.
 
-ghost use Rattle.std.specs.Prelude.{◌≡◌, ◌&&◌, ◌||◌, not, nat_lt, map, Some};
+ghost use Rattle.std.specs.Prelude.{◌≡◌, ◌&&◌, ◌||◌, not, nat_lt, Some};
 ghost use Rattle.dcc_model.specs.Keys.{same_key};
 ghost use Rattle.dcc_receipts.specs.Audit.{agrees, all_agree, begins, is_there};
-ghost use Rattle.dcc_model.specs.Outcomes.{act_made};
 
 use crate::receipt::Receipt;
 use crate::same::same_act;
-use dcc_act::{Act, Kind};
-use dcc_model::{Done, request_key};
+use dcc_act::{Act, Journal, Kind, Looks};
+use dcc_model::request_key;
 
 /// Whether each receipt agrees with the acts, of which so many were there at opening.
 pub(crate) fn all_agree(opened: usize, acts: &[Act], receipts: &[Receipt]) -> bool
@@ -31,18 +30,18 @@ fn agrees(opened: usize, acts: &[Act], receipt: &Receipt) -> bool
     is_at(opened, &acts[(receipt.place - 1) as usize], receipt)
 }
 
-/// Whether a receipt agrees with the acts that were made, of which so many were there at opening.
-#[tactic(auto, using(crate::proofs::Places::agrees_at_made, crate::proofs::Places::agrees_past))]
-pub fn agrees_with(opened: usize, made: &[Done], receipt: &Receipt) -> bool
-    ensures { result ≡ agrees opened (map act_made made.now) receipt.now }
+/// Whether a receipt agrees with the acts of a journal, of which so many were there at opening.
+#[tactic(auto, using(crate::proofs::Places::agrees_where))]
+pub fn agrees_with(opened: usize, journal: &Journal, receipt: &Receipt) -> bool
+    ensures { result ≡ agrees opened journal.now.acts receipt.now }
 {
     if receipt.place == 0 {
         return !receipt.fresh && opened == 0;
     }
-    if (made.len() as u64) < receipt.place {
-        return false;
+    match journal.get(receipt.place, &mut Looks::new()) {
+        Some(there) => is_at(opened, there, receipt),
+        None => false,
     }
-    is_at(opened, &made[(receipt.place - 1) as usize].act, receipt)
 }
 
 /// Whether what stands at a receipt's place is its act, made since opening, or an act of its key.
@@ -69,15 +68,15 @@ fn is_same_key(a: &Kind, b: &Kind) -> bool
     }
 }
 
-/// Whether the acts that were made begin with those at opening.
-pub fn begins(opening: &[Act], made: &[Done]) -> bool
-    ensures { result ≡ begins opening.now (map act_made made.now) }
+/// Whether the acts of a journal begin with those at opening.
+pub fn begins(opening: &[Act], journal: &Journal) -> bool
+    ensures { result ≡ begins opening.now journal.now.acts }
 {
-    if made.len() < opening.len() {
+    if journal.len() < opening.len() {
         return false;
     }
     for i in 0..opening.len() {
-        if !same_act(&opening[i], &made[i].act) {
+        if !same_act(&opening[i], journal.behind(i, &mut Looks::new())) {
             return false;
         }
     }

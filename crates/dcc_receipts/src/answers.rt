@@ -1,40 +1,43 @@
 //! Whether what was told is what the act came to.
 
-ghost use Rattle.std.specs.Prelude.{◌≡◌, ◌≤◌, ◌<◌, map, reverse, length, IfOk};
-ghost use Rattle.dcc_model.specs.Outcomes.{act_made, history};
+ghost use Rattle.std.specs.Prelude.{◌≡◌, ◌≤◌, ◌<◌, map, reverse, IfOk};
+ghost use Rattle.dcc_model.specs.Outcomes.{acts, outcome_of, history};
 ghost use Rattle.dcc_receipts.specs.Audit.{is_answer, tells, is_answered};
 
 use crate::receipt::{Receipt, Told};
-use dcc_act::Outcome;
+use dcc_act::{Journal, Outcome};
 use dcc_credit::write_cca;
 use dcc_message::Identity;
-use dcc_model::{Done, unknown};
+use dcc_model::unknown;
 use dcc_tariff::Terms;
 use std::alloc::{AllocError, Global};
 
-/// Whether a receipt was told what its act came to, by the acts that were made: a request's answer is written anew and compared octet
-/// for octet. The only error is want of memory.
+/// Whether a receipt was told what its act came to, by the acts of a journal and what they came to: a request's answer is written anew
+/// and compared octet for octet. The only error is want of memory.
 pub fn is_answered(
     alloc: Global,
     identity: &Identity,
     terms: &Terms,
-    made: &[Done],
+    journal: &Journal,
+    outcomes: &[Outcome],
     receipt: &Receipt,
 ) -> Result<bool, AllocError>
-    requires { reverse made.now ≡ history terms.now (reverse (map act_made made.now)) }
-    ensures { IfOk result (λ answered. answered ≡ is_answered identity.now terms.now (map act_made made.now) receipt.now) }
+    requires own { acts terms.now journal.now.acts ≡ journal.now.acts }
+    requires came { outcomes.now ≡ reverse (map outcome_of (history terms.now (reverse journal.now.acts))) }
+    ensures { IfOk result (λ answered. answered ≡ is_answered identity.now terms.now journal.now.acts receipt.now) }
 {
+    let _journal = journal;
     if receipt.place == 0 {
         return match unknown(&receipt.act.kind)? {
             Some(come) => tells(alloc, identity, terms, receipt, &come),
             None => Ok(false),
         };
     }
-    if (made.len() as u64) < receipt.place {
+    if (outcomes.len() as u64) < receipt.place {
         return Ok(false);
     }
-    let done = &made[(receipt.place - 1) as usize];
-    tells(alloc, identity, terms, receipt, &done.outcome)
+    let come = &outcomes[(receipt.place - 1) as usize];
+    tells(alloc, identity, terms, receipt, come)
 }
 
 /// Whether what was told is this outcome.

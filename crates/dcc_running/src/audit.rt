@@ -7,16 +7,20 @@ ghost use Rattle.dcc_receipts.specs.declared.fault.CloseFault.TheVariants.{Memor
 ghost use Rattle.dcc_running.specs.Audited.{is_true, are_true, times_in, AreTrue, AreCovered, AreOrdered, AreOwn};
 ghost use Rattle.dcc_running.specs.Books.{AreShards, at_opening, book};
 ghost use Rattle.dcc_running.specs.inner.Marked.{AreMarked};
-ghost use Rattle.dcc_receipts.specs.Audit.{begins};
+ghost use Rattle.dcc_account.specs.Accounts.{outcomes};
+ghost use Rattle.dcc_model.specs.Outcomes.{acts};
+ghost use Rattle.dcc_receipts.specs.Audit.{agrees, begins, is_answered};
 ghost use Rattle.dcc_receipts.specs.Marks.{is_marked};
 ghost use Rattle.dcc_shard.specs.Shards.{is_among};
 
 use crate::books::Books;
 use crate::placed::are_shards;
 use crate::seat::Seat;
-use dcc_act::{Sub, same_subscribers_are_equal};
+use dcc_act::{Journal, Outcome, Sub, same_subscribers_are_equal};
+use dcc_message::Identity;
 use dcc_receipts::{CloseFault, Marks, Receipt, agrees_with, begins, each_in_order, is_answered};
 use dcc_records::Records;
+use dcc_tariff::Terms;
 use std::alloc::{AllocError, Global};
 use std::hash::RandomState;
 
@@ -70,11 +74,22 @@ fn are_begun<R: Records>(books: &Books<R>) -> bool
 {
     same_subscribers_are_equal();
     for (sub, _) in &books.opening {
-        if !begins(books.at_opening(sub), books.made(*sub)) {
+        if !is_begun(books, sub) {
             return false;
         }
     }
     true
+}
+
+/// Whether a subscriber's acts begin with those at opening.
+fn is_begun<R: Records>(books: &Books<R>, sub: &Sub) -> bool
+    ensures { result ≡ begins (at_opening books.now.opening sub.now) (book books.now.parts sub.now) }
+{
+    let opening = books.at_opening(sub);
+    match books.account(*sub) {
+        Some(account) => begins(opening, account.acts()),
+        None => opening.is_empty(),
+    }
 }
 
 /// Whether each receipt is true.
@@ -119,12 +134,38 @@ fn is_true<R: Records>(
     ensures { IfOk result (λ told. told
         ≡ is_true books.now.identity books.now.terms (at_opening books.now.opening) (book books.now.parts) receipt.now) }
 {
-    let made = books.made(receipt.sub);
     let opened = books.at_opening(&receipt.sub).len();
-    if !agrees_with(opened, made, receipt) {
+    let (identity, terms) = (&books.identity, &books.terms);
+    match books.account(receipt.sub) {
+        Some(account) => {
+            let (acts, came) = (account.acts(), account.outcomes());
+            is_true_of(alloc, identity, terms, opened, acts, came, receipt)
+        }
+        None => {
+            let acts = Journal::new(alloc);
+            is_true_of(alloc, identity, terms, opened, &acts, &[], receipt)
+        }
+    }
+}
+
+/// Whether a receipt agrees with these acts, of which so many were there at opening, and tells what its act came to.
+fn is_true_of(
+    alloc: Global,
+    identity: &Identity,
+    terms: &Terms,
+    opened: usize,
+    journal: &Journal,
+    came: &[Outcome],
+    receipt: &Receipt,
+) -> Result<bool, AllocError>
+    requires own { acts terms.now journal.now.acts ≡ journal.now.acts }
+    requires came { came.now ≡ outcomes terms.now journal.now.acts }
+    ensures { IfOk result (λ told. told ≡ (agrees opened journal.now.acts receipt.now && is_answered identity.now terms.now journal.now.acts receipt.now)) }
+{
+    if !agrees_with(opened, journal, receipt) {
         return Ok(false);
     }
-    is_answered(alloc, &books.identity, &books.terms, made, receipt)
+    is_answered(alloc, identity, terms, journal, came, receipt)
 }
 
 /// The places that have a fresh receipt, or none where one has two.
@@ -189,7 +230,7 @@ fn is_covered<R: Records>(books: &Books<R>, marks: &Marks, sub: Sub) -> bool
         × (is_marked marks.now sub place ≡ false) }
 {
     let opened = books.at_opening(&sub).len();
-    let count = books.made(sub).len();
+    let count = books.count(sub);
     for before in opened..count {
         if !marks.has(sub, before as u64 + 1) {
             return false;

@@ -1,8 +1,7 @@
 //! Shards out of their locks.
 
-ghost use Rattle.std.specs.Prelude.{◌≡◌, ◌≢◌, ◌<◌, ◌≤◌, ℕ, [], map, reverse, length, slice_index_or, IfSome, IfNone};
+ghost use Rattle.std.specs.Prelude.{◌≡◌, ◌≢◌, ◌<◌, ◌≤◌, ℕ, [], length, slice_index_or, IfSome, IfNone};
 ghost use Rattle.dcc_act.specs.declared.sub.Sub.{Sub};
-ghost use Rattle.dcc_model.specs.Outcomes.{act_made, history};
 ghost use Rattle.dcc_running.specs.Audited.{AreOwn};
 ghost use Rattle.dcc_running.specs.Books.{AreShards, AreKept, AreLeft, at_opening, book};
 ghost use Rattle.dcc_shard.specs.Routes.{shard_of};
@@ -14,7 +13,7 @@ use crate::shards::{Shards, locked, unlocked};
 use dcc_account::Account;
 use dcc_act::{Act, Sub};
 use dcc_message::Identity;
-use dcc_model::{Done, leaving_out_changes_nothing};
+use dcc_model::leaving_out_changes_nothing;
 use dcc_records::Records;
 use dcc_shard::{Shard, shard_of};
 use dcc_tariff::Terms;
@@ -86,15 +85,13 @@ impl<R: Records> Books<R> {
         shard.account(sub)
     }
 
-    /// The acts of a subscriber, each with what it came to.
-    pub(crate) fn made(&self, sub: Sub) -> &[Done]
-        requires { AreShards self.now.terms self.now.identity self.now.parts }
-        ensures acts { map act_made result.now ≡ book self.now.parts sub }
-        ensures outcomes { reverse result.now ≡ history self.now.terms (reverse (map act_made result.now)) }
+    /// How many acts of a subscriber there are.
+    pub(crate) fn count(&self, sub: Sub) -> usize
+        ensures { result ≡ length (book self.now.parts sub) }
     {
         match self.account(sub) {
-            Some(account) => account.acts(),
-            None => &[],
+            Some(account) => account.acts().len(),
+            None => 0,
         }
     }
 

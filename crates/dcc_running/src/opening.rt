@@ -1,16 +1,14 @@
 //! The acts that were held at opening.
 
-ghost use Rattle.std.specs.Prelude.{◌≡◌, ◌≢◌, ℕ, ◌<◌, ◌≤◌, [], length, map, slice_index_or, IfOk, OnOk};
+ghost use Rattle.std.specs.Prelude.{◌≡◌, ◌≢◌, ℕ, ◌<◌, ◌≤◌, [], length, slice_index_or, IfOk, OnOk};
 ghost use Rattle.dcc_act.specs.declared.sub.Sub.{Sub};
-ghost use Rattle.dcc_model.specs.Outcomes.{act_made};
 ghost use Rattle.dcc_running.specs.Books.{at_opening, book};
 ghost use Rattle.dcc_running.specs.inner.Copies.{over};
 ghost use Rattle.dcc_shard.specs.Routes.{shard_of};
 ghost use Rattle.dcc_shard.specs.Shards.{held};
 ghost use Rattle.dcc_shard.specs.Stored.{StoredView};
 
-use dcc_act::{Act, Sub, same_subscribers_are_equal};
-use dcc_model::Done;
+use dcc_act::{Act, Journal, Looks, Sub, same_subscribers_are_equal};
 use dcc_records::Records;
 use dcc_shard::Shard;
 use std::alloc::{AllocError, Global};
@@ -66,12 +64,13 @@ fn acts_of<R: Records>(alloc: Global, shard: &Shard<R>, sub: Sub) -> Result<Vec<
 }
 
 /// A copy of each act.
-fn copied_acts(alloc: Global, made: &[Done]) -> Result<Vec<Act>, AllocError>
-    ensures { IfOk result (λ acts. acts.items ≡ map act_made made.now) }
+fn copied_acts(alloc: Global, journal: &Journal) -> Result<Vec<Act>, AllocError>
+    ensures { IfOk result (λ acts. acts.items ≡ journal.now.acts) }
 {
-    let mut acts = Vec::with_capacity(alloc, made.len())?;
-    for done in made {
-        let act = done.act.copy()?;
+    let count = journal.len();
+    let mut acts = Vec::with_capacity(alloc, count)?;
+    for before in 0..count {
+        let act = journal.behind(before, &mut Looks::new()).copy()?;
         acts.push_reserved(act);
     }
     Ok(acts)

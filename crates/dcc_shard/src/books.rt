@@ -193,7 +193,7 @@ fn has_acts(account: &Account) -> bool
     ensures some { result ≡ true → account.now.acts ≢ [] }
     ensures none { result ≡ false → account.now.acts ≡ [] }
 {
-    !account.acts().is_empty()
+    account.acts().len() > 0
 }
 
 /// The account of these acts, each its own, made anew.

@@ -36,10 +36,10 @@ pub record IsIndexed (past : List Done) (indexes : Indexes) : Type 0 where
   pub tickets_are : (number : ℕ) → map.get nat_eq indexes.tickets number ≡ place_by (is_top_up_of number) past
   pub opened_are : (sid : Sid) → set.contains bytes_eq indexes.opened sid ≡ was_opened past sid
 
--- the act at a place, counted from 1
-abbrev pub done_at : List Done → ℕ → Option Done
-done_at made zero = None
-done_at made (suc before) = slice_get made before
+-- what the act at a place, counted from 1, came to
+abbrev pub outcome_in : List Outcome → ℕ → Option Outcome
+outcome_in outcomes zero = None
+outcome_in outcomes (suc before) = slice_get outcomes before
 
 -- the keys are those that an act of this kind has and this outcome opens
 pub record AreKeysOf (kind : Kind) (outcome : Outcome) (keys : NewKeys) : Type 0 where

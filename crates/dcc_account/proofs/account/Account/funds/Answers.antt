@@ -1,6 +1,5 @@
-use Rattle.std.proofs.Common.{map, arith}
+use Rattle.std.proofs.Common.{arith}
 use Rattle.std.proofs.lemmas.Int.{ints}
-use Rattle.dcc_model.specs.Outcomes.{act_made}
 use Rattle.dcc_account.proofs.account.Account.funds.Goals as goal
 
 pub returns-clause-value : goal.returns-clause-value
@@ -14,12 +13,12 @@ pub returns-clause-low : goal.returns-clause-low
 returns-clause-low c =
     let found = c.committed.ensures.value in
     let kept = c.self.invariant.funds_are in
-    let law = (c.funds_are_accounted_for.ensures.limited c.self.inside.terms (map act_made c.self.inside.acts.items)).0 in
+    let law = (c.funds_are_accounted_for.ensures.limited c.self.inside.terms c.self.inside.acts.acts).0 in
     omega (arith, ints)
 
 pub returns-clause-high : goal.returns-clause-high
 returns-clause-high c =
     let found = c.committed.ensures.value in
     let kept = c.self.invariant.funds_are in
-    let law = (c.funds_are_accounted_for.ensures.limited c.self.inside.terms (map act_made c.self.inside.acts.items)).1 in
+    let law = (c.funds_are_accounted_for.ensures.limited c.self.inside.terms c.self.inside.acts.acts).1 in
     omega (arith, ints)

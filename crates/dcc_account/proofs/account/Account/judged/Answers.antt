@@ -1,10 +1,10 @@
-use Rattle.std.proofs.Common.{◌≡◌, ◌+◌, ℤ, List, map, reverse, Option, refl, sym, ap, subst, ◌∙◌}
+use Rattle.std.proofs.Common.{◌≡◌, ◌+◌, ℤ, List, reverse, Option, refl, sym, ap, subst, ◌∙◌}
 use Rattle.std.specs.Prelude.{Result, Ok, Err, IfOk}
 use Rattle.std.proofs.lemmas.Result.{IfOk-at_ok}
 use Rattle.dcc_act.specs.declared.act.Act.{Act}
 use Rattle.dcc_act.specs.declared.outcome.Outcome.{Outcome}
 use Rattle.dcc_model.specs.declared.judgement.Standing.{Standing}
-use Rattle.dcc_model.specs.Outcomes.{act_made, after, is_new, place, standing, funds, overrun, history, with_act}
+use Rattle.dcc_model.specs.Outcomes.{after, is_new, place, standing, funds, overrun, history, with_act}
 use Rattle.dcc_state.specs.declared.facts.Facts.{Facts}
 use Rattle.dcc_state.specs.Known.{IsKnown, IsWithin, changed, funds_after, overrun_with}
 use Rattle.dcc_state.specs.OpenSessions.{SessionView, AreApart, AreOpen, KeepsDeadlines}
@@ -33,7 +33,7 @@ unfolding after is_new place standing
 returns-clause-judged c =
     let own = c.self.inside in
     let terms = own.terms in
-    let xs = map act_made own.acts.items in
+    let xs = own.acts.acts in
     let act = c.args.act.now in
     let given = c.deref.result.now in
     let same = c.deref.ensures.value in

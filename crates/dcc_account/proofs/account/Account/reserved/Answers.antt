@@ -8,6 +8,6 @@ returns c =
     rw (← c.self.view_is)
     (let found = c.reserved.ensures in
     let own = c.self.inside in
-    let kept = free_is c.sessions_hold_what_is_reserved.ensures own.terms own.acts.items own.entries.items own.pool own.overrun own.sessions.items own.due own.indexes c.self.invariant in
+    let kept = free_is c.sessions_hold_what_is_reserved.ensures own.terms own.acts.acts own.outcomes.items own.entries.items own.pool own.overrun own.sessions.items own.due own.indexes c.self.invariant in
     let funds_are = c.self.invariant.funds_are in
     omega (arith, ints))
