@@ -1,0 +1,7 @@
+use Rattle.std.proofs.Common.{refl}
+use Rattle.dcc_model.specs.Outcomes.{acts}
+use Rattle.dcc_running.proofs.audit.is_true.Goals as goal
+
+pub is_true_of-requires-in-None-clause-own : goal.is_true_of-requires-in-None-clause-own
+unfolding acts
+is_true_of-requires-in-None-clause-own g c = rw c.new-acts.ensures refl
