@@ -1,11 +1,11 @@
 //! The program `dcc`: its command line, its plan file, how it ends, and its work over any files, reader and writers.
 //!
-//! Stands on `dcc_replay` for scripts, on `dcc_operator` for an operator's commands over stores, on `dcc_decode` for messages as a
-//! person reads them, and on `dcc_tariff` for plans. The contract that it gives: [`replay`] is `dcc replay PLAN` over the plan's
-//! reader, the script's reader and a writer, [`top_up`] and [`ledger`] are `dcc topup` and `dcc ledger` over the plan's reader, the
-//! stores of a folder and a writer, and [`decode`] is `dcc decode`; [`task_of`] is what the words of a command line ask for; [`run`]
-//! judges the words, opens the plan's file and does one of these, or prints a text; [`end`] is the line on standard error and the
-//! status. [`execute`] is all of it, for a `main` of one line.
+//! Stands on `dcc_replay` for scripts, `dcc_operator` for an operator's commands over stores, `dcc_serve` and `dcc_sockets` for a server,
+//! `dcc_decode` for messages as a person reads them, and `dcc_tariff` for plans. The contract that it gives: [`replay`] is `dcc replay`
+//! over readers of plan and script and a writer, [`top_up`] and [`ledger`] are `dcc topup` and `dcc ledger` over the plan's reader, a
+//! folder's stores and a writer, [`decode`] is `dcc decode`; [`task_of`] is what words ask for, [`run`] judges them and does that, or
+//! prints a text; [`end`] is the line on standard error and the status. [`serve`] is `dcc serve`: clauses say what it writes, none which
+//! words ask for it ([`serve_of`]). [`execute`] is all of it, for a `main` of one line.
 #![tactic(auto)]
 
 mod command_line;

@@ -1,6 +1,6 @@
-//! The program `dcc`: `dcc replay PLAN` replays the script of its input under the plan of a file, and `dcc decode` shows messages.
+//! The program `dcc`: a server of gateways over TCP, an operator's top-ups and ledgers, scripts that are replayed, and messages as trees.
 //!
-//! What it does stands in `dcc_program`, with its contracts; here it is given the process.
+//! What it does stands in `dcc_program`, with its contracts; here it is given the process, and the stores of `dcc_files`.
 #![tactic(auto)]
 
 use dcc_files::FileStores;
