@@ -162,8 +162,8 @@ impl Account {
     }
 
     /// The step of the act: what it comes to after those that were made, whether it is made, its place and its entries,
-    /// with all the memory that it takes to install it. It looks at the grants of the act's own session alone, whatever else the
-    /// account holds. The only error is want of memory.
+    /// with all the memory that it takes to install it. It looks at the grants of the act's own session alone, an expiry at those of the
+    /// sessions that it ends, and at no act that was made, whatever else the account holds. The only error is want of memory.
     pub fn prepare(&self, act: Act) -> Result<Step, AllocError>
         ensures act { IfOk result (λ step. step.act ≡ act) }
         ensures prepared { IfOk result (λ step. IsPrepared self.now step) }
