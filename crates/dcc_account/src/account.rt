@@ -11,6 +11,7 @@ ghost use Rattle.dcc_model.specs.declared.decide.TheConstants.{CEILING};
 use crate::growth::{LEAST, append, grow, grow_journal, larger, larger_journal};
 use crate::indexes::Indexes;
 use crate::kept::outcome_at;
+use crate::larger::Larger;
 use crate::new_keys::NewKeys;
 use crate::step::Step;
 use dcc_act::{Act, Entry, Journal, Looks, Outcome, RequestKey};
@@ -69,7 +70,9 @@ impl Model for Account {
 }
 
 impl Account {
+    ghost use Rattle.dcc_account.specs.Fits.{Fits};
     ghost use Rattle.dcc_account.specs.Prepared.{IsPrepared, IsJudged, in_view};
+    ghost use Rattle.dcc_account.specs.inner.Brought.{IsEmpty, space_of};
     ghost use Rattle.dcc_state.specs.Known.{IsKnown, IsWithin};
 
     /// An account without acts, whose indexes hash by `hasher`. It takes no memory.
@@ -175,6 +178,7 @@ impl Account {
             ≤ step.looks) }
     {
         one_more_act();
+        self.acts();
         let mut looks = Looks::new();
         let Judgement {
             outcome,
@@ -183,16 +187,11 @@ impl Account {
             entries,
             change,
         } = self.judged(&act, &mut looks)?;
-        let alloc = *self.outcomes.allocator();
-        let more = usize::from(is_new);
+        let larger = self.larger(usize::from(is_new), entries.len())?;
+        let keys = NewKeys::of(&act.kind, &outcome)?;
         Ok(Step {
-            larger_acts: larger_journal(alloc, &self.acts, more)?,
-            larger_outcomes: larger(alloc, &self.outcomes, more, LEAST)?,
-            larger_entries: larger(alloc, &self.entries, entries.len(), LEAST)?,
-            larger_sessions: larger(alloc, &self.sessions, 1, 1)?,
-            larger_due: self.due.larger(more)?,
-            larger_indexes: self.indexes.larger(alloc, more)?,
-            keys: NewKeys::of(&act.kind, &outcome)?,
+            larger,
+            keys,
             act,
             outcome,
             is_new,
@@ -200,6 +199,25 @@ impl Account {
             entries,
             change,
             looks: looks.count(),
+        })
+    }
+
+    /// Memory for so many more acts, one at most, so many entries and a session, where the account has no room for them. The only error
+    /// is want of memory.
+    fn larger(&self, more: usize, entries: usize) -> Result<Larger, AllocError>
+        requires one { more ≤ 1 }
+        requires few { entries < 2 ^ 63 }
+        ensures empty { IfOk result IsEmpty }
+        ensures fits { IfOk result (λ larger. more ≡ 1 → Fits self.now (space_of larger) entries) }
+    {
+        let alloc = *self.outcomes.allocator();
+        Ok(Larger {
+            acts: larger_journal(alloc, &self.acts, more)?,
+            outcomes: larger(alloc, &self.outcomes, more, LEAST)?,
+            entries: larger(alloc, &self.entries, entries, LEAST)?,
+            sessions: larger(alloc, &self.sessions, 1, 1)?,
+            due: self.due.larger(more)?,
+            indexes: self.indexes.larger(alloc, more)?,
         })
     }
 
@@ -213,12 +231,12 @@ impl Account {
         if step.is_new {
             keys_are_apart(&step.act);
             sessions_hold_what_is_reserved();
-            grow_journal(&mut self.acts, step.larger_acts);
-            grow(&mut self.outcomes, step.larger_outcomes);
-            grow(&mut self.entries, step.larger_entries);
-            grow(&mut self.sessions, step.larger_sessions);
-            self.due.grow(step.larger_due);
-            self.indexes.grow(step.larger_indexes);
+            grow_journal(&mut self.acts, step.larger.acts);
+            grow(&mut self.outcomes, step.larger.outcomes);
+            grow(&mut self.entries, step.larger.entries);
+            grow(&mut self.sessions, step.larger.sessions);
+            self.due.grow(step.larger.due);
+            self.indexes.grow(step.larger.indexes);
             self.indexes.add(step.keys, self.acts.len() as u64 + 1);
             self.acts.push(step.act);
             self.outcomes.push_reserved(step.outcome);

@@ -11,6 +11,7 @@ mod account;
 mod growth;
 mod indexes;
 mod kept;
+mod larger;
 mod new_keys;
 mod step;
 

@@ -2,11 +2,10 @@
 
 ghost use Rattle.std.specs.Prelude.{◌≡◌};
 
-use crate::indexes::LargerIndexes;
+use crate::larger::Larger;
 use crate::new_keys::NewKeys;
-use dcc_act::{Act, Entry, Journal, Outcome};
-use dcc_expiry::Due;
-use dcc_state::{Change, OpenSession};
+use dcc_act::{Act, Entry, Outcome};
+use dcc_state::Change;
 use std::marker::Model;
 
 /// A step of an account that is prepared and not yet installed: an act, what it comes to, the entries that it adds, what it
@@ -21,22 +20,13 @@ pub struct Step {
     pub(crate) change: Change,
     pub(crate) looks: u64,
     pub(crate) keys: NewKeys,
-    pub(crate) larger_acts: Option<Journal>,
-    pub(crate) larger_outcomes: Option<Vec<Outcome>>,
-    pub(crate) larger_entries: Option<Vec<Entry>>,
-    pub(crate) larger_sessions: Option<Vec<OpenSession>>,
-    pub(crate) larger_due: Option<Due>,
-    pub(crate) larger_indexes: LargerIndexes,
+    pub(crate) larger: Larger,
 }
 
 impl Model for Step {
-    ghost use Rattle.std.specs.Prelude.{◌≡◌, [], option_map, vec_capacity};
-    ghost use Rattle.std.specs.Option.{ForSome};
-    ghost use Rattle.indexmap.specs.IndexMap as map;
-    ghost use Rattle.indexmap.specs.IndexSet as set;
-    ghost use Rattle.dcc_expiry.specs.Deadlines.{count_of};
     ghost use Rattle.dcc_account.specs.Prepared.{StepView};
-    ghost use Rattle.dcc_account.specs.inner.Indexed.{AreKeysOf, AreEmpty};
+    ghost use Rattle.dcc_account.specs.inner.Indexed.{AreKeysOf};
+    ghost use Rattle.dcc_account.specs.inner.Brought.{IsEmpty, space_of};
 
     ghost Value = { StepView };
 
@@ -48,20 +38,10 @@ impl Model for Step {
       entries = s.entries.items;
       change = s.change;
       looks = s.looks;
-      space = record {
-        acts = option_map (λ journal. journal.spare) s.larger_acts;
-        outcomes = option_map (λ v. vec_capacity v) s.larger_outcomes;
-        entries = option_map (λ v. vec_capacity v) s.larger_entries;
-        sessions = option_map (λ v. vec_capacity v) s.larger_sessions;
-        due = option_map (λ due. due.room) s.larger_due;
-        requests = option_map (λ m. map.spare m) s.larger_indexes.requests;
-        tickets = option_map (λ m. map.spare m) s.larger_indexes.tickets;
-        opened = option_map (λ m. set.spare m) s.larger_indexes.opened;
-      };
+      space = space_of s.larger;
     } };
 
-    ghost invariant = { λ s. ForSome s.larger_acts (λ journal. journal.acts ≡ []) × ForSome s.larger_outcomes (λ v. v.items ≡ []) × ForSome s.larger_entries (λ v. v.items ≡ [])
-        × ForSome s.larger_sessions (λ v. v.items ≡ []) × ForSome s.larger_due (λ due. count_of due ≡ 0) × AreEmpty s.larger_indexes × AreKeysOf s.act.kind s.outcome s.keys };
+    ghost invariant = { λ s. IsEmpty s.larger × AreKeysOf s.act.kind s.outcome s.keys };
 }
 
 impl Step {

@@ -37,7 +37,7 @@ invariant_of-self c =
     let grown = c.grow-then-step-4.ensures.indexed past c.self.invariant.indexed in
     let held = many_made own.terms all own.outcomes.items own.entries.items c.self.invariant.kept in
     let stay = ap (λ (xs : List Act). length xs) c.grow_journal.ensures.acts in
-    let indexed = c.add.ensures past done grown c.step.invariant.6 (omega (arith, held, stay)) in
+    let indexed = c.add.ensures past done grown c.step.invariant.1 (omega (arith, held, stay)) in
     let sessions = c.grow-then-step-2.ensures.items in
     let applied = c.apply-overrun.ensures in
     let are = subst (λ (now : List SessionView). AreOpen own.terms (with_act own.terms (history own.terms (reverse all)) step.act) now) (sym (applied.sessions ∙ ap (changed step.change) sessions)) is.judged.sessions_are in
@@ -86,7 +86,7 @@ grow-requires-clause-fits c =
     let is = prepared_at _ _ _ _ c.requires c.self.view_is c.step.view_is in
     let many = as_many own.terms own.acts.acts own.outcomes.items own.entries.items c.self.invariant.kept in
     let held : vec_len own.outcomes ≡ length own.acts.acts = omega (arith, many) in
-    grows_for (λ v. vec_capacity v) c.step.inside.larger_outcomes _ _ _ held (is.fits c.if-step.true).outcomes
+    grows_for (λ v. vec_capacity v) c.step.inside.larger.outcomes _ _ _ held (is.fits c.if-step.true).outcomes
 
 pub push_reserved-requires : goal.push_reserved-requires
 push_reserved-requires c =
@@ -96,5 +96,5 @@ push_reserved-requires c =
     let held : vec_len own.outcomes ≡ length own.acts.acts = omega (arith, many) in
     let stay = ap (λ (xs : List Outcome). length xs) c.grow.ensures.items in
     let more =
-    room_for (λ v. vec_capacity v) c.step.inside.larger_outcomes _ _ (vec_capacity own.outcomes) (vec_capacity c.grow.new.items) held (is.fits c.if-step.true).outcomes c.grow.ensures.capacity in
+    room_for (λ v. vec_capacity v) c.step.inside.larger.outcomes _ _ (vec_capacity own.outcomes) (vec_capacity c.grow.new.items) held (is.fits c.if-step.true).outcomes c.grow.ensures.capacity in
     omega (arith, stay, more)
