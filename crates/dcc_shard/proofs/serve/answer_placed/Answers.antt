@@ -1,4 +1,3 @@
-use Rattle.std.proofs.Common.{refl, ap, sym}
 use Rattle.dcc_shard.proofs.serve.answer_placed.Goals as goal
 
 pub returns-in-Some-clause-apart : goal.returns-in-Some-clause-apart

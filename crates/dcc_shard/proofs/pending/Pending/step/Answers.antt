@@ -1,4 +1,4 @@
-use Rattle.std.proofs.Common.{refl, ap, sym}
+use Rattle.std.proofs.Common.{ap, sym}
 use Rattle.dcc_shard.specs.inner.Pending.{step_of}
 use Rattle.dcc_shard.proofs.pending.Pending.step.Goals as goal
 
