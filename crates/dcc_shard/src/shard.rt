@@ -75,6 +75,8 @@ impl<R: Records> Shard<R> {
             → (R.is_stopped refused.1 ≡ R.is_stopped records) × (R.faults refused.1 ≡ R.faults records)) }
         ensures stopped { IfErr result (λ refused. refused.0 ≡ Stopped → R.is_stopped records ≡ true) }
         ensures frozen { R.is_stopped records ≡ true → IsErr result }
+        // Of records that were stopped before nothing else is told: where memory was short, they may be used.
+        ensures told { IfErr result (λ refused. R.is_stopped records ≡ true → refused.0 ≡ Stopped) }
     {
         let mut records = records;
         match read(alloc, identity, &mut records, hasher) {
@@ -278,10 +280,10 @@ fn read<R: Records>(
     ensures usable { result ≢ Err Device
         → (R.is_stopped records.new ≡ R.is_stopped records.old) × (R.faults records.new ≡ R.faults records.old) }
     ensures stopped { result ≡ Err Stopped → R.is_stopped records.old ≡ true }
-    ensures frozen { R.is_stopped records.old ≡ true → IsErr result }
+    ensures frozen { R.is_stopped records.old ≡ true → result ≡ Err Stopped }
 {
-    let identity = identity.copy()?;
     let book = records.load()?;
+    let identity = identity.copy()?;
     content_has_one_book();
     let books = Books::of_book(alloc, records.terms(), hasher, book)?;
     Ok((identity, books))
