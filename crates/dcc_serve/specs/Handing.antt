@@ -84,8 +84,7 @@ Hands setting moment message handed old new =
     (word : Dispatched) × (between : Reading) × IsDispatched setting moment message old.peer new.peer word
     × Passes old.gate word handed (reading_of old) between × AsksSweep moment between (reading_of new) × (new.gate ≡ old.gate)
 
--- a reader that has ended said so last, to each shard as this gateway's, and to its writer
-abbrev pub HasEnded : ℕ → Reader → Type 0
-HasEnded gate reader =
-    (asked : List (List Work)) × (replied : List Item) × (all_put reader.workers.items ≡ put_all (work.End gate) asked)
-    × (put_of reader.writer ≡ replied ++ End ∷ [])
+-- a reader that ends says so once, to each shard as its gateway's, and to its writer
+abbrev pub Ends : ℕ → Reading → Reading → Type 0
+Ends gate old new =
+    new ≡ record { asked = put_all (work.End gate) old.asked; replied = old.replied ++ End ∷ []; requests = old.requests; sweeps = old.sweeps }

@@ -1,5 +1,5 @@
 -- The lines behind rounds.
-use Rattle.std.specs.Prelude.{◌≡◌, ℕ, ◌+◌, ◌≤◌, ◌<◌, Bool, true, false, List, [], ◌∷◌, ◌++◌, length, take, codes, Option}
+use Rattle.std.specs.Prelude.{◌≡◌, ℕ, ◌+◌, ◌≤◌, ◌<◌, Bool, true, false, List, [], ◌∷◌, ◌++◌, length, take, codes, Option, Some, None}
 use Rattle.std.specs.Fmt.{decimal}
 use Rattle.std.specs.Io.KnownBytes.{Appends}
 use Rattle.dcc_serve.specs.declared.fault.ServeFault.{ServeFault}
@@ -36,3 +36,8 @@ is_store Memory = false
 is_store Io = false
 is_store (Close number) = false
 is_store (Store number) = true
+
+-- what a fault of the comparison that has this number ends a server with; want of memory has none
+abbrev pub of_number : Option ℕ → ServeFault
+of_number None = Memory
+of_number (Some number) = Close number

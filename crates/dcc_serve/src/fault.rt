@@ -1,7 +1,8 @@
 //! Why a server ends before its rounds are over.
 
 ghost use Rattle.std.specs.Prelude.{◌≡◌, false};
-ghost use Rattle.dcc_serve.specs.Lines.{is_store};
+ghost use Rattle.dcc_receipts.specs.Faults.{fault_number};
+ghost use Rattle.dcc_serve.specs.Lines.{is_store, of_number};
 ghost use Rattle.dcc_serve.specs.declared.fault.ServeFault.TheVariants as fault;
 
 use dcc_receipts::CloseFault;
@@ -52,7 +53,8 @@ impl From<WriteFault> for ServeFault {
 
 /// What a fault of the comparison ends a server with.
 pub(crate) fn of_close(fault: CloseFault) -> ServeFault
-    ensures { is_store result ≡ false }
+    ensures value { result ≡ of_number (fault_number fault) }
+    ensures fault { is_store result ≡ false }
 {
     match fault.number() {
         Some(number) => ServeFault::Close(number),

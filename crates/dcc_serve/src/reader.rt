@@ -5,7 +5,7 @@ ghost use Rattle.dcc_dispatch.specs.Dispatches.{IfAsked};
 ghost use Rattle.dcc_dispatch.specs.declared.decide.Dispatched.TheVariants.{Replied};
 ghost use Rattle.dcc_lane.specs.Ends.{put_of};
 ghost use Rattle.dcc_model.specs.Keys.{request_key};
-ghost use Rattle.dcc_serve.specs.Handing.{AsksSweep, HasEnded, Passes, reading_of, replies, one_more, is_due, since_then};
+ghost use Rattle.dcc_serve.specs.Handing.{AsksSweep, Ends, Passes, reading_of, replies, one_more, is_due, since_then};
 ghost use Rattle.dcc_serve.specs.Lanes.{all_put, put_into};
 ghost use Rattle.dcc_serve.specs.declared.work.Work.TheVariants as work;
 ghost use Rattle.dcc_shard.specs.Routes.{shard_of};
@@ -188,11 +188,11 @@ impl Reader {
         ask_all_to_sweep(rt, &mut self.workers, moment);
     }
 
-    /// Says that it ends to all that take from it, as the reader of the gateway of this index.
-    fn end<W: Wait>(&mut self, rt: &W, gate: usize)
-        ensures { HasEnded gate self.new }
+    /// Says that it ends to all that take from it.
+    fn end<W: Wait>(&mut self, rt: &W)
+        ensures { Ends self.old.gate (reading_of self.old) (reading_of self.new) }
     {
-        end_all(rt, &mut self.workers, gate);
+        end_all(rt, &mut self.workers, self.gate);
         self.writer.put(rt, Item::End);
     }
 }
@@ -218,8 +218,7 @@ pub(crate) fn read_gate<W: Wait, I: Read, C: Clock, N: Notices>(
     input: &mut I,
     reader: &mut Reader,
 ) -> ConnectionEnd {
-    let index = reader.gate;
-    let gate = index.saturating_add(1);
+    let gate = reader.gate.saturating_add(1);
     let mut judge = Judge {
         alloc,
         plan,
@@ -228,7 +227,7 @@ pub(crate) fn read_gate<W: Wait, I: Read, C: Clock, N: Notices>(
         reader,
     };
     let end = read_side(rt, alloc, input, clock, &mut judge, TURNS);
-    judge.reader.end(rt, index);
+    judge.reader.end(rt);
     notices.tell(rt, Notice::Read { gate, end });
     end
 }

@@ -1,6 +1,7 @@
 //! All rounds of a server.
 
-ghost use Rattle.std.specs.Prelude.{◌≤◌, length, IfErr, OnOk};
+ghost use Rattle.std.specs.Prelude.{◌≡◌, ◌≤◌, length, IfErr, OnOk};
+ghost use Rattle.std.specs.List.{list_any};
 ghost use Rattle.dcc_running.specs.Books.{AreShards};
 ghost use Rattle.dcc_serve.specs.Lines.{AreTold, EndsWith};
 
@@ -82,7 +83,9 @@ pub fn serve_run<
 }
 
 /// Tells each shard that is stopped, and whether one is.
-fn tell_stopped<W: Wait, R: Records, N: Notices>(rt: &W, notices: &N, shards: &[Shard<R>]) -> bool {
+fn tell_stopped<W: Wait, R: Records, N: Notices>(rt: &W, notices: &N, shards: &[Shard<R>]) -> bool
+    ensures { result ≡ list_any (λ part. R.is_stopped part.records) shards.now }
+{
     let mut stopped = false;
     for shard in 0..shards.len() {
         if shards[shard].records().is_stopped() {
