@@ -34,8 +34,8 @@ use std::alloc::{AllocError, Global};
 
 /// What one more act comes to after those that were made, and what it does, by what is known of these: a few facts, what the
 /// one that has its key came to, and the sessions that are open, with their deadlines in order. It looks at the grants of the
-/// act's own session alone, each once, and counts them; where no session is due, an expiry looks at none. The only error is want
-/// of memory.
+/// act's own session alone, an expiry at those of the sessions that it ends, each once, and counts them; where no session is due,
+/// an expiry looks at none. The only error is want of memory.
 pub fn judge(
     alloc: Global,
     terms: &Terms,

@@ -80,7 +80,7 @@ impl Plan {
         self.default_group
     }
 
-    /// How many units an asked amount of 0 stands for, 1 to 10^12.
+    /// How many units an asked amount of 0 stands for in a session, 1 to 10^12; an event that asks for 0 asks for 1.
     pub fn quantum(&self) -> u64
         ensures value { result ≡ self.now.quantum }
         ensures some { 1 ≤ result }
