@@ -178,6 +178,7 @@ impl Account {
             ≤ step.looks) }
     {
         one_more_act();
+        // For its clause alone: the acts are those that their own list makes.
         self.acts();
         let mut looks = Looks::new();
         let Judgement {

@@ -26,6 +26,7 @@ pub fn is_answered(
     requires came { outcomes.now ≡ reverse (map outcome_of (history terms.now (reverse journal.now.acts))) }
     ensures { IfOk result (λ answered. answered ≡ is_answered identity.now terms.now journal.now.acts receipt.now) }
 {
+    // Nothing of it is read: the conditions speak of its acts.
     let _journal = journal;
     if receipt.place == 0 {
         return match unknown(&receipt.act.kind)? {
