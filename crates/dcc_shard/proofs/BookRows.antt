@@ -1,5 +1,5 @@
 -- The account of one subscriber among the others.
-use Rattle.std.proofs.Common.{◌≡◌, ◌≢◌, cond, List, [], ◌∷◌, ◌++◌, Option, Some, Result, Ok, OnOk, refl, sym, ap, subst, ◌∙◌, inl, inr}
+use Rattle.std.proofs.Common.{◌≡◌, ◌≢◌, cond, List, [], Option, Some, Result, Ok, OnOk, refl, sym, ap, subst, ◌∙◌, inl, inr}
 use Rattle.std.specs.Option.{option_map_or}
 use Rattle.dcc_tariff.specs.Terms.{TermsView}
 use Rattle.dcc_act.specs.declared.act.Act.{Act}

@@ -14,7 +14,7 @@ use Rattle.dcc_shard.specs.inner.Books.{BooksView, AreBooks, IsStepOfBooks}
 use Rattle.dcc_shard.specs.inner.Pending.{step_of, IsPending}
 use Rattle.dcc_shard.specs.declared.pending.Pending.{Pending}
 use Rattle.dcc_shard.specs.declared.pending.Pending.TheVariants.{Known, First}
-use Rattle.dcc_shard.proofs.BookRows.{Rows, acts_held, IsWritten, Moves, moves_where_written, held_own, held_others, books_moved}
+use Rattle.dcc_shard.proofs.BookRows.{Rows, acts_held, IsWritten, moves_where_written, held_own, held_others, books_moved}
 
 -- the account that was found has the terms, and the acts that are held
 pub record Found (rows : Rows) (terms : TermsView) (sub : Sub) (account : Account) : Type 0 where

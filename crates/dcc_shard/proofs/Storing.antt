@@ -10,7 +10,6 @@ use Rattle.dcc_act.specs.declared.entry.Entry.{Entry}
 use Rattle.dcc_act.specs.declared.sub.Sub.{Sub}
 use Rattle.dcc_act.specs.Subs.{same_sub, SameAreEqual}
 use Rattle.dcc_model.specs.Outcomes.{acts, is_new}
-use Rattle.dcc_model.specs.Entries.{entries}
 use Rattle.dcc_model.specs.Laws.{OneMoreAct}
 use Rattle.dcc_records.specs.Books.{Held, no_acts, with_act}
 use Rattle.dcc_records.specs.Contents.{Content, Kept, IsContentOf, IsNext}

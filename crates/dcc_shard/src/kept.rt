@@ -134,7 +134,14 @@ impl<R: Records> KeptBooks<R> {
         self.books.acts_are_own();
         let step = pending.step();
         if step.is_new() {
-            self.records.append(sub, step.act(), step.entries())?;
+            match self.records.append(sub, step.act(), step.entries()) {
+                Ok(()) => {}
+                Err(fault) => {
+                    // By a call: a step that is let go in place is proved part by part.
+                    drop(pending);
+                    return Err(fault);
+                }
+            }
         }
         self.books.install(sub, pending);
         Ok(())

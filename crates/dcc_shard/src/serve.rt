@@ -3,6 +3,7 @@
 ghost use Rattle.std.specs.Prelude.{◌≡◌, ◌≤◌, true, false, Some, length, option_map, is_some, IfOk, OnOk, OnErr};
 ghost use Rattle.dcc_message.specs.declared.length.TheConstants.{HEADER_LENGTH};
 ghost use Rattle.dcc_answer.specs.Results.{is_busy};
+ghost use Rattle.dcc_credit.specs.Answers.{answer_octets};
 ghost use Rattle.dcc_model.specs.Keys.{ticket, is_expiry};
 ghost use Rattle.dcc_shard.specs.Shards.{held_in};
 ghost use Rattle.dcc_shard.specs.Answers.{answer_at, answer_after, session_of_act, IsRefusedBy, IsToldApart, is_judged};
@@ -20,6 +21,7 @@ use dcc_message::{Header, Identity};
 use dcc_model::{acts_come_to_their_own, places_hold};
 use dcc_octets::OctetString;
 use dcc_records::{Records, StoreFault};
+use dcc_tariff::Terms;
 use std::alloc::{AllocError, Global};
 
 /// What an answer to a request takes beside its outcome and the terms: who answers, the header that it is answered under,
@@ -76,17 +78,40 @@ pub(crate) fn answer<R: Records>(
 {
     kept.acts_are_kept();
     let pending = kept.prepare(alloc, &sub, act)?;
+    match write_answer(alloc, envelope, kept.books().terms(), pending.step()) {
+        Ok(answer) => {
+            kept.commit(sub, pending)?;
+            Ok(answer)
+        }
+        Err(_) => {
+            // By a call: a step that is let go in place is proved part by part.
+            drop(pending);
+            Err(StoreFault::Memory)
+        }
+    }
+}
+
+/// The answer that a step of a request comes to. The only error is want of memory.
+fn write_answer(
+    alloc: Global,
+    envelope: &Envelope<'_>,
+    terms: &Terms,
+    step: &Step,
+) -> Result<RequestAnswer, AllocError>
+    ensures value { IfOk result (λ answer. answer ≡ answer_at (answer_octets envelope.now.identity.now terms.now envelope.now.header.now
+        envelope.now.proxies.now step.now.outcome) step.now.place step.now.is_new) }
+    ensures judged { IfOk result (λ answer. is_judged answer ≡ true) }
+    ensures apart { IfOk result IsToldApart }
+{
     let octets = write_cca(
         alloc,
         envelope.identity,
-        kept.books().terms(),
+        terms,
         envelope.header,
         envelope.proxies,
-        pending.step().outcome(),
+        step.outcome(),
     )?;
-    let answer = answer_with(pending.step(), OctetString::from_vec(octets));
-    kept.commit(sub, pending)?;
-    Ok(answer)
+    Ok(answer_with(step, OctetString::from_vec(octets)))
 }
 
 /// The answer of these octets, by where the act of a step stands.

@@ -3,7 +3,6 @@ use Rattle.std.specs.Option.{option_copied_mut}
 use Rattle.dcc_shard.specs.Shards.{account_in}
 use Rattle.dcc_shard.specs.inner.Books.{BooksView}
 use Rattle.dcc_shard.specs.inner.Pending.{Stands}
-use Rattle.dcc_shard.proofs.BookRows.{on_success}
 use Rattle.dcc_shard.proofs.BookSteps.{found_in, found_none, begun_still, written_steps, unmade_steps}
 use Rattle.dcc_shard.proofs.books.Books.install.Goals as goal
 

@@ -5,7 +5,7 @@ use Rattle.dcc_shard.specs.Shards.{held_in}
 use Rattle.dcc_shard.specs.inner.Books.{BooksView, KeptView, IsStepOfBooks}
 use Rattle.dcc_shard.specs.inner.Pending.{step_of, IsPending}
 use Rattle.dcc_shard.proofs.Storing.{next_of, next_in_found, stored_only, alike_only, held_with, held_same, with_then, appended_of, kept_by_append, kept_without, one_more_left, only_left}
-use Rattle.dcc_shard.proofs.kept.KeptBooks.commit.Goals.{then-is_new+in_ok-append, else-is_new}
+use Rattle.dcc_shard.proofs.kept.KeptBooks.commit.Goals.{then-is_new+in-Ok, else-is_new}
 use Rattle.dcc_shard.proofs.kept.KeptBooks.commit.Goals as goal
 
 pub append-requires : goal.append-requires
@@ -33,15 +33,15 @@ invariant_of-self g c =
     c.append.ensures.frozen) c.self.invariant.1 c.content_has_one_book.ensures.alike (with_then c.same_subscribers_are_equal.ensures c.one_more_act.ensures c.acts_stand_apart.ensures.own c.acts_stand_apart.ensures.others
     books.terms (held_in books.rows) c.args.sub step.act (c.acts_are_own.ensures c.args.sub) (sym pending.new_is ∙ made)) in
     let only_under = λ (t : TermsView). LeavesOnly t (held_in books.rows) (g.R.Records.may_leave c.append.new.self) in (
-      c.in_err-append.ensures.terms ∙ c.self.invariant.0,
+      c.in-Err.ensures.terms ∙ c.self.invariant.0,
       λ still.
           let before_under = subst (λ (t : TermsView). LeavesOnly t (held_in books.rows) (g.R.Records.may_leave c.self.inside.records)) (sym c.self.invariant.0) before in
-          subst only_under c.self.invariant.0 (c.in_err-append.ensures.refused (held_in books.rows) before_under still),
+          subst only_under c.self.invariant.0 (c.in-Err.ensures.refused (held_in books.rows) before_under still),
       λ _. one_more_left books.terms (held_in books.rows) c.args.sub step.act _ (kept.crash going),
     )
 
-pub returns-in_err-append-clause-kept : goal.returns-in_err-append-clause-kept
-returns-in_err-append-clause-kept g c =
+pub returns-in-Err-clause-kept : goal.returns-in-Err-clause-kept
+returns-in-Err-clause-kept g c =
     let books = c.self.inside.books in
     let step = step_of c.args.pending in
     let pending = subst (λ (v : KeptView g.row.R.Denot). IsPending v.books c.args.sub step.act c.args.pending) (sym c.self.view_is) c.requires.pending in
@@ -60,7 +60,7 @@ invariant_of-self-2 g c =
     let going = subst (λ (v : KeptView g.row.R.Denot). g.R.Records.is_stopped v.records ≡ false) (sym c.self.view_is) c.requires.going in
     let before = c.self.invariant.1 going in
     elim c.if-is_new.branch [
-      | then-is_new+in_ok-append w ↦
+      | then-is_new+in-Ok w ↦
           let act_is = w.act.ensures ∙ ap (λ s. s.act) c.step-step.ensures in
           let made : step.is_new ≡ true = sym (ap (λ s. s.is_new) c.step-step.ensures) ∙ sym c.is_new.ensures ∙ w.if-is_new.true in
           let books_are : c.if-is_new.self-inside.books ≡ books = ap (λ i. i.books) w.self-inside-is in
@@ -70,7 +70,7 @@ invariant_of-self-2 g c =
           (c.acts_are_own.ensures c.args.sub) (sym pending.new_is ∙ made) done in
           let only =
           stored_only c.content_has_one_book.ensures.alike books.terms _ (held_in books.rows) (held_in c.install.new.self.rows) c.args.sub step.act w.act.result.now _ _ c.self.invariant.0 act_is
-          w.in_ok-append.ensures.stored alike before in
+          w.in-Ok.ensures.stored alike before in
           rw (records_are, done.terms) (w.append.ensures.terms ∙ c.self.invariant.0, λ _. only, λ _. only_left books.terms (held_in c.install.new.self.rows) c.args.sub step.act _ only)
       | else-is_new w ↦
           let old : step.is_new ≡ false = sym (ap (λ s. s.is_new) c.step-step.ensures) ∙ sym c.is_new.ensures ∙ w.if-is_new.false in
@@ -88,7 +88,7 @@ returns-clause-kept g c =
     let step = step_of c.args.pending in
     let pending = subst (λ (v : KeptView g.row.R.Denot). IsPending v.books c.args.sub step.act c.args.pending) (sym c.self.view_is) c.requires.pending in
     elim c.if-is_new.branch [
-      | then-is_new+in_ok-append w ↦
+      | then-is_new+in-Ok w ↦
           let made : step.is_new ≡ true = sym (ap (λ s. s.is_new) c.step-step.ensures) ∙ sym c.is_new.ensures ∙ w.if-is_new.true in
           let act_is = w.act.ensures ∙ ap (λ s. s.act) c.step-step.ensures in
           let records_are : c.if-is_new.self-inside.records ≡ w.append.new.self = ap (λ i. i.records) w.self-inside-is in
