@@ -1,7 +1,7 @@
 //! The accounts of a shard's subscribers, and one more act of one of them: it is prepared, and then installed. What is
 //! refused comes with the preparing, which changes nothing that is held; the others stay as they were.
 
-ghost use Rattle.std.specs.Prelude.{◌≡◌, ◌≢◌, ◌<◌, ◌==◌, ◌↔◌, [], true, false, Some, IfOk, IfSome, IfNone, if◌then◌else◌};
+ghost use Rattle.std.specs.Prelude.{◌≡◌, ◌≢◌, ◌<◌, ◌==◌, ◌↔◌, [], true, false, Some, IfOk, OnOk, IfSome, IfNone, if◌then◌else◌};
 ghost use Rattle.indexmap.specs.IndexMap.{spare};
 ghost use Rattle.dcc_act.specs.Subs.{same_sub};
 ghost use Rattle.std.specs.List.{list_all};
@@ -160,7 +160,14 @@ impl Books {
         }
         self.accounts.reserve(1)?;
         let account = Account::new(alloc, &self.terms, *self.accounts.hasher());
-        let step = account.prepare(act)?;
+        let step = match account.prepare(act) {
+            Ok(step) => step,
+            Err(error) => {
+                // By a call: an account that is let go in place is proved part by part.
+                drop(account);
+                return Err(error);
+            }
+        };
         Ok(Pending::First { account, step })
     }
 
@@ -207,13 +214,28 @@ fn replayed(
     ensures terms { IfOk result (λ account. account.terms ≡ terms.now) }
     ensures acts { IfOk result (λ account. account.acts ≡ all.items) }
 {
-    leaving_out_changes_nothing();
     let mut account = Account::new(alloc, terms, hasher);
+    match make_all(&mut account, all) {
+        Ok(()) => Ok(account),
+        Err(error) => {
+            drop(account);
+            Err(error)
+        }
+    }
+}
+
+/// Makes these acts in an account without any. The only error is want of memory.
+fn make_all(account: &mut Account, all: Vec<Act>) -> Result<(), AllocError>
+    requires { account.old.acts ≡ [] }
+    ensures terms { account.new.terms ≡ account.old.terms }
+    ensures acts { OnOk result (account.new.acts ≡ acts account.old.terms all.items) }
+{
+    leaving_out_changes_nothing();
     for act in all {
         let step = account.prepare(act)?;
         account.install(step);
     }
-    Ok(account)
+    Ok(())
 }
 
 /// Adds an account, for which there is room. It takes no memory.

@@ -1,6 +1,6 @@
 use Rattle.std.proofs.Common.{◌≡◌, List, [], ◌∷◌, ◌++◌, ap, ◌∙◌}
 use Rattle.dcc_model.specs.Outcomes.{acts}
-use Rattle.dcc_shard.proofs.books.replayed.Goals as goal
+use Rattle.dcc_shard.proofs.books.make_all.Goals as goal
 
 -- one act more, over variables, so that what acts make does not unfold
 one_more : {T A : Type 0} (made : T → List A → List A) (terms own : T) (xs held after : List A) (act given : A) → made terms (made terms xs ++ act ∷ []) ≡ made terms (xs ++ act ∷ [])
@@ -15,7 +15,7 @@ pub loop-act-preserved : goal.loop-act-preserved
 loop-act-preserved c = record {
   terms = c.install.ensures.terms ∙ c.loop-act.invariant.terms;
   acts =
-      one_more acts c.args.terms.now c.loop-act.account.terms c.loop-act.yielded c.loop-act.account.acts c.install.new.self.acts c.in-Some.act c.in_ok-step.step.act
-      (c.leaving_out_changes_nothing.ensures.acts c.args.terms.now c.loop-act.yielded (c.in-Some.act ∷ []))
+      one_more acts c.args.account.now.terms c.loop-act.account.terms c.loop-act.yielded c.loop-act.account.acts c.install.new.self.acts c.in-Some.act c.in_ok-step.step.act
+      (c.leaving_out_changes_nothing.ensures.acts c.args.account.now.terms c.loop-act.yielded (c.in-Some.act ∷ []))
       c.loop-act.invariant.terms c.loop-act.invariant.acts c.in_ok-step.ensures.act c.install.ensures.acts;
 }
