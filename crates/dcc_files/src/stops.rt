@@ -48,6 +48,10 @@ pub fn stop_and_reopen_shard<D: Crash + Drop>(
     let again = stop_and_reopen(records, options, setting)?;
     match Shard::new(alloc, identity, again, hasher) {
         Ok(shard) => Some(shard),
-        Err(_) => None,
+        Err(refused) => {
+            // By a call: records that are let go in place are proved part by part.
+            drop(refused);
+            None
+        }
     }
 }

@@ -55,7 +55,11 @@ fn outs_of(
         (engine : EngineView) × IsNew plan.now engine × (length outs.items ≡ length events.now) × IsRun engine (turns events.now outs.items)) }
 {
     let identity = identity_of(alloc, plan)?;
+    let own = plan.copy()?;
     let shards = shards_in_memory(alloc, plan.terms(), identity, plan.shards(), hasher)?;
-    let mut engine = Engine::open(alloc, plan.copy()?, shards)?;
-    engine.run(alloc, events)
+    let mut engine = Engine::open(alloc, own, shards)?;
+    let outs = engine.run(alloc, events);
+    // By a call: an engine that is let go in place is proved part by part.
+    drop(engine);
+    outs
 }
