@@ -3,6 +3,8 @@ pub mod Copies
 pub mod Covering
 pub mod Ends
 pub mod Owned
+pub mod Places
 pub mod Placing
+pub mod Subscribers
 pub mod TopUps
 pub mod Walks

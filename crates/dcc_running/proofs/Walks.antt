@@ -7,7 +7,7 @@ at_index [] i one other within = absurd (omega (arith, within))
 at_index (x ∷ xs) zero one other within = refl
 at_index (x ∷ xs) (suc i) one other within = at_index xs i one other (omega (arith, within))
 
-below_or_last : (i n : ℕ) → i < n + 1 → (i < n) ⊎ (n ≡ i)
+pub below_or_last : (i n : ℕ) → i < n + 1 → (i < n) ⊎ (n ≡ i)
 below_or_last zero zero below = inr refl
 below_or_last zero (suc n) below = inl (omega arith)
 below_or_last (suc i) zero below = absurd (omega (arith, below))

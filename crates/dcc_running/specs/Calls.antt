@@ -1,5 +1,5 @@
 -- What a call under a lock answers, and the receipt that it gives.
-use Rattle.std.specs.Prelude.{◌≡◌, ℕ, Bool, true, false, List, [], ◌∷◌}
+use Rattle.std.specs.Prelude.{◌≡◌, ◌≢◌, ◌↔◌, ℕ, Bool, true, false, List, [], ◌∷◌}
 use Rattle.dcc_message.specs.HeaderView.{HeaderView}
 use Rattle.dcc_act.specs.declared.act.Act.{Act}
 use Rattle.dcc_act.specs.declared.sub.Sub.{Sub}
@@ -8,7 +8,7 @@ use Rattle.dcc_receipts.specs.declared.receipt.Told.{Told}
 use Rattle.dcc_receipts.specs.declared.receipt.Told.TheVariants.{Octets, Added, Ceiling, Closed}
 use Rattle.dcc_running.specs.declared.job.Job.{Job}
 use Rattle.dcc_shard.specs.Answers.{IsAnswer, IsTold, IsExpired, top_up_act, expiry_act}
-use Rattle.dcc_shard.specs.Shards.{ShardView}
+use Rattle.dcc_shard.specs.Shards.{ShardView, held, is_among}
 use Rattle.dcc_shard.specs.declared.answers.RequestAnswer.{RequestAnswer}
 use Rattle.dcc_shard.specs.declared.answers.RequestAnswer.TheVariants as answers
 use Rattle.dcc_shard.specs.declared.answers.ExpiryAnswer.{ExpiryAnswer}
@@ -26,6 +26,10 @@ IsToldOf sub moment ticket amount answer = (shard : ShardView) × IsTold shard s
 
 abbrev pub IsEndOf : Sub → ℕ → ExpiryAnswer → Type 0
 IsEndOf sub moment answer = (shard : ShardView) × IsExpired shard sub moment answer
+
+-- the subscribers of some shard that have acts
+abbrev pub AreSubs : List Sub → Type 0
+AreSubs subs = (shard : ShardView) × ((sub : Sub) → is_among sub subs ≡ true ↔ held shard sub ≢ [])
 
 -- the receipt of a job, of an answer at a place; 0 is that of an unknown subscriber
 abbrev pub receipt : Job → List ℕ → ℕ → Bool → Receipt

@@ -1,2 +1,3 @@
 pub mod Copies
+pub mod Locks
 pub mod Marked

@@ -8,6 +8,7 @@ ghost use Rattle.dcc_shard.specs.Routes.{shard_of};
 ghost use Rattle.dcc_shard.specs.Shards.{held};
 ghost use Rattle.dcc_shard.specs.Stored.{StoredView};
 
+use crate::lock::Lock;
 use crate::opening::Opening;
 use crate::shards::{Shards, locked, unlocked};
 use dcc_account::Account;
@@ -19,7 +20,6 @@ use dcc_shard::{Shard, shard_of};
 use dcc_tariff::Terms;
 use std::hash::RandomState;
 use std::marker::Model;
-use std::sync::Mutex;
 
 /// What shards hold that were at work under locks, once they are out of them: a list of acts for each subscriber, and the acts that were
 /// held at opening.
@@ -30,7 +30,7 @@ pub struct Books<R: Records> {
     pub(crate) opening: Opening,
     pub(crate) shards: Vec<Shard<R>>,
     /// No locks, with room for as many as there are shards.
-    pub(crate) locks: Vec<Mutex<Shard<R>>>,
+    pub(crate) locks: Vec<Lock<R>>,
     pub(crate) hasher: RandomState,
 }
 

@@ -17,7 +17,7 @@ use dcc_model::request_key;
 use dcc_octets::OctetString;
 use dcc_receipts::{Receipt, Told};
 use dcc_records::Records;
-use dcc_shard::{ExpiryAnswer, RequestAnswer, TopUpAnswer, shard_of};
+use dcc_shard::{ExpiryAnswer, RequestAnswer, TopUpAnswer};
 use std::alloc::{AllocError, Global};
 use std::sync::Wait;
 
@@ -43,9 +43,8 @@ impl<R: Records> Shards<R> {
         let Ok(act) = room_for(&mut seat.receipts, &mut seat.spare, &job.act) else {
             return busy(alloc, &self.identity, &job);
         };
-        let i = shard_of(&job.sub, self.locks.len());
-        let answer = self.locks[i]
-            .lock(rt)
+        let answer = self
+            .lock_of(rt, &job.sub)
             .step(alloc, job.sub, act, &job.header, &job.proxies);
         keep(rt, alloc, &mut seat.receipts, &mut seat.spare, job, answer)
     }
@@ -74,9 +73,8 @@ impl<R: Records> Shards<R> {
         let Ok(()) = seat.receipts.reserve(1) else {
             return TopUpAnswer::Refused;
         };
-        let i = shard_of(&sub, self.locks.len());
-        let answer = self.locks[i]
-            .lock(rt)
+        let answer = self
+            .lock_of(rt, &sub)
             .top_up(alloc, sub, moment, ticket, amount);
         let kind = Kind::TopUp(top_up);
         keep_top_up(alloc, &mut seat.receipts, sub, Act { moment, kind }, answer);
@@ -99,8 +97,7 @@ impl<R: Records> Shards<R> {
         let Ok(()) = seat.receipts.reserve(1) else {
             return ExpiryAnswer::Refused;
         };
-        let i = shard_of(&sub, self.locks.len());
-        let answer = self.locks[i].lock(rt).expire(alloc, sub, moment);
+        let answer = self.lock_of(rt, &sub).expire(alloc, sub, moment);
         if let ExpiryAnswer::Closed { sessions, place } = answer {
             let act = Act {
                 moment,

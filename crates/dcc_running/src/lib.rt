@@ -13,6 +13,7 @@ mod books;
 mod calls;
 mod close;
 mod job;
+mod lock;
 mod opening;
 mod placed;
 mod room;

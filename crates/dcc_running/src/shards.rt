@@ -5,21 +5,24 @@ ghost use Rattle.std.specs.List.Sorted.{IsStrictlySortedBy};
 ghost use Rattle.dcc_act.specs.declared.sub.Sub.{Sub};
 ghost use Rattle.dcc_records.specs.Books.{sub_order};
 ghost use Rattle.dcc_running.specs.Books.{at_opening, book};
+ghost use Rattle.dcc_running.specs.Calls.{AreSubs};
+ghost use Rattle.dcc_running.specs.inner.Locks.{AreOf};
 ghost use Rattle.dcc_shard.specs.Routes.{shard_of};
 ghost use Rattle.dcc_shard.specs.Shards.{held};
 ghost use Rattle.dcc_shard.specs.Stored.{StoredView};
 
+use crate::lock::{Lock, Place};
 use crate::opening::{Opening, copied};
 use crate::seat::Seat;
 use dcc_act::Sub;
 use dcc_message::Identity;
 use dcc_records::Records;
-use dcc_shard::Shard;
+use dcc_shard::{Shard, shard_of};
 use dcc_tariff::Terms;
 use std::alloc::{AllocError, Global};
 use std::hash::RandomState;
 use std::marker::Model;
-use std::sync::{Mutex, Wait};
+use std::sync::{MutexGuard, Wait};
 
 /// 1 to 8 shards, each under its lock, with a copy of the acts that were held when they were opened.
 #[derive(Drop)]
@@ -27,7 +30,7 @@ pub struct Shards<R: Records> {
     pub(crate) terms: Terms,
     pub(crate) identity: Identity,
     pub(crate) opening: Opening,
-    pub(crate) locks: Vec<Mutex<Shard<R>>>,
+    pub(crate) locks: Vec<Lock<R>>,
     /// No shards, with room for as many as there are locks.
     pub(crate) emptied: Vec<Shard<R>>,
     pub(crate) hasher: RandomState,
@@ -36,13 +39,14 @@ pub struct Shards<R: Records> {
 impl<R: Records> Model for Shards<R> {
     ghost use Rattle.std.specs.Prelude.{◌≡◌, ◌≤◌, vec_len, vec_capacity};
     ghost use Rattle.dcc_running.specs.Books.{LockedView};
+    ghost use Rattle.dcc_running.specs.inner.Locks.{AreOf};
 
     ghost Value = { LockedView };
 
     ghost view = { λ s. record { terms = s.terms; identity = s.identity; opening = s.opening.entries; count = vec_len s.locks } };
 
     ghost invariant = { λ s. (1 ≤ vec_len s.locks) × (vec_len s.locks ≤ 8) × (vec_len s.emptied ≡ 0)
-        × (vec_len s.locks ≤ vec_capacity s.emptied) };
+        × (vec_len s.locks ≤ vec_capacity s.emptied) × AreOf (vec_len s.locks) s.locks.items };
 }
 
 impl<R: Records> Shards<R> {
@@ -94,9 +98,16 @@ impl<R: Records> Shards<R> {
     /// octet. It waits for the shard's lock. The condition is that there is such a shard; the only error is want of memory.
     pub fn subs<W: Wait>(&self, rt: &W, alloc: Global, shard: usize) -> Result<Vec<Sub>, AllocError>
         requires { shard < self.now.count }
-        ensures { IfOk result (λ subs. IsStrictlySortedBy sub_order subs.items) }
+        ensures order { IfOk result (λ subs. IsStrictlySortedBy sub_order subs.items) }
+        ensures held { IfOk result (λ subs. AreSubs subs.items) }
     {
-        self.locks[shard].lock(rt).subs(alloc)
+        self.locks[shard].lock_as(rt, shard).subs(alloc)
+    }
+
+    /// Waits for the lock of the shard that keeps a subscriber.
+    pub(crate) fn lock_of<'a, W: Wait>(&'a self, rt: &W, sub: &Sub) -> MutexGuard<'a, Shard<R>> {
+        let index = shard_of(sub, self.locks.len());
+        self.locks[index].lock_for(rt, sub)
     }
 }
 
@@ -106,7 +117,7 @@ fn room_for<R: Records>(
     identity: &Identity,
     shards: &[Shard<R>],
     hasher: RandomState,
-) -> Result<(Identity, Opening, Vec<Mutex<Shard<R>>>), AllocError>
+) -> Result<(Identity, Opening, Vec<Lock<R>>), AllocError>
     requires some { 1 ≤ length shards.now }
     requires placed { (i : ℕ) (none : StoredView R) (sub : Sub) → i < length shards.now
         → held (slice_index_or shards.now i none).shard sub ≢ [] → shard_of sub (length shards.now) ≡ i }
@@ -123,27 +134,31 @@ fn room_for<R: Records>(
 
 /// Puts each shard under a lock, in order, and gives what held them back, emptied. It takes no memory.
 pub(crate) fn locked<R: Records>(
-    locks: Vec<Mutex<Shard<R>>>,
+    locks: Vec<Lock<R>>,
     shards: Vec<Shard<R>>,
-) -> (Vec<Mutex<Shard<R>>>, Vec<Shard<R>>)
+) -> (Vec<Lock<R>>, Vec<Shard<R>>)
     requires none { vec_len locks ≡ 0 }
     requires room { vec_len shards ≤ vec_capacity locks }
     ensures count { vec_len result.0 ≡ vec_len shards }
+    ensures places { AreOf (vec_len shards) result.0.items }
     ensures emptied { vec_len result.1 ≡ 0 }
     ensures room { vec_len shards ≤ vec_capacity result.1 }
 {
     let mut locks = locks;
     let mut shards = shards;
+    let count = shards.len();
     while shards.len() > 0 {
-        locks.push_reserved(Mutex::new(shards.remove(0)));
+        let index = locks.len();
+        locks.push_reserved(Lock::new(Place { index, count }, shards.remove(0)));
     }
     (locks, shards)
 }
+
 /// Takes each shard out of its lock, in order, and gives what held the locks back, emptied. It takes no memory.
 pub(crate) fn unlocked<R: Records>(
-    locks: Vec<Mutex<Shard<R>>>,
+    locks: Vec<Lock<R>>,
     shards: Vec<Shard<R>>,
-) -> (Vec<Mutex<Shard<R>>>, Vec<Shard<R>>)
+) -> (Vec<Lock<R>>, Vec<Shard<R>>)
     requires none { vec_len shards ≡ 0 }
     requires room { vec_len locks ≤ vec_capacity shards }
     ensures count { vec_len result.1 ≡ vec_len locks }
@@ -153,7 +168,7 @@ pub(crate) fn unlocked<R: Records>(
     let mut locks = locks;
     let mut shards = shards;
     while locks.len() > 0 {
-        shards.push_reserved(locks.remove(0).into_inner());
+        shards.push_reserved(locks.remove(0).into_shard());
     }
     (locks, shards)
 }

@@ -1,4 +1,5 @@
 use Rattle.std.proofs.Common.{◌≡◌, ◌+◌, ◌≤◌, vec_len, vec_capacity}
+use Rattle.dcc_running.specs.inner.Locks.{AreOf}
 use Rattle.dcc_running.proofs.shards.locked.Given as goal
 
 abbrev pub invariant-loop-locks : goal.invariant-loop-locks
@@ -6,6 +7,7 @@ invariant-loop-locks g l = record {
   count : vec_len l.locks + vec_len l.shards ≡ vec_len l.fn.shards;
   room : vec_len l.fn.shards ≤ vec_capacity l.locks;
   back : vec_len l.fn.shards ≤ vec_capacity l.shards;
+  places : AreOf (vec_len l.fn.shards) l.locks.items;
 }
 
 abbrev pub decreases-loop-locks : goal.decreases-loop-locks
