@@ -1,2 +1,3 @@
 pub mod PlanLemmas
 pub mod CommandLineLemmas
+pub mod StoreLemmas

@@ -3,6 +3,7 @@ use Rattle.std.specs.Prelude.{⊤, ◌≡◌, ℕ, List, Option, None, Err, IfSo
 use Rattle.std.specs.Io.KnownBytes.{Appends, Keeps}
 use Rattle.clap.specs.Words.{Text}
 use Rattle.dcc_tariff.specs.Plans.{PlanView}
+use Rattle.dcc_records.specs.Contents.{Content}
 use Rattle.dcc_replay.specs.Scripts.{script_of}
 use Rattle.dcc_replay.specs.Replays as replay
 use Rattle.dcc_decode.specs.Decodings as decode
@@ -15,14 +16,16 @@ use Rattle.dcc_program.specs.CommandLines.{Asks, IsUnderPlan, IsOverStore, IsOve
 use Rattle.dcc_program.specs.Stores.{IsTopUp, IsTopUpBegun, IsLedger, IsLedgerBegun}
 use Rattle.dcc_program.specs.Plans.{IsPlanFailure}
 
--- a task is done: the input before and after, and the writer. A text is printed without a look at the input
-abbrev pub IsDone : Task → (unread left old new : Option (List ℕ)) → Type 0
-IsDone (Replay path) unread left old new = (plan : PlanView) × replay.IsWritten plan unread old new
-IsDone (TopUp place ask) unread left old new = Keeps unread left × IsTopUp None ask old new
-IsDone (Ledger place sub) unread left old new = Keeps unread left × IsLedger None sub old new
-IsDone Decode unread left old new = decode.IsWritten unread old new
-IsDone Help unread left old new = Keeps unread left × Appends old new HELP.now
-IsDone Version unread left old new = Keeps unread left × Appends old new VERSION.now
+-- a task is done, over the stores that opening gives of a folder: the input before and after, and the writer. A text is printed without a look at
+-- the input
+abbrev pub IsDone : {R : Type 0} → (opens : List ℕ → PlanView → ℕ → R → Type 0) → (may_leave : R → Content → Type 0) → Task
+    → (unread left old new : Option (List ℕ)) → Type 0
+IsDone opens may_leave (Replay path) unread left old new = (plan : PlanView) × replay.IsWritten plan unread old new
+IsDone opens may_leave (TopUp place ask) unread left old new = Keeps unread left × IsTopUp (opens place.folder.now) may_leave None ask old new
+IsDone opens may_leave (Ledger place sub) unread left old new = Keeps unread left × IsLedger (opens place.folder.now) may_leave None sub old new
+IsDone opens may_leave Decode unread left old new = decode.IsWritten unread old new
+IsDone opens may_leave Help unread left old new = Keeps unread left × Appends old new HELP.now
+IsDone opens may_leave Version unread left old new = Keeps unread left × Appends old new VERSION.now
 
 -- of what a task writes, the first octets are written
 abbrev pub IsBegun : Task → (unread old new : Option (List ℕ)) → Type 0

@@ -1,26 +1,47 @@
 -- `dcc topup` and `dcc ledger`: what is done over the store of one shard under the plan of a file.
-use Rattle.std.specs.Prelude.{⊤, ℕ, List, Option}
+use Rattle.std.specs.Prelude.{⊤, ℕ, Bool, List, Option, IfSome, option_map}
 use Rattle.dcc_tariff.specs.Plans.{PlanView}
 use Rattle.dcc_act.specs.declared.sub.Sub.{Sub}
-use Rattle.dcc_shard.specs.Shards.{ShardView}
+use Rattle.dcc_records.specs.Contents.{Content}
+use Rattle.dcc_shard.specs.Answers.{top_up_act}
+use Rattle.dcc_shard.specs.Routes.{shard_of}
+use Rattle.dcc_shard.specs.Shards.{ShardView, IsStep}
+use Rattle.dcc_shard.specs.Stored.{StoredView}
 use Rattle.dcc_operator.specs.declared.commands.TopUpAsk.{TopUpAsk}
 use Rattle.dcc_operator.specs.Commands.{IsToppedUp, IsToppedUpBegun, IsShown, IsShownBegun}
+use Rattle.dcc_operator.specs.Openings.{IsOpenedOver}
 use Rattle.dcc_replay.specs.Names.{identity_of}
 use Rattle.dcc_program.specs.declared.failure.Failure.{Failure}
 use Rattle.dcc_program.specs.declared.failure.Failure.TheVariants.{Usage, Memory, Io, Plan, Store, Script, Close}
 use Rattle.dcc_program.specs.Plans.{IsPlanOf, IsPlanFailure}
 
--- a top-up was made under the plan of the file, and a writer, before and after, has grown by its word, or by the first octets of that
-abbrev pub IsTopUp : (file : Option (List ℕ)) → TopUpAsk → (old new : Option (List ℕ)) → Type 0
-IsTopUp file ask old new = (plan : PlanView) × IsPlanOf file plan × (after : ShardView) × IsToppedUp plan (identity_of plan) ask after old new
+-- a top-up was made under the plan of the file, in the store of its subscriber's shard as opening gives it, and is all that was made there; and a
+-- writer, before and after, has grown by its word
+pub record IsTopUp {R : Type 0} (opens : PlanView → ℕ → R → Type 0) (may_leave : R → Content → Type 0) (file : Option (List ℕ)) (ask : TopUpAsk)
+    (old new : Option (List ℕ)) : Type 0 where
+  pub plan : PlanView
+  pub given : IsPlanOf file plan
+  pub before : StoredView R
+  pub opened : IsOpenedOver (opens plan (shard_of ask.sub plan.shards)) may_leave before
+  pub after : ShardView
+  pub judged : Bool
+  pub step : IsStep before.shard after judged ask.sub (top_up_act ask.moment ask.ticket ask.amount)
+  pub told : IsToppedUp plan (identity_of plan) ask after old new
 
+-- or by the first octets of that
 abbrev pub IsTopUpBegun : (file : Option (List ℕ)) → TopUpAsk → (old new : Option (List ℕ)) → Type 0
 IsTopUpBegun file ask old new = (plan : PlanView) × IsPlanOf file plan × IsToppedUpBegun plan (identity_of plan) ask old new
 
--- a writer has grown by the page of a subscriber under the plan of the file, or by its first octets
-abbrev pub IsLedger : (file : Option (List ℕ)) → Sub → (old new : Option (List ℕ)) → Type 0
-IsLedger file sub old new = (plan : PlanView) × IsPlanOf file plan × (shard : Option ShardView) × IsShown plan (identity_of plan) sub shard old new
+-- a writer has grown by the page of a subscriber under the plan of the file, from the store of its shard as opening gives it, where there is one
+pub record IsLedger {R : Type 0} (opens : PlanView → ℕ → R → Type 0) (may_leave : R → Content → Type 0) (file : Option (List ℕ)) (sub : Sub)
+    (old new : Option (List ℕ)) : Type 0 where
+  pub plan : PlanView
+  pub given : IsPlanOf file plan
+  pub stored : Option (StoredView R)
+  pub opened : IfSome stored (IsOpenedOver (opens plan (shard_of sub plan.shards)) may_leave)
+  pub shown : IsShown plan (identity_of plan) sub (option_map (λ store. store.shard) stored) old new
 
+-- or by its first octets
 abbrev pub IsLedgerBegun : (file : Option (List ℕ)) → Sub → (old new : Option (List ℕ)) → Type 0
 IsLedgerBegun file sub old new = (plan : PlanView) × IsPlanOf file plan × IsShownBegun plan (identity_of plan) sub old new
 

@@ -1,19 +1,21 @@
 //! The program's work, over any files, reader and writer.
 
-ghost use Rattle.std.specs.Prelude.{◌≡◌, ◌≢◌, ◌⊎◌, map, string_bytes, IfErr, OnOk};
+ghost use Rattle.std.specs.Prelude.{◌≡◌, ◌≢◌, ◌⊎◌, None, map, string_bytes, IfErr, OnOk};
 ghost use Rattle.std.specs.Io.KnownBytes.{Keeps};
 ghost use Rattle.dcc_program.specs.CommandLines.{Asks};
 ghost use Rattle.dcc_program.specs.Runs.{IsDone, IsBegun, IsBeforeScript, IsRunFailure};
+ghost use Rattle.dcc_program.specs.Stores.{IsTopUp, IsTopUpBegun, IsLedger, IsLedgerBegun, IsStoreFailure};
 ghost use Rattle.dcc_program.specs.declared.command_line.Task.{Task};
 ghost use Rattle.dcc_program.specs.declared.failure.Failure.TheVariants.{Io};
 
-use crate::command_line::{Task, task_of};
+use crate::command_line::{Place, Task, task_of};
 use crate::decoding::decode;
 use crate::failure::Failure;
 use crate::help::{HELP, VERSION};
 use crate::replaying::replay;
 use crate::storing::{ledger, top_up};
-use dcc_operator::Stores;
+use dcc_act::Sub;
+use dcc_operator::{Stores, TopUpAsk};
 use dcc_streams::write_all;
 use std::fs;
 use std::hash::RandomState;
@@ -33,7 +35,7 @@ pub fn run<F: Files + RandomSource + AllocGlobal, S: Stores, R: Read, W: Write>(
     output: &mut W,
 ) -> Result<(), Failure>
     ensures done { OnOk result ((task : Task) × Asks (map string_bytes words.now) task
-        × IsDone task (R.remaining input.old) (R.remaining input.new) (W.contents output.old) (W.contents output.new)) }
+        × IsDone (S.opens stores.now) S.Records.may_leave task (R.remaining input.old) (R.remaining input.new) (W.contents output.old) (W.contents output.new)) }
     ensures failure { IfErr result (IsRunFailure (map string_bytes words.now) (R.remaining input.old)) }
     ensures order { IfErr result (λ failure. IsBeforeScript failure → Keeps (R.remaining input.old) (R.remaining input.new)) }
     ensures silent { IfErr result (λ failure. failure ≢ Io → Keeps (W.contents output.old) (W.contents output.new)) }
@@ -53,32 +55,64 @@ pub fn run<F: Files + RandomSource + AllocGlobal, S: Stores, R: Read, W: Write>(
             let mut file = fs::open(rt, path)?;
             replay(rt.alloc(), &mut file, input, output, hasher)
         }
-        Task::TopUp(place, ask) => {
-            let hasher = RandomState::new(rt)?;
-            let mut file = fs::open(rt, place.plan)?;
-            top_up(
-                rt.alloc(),
-                &mut file,
-                stores,
-                place.folder,
-                ask,
-                output,
-                hasher,
-            )
-        }
-        Task::Ledger(place, sub) => {
-            let hasher = RandomState::new(rt)?;
-            let mut file = fs::open(rt, place.plan)?;
-            ledger(
-                rt.alloc(),
-                &mut file,
-                stores,
-                place.folder,
-                sub,
-                output,
-                hasher,
-            )
-        }
+        Task::TopUp(place, ask) => top_up_at(rt, stores, place, ask, output),
+        Task::Ledger(place, sub) => ledger_at(rt, stores, place, sub, output),
         Task::Decode => decode(rt.alloc(), input, output),
     }
+}
+
+/// Makes a top-up over the stores of a folder, under the plan of a file.
+fn top_up_at<F: Files + RandomSource + AllocGlobal, S: Stores, W: Write>(
+    rt: &F,
+    stores: &S,
+    place: Place<'_>,
+    ask: TopUpAsk,
+    output: &mut W,
+) -> Result<(), Failure>
+    ensures whole { OnOk result (IsTopUp (S.opens stores.now place.entry.folder.now) S.Records.may_leave None ask
+        (W.contents output.old) (W.contents output.new)) }
+    ensures failure { IfErr result (IsStoreFailure None) }
+    ensures silent { IfErr result (λ failure. failure ≢ Io → Keeps (W.contents output.old) (W.contents output.new)) }
+    ensures part { IfErr result (λ failure. failure ≡ Io → Keeps (W.contents output.old) (W.contents output.new)
+        ⊎ IsTopUpBegun None ask (W.contents output.old) (W.contents output.new)) }
+{
+    let hasher = RandomState::new(rt)?;
+    let mut file = fs::open(rt, place.plan)?;
+    top_up(
+        rt.alloc(),
+        &mut file,
+        stores,
+        place.folder,
+        ask,
+        output,
+        hasher,
+    )
+}
+
+/// Prints a ledger from the stores of a folder, under the plan of a file.
+fn ledger_at<F: Files + RandomSource + AllocGlobal, S: Stores, W: Write>(
+    rt: &F,
+    stores: &S,
+    place: Place<'_>,
+    sub: Sub,
+    output: &mut W,
+) -> Result<(), Failure>
+    ensures whole { OnOk result (IsLedger (S.opens stores.now place.entry.folder.now) S.Records.may_leave None sub
+        (W.contents output.old) (W.contents output.new)) }
+    ensures failure { IfErr result (IsStoreFailure None) }
+    ensures silent { IfErr result (λ failure. failure ≢ Io → Keeps (W.contents output.old) (W.contents output.new)) }
+    ensures part { IfErr result (λ failure. failure ≡ Io → Keeps (W.contents output.old) (W.contents output.new)
+        ⊎ IsLedgerBegun None sub (W.contents output.old) (W.contents output.new)) }
+{
+    let hasher = RandomState::new(rt)?;
+    let mut file = fs::open(rt, place.plan)?;
+    ledger(
+        rt.alloc(),
+        &mut file,
+        stores,
+        place.folder,
+        sub,
+        output,
+        hasher,
+    )
 }

@@ -27,7 +27,8 @@ pub fn top_up<P: Read, S: Stores, W: Write>(
     output: &mut W,
     hasher: RandomState,
 ) -> Result<(), Failure>
-    ensures whole { OnOk result (IsTopUp (P.remaining file.old) ask (W.contents output.old) (W.contents output.new)) }
+    ensures whole { OnOk result (IsTopUp (S.opens stores.now folder.now) S.Records.may_leave (P.remaining file.old) ask
+        (W.contents output.old) (W.contents output.new)) }
     ensures failure { IfErr result (IsStoreFailure (P.remaining file.old)) }
     ensures silent { IfErr result (λ failure. failure ≢ Io → Keeps (W.contents output.old) (W.contents output.new)) }
     ensures part { IfErr result (λ failure. failure ≡ Io → Keeps (W.contents output.old) (W.contents output.new)
@@ -52,7 +53,8 @@ pub fn ledger<P: Read, S: Stores, W: Write>(
     output: &mut W,
     hasher: RandomState,
 ) -> Result<(), Failure>
-    ensures whole { OnOk result (IsLedger (P.remaining file.old) sub (W.contents output.old) (W.contents output.new)) }
+    ensures whole { OnOk result (IsLedger (S.opens stores.now folder.now) S.Records.may_leave (P.remaining file.old) sub
+        (W.contents output.old) (W.contents output.new)) }
     ensures failure { IfErr result (IsStoreFailure (P.remaining file.old)) }
     ensures silent { IfErr result (λ failure. failure ≢ Io → Keeps (W.contents output.old) (W.contents output.new)) }
     ensures part { IfErr result (λ failure. failure ≡ Io → Keeps (W.contents output.old) (W.contents output.new)

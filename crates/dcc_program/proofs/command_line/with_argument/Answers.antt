@@ -1,18 +1,27 @@
-use Rattle.std.proofs.Common.{ap, ◌≡◌, ◌∙◌, true, Some}
+use Rattle.std.proofs.Common.{ap, ◌≡◌, ◌∙◌, true, false, Some}
 use Rattle.std.proofs.lemmas.Result.{IfOk-weaker}
-use Rattle.clap.specs.Words.{Rule, app_of, rule_of, with_rule}
+use Rattle.clap.specs.Words.{Rule, Text, app_of, rule_of, new_rule, with_rule}
 use Rattle.clap.specs.declared.builder.ArgAction.TheVariants.{Set}
 use Rattle.clap.specs.declared.builder.arg.Arg.{Arg}
 use Rattle.dcc_program.specs.CommandLines.{argument}
 use Rattle.dcc_program.proofs.command_line.with_argument.Goals as goal
 
+-- the rule of an argument that is made so, over variables
+ruled : (name : Text) (new required acted : Arg) → rule_of new ≡ new_rule name → required ≡ record new { required = true }
+    → acted ≡ record required { action = Some Set } → rule_of acted ≡ argument name
+ruled name new required acted is first then =
+    ap rule_of then ∙ ap (λ (r : Rule). record r { action = Some Set }) (ap rule_of first ∙ ap (λ (r : Rule). record r { required = true }) is)
+
+-- it is none for subcommands
+own : (new required acted : Arg) → new.global ≡ false → required ≡ record new { required = true } → acted ≡ record required { action = Some Set }
+    → acted.global ≡ false
+own new required acted is first then = ap (λ (a : Arg). a.global) then ∙ ap (λ (a : Arg). a.global) first ∙ is
+
 pub returns : goal.returns
 returns c =
-    let required : rule_of c.required.result ≡ record (rule_of c.new.result) { required = true } = ap rule_of c.required.ensures in
-    let acted : rule_of c.action-argument.result ≡ record (rule_of c.required.result) { action = Some Set } = ap rule_of c.action-argument.ensures in
-    let rule_is : rule_of c.action-argument.result ≡ argument c.args.name.now = acted ∙ ap (λ (r : Rule). record r { action = Some Set })
-    (required ∙ ap (λ (r : Rule). record r { required = true }) c.new.ensures.rule) in
-    let mine : c.action-argument.result.global ≡ c.required.result.global = ap (λ (a : Arg). a.global) c.action-argument.ensures in
-    let before : c.required.result.global ≡ c.new.result.global = ap (λ (a : Arg). a.global) c.required.ensures in
+    let new = c.new.result in
+    let required = c.required.result in
+    let acted = c.action-argument.result in
     IfOk-weaker c.arg.result _ _
-    (λ command added. added.shape (mine ∙ before ∙ c.new.ensures.optional.1) ∙ ap (with_rule (app_of c.args.command)) rule_is) c.arg.ensures
+    (λ command added. added.shape (own new required acted c.new.ensures.optional.1 c.required.ensures c.action-argument.ensures)
+    ∙ ap (with_rule (app_of c.args.command)) (ruled c.args.name.now new required acted c.new.ensures.rule c.required.ensures c.action-argument.ensures)) c.arg.ensures
