@@ -2,20 +2,12 @@
 #![tactic(auto)]
 
 #[cfg(test)]
-mod account;
-#[cfg(test)]
-mod act;
-#[cfg(test)]
 mod acts;
-#[cfg(test)]
-mod escrow;
 #[cfg(test)]
 mod expiry;
 #[cfg(test)]
 mod model;
 #[cfg(test)]
 mod session;
-#[cfg(test)]
-mod state;
 #[cfg(test)]
 mod tariff;

@@ -11,7 +11,7 @@ mod refusals;
 mod rows;
 
 use crate::acts::{TERMS, key, moment};
-use dcc_account::Account;
+use dcc_account::{Account, Step};
 use dcc_act::{
     Act, Action, Answer, Entry, Form, Kind, MAX_SECONDS, OneTimeEvent, Outcome, Service,
     ServiceAnswer, ServiceIds, Services, SessionRequest, TopUp,
@@ -76,6 +76,9 @@ const OK: &[Told] = &[(2001, 0)];
 
 /// An act so many seconds after the start, and what it comes to: the command, then each service in multi form.
 type Line = (u64, Ask, &'static [Told]);
+
+/// Acts, and funds, what is free and what is overrun behind them.
+type Row = (&'static [Line], (i128, i128, i128));
 
 /// What a group counts, where the plan has it.
 fn unit_of(group: u32) -> Option<UnitKind> {
@@ -267,6 +270,11 @@ fn told(alloc: Global, outcome: &Outcome) -> Result<Vec<Told>, Fail> {
     Ok(told)
 }
 
+/// Whether an act comes to what it is to.
+fn is_told(alloc: Global, outcome: &Outcome, expected: &[Told]) -> Result<bool, Fail> {
+    Ok(told(alloc, outcome)?.as_slice() == expected)
+}
+
 /// Whether two answers say the same.
 fn is_same_answer(one: &Answer, other: &Answer) -> bool {
     one.request == other.request
@@ -301,28 +309,46 @@ fn standing_of(account: &Account) -> Standing {
     }
 }
 
+/// Whether a step is what the plain program judges.
+fn is_judged(step: &Step, judgement: &Judgement) -> bool {
+    is_same(step.outcome(), &judgement.outcome)
+        && step.is_new() == judgement.is_new
+        && step.place() == judgement.place
+        && step.entries() == judgement.entries.as_slice()
+}
+
 /// Judges and makes an act by an account, which has to say what the plain program says.
 fn make_beside(account: &mut Account, act: Act, judgement: &Judgement) -> Result<(), Fail> {
     let step = account.prepare(act)?;
-    if !is_same(step.outcome(), &judgement.outcome)
-        || step.is_new() != judgement.is_new
-        || step.place() != judgement.place
-        || step.entries() != judgement.entries.as_slice()
-    {
+    if !is_judged(&step, judgement) {
         return Err("the account judges otherwise".into());
     }
     account.install(step);
-    if standing_of(account) != judgement.standing {
-        return Err("the account has other money".into());
+    Ok(())
+}
+
+/// Place, group or 0, units and amount of an entry.
+type Posted = (u64, u32, u64, i64);
+
+/// Puts the entries behind those that stand there.
+fn post(posted: &mut Vec<Posted>, entries: &[Entry]) -> Result<(), Fail> {
+    for entry in entries {
+        posted.push((
+            entry.place,
+            entry.group.unwrap_or(0),
+            entry.units,
+            entry.amount,
+        ))?;
     }
     Ok(())
 }
 
-/// All acts of a subscriber, of them those that were made, and the account that made them too.
+/// All acts of a subscriber, of them those that were made, their entries and the money behind them, and the account that made them too.
 #[derive(Drop)]
 struct Book {
     all: Vec<Act>,
     made: Vec<Done>,
+    posted: Vec<Posted>,
     standing: Standing,
     account: Account,
 }
@@ -333,6 +359,7 @@ impl Book {
         Book {
             all: Vec::new(alloc),
             made: Vec::new(alloc),
+            posted: Vec::new(alloc),
             standing: Standing {
                 funds: 0,
                 free: 0,
@@ -342,23 +369,31 @@ impl Book {
         }
     }
 
-    /// The entries that one more act adds.
-    fn judge(&mut self, alloc: Global, act: &Act) -> Result<Vec<Entry>, Fail> {
-        let judgement = judge(alloc, &TERMS, &self.made, act)?;
+    /// Makes what was judged of an act, in the account too.
+    fn add(&mut self, act: &Act, judgement: Judgement) -> Result<(), Fail> {
         make_beside(&mut self.account, act.copy()?, &judgement)?;
-        let Judgement {
-            outcome,
-            is_new,
-            entries,
-            standing,
-            ..
-        } = judgement;
-        self.standing = standing;
-        if is_new {
-            let act = act.copy()?;
-            self.made.push(Done { act, outcome })?;
+        post(&mut self.posted, &judgement.entries)?;
+        self.standing = judgement.standing;
+        if judgement.is_new {
+            push_done(&mut self.made, act, judgement.outcome)?;
         }
-        Ok(entries)
+        Ok(())
+    }
+
+    /// Judges one more act, and makes it.
+    fn judge(&mut self, alloc: Global, act: &Act) -> Result<(), Fail> {
+        let judgement = judge(alloc, &TERMS, &self.made, act)?;
+        self.add(act, judgement)?;
+        if standing_of(&self.account) != self.standing {
+            return Err("the account has other money".into());
+        }
+        Ok(())
+    }
+
+    /// Judges one more act in short.
+    fn ask(&mut self, alloc: Global, after: u64, ask: Ask) -> Result<(), Fail> {
+        let act = act(alloc, after, ask)?;
+        self.judge(alloc, &act)
     }
 
     /// What one more act comes to by the plain program.
@@ -368,7 +403,14 @@ impl Book {
         Ok(plain_answer(alloc, &TERMS, &self.all, self.all.len())?)
     }
 
-    /// Whether these acts come to what they are to.
+    /// Whether one more act in short comes to what it is to.
+    fn is_told(&mut self, alloc: Global, line: &Line) -> Result<bool, Fail> {
+        let (after, ask, expected) = *line;
+        let outcome = self.make(alloc, act(alloc, after, ask)?)?;
+        is_told(alloc, &outcome, expected)
+    }
+
+    /// Asserts that these acts come to what they are to.
     fn check(
         &mut self,
         rt: &impl Abort,
@@ -376,39 +418,55 @@ impl Book {
         row: usize,
         lines: &[Line],
     ) -> Result<(), Fail> {
-        for (i, (after, ask, expected)) in lines.iter().enumerate() {
-            let outcome = self.make(alloc, act(alloc, *after, *ask)?)?;
-            let told = told(alloc, &outcome)?;
-            assert_eq!(rt; told.as_slice(), *expected, "line {i} of row {row}");
+        for (i, line) in lines.iter().enumerate() {
+            assert!(rt; self.is_told(alloc, line)?, "line {i} of row {row}");
         }
         Ok(())
     }
 }
 
-/// Funds, what is free and what is overrun after the acts of a row, each of which comes to what it is to.
-fn money_after(
+/// Puts an act behind those that were made.
+fn push_done(made: &mut Vec<Done>, act: &Act, outcome: Outcome) -> Result<(), Fail> {
+    let act = act.copy()?;
+    made.push(Done { act, outcome })?;
+    Ok(())
+}
+
+/// Asserts that the acts of a row come to what they are to, in a book of their own.
+fn check_alone(
     rt: &impl Abort,
     alloc: Global,
     hasher: RandomState,
     row: usize,
-    lines: &[Line],
-) -> Result<(i128, i128, i128), Fail> {
+    it: Row,
+) -> Result<(), Fail> {
     let mut book = Book::new(alloc, hasher);
+    check_row(rt, alloc, &mut book, row, it)
+}
+
+/// Asserts that the acts of a row come to what they are to, and what funds, what is free and what is overrun are behind them.
+fn check_row(
+    rt: &impl Abort,
+    alloc: Global,
+    book: &mut Book,
+    row: usize,
+    (lines, money): Row,
+) -> Result<(), Fail> {
     book.check(rt, alloc, row, lines)?;
     let Standing {
         funds,
         free,
         overrun,
     } = book.standing;
-    Ok((funds, free, overrun))
+    assert_eq!(rt; (funds, free, overrun), money, "row {row}");
+    Ok(())
 }
 
 #[test]
 fn lists_of_acts(rt: HostRuntime) -> Result<(), Fail> {
     let hasher = RandomState::new(&rt)?;
-    for (row, (lines, standing)) in rows::ROWS.iter().enumerate() {
-        let money = money_after(&rt, rt.alloc(), hasher, row, lines)?;
-        assert_eq!(rt; money, *standing, "row {row}");
+    for (row, it) in rows::ROWS.iter().enumerate() {
+        check_alone(&rt, rt.alloc(), hasher, row, *it)?;
     }
     Ok(())
 }
@@ -437,12 +495,18 @@ fn open_sessions(rt: HostRuntime) -> Result<(), Fail> {
     open_65(&rt, rt.alloc(), &mut book)
 }
 
+/// A top-up by one minor unit.
+fn top_up(alloc: Global, book: &mut Book, ticket: u64) -> Result<(), Fail> {
+    let act = act(alloc, 0, Ask::TopUp(ticket, 1))?;
+    book.judge(alloc, &act)?;
+    book.all.push(act)?;
+    Ok(())
+}
+
 /// Top-ups by one minor unit, by the tickets from 1. What each comes to isn't asked of the plain program, which would begin anew each time.
 fn top_up_often(alloc: Global, book: &mut Book, times: u64) -> Result<(), Fail> {
     for ticket in 1..=times {
-        let act = act(alloc, 0, Ask::TopUp(ticket, 1))?;
-        book.judge(alloc, &act)?;
-        book.all.push(act)?;
+        top_up(alloc, book, ticket)?;
     }
     Ok(())
 }
@@ -463,9 +527,6 @@ fn a_thousand_acts_before(rt: HostRuntime) -> Result<(), Fail> {
     debit_behind_a_thousand(&rt, rt.alloc(), &mut book)
 }
 
-/// Place, group or 0, units and amount of an entry.
-type Posted = (u64, u32, u64, i64);
-
 /// Lists of acts, each with the entries that its acts leave in the books.
 const ENTRIES: [(&[Line], &[Posted]); 3] = [
     (rows::OVERRUN, &[(1, 0, 0, 500), (3, 10, 100_500, -505)]),
@@ -476,47 +537,36 @@ const ENTRIES: [(&[Line], &[Posted]); 3] = [
     ),
 ];
 
-/// Puts the entries behind those that stand there.
-fn post(posted: &mut Vec<Posted>, entries: &[Entry]) -> Result<(), Fail> {
-    for entry in entries {
-        posted.push((
-            entry.place,
-            entry.group.unwrap_or(0),
-            entry.units,
-            entry.amount,
-        ))?;
-    }
-    Ok(())
-}
-
-/// Judges a list of acts, and puts their entries behind those that stand there.
-fn post_all(
+/// Judges a list of acts, and asserts what their entries are.
+fn check_posted(
+    rt: &impl Abort,
     alloc: Global,
     book: &mut Book,
-    posted: &mut Vec<Posted>,
-    lines: &[Line],
+    (lines, posted): (&[Line], &[Posted]),
 ) -> Result<(), Fail> {
     for (after, ask, _) in lines {
-        let entries = book.judge(alloc, &act(alloc, *after, *ask)?)?;
-        post(posted, &entries)?;
+        book.ask(alloc, *after, *ask)?;
     }
+    assert_eq!(rt; book.posted.as_slice(), posted);
     Ok(())
 }
 
-/// The entries of a list of acts.
-fn posted(alloc: Global, hasher: RandomState, lines: &[Line]) -> Result<Vec<Posted>, Fail> {
+/// The same in a book of their own.
+fn check_posted_alone(
+    rt: &impl Abort,
+    alloc: Global,
+    hasher: RandomState,
+    it: (&[Line], &[Posted]),
+) -> Result<(), Fail> {
     let mut book = Book::new(alloc, hasher);
-    let mut posted = Vec::new(alloc);
-    post_all(alloc, &mut book, &mut posted, lines)?;
-    Ok(posted)
+    check_posted(rt, alloc, &mut book, it)
 }
 
 #[test]
 fn entries(rt: HostRuntime) -> Result<(), Fail> {
     let hasher = RandomState::new(&rt)?;
-    for (row, (lines, expected)) in ENTRIES.iter().enumerate() {
-        let posted = posted(rt.alloc(), hasher, lines)?;
-        assert_eq!(rt; posted.as_slice(), *expected, "row {row}");
+    for it in ENTRIES {
+        check_posted_alone(&rt, rt.alloc(), hasher, it)?;
     }
     Ok(())
 }

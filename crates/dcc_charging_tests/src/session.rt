@@ -36,18 +36,30 @@ fn session_with(alloc: Global, pool: &mut Pool, held: Held) -> Result<ParkedSess
     }
 }
 
+/// Whether a session that is put away holds one grant, until this deadline.
+fn is_held(parked: &ParkedSession, deadline: u64) -> bool {
+    if parked.deadline() != deadline || parked.count() != 1 {
+        return false;
+    }
+    let mut looks = Looks::new();
+    parked.grants(&mut looks).len() == 1 && looks.count() == 1
+}
+
+/// Whether a grant is held.
+fn holds(alloc: Global, pool: &mut Pool, held: Held) -> Result<bool, GrantFault> {
+    let parked = session_with(alloc, pool, held)?;
+    Ok(is_held(&parked, 1800))
+}
+
 /// A grant is held where what is free reaches for it.
 #[test]
 fn grant_is_held(rt: HostRuntime) -> Result<(), Fail> {
     let alloc = rt.alloc();
     let mut pool = Pool::new(7);
     pool.credit(1000)?;
-    let parked = session_with(alloc, &mut pool, octets(100_000)?)?;
-    assert_eq!(rt; (parked.deadline(), parked.count()), (1800, 1));
-    let mut looks = Looks::new();
-    assert!(rt; parked.grants(&mut looks).len() == 1 && looks.count() == 1);
+    assert!(rt; holds(alloc, &mut pool, octets(100_000)?)?);
     assert_eq!(rt; (pool.committed(), pool.reserved()), (1000, 500));
-    let refused = session_with(alloc, &mut pool, octets(100_001)?);
+    let refused = holds(alloc, &mut pool, octets(100_001)?);
     assert!(rt; matches!(refused, Err(GrantFault::Short)));
     assert_eq!(rt; pool.reserved(), 500);
     Ok(())

@@ -12,6 +12,7 @@ use dcc_message::{HeaderFault, LengthFault};
 use dcc_octets::OctetString;
 use std::alloc::Global;
 use std::io::{self, Error, ErrorKind, Read, Write};
+use std::process::Abort;
 use std::sync::Wait;
 use std::test::Fail;
 use std::thread::join;
@@ -167,34 +168,55 @@ fn taking(alloc: Global, most: usize, room: usize, refuses: bool) -> Sink {
     }
 }
 
-/// Serves a connection whose answerer closes behind none of the first messages.
+/// What a connection reads: these octets, so many at a time, and a failure at the read after so many.
+type Given<'a> = (&'a [u8], usize, u32);
+
+/// How its writer takes octets: so many at a time, and so many in all; and whether it fails then, or takes none.
+type Taken = (usize, usize, bool);
+
+/// A writer that takes all.
+const ALL: Taken = (100, 100, true);
+
+/// Serves a connection whose answerer closes behind none of the first messages, and asserts how it ends, and what is written.
 fn serve(
-    alloc: Global,
+    rt: &(impl Abort + AllocGlobal),
     input: &mut Source<'_>,
     output: &mut Sink,
     turns: u32,
-) -> Result<ConnectionEnd, Fail> {
+    end: ConnectionEnd,
+    written: &[u8],
+) -> Result<(), Fail> {
+    let alloc = rt.alloc();
     let mut answerer = InTurn {
         alloc,
         answered: 0,
         last: 9,
     };
-    Ok(serve_connection(alloc, input, output, &clock()?, &mut answerer, turns))
+    let told = serve_connection(alloc, input, output, &clock()?, &mut answerer, turns);
+    assert_eq!(rt; told, end);
+    assert_eq!(rt; output.taken.as_slice(), written);
+    Ok(())
+}
+
+/// The same of a reader and a writer in short.
+fn check(
+    rt: &(impl Abort + AllocGlobal),
+    (octets, most, reads): Given<'_>,
+    (takes, room, refuses): Taken,
+    turns: u32,
+    end: ConnectionEnd,
+    written: &[u8],
+) -> Result<(), Fail> {
+    let mut input = giving(octets, most, reads);
+    let mut output = taking(rt.alloc(), takes, room, refuses);
+    serve(rt, &mut input, &mut output, turns, end, written)
 }
 
 #[test]
 fn answers_each_message(rt: HostRuntime) -> Result<(), Fail> {
-    let alloc = rt.alloc();
     for most in [1, 7, HALF, 100] {
-        let mut output = taking(alloc, 100, 100, true);
-        let end = serve(
-            alloc,
-            &mut giving(MESSAGES, most, ENOUGH),
-            &mut output,
-            ENOUGH,
-        )?;
-        assert_eq!(&rt; end, ConnectionEnd::End);
-        assert_eq!(&rt; output.taken.as_slice(), BOTH);
+        let given = (MESSAGES, most, ENOUGH);
+        check(&rt, given, ALL, ENOUGH, ConnectionEnd::End, BOTH)?;
     }
     Ok(())
 }
@@ -202,7 +224,7 @@ fn answers_each_message(rt: HostRuntime) -> Result<(), Fail> {
 /// The messages come in pieces of 10 octets: from the third read on the first is answered, and from the fifth on both.
 #[test]
 fn a_reader_fails_at_each_read(rt: HostRuntime) -> Result<(), Fail> {
-    let alloc = rt.alloc();
+    let failed = ConnectionEnd::Fault(ConnectFault::Read);
     for (reads, answers) in [
         (0, b"".as_slice()),
         (1, b""),
@@ -210,127 +232,131 @@ fn a_reader_fails_at_each_read(rt: HostRuntime) -> Result<(), Fail> {
         (3, FIRST),
         (4, BOTH),
     ] {
-        let mut output = taking(alloc, 100, 100, true);
-        let end = serve(alloc, &mut giving(MESSAGES, 10, reads), &mut output, ENOUGH)?;
-        assert_eq!(&rt; end, ConnectionEnd::Fault(ConnectFault::Read), "at {reads}");
-        assert_eq!(&rt; output.taken.as_slice(), answers, "at {reads}");
+        check(&rt, (MESSAGES, 10, reads), ALL, ENOUGH, failed, answers)?;
     }
     Ok(())
 }
 
 #[test]
 fn a_writer_fails_after_each_octet(rt: HostRuntime) -> Result<(), Fail> {
-    let alloc = rt.alloc();
-    for refuses in [true, false] {
-        for room in 0..BOTH.len() {
-            let mut output = taking(alloc, 1, room, refuses);
-            let end = serve(
-                alloc,
-                &mut giving(MESSAGES, 100, ENOUGH),
-                &mut output,
-                ENOUGH,
-            )?;
-            let written = room as u64;
-            assert_eq!(&rt; end, ConnectionEnd::Fault(ConnectFault::Write { written }));
-            assert_eq!(&rt; output.taken.as_slice(), &BOTH[..room]);
+    let given = (MESSAGES, 100, ENOUGH);
+    for room in 0..BOTH.len() {
+        let written = room as u64;
+        let failed = ConnectionEnd::Fault(ConnectFault::Write { written });
+        for refuses in [true, false] {
+            let taken = (1, room, refuses);
+            check(&rt, given, taken, ENOUGH, failed, &BOTH[..room])?;
         }
     }
     Ok(())
 }
 
-#[test]
-fn closes_behind_an_answer(rt: HostRuntime) -> Result<(), Fail> {
-    let alloc = rt.alloc();
-    let mut output = taking(alloc, 100, 100, true);
+/// Serves a connection whose answerer closes behind the first message: how it ends.
+fn serve_one(alloc: Global, output: &mut Sink) -> Result<ConnectionEnd, Fail> {
     let mut answerer = InTurn {
         alloc,
         answered: 0,
         last: 1,
     };
     let mut input = giving(MESSAGES, 100, ENOUGH);
-    let end = serve_connection(alloc, &mut input, &mut output, &clock()?, &mut answerer, 9);
+    Ok(serve_connection(alloc, &mut input, output, &clock()?, &mut answerer, 9))
+}
+
+#[test]
+fn closes_behind_an_answer(rt: HostRuntime) -> Result<(), Fail> {
+    let mut output = taking(rt.alloc(), 100, 100, true);
+    let end = serve_one(rt.alloc(), &mut output)?;
     assert_eq!(&rt; end, ConnectionEnd::Closed);
     assert_eq!(&rt; output.taken.as_slice(), FIRST);
     Ok(())
 }
 
+/// The messages with another octet at this place.
+fn with_octet(alloc: Global, place: usize, octet: u8) -> Result<Vec<u8>, Fail> {
+    let mut octets = Vec::from_slice(alloc, MESSAGES)?;
+    *octets.get_mut(place).ok_or("a place")? = octet;
+    Ok(octets)
+}
+
+/// Asserts that what is no message ends a connection behind the first, with the fault of this number.
+fn check_fault(
+    rt: &(impl Abort + AllocGlobal),
+    octets: &[u8],
+    fault: HeaderFault,
+    number: u8,
+) -> Result<(), Fail> {
+    let fault = ConnectFault::Header(fault);
+    assert_eq!(rt; fault.number(), Some(number));
+    let end = ConnectionEnd::Fault(fault);
+    check(rt, (octets, 7, ENOUGH), ALL, ENOUGH, end, FIRST)
+}
+
 /// Behind the first message stands a header of version 2, a length below a header's, and one above the limit.
 #[test]
 fn what_is_no_message(rt: HostRuntime) -> Result<(), Fail> {
-    let alloc = rt.alloc();
-    let version = HeaderFault::Version;
-    let bad_length = HeaderFault::Length(LengthFault::BadLength);
-    let too_long = HeaderFault::Length(LengthFault::TooLong);
     for (place, octet, fault, number) in [
-        (HALF, 2, version, 10),
-        (HALF + 3, 16, bad_length, 11),
-        (HALF + 1, 1, too_long, 12),
+        (HALF, 2, HeaderFault::Version, 10),
+        (
+            HALF + 3,
+            16,
+            HeaderFault::Length(LengthFault::BadLength),
+            11,
+        ),
+        (HALF + 1, 1, HeaderFault::Length(LengthFault::TooLong), 12),
     ] {
-        let mut octets = Vec::from_slice(alloc, MESSAGES)?;
-        if let Some(at) = octets.get_mut(place) {
-            *at = octet;
-        }
-        let mut output = taking(alloc, 100, 100, true);
-        let end = serve(
-            alloc,
-            &mut giving(octets.as_slice(), 7, ENOUGH),
-            &mut output,
-            ENOUGH,
-        )?;
-        assert_eq!(&rt; end, ConnectionEnd::Fault(ConnectFault::Header(fault)));
-        assert_eq!(&rt; ConnectFault::Header(fault).number(), Some(number));
-        assert_eq!(&rt; output.taken.as_slice(), FIRST);
+        let octets = with_octet(rt.alloc(), place, octet)?;
+        check_fault(&rt, &octets, fault, number)?;
     }
     Ok(())
 }
 
+/// Three reads of one octet; and one read of all, with two octets that go out.
 #[test]
 fn turns_are_bounded(rt: HostRuntime) -> Result<(), Fail> {
-    let alloc = rt.alloc();
     let used_up = ConnectionEnd::Fault(ConnectFault::TooManyTurns);
-    let mut output = taking(alloc, 1, 100, true);
-    // Three reads of one octet; and one read of all, with two octets that go out.
-    let end = serve(alloc, &mut giving(MESSAGES, 1, ENOUGH), &mut output, 3)?;
-    assert_eq!(&rt; end, used_up);
-    assert_eq!(&rt; output.taken.as_slice(), b"".as_slice());
-    let end = serve(alloc, &mut giving(MESSAGES, 100, ENOUGH), &mut output, 3)?;
-    assert_eq!(&rt; end, used_up);
-    assert_eq!(&rt; output.taken.as_slice(), b"ca".as_slice());
-    let mut counter = Counter { handed: 0, last: 9 };
-    let mut input = giving(MESSAGES, 1, ENOUGH);
-    let end = read_side(&rt, alloc, &mut input, &clock()?, &mut counter, 3);
-    assert_eq!(&rt; end, used_up);
+    check(&rt, (MESSAGES, 1, ENOUGH), ALL, 3, used_up, b"")?;
+    let taken = (1, 100, true);
+    check(&rt, (MESSAGES, 100, ENOUGH), taken, 3, used_up, b"ca")?;
+    check_handed(&rt, (MESSAGES, 1, ENOUGH), 9, 3, used_up, 0)
+}
+
+/// Hands messages on until the one behind which it closes, and asserts how that ends, and how many were handed on.
+fn check_handed<W: Wait + Abort + AllocGlobal>(
+    rt: &W,
+    (octets, most, reads): Given<'_>,
+    last: u32,
+    turns: u32,
+    end: ConnectionEnd,
+    handed: u32,
+) -> Result<(), Fail> {
+    let mut counter = Counter { handed: 0, last };
+    let mut input = giving(octets, most, reads);
+    let told = read_side(rt, rt.alloc(), &mut input, &clock()?, &mut counter, turns);
+    assert_eq!(rt; told, end);
+    assert_eq!(rt; counter.handed, handed);
     Ok(())
 }
 
 #[test]
 fn hands_each_message_on(rt: HostRuntime) -> Result<(), Fail> {
-    let alloc = rt.alloc();
     let failed = ConnectionEnd::Fault(ConnectFault::Read);
     for (last, reads, end, handed) in [
         (9, ENOUGH, ConnectionEnd::End, 2),
         (1, ENOUGH, ConnectionEnd::Closed, 1),
         (9, 3, failed, 1),
     ] {
-        let mut counter = Counter { handed: 0, last };
-        let mut input = giving(MESSAGES, 10, reads);
-        let told = read_side(&rt, alloc, &mut input, &clock()?, &mut counter, ENOUGH);
-        assert_eq!(&rt; told, end);
-        assert_eq!(&rt; counter.handed, handed);
+        check_handed(&rt, (MESSAGES, 10, reads), last, ENOUGH, end, handed)?;
     }
     Ok(())
 }
 
 #[test]
 fn an_interrupted_read_is_made_again(rt: HostRuntime) -> Result<(), Fail> {
-    let alloc = rt.alloc();
-    let mut output = taking(alloc, 100, 100, true);
+    let mut output = taking(rt.alloc(), 100, 100, true);
     let mut input = giving(MESSAGES, 10, 1);
     input.failure = ErrorKind::Interrupted;
-    let end = serve(alloc, &mut input, &mut output, ENOUGH)?;
-    assert_eq!(&rt; end, ConnectionEnd::End);
-    assert_eq!(&rt; output.taken.as_slice(), BOTH);
-    Ok(())
+    let end = ConnectionEnd::End;
+    serve(&rt, &mut input, &mut output, ENOUGH, end, BOTH)
 }
 
 /// Puts so many items, and then that it ends.

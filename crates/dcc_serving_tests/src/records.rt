@@ -1,6 +1,6 @@
 //! Records in memory, and those that fail once; pages and books.
 
-ghost use Rattle.std.specs.Prelude.{◌≡◌, ◌∷◌, [], false};
+ghost use Rattle.std.specs.Prelude.{◌≡◌, ◌∷◌, [], false, IfOk};
 ghost use Rattle.dcc_act.specs.Subs.{same_sub};
 ghost use Rattle.dcc_records.specs.Books.{no_acts};
 ghost use Rattle.dcc_records.specs.Stops.{LeavesOnly};
@@ -12,6 +12,7 @@ use dcc_records::{Book, MemoryRecords, OnceRecords, Page, Records, StoreFault, a
 use std::alloc::Global;
 use std::hash::RandomState;
 use std::process::Abort;
+use std::random::RandomSource;
 use std::test::Fail;
 
 /// A top-up of each subscriber, and then another of the later, until one isn't appended: how many were. It owns nothing.
@@ -66,15 +67,31 @@ fn fill<R: Records>(records: &mut R, later: Sub, earlier: Sub) -> Result<u8, Fai
     ))
 }
 
-/// The tickets of a page's top-ups.
-fn tickets(alloc: Global, page: &Page) -> Result<Vec<u64>, Fail> {
-    let mut tickets = Vec::new(alloc);
-    for act in page.acts() {
-        if let Kind::TopUp(top_up) = &act.kind {
-            tickets.push(top_up.ticket)?;
-        }
+/// Two top-ups of the subscriber of the first name, and one of the second's between them, until one isn't appended: how many were.
+fn filled<R: Records>(records: &mut R, later: Sub, earlier: Sub) -> Result<u8, Fail>
+    requires nothing { R.is_stopped records.old ≡ false → LeavesOnly (R.terms records.old) no_acts (R.may_leave records.old) }
+{
+    if later == earlier || earlier == later {
+        return Err("two subscribers".into());
     }
-    Ok(tickets)
+    fill(records, later, earlier)
+}
+
+/// Whether a page has top-ups of these tickets, and nothing else.
+fn has_tickets(page: &Page, tickets: &[u64]) -> bool {
+    page.acts().len() == tickets.len()
+        && page
+            .acts()
+            .iter()
+            .zip(tickets)
+            .all(|(act, ticket)| is_of_ticket(act, *ticket))
+}
+
+fn is_of_ticket(act: &Act, ticket: u64) -> bool {
+    match &act.kind {
+        Kind::TopUp(top_up) => top_up.ticket == ticket,
+        _ => false,
+    }
 }
 
 /// The book of the records.
@@ -82,35 +99,44 @@ fn loaded<R: Records>(records: &mut R) -> Result<Book, Fail> {
     Ok(records.load()?)
 }
 
-/// Asserts that these are the pages of two subscribers, the earlier with a top-up and the later with two.
-fn assert_in_order(
-    rt: &(impl Abort + AllocGlobal),
-    pages: &[Page],
-    earlier: Sub,
-    later: Sub,
-) -> Result<(), Fail> {
-    assert_eq!(rt; pages.len(), 2);
-    assert!(rt; pages[0].sub() == earlier && pages[1].sub() == later);
-    assert_eq!(rt; tickets(rt.alloc(), &pages[0])?.as_slice(), [1].as_slice());
-    assert_eq!(rt;
-        tickets(rt.alloc(), &pages[1])?.as_slice(),
-        [1, 2].as_slice()
-    );
+/// Whether these are the pages of two subscribers, the earlier with a top-up and the later with two.
+fn are_in_order(pages: &[Page], earlier: Sub, later: Sub) -> bool {
+    match pages {
+        [first, second] => {
+            first.sub() == earlier
+                && second.sub() == later
+                && has_tickets(first, &[1])
+                && has_tickets(second, &[1, 2])
+        }
+        _ => false,
+    }
+}
+
+/// Asserts that two subscribers are read in their order.
+fn check_order<R: Records>(rt: &impl Abort, records: &mut R) -> Result<(), Fail>
+    requires nothing { R.is_stopped records.old ≡ false → LeavesOnly (R.terms records.old) no_acts (R.may_leave records.old) }
+{
+    let later = subscriber(b"491700000002")?;
+    let earlier = subscriber(b"491700000001")?;
+    assert_eq!(rt; filled(records, later, earlier)?, 3);
+    assert!(rt; are_in_order(loaded(records)?.as_slice(), earlier, later));
+    assert!(rt; *records.terms() == TERMS && records.faults() == 0 && !records.is_stopped());
     Ok(())
+}
+
+/// Records in memory, without acts.
+fn in_memory<S: RandomSource + AllocGlobal>(rt: &S) -> Result<MemoryRecords, Fail>
+    ensures { IfOk result (λ records. ⟦<MemoryRecords as Records>⟧.is_stopped records ≡ false
+        → LeavesOnly (⟦<MemoryRecords as Records>⟧.terms records) no_acts (⟦<MemoryRecords as Records>⟧.may_leave records)) }
+{
+    let hasher = RandomState::new(rt)?;
+    Ok(MemoryRecords::new(rt.alloc(), &TERMS, hasher))
 }
 
 #[test]
 fn two_subscribers_are_read_in_their_order(rt: HostRuntime) -> Result<(), Fail> {
-    let later = subscriber(b"491700000002")?;
-    let earlier = subscriber(b"491700000001")?;
-    assert!(rt; later != earlier && earlier != later);
-    let hasher = RandomState::new(&rt)?;
-    let mut records = MemoryRecords::new(rt.alloc(), &TERMS, hasher);
-    assert_eq!(rt; fill(&mut records, later, earlier)?, 3);
-    let book = loaded(&mut records)?;
-    assert_in_order(&rt, book.as_slice(), earlier, later)?;
-    assert!(rt; *records.terms() == TERMS && records.faults() == 0 && !records.is_stopped());
-    Ok(())
+    let mut records = in_memory(&rt)?;
+    check_order(&rt, &mut records)
 }
 
 /// Whether the records are stopped, and an act is refused so.
@@ -122,33 +148,35 @@ fn refuses<R: Records>(records: &mut R, sub: Sub) -> Result<bool, Fail> {
     Ok(matches!(again, Err(StoreFault::Stopped)))
 }
 
-/// Asserts that the records are stopped: nothing is read, and nothing is added.
-fn assert_stopped<R: Records>(rt: &impl Abort, records: &mut R, sub: Sub) -> Result<(), Fail> {
+/// Asserts that the second append stops the records: nothing is read, and nothing is added.
+fn check_stopped<R: Records>(rt: &impl Abort, records: &mut R) -> Result<(), Fail>
+    requires nothing { R.is_stopped records.old ≡ false → LeavesOnly (R.terms records.old) no_acts (R.may_leave records.old) }
+{
+    let later = subscriber(b"491700000002")?;
+    let earlier = subscriber(b"491700000001")?;
+    assert_eq!(rt; filled(records, later, earlier)?, 1);
     assert!(rt; records.is_stopped() && records.faults() == 1 && *records.terms() == TERMS);
     assert!(rt; matches!(records.load(), Err(StoreFault::Stopped)));
-    assert!(rt; refuses(records, sub)?);
+    assert!(rt; refuses(records, earlier)?);
     Ok(())
 }
 
-/// Asserts that there is one page: of this subscriber, with one act.
-fn assert_one(rt: &impl Abort, book: Book, sub: Sub) -> Result<(), Fail> {
-    assert_eq!(rt; book.as_slice().len(), 1);
-    let mut pages = book.into_vec();
+/// Asserts that there is one page: of the later subscriber, with one act.
+fn check_one<R: Records>(rt: &impl Abort, records: &mut R) -> Result<(), Fail> {
+    let later = subscriber(b"491700000002")?;
+    let mut pages = loaded(records)?.into_vec();
+    assert_eq!(rt; pages.len(), 1);
     let (found, acts) = pages.pop().ok_or("a page")?.into_parts();
-    assert!(rt; found == sub && acts.len() == 1);
+    assert!(rt; found == later && acts.len() == 1);
     Ok(())
 }
 
 #[test]
 fn the_second_append_fails(rt: HostRuntime) -> Result<(), Fail> {
-    let later = subscriber(b"491700000002")?;
-    let earlier = subscriber(b"491700000001")?;
-    assert!(rt; later != earlier && earlier != later);
     let hasher = RandomState::new(&rt)?;
     let mut records = OnceRecords::new(MemoryRecords::new(rt.alloc(), &TERMS, hasher), 2);
-    assert_eq!(rt; fill(&mut records, later, earlier)?, 1);
-    assert_stopped(&rt, &mut records, earlier)?;
-    assert_one(&rt, loaded(&mut records.healed())?, later)
+    check_stopped(&rt, &mut records)?;
+    check_one(&rt, &mut records.healed())
 }
 
 /// The book of the records. A load that memory refuses is tried once more.
@@ -168,33 +196,42 @@ fn count(pages: &[Page]) -> usize {
     count
 }
 
+/// Asserts that just what was appended is held, where one growth is refused.
+fn check_held<R: Records>(rt: &impl Abort, records: &mut R) -> Result<(), Fail>
+    requires nothing { R.is_stopped records.old ≡ false → LeavesOnly (R.terms records.old) no_acts (R.may_leave records.old) }
+{
+    let later = subscriber(b"491700000002")?;
+    let earlier = subscriber(b"491700000001")?;
+    let appended = filled(records, later, earlier)?;
+    let held = count(loaded_again(records)?.as_slice());
+    assert_eq!(rt; held, usize::from(appended));
+    assert!(rt; !records.is_stopped());
+    Ok(())
+}
+
 /// Where one growth is refused, just what was appended before it is held.
 #[test]
 fn a_refused_growth_leaves_what_was_held(rt: HostRuntime) -> Result<(), Fail> {
+    let mut records = in_memory(&rt)?;
+    check_held(&rt, &mut records)
+}
+
+/// Asserts that each append is made.
+fn check_all<R: Records>(rt: &impl Abort, records: &mut R) -> Result<(), Fail>
+    requires nothing { R.is_stopped records.old ≡ false → LeavesOnly (R.terms records.old) no_acts (R.may_leave records.old) }
+{
     let later = subscriber(b"491700000002")?;
     let earlier = subscriber(b"491700000001")?;
-    assert!(rt; later != earlier && earlier != later);
-    let hasher = RandomState::new(&rt)?;
-    let mut records = MemoryRecords::new(rt.alloc(), &TERMS, hasher);
-    let appended = fill(&mut records, later, earlier)?;
-    assert_eq!(rt;
-        count(loaded_again(&mut records)?.as_slice()),
-        usize::from(appended)
-    );
-    assert!(rt; !records.is_stopped());
+    assert_eq!(rt; filled(records, later, earlier)?, 3);
+    assert_eq!(rt; loaded(records)?.as_slice().len(), 2);
     Ok(())
 }
 
 #[test]
 fn none_of_the_appends_fails(rt: HostRuntime) -> Result<(), Fail> {
-    let later = subscriber(b"491700000002")?;
-    let earlier = subscriber(b"491700000001")?;
-    assert!(rt; later != earlier && earlier != later);
     let hasher = RandomState::new(&rt)?;
     let mut records = OnceRecords::new(MemoryRecords::new(rt.alloc(), &TERMS, hasher), 0);
-    assert_eq!(rt; fill(&mut records, later, earlier)?, 3);
-    assert_eq!(rt; loaded(&mut records)?.as_slice().len(), 2);
-    Ok(())
+    check_all(&rt, &mut records)
 }
 
 /// A page of one top-up.
@@ -212,13 +249,18 @@ fn pages(alloc: Global, names: &[&[u8]]) -> Result<Vec<Page>, Fail> {
     Ok(pages)
 }
 
+/// How many pages a book of these subscribers has, where they may stand so.
+fn book_of(alloc: Global, names: &[&[u8]]) -> Result<Option<usize>, Fail> {
+    let pages = pages(alloc, names)?;
+    Ok(Book::from_vec(pages).map(|book| book.as_slice().len()))
+}
+
 #[test]
 fn a_book_has_its_pages_in_order(rt: HostRuntime) -> Result<(), Fail> {
     let alloc = rt.alloc();
-    let book = Book::from_vec(pages(alloc, &[b"1", b"10", b"2"])?).ok_or("a book")?;
-    assert_eq!(rt; book.as_slice().len(), 3);
-    assert!(rt; Book::from_vec(pages(alloc, &[b"1", b"1"])?).is_none());
-    assert!(rt; Book::from_vec(pages(alloc, &[b"1", b"3", b"2"])?).is_none());
+    assert_eq!(rt; book_of(alloc, &[b"1", b"10", b"2"])?, Some(3));
+    assert_eq!(rt; book_of(alloc, &[b"1", b"1"])?, None);
+    assert_eq!(rt; book_of(alloc, &[b"1", b"3", b"2"])?, None);
     assert!(rt; Page::new(subscriber(b"1")?, Vec::new(alloc)).is_none());
     Ok(())
 }

@@ -39,14 +39,29 @@ fn header_of_a_request(rt: HostRuntime) -> Result<(), Fail> {
     };
     assert_eq!(rt; header, want);
     assert!(rt; header.is_request() && !header.is_error() && header.is_command(272, 4));
-    let mut out = Vec::new(rt.alloc());
-    write_message(&mut out, &header, &message[20..228])?;
-    assert!(rt; out == message);
-    let mut out = begin_message(rt.alloc(), 256)?;
-    out.extend_from_slice(&message[20..228])?;
-    finish_message(&mut out, &header);
-    assert!(rt; out == message);
+    let avps = &message[20..228];
+    assert!(rt; written_at_once(rt.alloc(), &header, avps)? == message);
+    assert!(rt; written_in_place(rt.alloc(), &header, avps)? == message);
     Ok(())
+}
+
+/// The message of this header and these AVPs.
+fn written_at_once(alloc: Global, header: &Header, avps: &[u8]) -> Result<Vec<u8>, Fail> {
+    let mut out = Vec::new(alloc);
+    if avps.len() < 60_000 && avps.len() % 4 == 0 {
+        write_message(&mut out, header, avps)?;
+    }
+    Ok(out)
+}
+
+/// The same, whose header comes last.
+fn written_in_place(alloc: Global, header: &Header, avps: &[u8]) -> Result<Vec<u8>, Fail> {
+    let mut out = begin_message(alloc, 256)?;
+    out.extend_from_slice(avps)?;
+    if avps.len() < 60_000 && avps.len() % 4 == 0 {
+        finish_message(&mut out, header);
+    }
+    Ok(out)
 }
 
 /// The message written anew from its header and its AVPs.
@@ -59,11 +74,10 @@ fn written_anew(alloc: Global, message: &[u8]) -> Result<Vec<u8>, Fail> {
             write_avp(&mut avps, avp)?;
         }
     }
-    let mut out = Vec::new(alloc);
-    if avps.len() == list.len() && avps.len() < 65_536 && avps.len() % 4 == 0 {
-        write_message(&mut out, &header, &avps)?;
+    if avps.len() != list.len() {
+        return Err("other AVPs".into());
     }
-    Ok(out)
+    written_at_once(alloc, &header, &avps)
 }
 
 #[test]
@@ -120,23 +134,35 @@ fn faults_in_their_order(rt: HostRuntime) -> Result<(), Fail> {
     Ok(())
 }
 
+/// The longest message, and another behind it.
+fn longest_and(alloc: Global, next: &[u8]) -> Result<Vec<u8>, Fail> {
+    let header = read_header(next).ok().ok_or("a header")?;
+    let avps = vec![in alloc; 0x61; MAX_LENGTH - 20]?;
+    let mut stream = Vec::new(alloc);
+    write_message(&mut stream, &header, &avps)?;
+    stream.extend_from_slice(next)?;
+    Ok(stream)
+}
+
+/// Whether these are the longest message and another.
+fn are_longest_and(given: &[Vec<u8>], next: &[u8]) -> bool {
+    match given {
+        [longest, other] => longest.len() == MAX_LENGTH && other.as_slice() == next,
+        _ => false,
+    }
+}
+
 /// The longest message, in one piece with another behind it, and in two.
 #[test]
 fn longest_message(rt: HostRuntime) -> Result<(), Fail> {
     let first = decoded(rt.alloc(), DEBIT)?;
-    let header = read_header(&first).ok().ok_or("a header")?;
-    let avps = vec![in rt.alloc(); 0x61; MAX_LENGTH - 20]?;
-    let mut stream = Vec::new(rt.alloc());
-    write_message(&mut stream, &header, &avps)?;
-    assert_eq!(rt; stream.len(), MAX_LENGTH);
-    let read = read_header(&stream).ok().ok_or("a header")?;
+    let stream = longest_and(rt.alloc(), &first)?;
+    assert_eq!(rt; stream.len(), MAX_LENGTH + first.len());
+    let longest = stream.get(..MAX_LENGTH).ok_or("a message")?;
+    let read = read_header(longest).ok().ok_or("a header")?;
     assert_eq!(rt; read.length, 65_532);
-    stream.extend_from_slice(&first)?;
     for size in [65_760, 40_000] {
-        let given = fed(rt.alloc(), &stream, size)?;
-        assert_eq!(rt; given.len(), 2);
-        assert_eq!(rt; given[0].len(), MAX_LENGTH);
-        assert!(rt; given[1] == first);
+        assert!(rt; are_longest_and(&fed(rt.alloc(), &stream, size)?, &first));
     }
     Ok(())
 }
@@ -159,18 +185,24 @@ fn fed(alloc: Global, stream: &[u8], size: usize) -> Result<Vec<Vec<u8>>, Fail> 
     Ok(given)
 }
 
+/// Whether these are the first, the second, and the first again.
+fn are_three(given: &[Vec<u8>], first: &[u8], second: &[u8]) -> bool {
+    match given {
+        [a, b, c] => a.as_slice() == first && b.as_slice() == second && c.as_slice() == first,
+        _ => false,
+    }
+}
+
 #[test]
 fn stream_in_pieces(rt: HostRuntime) -> Result<(), Fail> {
     let first = decoded(rt.alloc(), WATCHDOG)?;
     let second = decoded(rt.alloc(), DEBIT)?;
     let mut stream = Vec::new(rt.alloc());
-    stream.extend_from_slice(&first)?;
-    stream.extend_from_slice(&second)?;
-    stream.extend_from_slice(&first)?;
+    for message in [&first, &second, &first] {
+        stream.extend_from_slice(message)?;
+    }
     for size in [1, 3, 57, 340] {
-        let given = fed(rt.alloc(), &stream, size)?;
-        assert_eq!(rt; given.len(), 3);
-        assert!(rt; given[0] == first && given[1] == second && given[2] == first);
+        assert!(rt; are_three(&fed(rt.alloc(), &stream, size)?, &first, &second));
     }
     any_pieces();
     Ok(())
@@ -192,22 +224,32 @@ fn cut_into_two(rt: HostRuntime) -> Result<(), Fail> {
     Ok(())
 }
 
+/// The message that stands before a length field that is bad, once what stands behind it is there too, and what is told of that, twice.
+fn told(
+    alloc: Global,
+    bad: &str,
+) -> Result<(Option<Vec<u8>>, Option<LengthFault>, Option<LengthFault>), Fail> {
+    let first = decoded(alloc, WATCHDOG)?;
+    let bad = decoded(alloc, bad)?;
+    let mut framer = Framer::new(alloc);
+    for piece in [first.as_slice(), bad.as_slice(), first.as_slice()] {
+        framer.feed(piece)?;
+    }
+    let message = framer.next().ok().flatten();
+    Ok((message, framer.next().err(), framer.next().err()))
+}
+
 #[test]
 fn bad_length_fields(rt: HostRuntime) -> Result<(), Fail> {
-    let cases = [
+    let first = decoded(rt.alloc(), WATCHDOG)?;
+    for (text, fault) in [
         ("01000016", LengthFault::BadLength),
         ("0100fffe", LengthFault::TooLong),
         ("01010000", LengthFault::TooLong),
-    ];
-    for (text, fault) in cases {
-        let first = decoded(rt.alloc(), WATCHDOG)?;
-        let mut framer = Framer::new(rt.alloc());
-        framer.feed(&first)?;
-        framer.feed(&decoded(rt.alloc(), text)?)?;
-        framer.feed(&first)?;
-        assert!(rt; framer.next() == Ok(Some(first)));
-        assert!(rt; framer.next() == Err(fault));
-        assert!(rt; framer.next() == Err(fault));
+    ] {
+        let (message, once, twice) = told(rt.alloc(), text)?;
+        assert!(rt; message.as_deref() == Some(first.as_slice()));
+        assert_eq!(rt; (once, twice), (Some(fault), Some(fault)));
     }
     Ok(())
 }

@@ -2,8 +2,9 @@
 
 ghost use Rattle.std.specs.Prelude.{◌≤◌, ◌<◌};
 
-use super::{Ask, Book, SINGLE, UNRATED, Want, act};
+use super::{Ask, Book, SINGLE, UNRATED, Want};
 use dcc_act::{Action, MAX_AMOUNT, Outcome};
+use dcc_model::Done;
 use dcc_tariff::MAX_UNITS;
 use std::alloc::Global;
 use std::hash::RandomState;
@@ -175,9 +176,9 @@ struct Turns {
 }
 
 /// The most sessions that one expiry ended.
-fn most_ended(book: &Book) -> u64 {
+fn most_ended(made: &[Done]) -> u64 {
     let mut most = 0;
-    for done in &book.made {
+    for done in made {
         if let Outcome::Expired { sessions } = done.outcome {
             most = sessions.max(most);
         }
@@ -188,14 +189,13 @@ fn most_ended(book: &Book) -> u64 {
 /// How near funds are to be.
 const NEAR: i128 = MAX_AMOUNT as i128 - 100_000;
 
-/// Judges 250 acts, each by the plain program and by the account beside it, and tells whether funds came near the ceiling, and
-/// near the floor.
+/// Judges 250 acts, each by the plain program and by the account beside it: what came of them.
 fn judge_all(
     alloc: Global,
     book: &mut Book,
     numbers: &mut Thrown,
     is_much: bool,
-) -> Result<(bool, bool), Fail> {
+) -> Result<Turns, Fail> {
     let mut was_high = false;
     let mut was_low = false;
     for turn in 0..250u8 {
@@ -203,7 +203,12 @@ fn judge_all(
         was_high |= book.standing.funds > NEAR;
         was_low |= book.standing.funds < -NEAR;
     }
-    Ok((was_high, was_low))
+    Ok(Turns {
+        made: book.made.len(),
+        most_ended: most_ended(&book.made),
+        was_high,
+        was_low,
+    })
 }
 
 /// Judges the act of a turn. Moments go on by half a minute, and back by as much as five.
@@ -215,9 +220,7 @@ fn judge(
     is_much: bool,
 ) -> Result<(), Fail> {
     let after = (u64::from(turn) * 30 + 300).saturating_sub(numbers.below(300));
-    let ask = ask_of(numbers, turn, is_much);
-    book.judge(alloc, &act(alloc, after, ask)?)?;
-    Ok(())
+    book.ask(alloc, after, ask_of(numbers, turn, is_much))
 }
 
 /// What comes of the acts of a seed.
@@ -229,13 +232,7 @@ fn judge_turns(
 ) -> Result<Turns, Fail> {
     let mut numbers = Thrown { state: seed };
     let mut book = Book::new(alloc, hasher);
-    let (was_high, was_low) = judge_all(alloc, &mut book, &mut numbers, is_much)?;
-    Ok(Turns {
-        made: book.made.len(),
-        most_ended: most_ended(&book),
-        was_high,
-        was_low,
-    })
+    judge_all(alloc, &mut book, &mut numbers, is_much)
 }
 
 /// An account answers as the plain program does, through 250 acts of each of eight seeds; most are made, and not all, and

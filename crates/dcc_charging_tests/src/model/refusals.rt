@@ -3,7 +3,7 @@
 ghost use Rattle.std.specs.Prelude.{IfOk};
 ghost use Rattle.dcc_account.specs.Prepared.{IsPrepared};
 
-use super::{Ask, Line, act, rows, told};
+use super::{Ask, Line, Row, act, is_told, rows};
 use crate::acts::TERMS;
 use dcc_account::{Account, Step};
 use std::alloc::Global;
@@ -52,37 +52,36 @@ fn make(
 ) -> Result<(), Fail> {
     let (after, ask, expected) = *line;
     let step = prepared(rt, alloc, account, after, ask, was_refused)?;
-    let told = told(alloc, step.outcome())?;
-    assert_eq!(rt; told.as_slice(), expected);
+    assert!(rt; is_told(alloc, step.outcome(), expected)?);
     account.install(step);
     Ok(())
 }
 
-/// Makes the acts of a row.
+/// Makes the acts of a row, and asserts what funds, what is free and what is overrun are behind them.
 fn make_all(
     rt: &impl Abort,
     alloc: Global,
     account: &mut Account,
-    lines: &[Line],
+    (lines, money): Row,
     was_refused: &mut bool,
 ) -> Result<(), Fail> {
     for line in lines {
         make(rt, alloc, account, line, was_refused)?;
     }
+    assert_eq!(rt; (account.funds(), account.free(), account.overrun()), money);
     Ok(())
 }
 
-/// Funds, what is free and what is overrun after the acts of a row.
-fn money_after(
+/// Makes the acts of a row by an account of its own.
+fn make_row(
     rt: &impl Abort,
     alloc: Global,
     hasher: RandomState,
-    lines: &[Line],
+    row: Row,
     was_refused: &mut bool,
-) -> Result<(i128, i128, i128), Fail> {
+) -> Result<(), Fail> {
     let mut account = Account::new(alloc, &TERMS, hasher);
-    make_all(rt, alloc, &mut account, lines, was_refused)?;
-    Ok((account.funds(), account.free(), account.overrun()))
+    make_all(rt, alloc, &mut account, row, was_refused)
 }
 
 /// For allocations that are refused one after another: a step that memory refuses leaves the account as it was, and the same
@@ -91,9 +90,8 @@ fn money_after(
 fn a_refusal_leaves_the_account(rt: HostRuntime) -> Result<(), Fail> {
     let hasher = RandomState::new(&rt)?;
     let mut was_refused = false;
-    for (row, (lines, standing)) in rows::ROWS.iter().enumerate() {
-        let money = money_after(&rt, rt.alloc(), hasher, lines, &mut was_refused)?;
-        assert_eq!(rt; money, *standing, "row {row}");
+    for row in rows::ROWS {
+        make_row(&rt, rt.alloc(), hasher, row, &mut was_refused)?;
     }
     if was_refused {
         return Err("memory was refused".into());

@@ -2,12 +2,12 @@
 
 use super::Ask::{Event, Expiry, Initial, Termination, TopUp, Update};
 use super::Want::{Asks, Both, Used};
-use super::{ADDED, CEILING, ENDS, LAST, Line, OK, SINGLE, UNRATED};
+use super::{ADDED, CEILING, ENDS, LAST, Line, OK, Row, SINGLE, UNRATED};
 use dcc_act::Action::{CheckBalance, DirectDebiting, PriceEnquiry, RefundAccount};
 use dcc_act::MAX_AMOUNT;
 
 /// The rows, each with funds, what is free and what is overrun after it.
-pub(super) const ROWS: [(&[Line], (i128, i128, i128)); 23] = [
+pub(super) const ROWS: [Row; 23] = [
     (SHARED, (795, 0, 0)),
     (OVERRUN, (-5, -5, 5)),
     (ALONE_FINAL, (5, 0, 0)),

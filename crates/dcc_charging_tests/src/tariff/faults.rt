@@ -1,10 +1,13 @@
 use super::texts::{edited, fault_in};
 use dcc_samples::PLAN;
 use std::alloc::Global;
+use std::process::Abort;
 use std::test::Fail;
 
 /// What of the samples' plan is replaced, by what, and the number of the fault, 0 for none.
-const EDITS: &[(&str, &str, u8)] = &[
+type Edit = (&'static str, &'static str, u8);
+
+const EDITS: &[Edit] = &[
     // One of each.
     ("quantum = 100000\n", "", 21),
     ("block = 1000", "block = 0", 22),
@@ -178,33 +181,43 @@ const EDITS: &[(&str, &str, u8)] = &[
     ("2020-01-01T00:00:00Z", "soon", 23),
 ];
 
+/// The number of the fault of the samples' plan with an edit.
+fn fault_of(alloc: Global, old: &str, new: &str) -> Result<u8, Fail> {
+    let text = edited(alloc, PLAN, old, new)?;
+    Ok(fault_in(alloc, text.as_str()))
+}
+
+/// Asserts the fault of each edit.
+fn assert_faults(rt: &impl Abort, alloc: Global, edits: &[Edit]) -> Result<(), Fail> {
+    for (old, new, fault) in edits {
+        assert_eq!(rt; fault_of(alloc, old, new)?, *fault, "{old} to {new}");
+    }
+    Ok(())
+}
+
 #[test]
 fn faults_of_edited_plans(rt: HostRuntime) -> Result<(), Fail> {
     assert_eq!(rt; fault_in(rt.alloc(), "="), 20);
     assert_eq!(rt; fault_in(rt.alloc(), ""), 21);
-    for (old, new, fault) in EDITS {
-        let text = edited(rt.alloc(), PLAN, old, new)?;
-        assert_eq!(rt;
-            fault_in(rt.alloc(), text.as_str()),
-            *fault,
-            "{old} to {new}"
-        );
+    assert_faults(&rt, rt.alloc(), EDITS)
+}
+
+/// A name of so many octets.
+fn name_of(alloc: Global, length: u32) -> Result<String, Fail> {
+    let mut name = String::new(alloc);
+    for _ in 0..length {
+        name.push('a')?;
     }
-    Ok(())
+    Ok(name)
 }
 
 /// The longest name, and one that is longer.
 #[test]
 fn limits_of_names(rt: HostRuntime) -> Result<(), Fail> {
-    let mut name = String::new(rt.alloc());
-    for _ in 0..255 {
-        name.push('a')?;
+    for (length, fault) in [(255, 0), (256, 22)] {
+        let name = name_of(rt.alloc(), length)?;
+        assert_eq!(rt; fault_of(rt.alloc(), "ocs.example", name.as_str())?, fault);
     }
-    let text = edited(rt.alloc(), PLAN, "ocs.example", name.as_str())?;
-    assert_eq!(rt; fault_in(rt.alloc(), text.as_str()), 0);
-    name.push('a')?;
-    let text = edited(rt.alloc(), PLAN, "ocs.example", name.as_str())?;
-    assert_eq!(rt; fault_in(rt.alloc(), text.as_str()), 22);
     Ok(())
 }
 
