@@ -1,8 +1,10 @@
 //! One round.
 
-ghost use Rattle.std.specs.Prelude.{◌≡◌, ◌≢◌, ◌<◌, ◌≤◌, ℕ, false, [], length, slice_index_or, IfOk, IfErr};
+ghost use Rattle.std.specs.Prelude.{◌≡◌, ◌≢◌, ◌<◌, ◌≤◌, ◌++◌, ℕ, false, [], length, slice_index_or, IfOk, IfErr};
+ghost use Rattle.std.specs.List.{filter_map};
 ghost use Rattle.dcc_act.specs.declared.sub.Sub.{Sub};
 ghost use Rattle.dcc_running.specs.Books.{AreShards};
+ghost use Rattle.dcc_serve.specs.Counting.{counts_in, seat_in};
 ghost use Rattle.dcc_serve.specs.Lines.{is_store};
 
 use crate::face::{Connection, Listener, Notice, Notices, Shut};
@@ -15,13 +17,14 @@ use crate::run::Service;
 use crate::tasks::{Shared, Task};
 use crate::work::Work;
 use crate::worker::Worker;
+use crate::writer::Ending;
 use dcc_base::Peer;
 use dcc_connect::{Clock, Item};
 use dcc_records::Records;
 use dcc_running::{Seat, Shards};
 use dcc_shard::Shard;
 use std::alloc::{AllocError, Global};
-use std::io::{Read, Write};
+use std::io::Read;
 use std::sync::Wait;
 use std::thread::{Threads, for_each_mut};
 
@@ -30,7 +33,7 @@ pub(crate) fn serve_round<
     W: Threads + Wait + Sync,
     R: Records + Send + Sync + Drop,
     I: Read + Send + Drop,
-    O: Write + Shut + Send + Drop,
+    O: Shut + Send + Drop,
     L: Listener<I, O>,
     C: Clock + Sync,
     N: Notices + Sync,
@@ -80,7 +83,7 @@ pub(crate) fn serve_round<
 }
 
 /// Makes all that the threads of a round begin with, and accepts its gateways.
-fn gather<W: Wait, R: Records, I: Read + Drop, O: Write + Drop, L: Listener<I, O>, N: Notices>(
+fn gather<W: Wait, R: Records, I: Read + Drop, O: Shut + Drop, L: Listener<I, O>, N: Notices>(
     rt: &W,
     alloc: Global,
     notices: &N,
@@ -160,7 +163,7 @@ fn gather<W: Wait, R: Records, I: Read + Drop, O: Write + Drop, L: Listener<I, O
         tasks.push(Task::Read { input, reader })?;
         tasks.push(Task::Write {
             gate,
-            output,
+            output: Ending { output },
             from,
             answers: 0,
         })?;
@@ -173,7 +176,7 @@ fn serve_all<
     W: Threads + Wait + Sync,
     R: Records + Send + Sync + Drop,
     I: Read + Send + Drop,
-    O: Write + Shut + Send + Drop,
+    O: Shut + Send + Drop,
     C: Clock + Sync,
     N: Notices + Sync,
 >(
@@ -205,7 +208,9 @@ fn serve_all<
 }
 
 /// What a round came to.
-fn counted<I, O>(tasks: &[Task<I, O>]) -> Counts {
+fn counted<I, O>(tasks: &[Task<I, O>]) -> Counts
+    ensures { result ≡ counts_in tasks.now }
+{
     let mut counts = Counts {
         requests: 0,
         answers: 0,
@@ -219,11 +224,13 @@ fn counted<I, O>(tasks: &[Task<I, O>]) -> Counts {
     counts
 }
 
-/// The seats of a round's workers, in the room that was taken for them.
+/// The seats of a round's workers, in order, in the room that was taken for them. The only error is want of memory.
 fn seated<I: Drop, O: Drop>(
     tasks: Vec<Task<I, O>>,
     room: Vec<Seat>,
-) -> Result<Vec<Seat>, AllocError> {
+) -> Result<Vec<Seat>, AllocError>
+    ensures { IfOk result (λ seats. seats.items ≡ room.items ++ filter_map seat_in tasks.items) }
+{
     let mut seats = room;
     for task in tasks {
         if let Some(seat) = task.into_seat() {

@@ -48,7 +48,7 @@ pub fn serve_run<
     W: Threads + Wait + Sync,
     R: Records + Send + Sync + Drop,
     I: Read + Send + Drop,
-    O: Write + Shut + Send + Drop,
+    O: Shut + Send + Drop,
     L: Listener<I, O>,
     C: Clock + Sync,
     N: Notices + Sync,
