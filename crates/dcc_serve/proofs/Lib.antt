@@ -3,3 +3,6 @@ pub mod Doings
 pub mod Handings
 pub mod Tellings
 pub mod Counts
+pub mod Mapped
+pub mod Dealing
+pub mod Gathers

@@ -5,3 +5,5 @@ pub mod Working
 pub mod Handing
 pub mod Writing
 pub mod Counting
+pub mod Tasks
+pub mod Gathering

@@ -5,11 +5,13 @@ ghost use Rattle.std.specs.List.{filter_map};
 ghost use Rattle.dcc_act.specs.declared.sub.Sub.{Sub};
 ghost use Rattle.dcc_running.specs.Books.{AreShards};
 ghost use Rattle.dcc_serve.specs.Counting.{counts_in, seat_in};
+ghost use Rattle.dcc_serve.specs.Gathering.{AddsGates, AreGathered, reader_of, workers_from, writer_of};
 ghost use Rattle.dcc_serve.specs.Lines.{is_store};
+ghost use Rattle.dcc_serve.specs.Tasks.{AllRun};
 
 use crate::face::{Connection, Listener, Notice, Notices, Shut};
 use crate::fault::{ServeFault, of_close};
-use crate::lanes::{Lanes, make_lanes};
+use crate::lanes::{Lanes, first_of, make_lanes};
 use crate::line::Counts;
 use crate::reader::{Reader, Sweeps};
 use crate::rounds::Rounds;
@@ -20,6 +22,7 @@ use crate::worker::Worker;
 use crate::writer::Ending;
 use dcc_base::Peer;
 use dcc_connect::{Clock, Item};
+use dcc_lane::{Receiver, Sender};
 use dcc_records::Records;
 use dcc_running::{Seat, Shards};
 use dcc_shard::Shard;
@@ -94,25 +97,51 @@ fn gather<W: Wait, R: Records, I: Read + Drop, O: Shut + Drop, L: Listener<I, O>
 ) -> Result<Vec<Task<I, O>>, ServeFault>
     requires some { 1 ≤ count }
     requires most { count ≤ 8 }
-    ensures { IfErr result (λ fault. is_store fault ≡ false) }
+    ensures tasks { IfOk result (λ tasks. AreGathered count rounds.now.gates rounds.now.every tasks.items) }
+    ensures fault { IfErr result (λ fault. is_store fault ≡ false) }
 {
     let gates = rounds.gates;
     let work = make_lanes::<Work>(alloc, count, gates)?;
     let items = make_lanes::<Item>(alloc, gates, count + 1)?;
     let Lanes {
-        receivers,
-        senders: mut workers,
+        receivers: lanes,
+        senders: workers,
     } = work;
     let Lanes {
-        receivers: mut writers,
+        receivers: writers,
         senders: mut putters,
     } = items;
-    let mut tasks = Vec::with_capacity(alloc, 40)?;
-    let Some(mut replies) = putters.pop() else {
+    let Some(replies) = first_of(&mut putters) else {
         return Err(ServeFault::Memory);
     };
-    let mut shard = 0usize;
-    for (from, writers) in receivers.into_iter().zip(putters) {
+    let tasks = Vec::with_capacity(alloc, 40)?;
+    let tasks = add_workers::<R, I, O>(alloc, locked, lanes, putters, tasks)?;
+    add_gates::<W, I, O, L, N>(
+        rt, notices, listener, rounds, writers, workers, replies, tasks,
+    )
+}
+
+/// Adds a worker for each shard, in order. The only error is want of memory.
+fn add_workers<R: Records, I: Drop, O: Drop>(
+    alloc: Global,
+    locked: &Shards<R>,
+    receivers: Vec<Receiver<Work>>,
+    senders: Vec<Vec<Sender<Item>>>,
+    tasks: Vec<Task<I, O>>,
+) -> Result<Vec<Task<I, O>>, AllocError>
+    ensures { IfOk result (λ all. all.items ≡ tasks.items ++ workers_from 0 receivers.items senders.items) }
+{
+    let mut receivers = receivers;
+    let mut senders = senders;
+    let mut tasks = tasks;
+    let count = receivers.len();
+    for shard in 0..count {
+        let Some(from) = first_of(&mut receivers) else {
+            break;
+        };
+        let Some(writers) = first_of(&mut senders) else {
+            break;
+        };
         let seat = locked.seat(alloc)?;
         tasks.push(Task::Work(Worker {
             shard,
@@ -120,55 +149,93 @@ fn gather<W: Wait, R: Records, I: Read + Drop, O: Shut + Drop, L: Listener<I, O>
             from,
             writers,
         }))?;
-        shard = shard.saturating_add(1);
     }
-    // The first that comes has the first lanes.
-    writers.reverse();
-    workers.reverse();
-    replies.reverse();
-    for gate in 0..gates {
-        let (Some(from), Some(workers), Some(writer)) = (
-            writers.pop(),
-            workers.pop(),
-            replies.pop(),
-        ) else {
+    Ok(tasks)
+}
+
+/// Accepts each gateway of a round, and adds its reader and its writer.
+fn add_gates<W: Wait, I: Read + Drop, O: Shut + Drop, L: Listener<I, O>, N: Notices>(
+    rt: &W,
+    notices: &N,
+    listener: &mut L,
+    rounds: &Rounds,
+    receivers: Vec<Receiver<Item>>,
+    senders: Vec<Vec<Sender<Work>>>,
+    replies: Vec<Sender<Item>>,
+    tasks: Vec<Task<I, O>>,
+) -> Result<Vec<Task<I, O>>, ServeFault>
+    ensures gates { IfOk result (λ all. AddsGates rounds.now.every rounds.now.gates receivers.items senders.items replies.items tasks.items all.items) }
+    ensures fault { IfErr result (λ fault. is_store fault ≡ false) }
+{
+    let mut receivers = receivers;
+    let mut senders = senders;
+    let mut replies = replies;
+    let mut tasks = tasks;
+    for gate in 0..rounds.gates {
+        let Some(from) = first_of(&mut receivers) else {
+            return Err(ServeFault::Memory);
+        };
+        let Some(workers) = first_of(&mut senders) else {
+            return Err(ServeFault::Memory);
+        };
+        let Some(writer) = first_of(&mut replies) else {
             return Err(ServeFault::Memory);
         };
         let Ok(connection) = listener.accept() else {
             return Err(ServeFault::Io);
         };
-        let Connection {
-            input,
-            output,
-            name,
-        } = connection;
-        notices.tell(
-            rt,
-            Notice::Came {
-                gate: gate.saturating_add(1),
-                name: name.as_slice(),
-            },
-        );
-        let reader = Reader {
-            gate,
-            peer: Peer::Wait,
-            workers,
-            writer,
-            sweeps: Sweeps {
-                every: rounds.every,
-                since: 0,
-            },
-            requests: 0,
-        };
-        tasks.push(Task::Read { input, reader })?;
-        tasks.push(Task::Write {
-            gate,
-            output: Ending { output },
-            from,
-            answers: 0,
-        })?;
+        tell_came(rt, notices, gate, &connection);
+        let ends = ends_of(rounds.every, gate, connection, workers, writer, from);
+        tasks.push(ends.0)?;
+        tasks.push(ends.1)?;
     }
     Ok(tasks)
+}
+
+/// Tells that a gateway came.
+fn tell_came<W: Wait, I, O, N: Notices>(
+    rt: &W,
+    notices: &N,
+    gate: usize,
+    connection: &Connection<I, O>,
+) {
+    let name = connection.name.as_slice();
+    let gate = gate.saturating_add(1);
+    notices.tell(rt, Notice::Came { gate, name });
+}
+
+/// The reader and the writer of a gateway.
+fn ends_of<I: Drop, O: Drop>(
+    every: u32,
+    gate: usize,
+    connection: Connection<I, O>,
+    workers: Vec<Sender<Work>>,
+    writer: Sender<Item>,
+    from: Receiver<Item>,
+) -> (Task<I, O>, Task<I, O>)
+    ensures reader { result.0 ≡ reader_of every gate connection workers writer }
+    ensures writer { result.1 ≡ writer_of gate connection from }
+{
+    let Connection {
+        input,
+        output,
+        name: _,
+    } = connection;
+    let reader = Reader {
+        gate,
+        peer: Peer::Wait,
+        workers,
+        writer,
+        sweeps: Sweeps { every, since: 0 },
+        requests: 0,
+    };
+    let writer = Task::Write {
+        gate,
+        output: Ending { output },
+        from,
+        answers: 0,
+    };
+    (Task::Read { input, reader }, writer)
 }
 
 /// Runs each task in a thread of its own, until all have ended.
@@ -188,6 +255,8 @@ fn serve_all<
     tasks: &mut [Task<I, O>],
 )
     requires { count ≡ locked.now.count }
+    ensures { AllRun I.remaining O.contents (C.tells service.now.clock.now) (record { plan = service.now.plan.now; identity = service.now.identity.now })
+        count tasks.old tasks.new }
 {
     let shared = Shared {
         alloc,

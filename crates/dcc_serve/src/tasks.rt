@@ -1,6 +1,7 @@
 //! What the threads of a round do.
 
 ghost use Rattle.std.specs.Prelude.{◌≡◌};
+ghost use Rattle.dcc_serve.specs.Tasks.{Runs};
 ghost use Rattle.dcc_serve.specs.Counting.{requests_in, answers_in, acts_in, seat_in};
 
 use crate::face::{Notices, Shut};
@@ -53,7 +54,10 @@ impl<I: Read, O: Shut> Task<I, O> {
         &mut self,
         rt: &W,
         shared: &Shared<'_, R, C, N>,
-    ) {
+    )
+        ensures { Runs I.remaining O.contents (C.tells shared.now.clock.now) (record { plan = shared.now.plan.now; identity = shared.now.identity.now })
+            shared.now.count self.old self.new }
+    {
         match self {
             Task::Read { input, reader } => {
                 let _end = read_gate(
