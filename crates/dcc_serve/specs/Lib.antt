@@ -7,3 +7,4 @@ pub mod Writing
 pub mod Counting
 pub mod Tasks
 pub mod Gathering
+pub mod Served

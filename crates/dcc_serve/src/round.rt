@@ -7,6 +7,7 @@ ghost use Rattle.dcc_running.specs.Books.{AreShards};
 ghost use Rattle.dcc_serve.specs.Counting.{counts_in, seat_in};
 ghost use Rattle.dcc_serve.specs.Gathering.{AddsGates, AreGathered, reader_of, workers_from, writer_of};
 ghost use Rattle.dcc_serve.specs.Lines.{is_store};
+ghost use Rattle.dcc_serve.specs.Served.{IsRound};
 ghost use Rattle.dcc_serve.specs.Tasks.{AllRun};
 
 use crate::face::{Connection, Listener, Notice, Notices, Shut};
@@ -51,6 +52,8 @@ pub(crate) fn serve_round<
     requires shards { AreShards service.now.plan.now.terms service.now.identity.now shards.items }
     requires some { 1 ≤ length shards.items }
     requires most { length shards.items ≤ 8 }
+    ensures round { IfOk result (λ r. IsRound I.remaining O.contents (C.tells service.now.clock.now)
+        (record { plan = service.now.plan.now; identity = service.now.identity.now }) rounds.now.gates rounds.now.every shards.items r.0 r.1.items) }
     ensures shards { IfOk result (λ r. AreShards service.now.plan.now.terms service.now.identity.now r.1.items) }
     ensures some { IfOk result (λ r. 1 ≤ length r.1.items) }
     ensures most { IfOk result (λ r. length r.1.items ≤ 8) }
