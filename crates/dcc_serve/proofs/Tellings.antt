@@ -1,8 +1,10 @@
 -- How the lines of rounds go on.
 use Rattle.std.proofs.Common.{◌≡◌, ◌≢◌, true≢false, ℕ, ◌+◌, ◌<◌, false, List, [], ◌∷◌, ◌++◌, length, take, Option, refl, sym, ap, ◌∙◌, subst, append_assoc, append-nil, arith}
 use Rattle.std.proofs.KnownBytes.{Appends-nil, Appends-trans, Appends-kept}
+use Rattle.std.proofs.lemmas.Fn.{FoldsTo-push}
 use Rattle.std.specs.Io.KnownBytes.{Appends, Keeps}
 use Rattle.dcc_serve.specs.Lines.{round_line, round_lines, AreTold, EndsWith, is_store}
+use Rattle.dcc_serve.specs.Served.{AreServed}
 use Rattle.dcc_serve.specs.declared.fault.ServeFault.{ServeFault}
 use Rattle.dcc_serve.specs.declared.fault.ServeFault.TheVariants.{Memory, Io, Close, Store}
 use Rattle.dcc_serve.specs.declared.line.Counts.{Counts}
@@ -69,3 +71,17 @@ ends_in_line Io a b c ended rounds number one is silent part next few told =
 
 pub last_of : {A B C D : Type 0} → A × B × C × D → D
 last_of (a, b, c, d) = d
+
+pub none_served : {S : Type 0} (round : S → Counts → S → Type 0) (first : S) (a : Option (List ℕ)) → AreServed round 0 first first a a
+none_served round first a = ([], refl, refl, Appends-nil a)
+
+pub told_of : {S : Type 0} (round : S → Counts → S → Type 0) (rounds : ℕ) (first last : S) (a b : Option (List ℕ)) → AreServed round rounds first last a b → AreTold rounds a b
+told_of round rounds first last a b served = (served.0, served.1, served.3)
+
+-- one more round was served
+pub one_served : {S : Type 0} (round : S → Counts → S → Type 0) (rounds number : ℕ) (first last next : S) (one : Counts) (a b c : Option (List ℕ))
+    → AreServed round rounds first last a b → round last one next → number ≡ rounds + 1 → Appends b c (round_line number one) → AreServed round (rounds + 1) first next a c
+unfolding one_told
+one_served round rounds number first last next one a b c served it is more =
+    let told = one_told a b c rounds number one (served.0, served.1, served.3) is more in
+    (served.0 ++ one ∷ [], told.1, FoldsTo-push round first served.0 last one next served.2 it, told.2)

@@ -1,6 +1,9 @@
 -- What the reader of a gateway does with its messages.
-use Rattle.std.specs.Prelude.{◌≡◌, ℕ, ◌+◌, ◌-◌, ◌^◌, min, Bool, ◌==◌, ◌&&◌, nat_le, nat_lt, if◌then◌else◌, List, [], ◌∷◌, ◌++◌, length}
+use Rattle.std.specs.Prelude.{◌≡◌, ℕ, ◌+◌, ◌-◌, ◌^◌, min, Bool, ◌==◌, ◌&&◌, nat_le, nat_lt, if◌then◌else◌, List, [], ◌∷◌, ◌++◌, length, Option}
 use Rattle.dcc_base.specs.declared.peer.Peer.{Peer}
+use Rattle.dcc_connect.specs.Clocks.{timed}
+use Rattle.dcc_connect.specs.Reading.{ReadsAndHands, EndsAtEnd}
+use Rattle.dcc_connect.specs.declared.fault.ConnectionEnd.{ConnectionEnd}
 use Rattle.dcc_connect.specs.declared.handing.Handed.{Handed}
 use Rattle.dcc_connect.specs.declared.handing.Handed.TheVariants.{Stays, Closes}
 use Rattle.dcc_connect.specs.declared.writing.Item.{Item}
@@ -84,7 +87,17 @@ Hands setting moment message handed old new =
     (word : Dispatched) × (between : Reading) × IsDispatched setting moment message old.peer new.peer word
     × Passes old.gate word handed (reading_of old) between × AsksSweep moment between (reading_of new) × (new.gate ≡ old.gate)
 
+abbrev pub HandsUnder : Setting → Reader → ℕ → List ℕ → Handed → Reader → Type 0
+HandsUnder setting old moment message handed new = Hands setting moment message handed old new
+
 -- a reader that ends says so once, to each shard as its gateway's, and to its writer
 abbrev pub Ends : ℕ → Reading → Reading → Type 0
 Ends gate old new =
     new ≡ record { asked = put_all (work.End gate) old.asked; replied = old.replied ++ End ∷ []; requests = old.requests; sweeps = old.sweeps }
+
+-- Pieces were read, and of their octets the messages were handed on, each at a moment that the clock tells; behind the last the reader says
+-- that it ends.
+abbrev pub ReadsOut : (ℕ → Type 0) → Setting → ConnectionEnd → Option (List ℕ) → Option (List ℕ) → Reader → Reader → Type 0
+ReadsOut tells setting end before after old new =
+    (last : Reader) × ReadsAndHands (timed tells (HandsUnder setting)) end (2 ^ 32 - 1) before after old last × EndsAtEnd end after
+    × Ends last.gate (reading_of last) (reading_of new)

@@ -1,11 +1,20 @@
--- What is put into lanes.
-use Rattle.std.specs.Prelude.{ℕ, zero, suc, List, [], ◌∷◌, ◌++◌, map}
-use Rattle.dcc_lane.specs.Ends.{put_of}
+-- Lanes, and what is put into them.
+use Rattle.std.specs.Prelude.{◌≡◌, ℕ, zero, suc, List, [], ◌∷◌, ◌++◌, map, length, Option, Some, None}
+use Rattle.std.specs.Global.{Vec}
+use Rattle.std.specs.List.{AllByRecursion}
+use Rattle.dcc_lane.specs.Ends.{lane_of, lane_of_sender, put_of, senders_of, taken_of}
+use Rattle.dcc_lane.specs.declared.receiver.Receiver.{Receiver}
 use Rattle.dcc_lane.specs.declared.sender.Sender.{Sender}
+use Rattle.dcc_serve.specs.declared.lanes.Lanes.{Lanes}
 
 -- all that was put into each of these lanes
 abbrev pub all_put : {T : Type 0} → List (Sender T) → List (List T)
 all_put senders = map put_of senders
+
+-- the first item was taken, where there was one
+abbrev pub TakesFirst : {X : Type 0} → Option X → List X → List X → Type 0
+TakesFirst None old new = (old ≡ []) × (new ≡ [])
+TakesFirst (Some first) old new = old ≡ first ∷ new
 
 -- an item goes into the lane of this index, behind what was put there, and into no other
 abbrev pub put_into : {T : Type 0} → ℕ → T → List (List T) → List (List T)
@@ -22,3 +31,31 @@ put_first (suc count) item (lane ∷ lanes) = (lane ++ item ∷ []) ∷ put_firs
 -- it goes into all
 abbrev pub put_all : {T : Type 0} → T → List (List T) → List (List T)
 put_all item lanes = map (λ lane. lane ++ item ∷ []) lanes
+
+module _ {T : Type 0} where
+  -- nothing was taken of its lane, which has so many senders
+  abbrev pub IsNewReceiver : ℕ → Receiver T → Type 0
+  IsNewReceiver senders receiver = (senders_of receiver ≡ senders) × (taken_of receiver ≡ [])
+
+  abbrev pub IsNewSender : Sender T → Type 0
+  IsNewSender sender = put_of sender ≡ []
+
+  -- one sender of the lane of each of these, in order, which put nothing
+  abbrev pub AreDealt : List (Receiver T) → List (Sender T) → Type 0
+  AreDealt receivers senders = (map lane_of_sender senders ≡ map lane_of receivers) × AllByRecursion IsNewSender senders
+
+  abbrev pub lists_of : List (Vec (Sender T)) → List (List (Sender T))
+  lists_of lists = map (λ (senders : Vec (Sender T)). senders.items) lists
+
+  -- lanes for so many that take, and for each of so many that put a sender of each lane
+  pub record AreLanes (takers putters : ℕ) (lanes : Lanes T) : Type 0 where
+    pub receivers : length lanes.receivers.items ≡ takers
+    pub new : AllByRecursion (IsNewReceiver putters) lanes.receivers.items
+    pub lists : length lanes.senders.items ≡ putters
+    pub dealt : AllByRecursion (AreDealt lanes.receivers.items) (lists_of lanes.senders.items)
+
+  -- each list has one sender more, in order
+  abbrev pub deal : List (List (Sender T)) → List (Sender T) → List (List (Sender T))
+  deal [] senders = []
+  deal (list ∷ lists) [] = list ∷ lists
+  deal (list ∷ lists) (sender ∷ senders) = (list ++ sender ∷ []) ∷ deal lists senders

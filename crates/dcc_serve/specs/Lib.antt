@@ -5,3 +5,6 @@ pub mod Working
 pub mod Handing
 pub mod Writing
 pub mod Counting
+pub mod Tasks
+pub mod Gathering
+pub mod Served

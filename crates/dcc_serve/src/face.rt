@@ -2,7 +2,7 @@
 
 use dcc_connect::{ConnectionEnd, WriteEnd};
 use dcc_octets::OctetString;
-use std::io;
+use std::io::{self, Write};
 use std::sync::Wait;
 
 /// A gateway's connection, in two halves, each for a thread of its own.
@@ -22,10 +22,13 @@ pub trait Listener<I, O> {
     fn accept(&mut self) -> io::Result<Connection<I, O>>;
 }
 
-/// A half of a connection that can end both.
-pub trait Shut {
-    /// Ends both halves at once: who reads the other one finds its end.
-    fn shut(&mut self);
+/// The half of a connection that is written to, which can end both.
+pub trait Shut: Write {
+    ghost use Rattle.std.specs.Io.KnownBytes.{Keeps};
+
+    /// Ends both halves at once: who reads the other one finds its end. What was written stays.
+    fn shut(&mut self)
+        ensures { Keeps (Self.contents self.old) (Self.contents self.new) };
 }
 
 /// What happened to a gateway or a shard. Gateways are counted from 1 in each round, shards from 0.

@@ -1,7 +1,8 @@
 //! The lanes of a round.
 
-ghost use Rattle.std.specs.Prelude.{◌≡◌, ◌<◌};
-ghost use Rattle.dcc_serve.specs.Lanes.{all_put, put_into, put_all};
+ghost use Rattle.std.specs.Prelude.{◌≡◌, ◌<◌, [], length, IfOk};
+ghost use Rattle.std.specs.List.{AllByRecursion};
+ghost use Rattle.dcc_serve.specs.Lanes.{AreDealt, AreLanes, TakesFirst, all_put, deal, lists_of, put_into, put_all};
 ghost use Rattle.dcc_serve.specs.declared.work.Work.TheVariants as work;
 
 use crate::work::Work;
@@ -28,32 +29,58 @@ pub(crate) fn make_lanes<T: Drop>(
     putters: usize,
 ) -> Result<Lanes<T>, AllocError>
     requires { 0 < putters }
+    ensures { IfOk result (AreLanes takers putters) }
 {
-    let mut all = Vec::new(alloc);
-    for _ in 0..putters {
-        all.push(Vec::new(alloc))?;
-    }
+    let mut senders = no_senders(alloc, putters)?;
     let mut receivers = Vec::new(alloc);
-    for _ in 0..takers {
-        let (senders, receiver) = Lane::<T>::new(alloc, CAPACITY, putters)?;
-        deal(&mut all, senders)?;
+    while receivers.len() < takers {
+        let (more, receiver) = Lane::<T>::new(alloc, CAPACITY, putters)?;
+        senders = dealt(alloc, senders, more)?;
         receivers.push(receiver)?;
     }
-    Ok(Lanes {
-        receivers,
-        senders: all,
-    })
+    Ok(Lanes { receivers, senders })
+}
+
+/// So many lists without a sender.
+fn no_senders<T: Drop>(alloc: Global, putters: usize) -> Result<Vec<Vec<Sender<T>>>, AllocError>
+    ensures lists { IfOk result (λ lists. length lists.items ≡ putters) }
+    ensures none { IfOk result (λ lists. AllByRecursion (AreDealt []) (lists_of lists.items)) }
+{
+    let mut lists = Vec::new(alloc);
+    while lists.len() < putters {
+        lists.push(Vec::new(alloc))?;
+    }
+    Ok(lists)
 }
 
 /// Gives each list one more sender, in order.
-fn deal<T: Drop>(
-    lists: &mut Vec<Vec<Sender<T>>>,
+fn dealt<T: Drop>(
+    alloc: Global,
+    lists: Vec<Vec<Sender<T>>>,
     senders: Vec<Sender<T>>,
-) -> Result<(), AllocError> {
-    for (list, sender) in lists.iter_mut().zip(senders) {
-        list.push(sender)?;
+) -> Result<Vec<Vec<Sender<T>>>, AllocError>
+    ensures { IfOk result (λ dealt. lists_of dealt.items ≡ deal (lists_of lists.items) senders.items) }
+{
+    let mut lists = lists;
+    let mut senders = senders;
+    let mut dealt = Vec::with_capacity(alloc, lists.len())?;
+    while let Some(mut list) = first_of(&mut lists) {
+        if let Some(sender) = first_of(&mut senders) {
+            list.push(sender)?;
+        }
+        dealt.push(list)?;
     }
-    Ok(())
+    Ok(dealt)
+}
+
+/// Takes the first item of a list, where there is one.
+pub(crate) fn first_of<T>(list: &mut Vec<T>) -> Option<T>
+    ensures { TakesFirst result list.old.items list.new.items }
+{
+    if list.is_empty() {
+        return None;
+    }
+    Some(list.remove(0))
 }
 
 /// Puts an item into the lane of this index, where there is one.

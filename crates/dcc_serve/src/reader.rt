@@ -5,7 +5,7 @@ ghost use Rattle.dcc_dispatch.specs.Dispatches.{IfAsked};
 ghost use Rattle.dcc_dispatch.specs.declared.decide.Dispatched.TheVariants.{Replied};
 ghost use Rattle.dcc_lane.specs.Ends.{put_of};
 ghost use Rattle.dcc_model.specs.Keys.{request_key};
-ghost use Rattle.dcc_serve.specs.Handing.{AsksSweep, Ends, Passes, reading_of, replies, one_more, is_due, since_then};
+ghost use Rattle.dcc_serve.specs.Handing.{AsksSweep, Ends, Passes, ReadsOut, reading_of, replies, one_more, is_due, since_then};
 ghost use Rattle.dcc_serve.specs.Lanes.{all_put, put_into};
 ghost use Rattle.dcc_serve.specs.declared.work.Work.TheVariants as work;
 ghost use Rattle.dcc_shard.specs.Routes.{shard_of};
@@ -87,7 +87,7 @@ impl<'a, N: Notices> Submitter for Judge<'a, N> {
     ghost use Rattle.dcc_serve.specs.Handing.{Hands};
 
     ghost hands = { λ old moment message handed new. Hands (record { plan = old.plan.now; identity = old.identity.now }) moment message handed
-        old.reader.now new.reader.now × (new.plan ≡ old.plan) × (new.identity ≡ old.identity) };
+        old.reader.now new.reader.now × (new.plan ≡ old.plan) × (new.identity ≡ old.identity) × (new.reader.ghost_name ≡ old.reader.ghost_name) };
 
     fn hand<W: Wait>(&mut self, rt: &W, moment: Moment, message: &[u8]) -> Handed {
         let was_open = self.reader.peer.host().is_some();
@@ -217,7 +217,10 @@ pub(crate) fn read_gate<W: Wait, I: Read, C: Clock, N: Notices>(
     notices: &N,
     input: &mut I,
     reader: &mut Reader,
-) -> ConnectionEnd {
+) -> ConnectionEnd
+    ensures { ReadsOut (C.tells clock.now) (record { plan = plan.now; identity = identity.now }) result (I.remaining input.old) (I.remaining input.new)
+        reader.old reader.new }
+{
     let gate = reader.gate.saturating_add(1);
     let mut judge = Judge {
         alloc,

@@ -1,13 +1,18 @@
 //! One round.
 
-ghost use Rattle.std.specs.Prelude.{◌≡◌, ◌≢◌, ◌<◌, ◌≤◌, ℕ, false, [], length, slice_index_or, IfOk, IfErr};
+ghost use Rattle.std.specs.Prelude.{◌≡◌, ◌≢◌, ◌<◌, ◌≤◌, ◌++◌, ℕ, false, [], length, slice_index_or, IfOk, IfErr};
+ghost use Rattle.std.specs.List.{filter_map};
 ghost use Rattle.dcc_act.specs.declared.sub.Sub.{Sub};
 ghost use Rattle.dcc_running.specs.Books.{AreShards};
+ghost use Rattle.dcc_serve.specs.Counting.{counts_in, seat_in};
+ghost use Rattle.dcc_serve.specs.Gathering.{AddsGates, AreGathered, reader_of, workers_from, writer_of};
 ghost use Rattle.dcc_serve.specs.Lines.{is_store};
+ghost use Rattle.dcc_serve.specs.Served.{IsRound};
+ghost use Rattle.dcc_serve.specs.Tasks.{AllRun};
 
 use crate::face::{Connection, Listener, Notice, Notices, Shut};
 use crate::fault::{ServeFault, of_close};
-use crate::lanes::{Lanes, make_lanes};
+use crate::lanes::{Lanes, first_of, make_lanes};
 use crate::line::Counts;
 use crate::reader::{Reader, Sweeps};
 use crate::rounds::Rounds;
@@ -15,13 +20,15 @@ use crate::run::Service;
 use crate::tasks::{Shared, Task};
 use crate::work::Work;
 use crate::worker::Worker;
+use crate::writer::Ending;
 use dcc_base::Peer;
 use dcc_connect::{Clock, Item};
+use dcc_lane::{Receiver, Sender};
 use dcc_records::Records;
 use dcc_running::{Seat, Shards};
 use dcc_shard::Shard;
 use std::alloc::{AllocError, Global};
-use std::io::{Read, Write};
+use std::io::Read;
 use std::sync::Wait;
 use std::thread::{Threads, for_each_mut};
 
@@ -30,7 +37,7 @@ pub(crate) fn serve_round<
     W: Threads + Wait + Sync,
     R: Records + Send + Sync + Drop,
     I: Read + Send + Drop,
-    O: Write + Shut + Send + Drop,
+    O: Shut + Send + Drop,
     L: Listener<I, O>,
     C: Clock + Sync,
     N: Notices + Sync,
@@ -45,6 +52,8 @@ pub(crate) fn serve_round<
     requires shards { AreShards service.now.plan.now.terms service.now.identity.now shards.items }
     requires some { 1 ≤ length shards.items }
     requires most { length shards.items ≤ 8 }
+    ensures round { IfOk result (λ r. IsRound I.remaining O.contents (C.tells service.now.clock.now)
+        (record { plan = service.now.plan.now; identity = service.now.identity.now }) rounds.now.gates rounds.now.every shards.items r.0 r.1.items) }
     ensures shards { IfOk result (λ r. AreShards service.now.plan.now.terms service.now.identity.now r.1.items) }
     ensures some { IfOk result (λ r. 1 ≤ length r.1.items) }
     ensures most { IfOk result (λ r. length r.1.items ≤ 8) }
@@ -80,7 +89,7 @@ pub(crate) fn serve_round<
 }
 
 /// Makes all that the threads of a round begin with, and accepts its gateways.
-fn gather<W: Wait, R: Records, I: Read + Drop, O: Write + Drop, L: Listener<I, O>, N: Notices>(
+fn gather<W: Wait, R: Records, I: Read + Drop, O: Shut + Drop, L: Listener<I, O>, N: Notices>(
     rt: &W,
     alloc: Global,
     notices: &N,
@@ -91,25 +100,51 @@ fn gather<W: Wait, R: Records, I: Read + Drop, O: Write + Drop, L: Listener<I, O
 ) -> Result<Vec<Task<I, O>>, ServeFault>
     requires some { 1 ≤ count }
     requires most { count ≤ 8 }
-    ensures { IfErr result (λ fault. is_store fault ≡ false) }
+    ensures tasks { IfOk result (λ tasks. AreGathered count rounds.now.gates rounds.now.every tasks.items) }
+    ensures fault { IfErr result (λ fault. is_store fault ≡ false) }
 {
     let gates = rounds.gates;
     let work = make_lanes::<Work>(alloc, count, gates)?;
     let items = make_lanes::<Item>(alloc, gates, count + 1)?;
     let Lanes {
-        receivers,
-        senders: mut workers,
+        receivers: lanes,
+        senders: workers,
     } = work;
     let Lanes {
-        receivers: mut writers,
+        receivers: writers,
         senders: mut putters,
     } = items;
-    let mut tasks = Vec::with_capacity(alloc, 40)?;
-    let Some(mut replies) = putters.pop() else {
+    let Some(replies) = first_of(&mut putters) else {
         return Err(ServeFault::Memory);
     };
-    let mut shard = 0usize;
-    for (from, writers) in receivers.into_iter().zip(putters) {
+    let tasks = Vec::with_capacity(alloc, 40)?;
+    let tasks = add_workers::<R, I, O>(alloc, locked, lanes, putters, tasks)?;
+    add_gates::<W, I, O, L, N>(
+        rt, notices, listener, rounds, writers, workers, replies, tasks,
+    )
+}
+
+/// Adds a worker for each shard, in order. The only error is want of memory.
+fn add_workers<R: Records, I: Drop, O: Drop>(
+    alloc: Global,
+    locked: &Shards<R>,
+    receivers: Vec<Receiver<Work>>,
+    senders: Vec<Vec<Sender<Item>>>,
+    tasks: Vec<Task<I, O>>,
+) -> Result<Vec<Task<I, O>>, AllocError>
+    ensures { IfOk result (λ all. all.items ≡ tasks.items ++ workers_from 0 receivers.items senders.items) }
+{
+    let mut receivers = receivers;
+    let mut senders = senders;
+    let mut tasks = tasks;
+    let count = receivers.len();
+    for shard in 0..count {
+        let Some(from) = first_of(&mut receivers) else {
+            break;
+        };
+        let Some(writers) = first_of(&mut senders) else {
+            break;
+        };
         let seat = locked.seat(alloc)?;
         tasks.push(Task::Work(Worker {
             shard,
@@ -117,55 +152,93 @@ fn gather<W: Wait, R: Records, I: Read + Drop, O: Write + Drop, L: Listener<I, O
             from,
             writers,
         }))?;
-        shard = shard.saturating_add(1);
     }
-    // The first that comes has the first lanes.
-    writers.reverse();
-    workers.reverse();
-    replies.reverse();
-    for gate in 0..gates {
-        let (Some(from), Some(workers), Some(writer)) = (
-            writers.pop(),
-            workers.pop(),
-            replies.pop(),
-        ) else {
+    Ok(tasks)
+}
+
+/// Accepts each gateway of a round, and adds its reader and its writer.
+fn add_gates<W: Wait, I: Read + Drop, O: Shut + Drop, L: Listener<I, O>, N: Notices>(
+    rt: &W,
+    notices: &N,
+    listener: &mut L,
+    rounds: &Rounds,
+    receivers: Vec<Receiver<Item>>,
+    senders: Vec<Vec<Sender<Work>>>,
+    replies: Vec<Sender<Item>>,
+    tasks: Vec<Task<I, O>>,
+) -> Result<Vec<Task<I, O>>, ServeFault>
+    ensures gates { IfOk result (λ all. AddsGates rounds.now.every rounds.now.gates receivers.items senders.items replies.items tasks.items all.items) }
+    ensures fault { IfErr result (λ fault. is_store fault ≡ false) }
+{
+    let mut receivers = receivers;
+    let mut senders = senders;
+    let mut replies = replies;
+    let mut tasks = tasks;
+    for gate in 0..rounds.gates {
+        let Some(from) = first_of(&mut receivers) else {
+            return Err(ServeFault::Memory);
+        };
+        let Some(workers) = first_of(&mut senders) else {
+            return Err(ServeFault::Memory);
+        };
+        let Some(writer) = first_of(&mut replies) else {
             return Err(ServeFault::Memory);
         };
         let Ok(connection) = listener.accept() else {
             return Err(ServeFault::Io);
         };
-        let Connection {
-            input,
-            output,
-            name,
-        } = connection;
-        notices.tell(
-            rt,
-            Notice::Came {
-                gate: gate.saturating_add(1),
-                name: name.as_slice(),
-            },
-        );
-        let reader = Reader {
-            gate,
-            peer: Peer::Wait,
-            workers,
-            writer,
-            sweeps: Sweeps {
-                every: rounds.every,
-                since: 0,
-            },
-            requests: 0,
-        };
-        tasks.push(Task::Read { input, reader })?;
-        tasks.push(Task::Write {
-            gate,
-            output,
-            from,
-            answers: 0,
-        })?;
+        tell_came(rt, notices, gate, &connection);
+        let ends = ends_of(rounds.every, gate, connection, workers, writer, from);
+        tasks.push(ends.0)?;
+        tasks.push(ends.1)?;
     }
     Ok(tasks)
+}
+
+/// Tells that a gateway came.
+fn tell_came<W: Wait, I, O, N: Notices>(
+    rt: &W,
+    notices: &N,
+    gate: usize,
+    connection: &Connection<I, O>,
+) {
+    let name = connection.name.as_slice();
+    let gate = gate.saturating_add(1);
+    notices.tell(rt, Notice::Came { gate, name });
+}
+
+/// The reader and the writer of a gateway.
+fn ends_of<I: Drop, O: Drop>(
+    every: u32,
+    gate: usize,
+    connection: Connection<I, O>,
+    workers: Vec<Sender<Work>>,
+    writer: Sender<Item>,
+    from: Receiver<Item>,
+) -> (Task<I, O>, Task<I, O>)
+    ensures reader { result.0 ≡ reader_of every gate connection workers writer }
+    ensures writer { result.1 ≡ writer_of gate connection from }
+{
+    let Connection {
+        input,
+        output,
+        name: _,
+    } = connection;
+    let reader = Reader {
+        gate,
+        peer: Peer::Wait,
+        workers,
+        writer,
+        sweeps: Sweeps { every, since: 0 },
+        requests: 0,
+    };
+    let writer = Task::Write {
+        gate,
+        output: Ending { output },
+        from,
+        answers: 0,
+    };
+    (Task::Read { input, reader }, writer)
 }
 
 /// Runs each task in a thread of its own, until all have ended.
@@ -173,7 +246,7 @@ fn serve_all<
     W: Threads + Wait + Sync,
     R: Records + Send + Sync + Drop,
     I: Read + Send + Drop,
-    O: Write + Shut + Send + Drop,
+    O: Shut + Send + Drop,
     C: Clock + Sync,
     N: Notices + Sync,
 >(
@@ -185,6 +258,8 @@ fn serve_all<
     tasks: &mut [Task<I, O>],
 )
     requires { count ≡ locked.now.count }
+    ensures { AllRun I.remaining O.contents (C.tells service.now.clock.now) (record { plan = service.now.plan.now; identity = service.now.identity.now })
+        count tasks.old tasks.new }
 {
     let shared = Shared {
         alloc,
@@ -205,7 +280,9 @@ fn serve_all<
 }
 
 /// What a round came to.
-fn counted<I, O>(tasks: &[Task<I, O>]) -> Counts {
+fn counted<I, O>(tasks: &[Task<I, O>]) -> Counts
+    ensures { result ≡ counts_in tasks.now }
+{
     let mut counts = Counts {
         requests: 0,
         answers: 0,
@@ -219,11 +296,13 @@ fn counted<I, O>(tasks: &[Task<I, O>]) -> Counts {
     counts
 }
 
-/// The seats of a round's workers, in the room that was taken for them.
+/// The seats of a round's workers, in order, in the room that was taken for them. The only error is want of memory.
 fn seated<I: Drop, O: Drop>(
     tasks: Vec<Task<I, O>>,
     room: Vec<Seat>,
-) -> Result<Vec<Seat>, AllocError> {
+) -> Result<Vec<Seat>, AllocError>
+    ensures { IfOk result (λ seats. seats.items ≡ room.items ++ filter_map seat_in tasks.items) }
+{
     let mut seats = room;
     for task in tasks {
         if let Some(seat) = task.into_seat() {

@@ -1,9 +1,11 @@
 //! All rounds of a server.
 
-ghost use Rattle.std.specs.Prelude.{◌≡◌, ◌≤◌, length, IfErr, OnOk};
+ghost use Rattle.std.specs.Prelude.{◌≡◌, ◌≤◌, List, length, IfErr, OnOk};
 ghost use Rattle.std.specs.List.{list_any};
 ghost use Rattle.dcc_running.specs.Books.{AreShards};
 ghost use Rattle.dcc_serve.specs.Lines.{AreTold, EndsWith};
+ghost use Rattle.dcc_serve.specs.Served.{AreServed, IsRound};
+ghost use Rattle.dcc_shard.specs.Stored.{StoredView};
 
 use crate::face::{Listener, Notice, Notices, Shut};
 use crate::fault::ServeFault;
@@ -48,7 +50,7 @@ pub fn serve_run<
     W: Threads + Wait + Sync,
     R: Records + Send + Sync + Drop,
     I: Read + Send + Drop,
-    O: Write + Shut + Send + Drop,
+    O: Shut + Send + Drop,
     L: Listener<I, O>,
     C: Clock + Sync,
     N: Notices + Sync,
@@ -65,6 +67,9 @@ pub fn serve_run<
     requires shards { AreShards service.now.plan.now.terms service.now.identity.now shards.items }
     requires some { 1 ≤ length shards.items }
     requires most { length shards.items ≤ 8 }
+    ensures served { OnOk result ((last : List (StoredView R)) × AreServed (IsRound I.remaining O.contents (C.tells service.now.clock.now)
+        (record { plan = service.now.plan.now; identity = service.now.identity.now }) rounds.now.gates rounds.now.every)
+        rounds.now.rounds shards.items last (P.contents output.old) (P.contents output.new)) }
     ensures whole { OnOk result (AreTold rounds.now.rounds (P.contents output.old) (P.contents output.new)) }
     ensures part { IfErr result (λ fault. EndsWith fault rounds.now.rounds (P.contents output.old) (P.contents output.new)) }
 {

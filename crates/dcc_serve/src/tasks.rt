@@ -1,12 +1,13 @@
 //! What the threads of a round do.
 
 ghost use Rattle.std.specs.Prelude.{◌≡◌};
-ghost use Rattle.dcc_serve.specs.Counting.{requests_in, answers_in, seat_in};
+ghost use Rattle.dcc_serve.specs.Tasks.{Runs};
+ghost use Rattle.dcc_serve.specs.Counting.{requests_in, answers_in, acts_in, seat_in};
 
 use crate::face::{Notices, Shut};
 use crate::reader::{Reader, read_gate};
 use crate::worker::Worker;
-use crate::writer::write_gate;
+use crate::writer::{Ending, write_gate};
 use dcc_connect::{Clock, Item};
 use dcc_lane::Receiver;
 use dcc_message::Identity;
@@ -14,7 +15,7 @@ use dcc_records::Records;
 use dcc_running::{Seat, Shards};
 use dcc_tariff::Plan;
 use std::alloc::Global;
-use std::io::{Read, Write};
+use std::io::Read;
 use std::sync::Wait;
 
 /// What one thread of a round does, and what came of it.
@@ -26,7 +27,7 @@ pub(crate) enum Task<I, O> {
     },
     Write {
         gate: usize,
-        output: O,
+        output: Ending<O>,
         from: Receiver<Item>,
         answers: u64,
     },
@@ -47,13 +48,16 @@ pub(crate) struct Shared<'a, R: Records, C, N> {
     ghost counted: { count ≡ shards.now.count },
 }
 
-impl<I: Read, O: Write + Shut> Task<I, O> {
+impl<I: Read, O: Shut> Task<I, O> {
     /// Does what there is to do.
     pub fn run<W: Wait, R: Records, C: Clock, N: Notices>(
         &mut self,
         rt: &W,
         shared: &Shared<'_, R, C, N>,
-    ) {
+    )
+        ensures { Runs I.remaining O.contents (C.tells shared.now.clock.now) (record { plan = shared.now.plan.now; identity = shared.now.identity.now })
+            shared.now.count self.old self.new }
+    {
         match self {
             Task::Read { input, reader } => {
                 let _end = read_gate(
@@ -112,7 +116,9 @@ impl<I, O> Task<I, O> {
     }
 
     /// How many acts it made.
-    pub fn acts(&self) -> u64 {
+    pub fn acts(&self) -> u64
+        ensures { result ≡ acts_in self.now }
+    {
         match self {
             Task::Work(worker) => worker.acts(),
             Task::Read { .. } | Task::Write { .. } => 0,

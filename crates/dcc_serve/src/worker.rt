@@ -2,6 +2,7 @@
 
 ghost use Rattle.std.specs.Prelude.{◌≡◌, ◌<◌};
 ghost use Rattle.dcc_lane.specs.Ends.{senders_of};
+ghost use Rattle.dcc_serve.specs.Counting.{acts_of};
 ghost use Rattle.dcc_serve.specs.Lanes.{all_put};
 ghost use Rattle.dcc_serve.specs.Working.{Answers, DoesOne, HasDone, Sweeps, octets_in};
 
@@ -76,14 +77,16 @@ impl Worker {
     }
 
     /// How many acts its receipts are of: each has one that is fresh.
-    pub fn acts(&self) -> u64 {
-        let mut count = 0u64;
+    pub fn acts(&self) -> u64
+        ensures { result ≡ acts_of self.now.seat }
+    {
+        let mut count = 0usize;
         for receipt in self.seat.receipts() {
             if receipt.fresh {
-                count = count.saturating_add(1);
+                count += 1;
             }
         }
-        count
+        count as u64
     }
 
     /// Its seat.

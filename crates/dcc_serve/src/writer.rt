@@ -9,13 +9,15 @@ use dcc_lane::Receiver;
 use std::io::{self, ErrorKind, Write};
 use std::sync::Wait;
 
-/// Ends the connection as soon as a write fails, so that its reader ends too.
+/// The output of a gateway. It ends the connection as soon as a write fails, so that its reader ends too.
 #[derive(Drop)]
-struct Ending<'a, O> {
-    output: &'a mut O,
+pub(crate) struct Ending<O> {
+    pub output: O,
 }
 
-impl<'a, O: Write + Shut> Write for Ending<'a, O> {
+impl<O: Shut> Write for Ending<O> {
+    ghost contents = { λ ending. O.contents ending.output };
+
     fn write(&mut self, buf: &[u8]) -> io::Result<usize> {
         match self.output.write(buf) {
             Ok(0) => {
@@ -38,17 +40,16 @@ impl<'a, O: Write + Shut> Write for Ending<'a, O> {
 }
 
 /// Writes what a gateway is answered until all that answer it have ended, and ends the connection behind it.
-pub(crate) fn write_gate<W: Wait, O: Write + Shut, N: Notices>(
+pub(crate) fn write_gate<W: Wait, O: Shut, N: Notices>(
     rt: &W,
     notices: &N,
     gate: usize,
-    output: &mut O,
+    ending: &mut Ending<O>,
     from: &mut Receiver<Item>,
 ) -> WriteEnd
-    ensures { WritesOut result from.old from.new }
+    ensures { WritesOut result from.old from.new (O.contents ending.old.output) (O.contents ending.new.output) }
 {
-    let mut ending = Ending { output };
-    let end = write_side(rt, &mut ending, from, TURNS);
+    let end = write_side(rt, ending, from, TURNS);
     ending.output.shut();
     let gate = gate.saturating_add(1);
     notices.tell(rt, Notice::Written { gate, end });
