@@ -20,21 +20,61 @@ fn options(seed: u64) -> Options {
     }
 }
 
+/// A database over two files, or the files where they can't be opened.
+fn connected<D: Disk + Drop>(
+    alloc: Global,
+    files: Files<D>,
+    seed: u64,
+) -> Result<Connection<FileStore<D>>, Files<D>>
+    requires log { IsTrue (D.Disk.is_usable files.log) }
+    requires db { IsTrue (D.Disk.is_usable files.db) }
+{
+    match Connection::open_files(alloc, files, options(seed)) {
+        Ok(conn) => Ok(conn),
+        Err((_, left)) => Err(left.into_files()),
+    }
+}
+
+/// New records over a database; or the database.
+fn created<S: Alter + Drop>(
+    alloc: Global,
+    server: &Server,
+    conn: Connection<S>,
+) -> Result<SqlRecords<S>, Connection<S>> {
+    match SqlRecords::create(alloc, conn, &SETTING, server.hasher) {
+        Ok(records) => Ok(records),
+        Err((_, conn)) => Err(conn),
+    }
+}
+
 /// The records over a database, which are made where there is nothing; or the database.
 fn records_of<S: Alter + Drop>(
     alloc: Global,
     server: &Server,
     conn: Connection<S>,
 ) -> Result<SqlRecords<S>, Connection<S>> {
-    let conn = match SqlRecords::open(alloc, conn, &SETTING, server.hasher) {
-        Ok(records) => return Ok(records),
-        Err((OpenFault::Empty, conn)) => conn,
-        Err((_, conn)) => return Err(conn),
-    };
-    match SqlRecords::create(alloc, conn, &SETTING, server.hasher) {
+    match SqlRecords::open(alloc, conn, &SETTING, server.hasher) {
         Ok(records) => Ok(records),
+        Err((OpenFault::Empty, conn)) => created(alloc, server, conn),
         Err((_, conn)) => Err(conn),
     }
+}
+
+/// The shard of what records hold, or their files.
+fn shard_of<D: Disk + Drop>(
+    alloc: Global,
+    server: &Server,
+    records: SqlRecords<FileStore<D>>,
+) -> Result<FileShard<D>, Files<D>> {
+    match Shard::new(alloc, &server.identity, records, server.hasher) {
+        Ok(shard) => Ok(shard),
+        Err((_, records)) => Err(closed(records)),
+    }
+}
+
+/// The files of records, as they are.
+fn closed<D: Disk + Drop>(records: SqlRecords<FileStore<D>>) -> Files<D> {
+    records.into_connection().into_store().close()
 }
 
 /// The shard of what two files hold, or the files where they can't be opened.
@@ -47,23 +87,19 @@ pub(crate) fn opened<D: Disk + Drop>(
     requires log { IsTrue (D.Disk.is_usable files.log) }
     requires db { IsTrue (D.Disk.is_usable files.db) }
 {
-    let conn = match Connection::open_files(alloc, files, options(seed)) {
+    let conn = match connected(alloc, files, seed) {
         Ok(conn) => conn,
-        Err((_, left)) => return Err(left.into_files()),
+        Err(files) => return Err(files),
     };
-    let records = match records_of(alloc, server, conn) {
-        Ok(records) => records,
-        Err(conn) => return Err(conn.into_store().close()),
-    };
-    match Shard::new(alloc, &server.identity, records, server.hasher) {
-        Ok(shard) => Ok(shard),
-        Err((_, records)) => Err(records.into_connection().into_store().close()),
+    match records_of(alloc, server, conn) {
+        Ok(records) => shard_of(alloc, server, records),
+        Err(conn) => Err(conn.into_store().close()),
     }
 }
 
 /// The files of a shard, as they are.
 pub(crate) fn left<D: Disk + Drop>(shard: FileShard<D>) -> Files<D> {
-    shard.into_records().into_connection().into_store().close()
+    closed(shard.into_records())
 }
 
 /// The machine comes back, and the files are opened as it left them.

@@ -74,6 +74,22 @@ fn told_by<R: Records>(
     Ok(all)
 }
 
+/// What is known of a script, by a shard without acts.
+fn known_by<R: Records>(
+    rt: &impl Abort,
+    alloc: Global,
+    shard: &mut Shard<R>,
+    script: &'static [Line],
+) -> Result<Known, Fail> {
+    let told = told_by(rt, alloc, shard, script)?;
+    let ledger = ledger(alloc, shard)?;
+    Ok(Known {
+        script,
+        told,
+        ledger,
+    })
+}
+
 impl Known {
     /// What records in memory come to.
     pub(crate) fn new(
@@ -83,16 +99,10 @@ impl Known {
         script: &'static [Line],
     ) -> Result<Known, Fail> {
         let records = MemoryRecords::new(alloc, &TERMS, server.hasher);
-        let Ok(mut shard) = Shard::new(alloc, &server.identity, records, server.hasher) else {
-            return Err("memory was refused".into());
-        };
-        let told = told_by(rt, alloc, &mut shard, script)?;
-        let ledger = ledger(alloc, &shard)?;
-        Ok(Known {
-            script,
-            told,
-            ledger,
-        })
+        match Shard::new(alloc, &server.identity, records, server.hasher) {
+            Ok(mut shard) => known_by(rt, alloc, &mut shard, script),
+            Err(_) => Err("memory was refused".into()),
+        }
     }
 
     /// Asserts that the act at an index is told as it was without a stop, made now or again. False where it is refused.
@@ -157,13 +167,25 @@ impl Known {
         let (acts, _, _, _) = standing(shard)?;
         assert!(rt; acts == answered || acts == answered.saturating_add(1));
         assert_standing(rt, shard, self.script, acts)?;
+        self.assert_told(rt, alloc, shard, acts)?;
+        assert_standing(rt, shard, self.script, acts)?;
+        Ok(acts)
+    }
+
+    /// Asserts that so many acts are told again as they were.
+    fn assert_told<R: Records>(
+        &self,
+        rt: &impl Abort,
+        alloc: Global,
+        shard: &mut Shard<R>,
+        acts: usize,
+    ) -> Result<(), Fail> {
         for at in 0..acts {
             if !self.is_told(rt, alloc, shard, at, false)? {
                 return Err("memory was refused".into());
             }
         }
-        assert_standing(rt, shard, self.script, acts)?;
-        Ok(acts)
+        Ok(())
     }
 
     /// Asserts that a shard holds what a run without a stop does.

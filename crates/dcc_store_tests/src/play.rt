@@ -42,14 +42,8 @@ fn header(place: u32) -> Header {
     }
 }
 
-/// What a top-up is told, or nothing where it is refused.
-fn top_up<R: Records>(
-    alloc: Global,
-    shard: &mut Shard<R>,
-    ticket: u32,
-    amount: u64,
-) -> Result<Option<Told>, Fail> {
-    let answer = shard.top_up(alloc, subscriber()?, now()?, u64::from(ticket), amount);
+/// What the answer to a top-up tells, or nothing where it is refused.
+fn told_of_top_up(alloc: Global, answer: TopUpAnswer) -> Result<Option<Told>, Fail> {
     match answer {
         TopUpAnswer::Done { place, fresh } => Ok(Some(Told {
             octets: OctetString::new(alloc),
@@ -61,30 +55,19 @@ fn top_up<R: Records>(
     }
 }
 
-/// What a request is told, or nothing where it is refused.
-fn request<R: Records>(
+/// What a top-up is told, or nothing where it is refused.
+fn top_up<R: Records>(
     alloc: Global,
     shard: &mut Shard<R>,
-    place: u32,
-    ask: Ask,
+    ticket: u32,
+    amount: u64,
 ) -> Result<Option<Told>, Fail> {
-    let act = Act {
-        moment: now()?,
-        kind: kind(alloc, ask)?,
-    };
-    if !matches!(
-        act.kind,
-        Kind::Initial(_) | Kind::Update(_) | Kind::Termination(_)
-    ) {
-        return Err("a request".into());
-    }
-    let answer = shard.step(
-        alloc,
-        subscriber()?,
-        act,
-        &header(place),
-        &Proxies::none(alloc),
-    );
+    let answer = shard.top_up(alloc, subscriber()?, now()?, u64::from(ticket), amount);
+    told_of_top_up(alloc, answer)
+}
+
+/// What the answer to a request tells, or nothing where it is refused.
+fn told_of(answer: RequestAnswer) -> Result<Option<Told>, Fail> {
     match answer {
         RequestAnswer::Done {
             octets,
@@ -98,6 +81,37 @@ fn request<R: Records>(
         RequestAnswer::Busy { .. } | RequestAnswer::Silent => Ok(None),
         RequestAnswer::Unknown { .. } => Err("a subscriber".into()),
     }
+}
+
+/// What a request is answered.
+fn answered<R: Records>(
+    alloc: Global,
+    shard: &mut Shard<R>,
+    place: u32,
+    act: Act,
+) -> Result<RequestAnswer, Fail> {
+    if !matches!(
+        act.kind,
+        Kind::Initial(_) | Kind::Update(_) | Kind::Termination(_)
+    ) {
+        return Err("a request".into());
+    }
+    let header = header(place);
+    Ok(shard.step(alloc, subscriber()?, act, &header, &Proxies::none(alloc)))
+}
+
+/// What a request is told, or nothing where it is refused.
+fn request<R: Records>(
+    alloc: Global,
+    shard: &mut Shard<R>,
+    place: u32,
+    ask: Ask,
+) -> Result<Option<Told>, Fail> {
+    let act = Act {
+        moment: now()?,
+        kind: kind(alloc, ask)?,
+    };
+    told_of(answered(alloc, shard, place, act)?)
 }
 
 /// What the act at this place is told, or nothing where it is refused.

@@ -6,6 +6,8 @@ use crate::disks::{FileShard, left, opened, reopened, still_answer};
 use crate::known::Known;
 use crate::script::{CHARGED, Line, TWO_SERVICES};
 use crate::server::Server;
+use dcc_records::Records;
+use dcc_shard::Shard;
 use sqlite::Files;
 use sqlite_disk::{Crash, Disk, Fuse, Memory};
 use std::alloc::Global;
@@ -38,20 +40,29 @@ fn run<D: Disk + Drop>(
     requires log { IsTrue (D.Disk.is_usable files.log) }
     requires db { IsTrue (D.Disk.is_usable files.db) }
 {
-    let mut shard = match opened(alloc, server, files, 1) {
-        Ok(shard) => shard,
-        Err(files) => return Ok((0, files)),
-    };
+    match opened(alloc, server, files, 1) {
+        Ok(shard) => asked(rt, alloc, known, shard),
+        Err(files) => Ok((0, files)),
+    }
+}
+
+/// Asks a shard until an act is refused or all are answered: how many were, and the files.
+fn asked<D: Disk + Drop>(
+    rt: &impl Abort,
+    alloc: Global,
+    known: &Known,
+    mut shard: FileShard<D>,
+) -> Result<(usize, Files<D>), Fail> {
     let answered = ask(rt, alloc, known, &mut shard)?;
     Ok((answered, left(shard)))
 }
 
 /// Asks until an act is refused, which stops the shard, or all are answered: how many were.
-fn ask<D: Disk + Drop>(
+fn ask<R: Records>(
     rt: &impl Abort,
     alloc: Global,
     known: &Known,
-    shard: &mut FileShard<D>,
+    shard: &mut Shard<R>,
 ) -> Result<usize, Fail> {
     let answered = known.play(rt, alloc, shard, 0)?;
     if answered < known.script.len() {
@@ -69,18 +80,18 @@ fn go_on<D: Crash + Drop>(
     files: Files<D>,
     answered: usize,
 ) -> Result<(), Fail> {
-    let Ok(mut shard) = reopened(alloc, server, files) else {
-        return Err("the store isn't opened again".into());
-    };
-    ask_again(rt, alloc, known, &mut shard, answered)
+    match reopened(alloc, server, files) {
+        Ok(mut shard) => ask_again(rt, alloc, known, &mut shard, answered),
+        Err(_) => Err("the store isn't opened again".into()),
+    }
 }
 
 /// Asks for each act again that was answered, and then for the others.
-fn ask_again<D: Disk + Drop>(
+fn ask_again<R: Records>(
     rt: &impl Abort,
     alloc: Global,
     known: &Known,
-    shard: &mut FileShard<D>,
+    shard: &mut Shard<R>,
     answered: usize,
 ) -> Result<(), Fail> {
     let kept = known.assert_kept(rt, alloc, shard, answered)?;
@@ -135,7 +146,20 @@ fn stop_and_go_on(
     requires log { IsTrue (⟦<Fuse<Memory> as Disk>⟧.is_usable files.log) }
     requires db { IsTrue (⟦<Fuse<Memory> as Disk>⟧.is_usable files.db) }
 {
-    let (answered, mut files) = run(rt, alloc, server, known, files)?;
+    let (answered, files) = run(rt, alloc, server, known, files)?;
+    go_on_behind(rt, alloc, server, known, files, stop, answered)
+}
+
+/// Goes on behind a stop, or the end of the script. False where nothing stopped.
+fn go_on_behind(
+    rt: &impl Abort,
+    alloc: Global,
+    server: &Server,
+    known: &Known,
+    mut files: Files<Fuse<Memory>>,
+    stop: Stop,
+    answered: usize,
+) -> Result<bool, Fail> {
     let is_whole = answered == known.script.len() && still_answer(&mut files);
     let files = stopped(alloc, files, stop)?;
     go_on(rt, alloc, server, known, files, answered)?;
@@ -163,7 +187,32 @@ fn stop_at_each(
     Err("no end of calls".into())
 }
 
-/// Stops each file's disk in this way in the midst of a script: how many calls of each there are.
+/// Stops each file's disk in this way: how many calls of each there are.
+fn stop_halves(
+    rt: &impl Abort,
+    alloc: Global,
+    server: &Server,
+    known: &Known,
+    stop: Stop,
+) -> Result<(u64, u64), Fail> {
+    let log = stop_at_each(rt, alloc, server, known, Half::Log, stop)?;
+    let db = stop_at_each(rt, alloc, server, known, Half::Database, stop)?;
+    Ok((log, db))
+}
+
+/// The same in the midst of a script.
+fn stop_script(
+    rt: &impl Abort,
+    alloc: Global,
+    server: &Server,
+    script: &'static [Line],
+    stop: Stop,
+) -> Result<(u64, u64), Fail> {
+    let known = Known::new(rt, alloc, server, script)?;
+    stop_halves(rt, alloc, server, &known, stop)
+}
+
+/// The same of a server of its own.
 fn stop_both(
     rt: &impl Abort,
     alloc: Global,
@@ -172,10 +221,7 @@ fn stop_both(
     stop: Stop,
 ) -> Result<(u64, u64), Fail> {
     let server = Server::new(alloc, hasher)?;
-    let known = Known::new(rt, alloc, &server, script)?;
-    let log = stop_at_each(rt, alloc, &server, &known, Half::Log, stop)?;
-    let db = stop_at_each(rt, alloc, &server, &known, Half::Database, stop)?;
-    Ok((log, db))
+    stop_script(rt, alloc, &server, script, stop)
 }
 
 #[test]
