@@ -11,7 +11,7 @@ place_of index count = record { index = index; count = count }
 
 -- a lock behind others, whose place is the next
 pub one_placed : {R : Type 0} (count index all : ℕ) (locks : List (Lock R)) (lock : Lock R) → AreOf count locks → index ≡ length locks → all ≡ count
-    → lock.place.value ≡ record { index = index; count = all } → AreOf count (locks ++ lock ∷ [])
+    → lock.place ≡ record { index = index; count = all } → AreOf count (locks ++ lock ∷ [])
 unfolding place_of
 one_placed {R} count index all locks lock are next so_many place i none within =
     elim (below_or_last i (length locks) (omega (arith, within, length-append locks (lock ∷ [])))) [

@@ -6,7 +6,6 @@ ghost use Rattle.dcc_shard.specs.Routes.{shard_of};
 use dcc_act::Sub;
 use dcc_records::Records;
 use dcc_shard::Shard;
-use std::snapshot::Snapshot;
 use std::sync::{Mutex, MutexGuard, Wait};
 
 /// The place at this index, of so many.
@@ -19,24 +18,24 @@ pub(crate) struct Place {
 /// A shard under its lock.
 #[derive(Drop)]
 pub(crate) struct Lock<R: Records> {
-    /// Where it stands among the locks: for clauses, which know nothing else of a lock. It has no octets.
-    place: Snapshot<Place>,
+    /// Where it stands among the locks: for clauses, which know nothing else of a lock.
+    place: Place,
     shard: Mutex<Shard<R>>,
 }
 
 impl<R: Records> Lock<R> {
     pub(crate) fn new(place: Place, shard: Shard<R>) -> Lock<R>
-        ensures { result.place.value ≡ place }
+        ensures { result.place ≡ place }
     {
         Lock {
-            place: Snapshot::of(&place),
+            place,
             shard: Mutex::new(shard),
         }
     }
 
     /// Waits for the lock, for an act of this subscriber. The condition: the shard keeps it.
     pub(crate) fn lock_for<'a, W: Wait>(&'a self, rt: &W, sub: &Sub) -> MutexGuard<'a, Shard<R>>
-        requires { self.now.place.value.index ≡ shard_of sub.now self.now.place.value.count }
+        requires { self.now.place.index ≡ shard_of sub.now self.now.place.count }
     {
         let _sub = sub;
         self.shard.lock(rt)
@@ -44,7 +43,7 @@ impl<R: Records> Lock<R> {
 
     /// Waits for the lock, which is the one of this index.
     pub(crate) fn lock_as<'a, W: Wait>(&'a self, rt: &W, index: usize) -> MutexGuard<'a, Shard<R>>
-        requires { self.now.place.value.index ≡ index }
+        requires { self.now.place.index ≡ index }
     {
         let _index = index;
         self.shard.lock(rt)

@@ -4,4 +4,4 @@ use Rattle.dcc_running.specs.declared.lock.Lock.{Lock}
 
 -- these are of so many locks, each at its own place
 abbrev pub AreOf : {R : Type 0} → ℕ → List (Lock R) → Type 0
-AreOf {R} count locks = (i : ℕ) (none : Lock R) → i < length locks → (slice_index_or locks i none).place.value ≡ record { index = i; count = count }
+AreOf {R} count locks = (i : ℕ) (none : Lock R) → i < length locks → (slice_index_or locks i none).place ≡ record { index = i; count = count }
