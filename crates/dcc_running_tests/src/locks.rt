@@ -75,9 +75,18 @@ pub(crate) fn one<S: RandomSource + AllocGlobal, R: Records + Drop>(
     ensures { IfOk result (λ locked. 0 < locked.count) }
 {
     let shard = shard_over(rt, records)?;
-    let mut shards = Vec::new(rt.alloc());
-    shards.push(shard)?;
-    locked(rt, shards)
+    locked(rt, vec![in rt.alloc(); shard]?)
+}
+
+/// Shards of what both records hold.
+pub(crate) fn pair<S: RandomSource + AllocGlobal, R: Records + Drop>(
+    rt: &S,
+    first: R,
+    second: R,
+) -> Result<Vec<Shard<R>>, Fail> {
+    let first = shard_over(rt, first)?;
+    let second = shard_over(rt, second)?;
+    Ok(vec![in rt.alloc(); first, second]?)
 }
 
 /// Two shards, each under its lock.
@@ -86,10 +95,5 @@ pub(crate) fn two<S: RandomSource + AllocGlobal, R: Records + Drop>(
     first: R,
     second: R,
 ) -> Result<Shards<R>, Fail> {
-    let first = shard_over(rt, first)?;
-    let second = shard_over(rt, second)?;
-    let mut shards = Vec::new(rt.alloc());
-    shards.push(first)?;
-    shards.push(second)?;
-    locked(rt, shards)
+    locked(rt, pair(rt, first, second)?)
 }
