@@ -7,7 +7,7 @@ use crate::jobs::after;
 use crate::locks::{in_memory, one};
 use dcc_act::{Act, Kind, TopUp};
 use dcc_receipts::{Receipt, check_receipts};
-use dcc_records::Records;
+use dcc_records::{MemoryRecords, Records};
 use dcc_running::{Seat, Shards};
 use dcc_shard::{ExpiryAnswer, TopUpAnswer};
 use std::alloc::Global;
@@ -142,20 +142,21 @@ fn close_twice<R: Records + Drop>(
     }
 }
 
-/// The seat at which money was topped up.
+/// A seat of some shards, at which money was topped up in these, the same or others.
 fn seat_of_top_ups<W: Wait + Abort + AllocGlobal, R: Records>(
     rt: &W,
     shards: &Shards<R>,
+    others: &Shards<R>,
 ) -> Result<Seat, Fail> {
     let mut caller = caller(rt.alloc(), shards)?;
-    top_up_thrice(rt, shards, &mut caller);
+    top_up_thrice(rt, others, &mut caller);
     caller.stand_up(rt.alloc(), shards)
 }
 
 #[test]
 fn a_seat_is_missing(rt: HostRuntime) -> Result<(), Fail> {
     let shards = one(&rt, in_memory(&rt)?)?;
-    let seat = seat_of_top_ups(&rt, &shards)?;
+    let seat = seat_of_top_ups(&rt, &shards, &shards)?;
     assert_eq!(rt; close_twice(rt.alloc(), shards, seat)?, (61, 0));
     Ok(())
 }
@@ -168,6 +169,46 @@ fn ask_others<S: Wait + Abort + RandomSource + AllocGlobal>(
     let others = one(rt, in_memory(rt)?)?;
     let answer = caller.debit(rt, rt.alloc(), &others, 0);
     assert!(rt; answer.is_none());
+    Ok(())
+}
+
+/// A seat of these shards at which money was topped up in others.
+fn seat_of_others<W: Wait + Abort + AllocGlobal + RandomSource>(
+    rt: &W,
+    shards: &Shards<MemoryRecords>,
+) -> Result<Seat, Fail> {
+    let others = one(rt, in_memory(rt)?)?;
+    let seat = seat_of_top_ups(rt, shards, &others);
+    drop(others);
+    seat
+}
+
+#[test]
+fn a_receipt_is_stray(rt: HostRuntime) -> Result<(), Fail> {
+    let shards = one(&rt, in_memory(&rt)?)?;
+    let seat = seat_of_others(&rt, &shards)?;
+    let seats = alone(rt.alloc(), seat)?;
+    assert_eq!(rt; close(rt.alloc(), shards, seats), 60);
+    Ok(())
+}
+
+/// A seat whose last receipt is of an act before one that was told as unknown.
+fn seat_out_of_order<W: Wait + Abort + AllocGlobal + RandomSource, R: Records>(
+    rt: &W,
+    shards: &Shards<R>,
+) -> Result<Seat, Fail> {
+    let mut caller = caller(rt.alloc(), shards)?;
+    top_up_thrice(rt, shards, &mut caller);
+    ask_others(rt, &mut caller)?;
+    caller.stand_up(rt.alloc(), shards)
+}
+
+#[test]
+fn receipts_are_out_of_order(rt: HostRuntime) -> Result<(), Fail> {
+    let shards = one(&rt, in_memory(&rt)?)?;
+    let seat = seat_out_of_order(&rt, &shards)?;
+    let seats = alone(rt.alloc(), seat)?;
+    assert_eq!(rt; close(rt.alloc(), shards, seats), 62);
     Ok(())
 }
 
