@@ -74,8 +74,9 @@ pub(crate) fn one<S: RandomSource + AllocGlobal, R: Records + Drop>(
 ) -> Result<Shards<R>, Fail>
     ensures { IfOk result (λ locked. 0 < locked.count) }
 {
-    let shard = shard_over(rt, records)?;
-    locked(rt, vec![in rt.alloc(); shard]?)
+    let mut shards = Vec::with_capacity(rt.alloc(), 1)?;
+    shards.push_reserved(shard_over(rt, records)?);
+    locked(rt, shards)
 }
 
 /// Shards of what both records hold.
@@ -84,9 +85,10 @@ pub(crate) fn pair<S: RandomSource + AllocGlobal, R: Records + Drop>(
     first: R,
     second: R,
 ) -> Result<Vec<Shard<R>>, Fail> {
-    let first = shard_over(rt, first)?;
-    let second = shard_over(rt, second)?;
-    Ok(vec![in rt.alloc(); first, second]?)
+    let mut shards = Vec::with_capacity(rt.alloc(), 2)?;
+    shards.push_reserved(shard_over(rt, first)?);
+    shards.push_reserved(shard_over(rt, second)?);
+    Ok(shards)
 }
 
 /// Two shards, each under its lock.
