@@ -3,14 +3,15 @@
 use crate::callers::{Caller, DEBITS};
 use crate::locks::{in_memory, one};
 use dcc_act::Sub;
-use dcc_records::Records;
+use dcc_records::{MemoryRecords, Records};
 use dcc_running::{Books, Seat, Shards};
 use dcc_shard::TopUpAnswer;
 use std::alloc::Global;
 use std::process::Abort;
 use std::random::RandomSource;
+use std::sync::Wait;
 use std::test::Fail;
-use std::thread::join;
+use std::thread::{Threads, join};
 
 /// The seats of both.
 fn seats<R: Records>(
@@ -31,6 +32,12 @@ fn sums<R: Records>(books: &Books<R>, sub: Sub) -> Option<(usize, i128)> {
     Some((account.acts().len(), account.funds()))
 }
 
+/// The records of the one shard.
+fn records_of<R: Records + Drop>(books: Books<R>) -> Result<R, Fail> {
+    let shard = books.into_shards().pop().ok_or("a shard")?;
+    Ok(shard.into_records())
+}
+
 /// What is opened again of the records, once the receipts agree with what the shard holds: a top-up of 1,000 and forty debits of 10.
 fn reopened<S: Abort + RandomSource + AllocGlobal, R: Records + Drop>(
     rt: &S,
@@ -39,36 +46,75 @@ fn reopened<S: Abort + RandomSource + AllocGlobal, R: Records + Drop>(
     second: &mut Caller,
 ) -> Result<Shards<R>, Fail> {
     let seats = seats(rt.alloc(), &shards, first, second)?;
-    let Ok(books) = shards.close(rt.alloc(), seats) else {
-        return Err("receipts disagree".into());
-    };
-    assert_eq!(rt; sums(&books, first.sub), Some((41, 600)));
-    let shard = books.into_shards().pop().ok_or("a shard")?;
-    one(rt, shard.into_records())
+    match shards.close(rt.alloc(), seats) {
+        Ok(books) => {
+            assert_eq!(rt; sums(&books, first.sub), Some((41, 600)));
+            one(rt, records_of(books)?)
+        }
+        Err(_) => Err("receipts disagree".into()),
+    }
+}
+
+/// Two gateways of one subscriber.
+fn gateways<R: Records>(alloc: Global, shards: &Shards<R>) -> Result<(Caller, Caller), Fail> {
+    let first = Caller::new(alloc, shards, b"491700000001", b"gw1.example;1;1")?;
+    let second = Caller::new(alloc, shards, b"491700000001", b"gw2.example;1;1")?;
+    Ok((first, second))
+}
+
+/// Makes the debits of both at once, behind a top-up.
+fn debit_at_once<W: Wait + Threads + Abort + Sync + AllocGlobal>(
+    rt: &W,
+    shards: &Shards<MemoryRecords>,
+    first: &mut Caller,
+    second: &mut Caller,
+) {
+    let alloc = rt.alloc();
+    let topped = first.top_up(rt, alloc, shards, 1, 1000);
+    assert!(rt;
+        matches!(
+            topped,
+            Some(TopUpAnswer::Done {
+                place: 1,
+                fresh: true
+            })
+        )
+    );
+    join(
+        rt,
+        || first.debit_all(rt, alloc, shards),
+        || second.debit_all(rt, alloc, shards),
+    );
+}
+
+/// Asks for the debits of both again.
+fn repeat_both<W: Wait + Abort + AllocGlobal, R: Records>(
+    rt: &W,
+    shards: &Shards<R>,
+    first: &mut Caller,
+    second: &mut Caller,
+) {
+    assert_eq!(rt; first.repeat_all(rt, rt.alloc(), shards), DEBITS);
+    assert_eq!(rt; second.repeat_all(rt, rt.alloc(), shards), DEBITS);
+}
+
+/// Closes the shards, asks what is opened again for the debits of both, and closes that.
+fn close_twice<S: Wait + Abort + RandomSource + AllocGlobal, R: Records + Drop>(
+    rt: &S,
+    shards: Shards<R>,
+    first: &mut Caller,
+    second: &mut Caller,
+) -> Result<(), Fail> {
+    let again = reopened(rt, shards, first, second)?;
+    repeat_both(rt, &again, first, second);
+    let _third = reopened(rt, again, first, second)?;
+    Ok(())
 }
 
 #[test]
 fn two_gateways_at_once(rt: HostRuntime) -> Result<(), Fail> {
-    let alloc = rt.alloc();
     let shards = one(&rt, in_memory(&rt)?)?;
-    let mut first = Caller::new(alloc, &shards, b"491700000001", b"gw1.example;1;1")?;
-    let mut second = Caller::new(alloc, &shards, b"491700000001", b"gw2.example;1;1")?;
-    let topped = first.top_up(&rt, alloc, &shards, 1, 1000);
-    assert_eq!(rt;
-        topped,
-        Some(TopUpAnswer::Done {
-            place: 1,
-            fresh: true
-        })
-    );
-    join(
-        &rt,
-        || first.debit_all(&rt, alloc, &shards),
-        || second.debit_all(&rt, alloc, &shards),
-    );
-    let again = reopened(&rt, shards, &mut first, &mut second)?;
-    assert_eq!(rt; first.repeat_all(&rt, alloc, &again), DEBITS);
-    assert_eq!(rt; second.repeat_all(&rt, alloc, &again), DEBITS);
-    let _third = reopened(&rt, again, &mut first, &mut second)?;
-    Ok(())
+    let (mut first, mut second) = gateways(rt.alloc(), &shards)?;
+    debit_at_once(&rt, &shards, &mut first, &mut second);
+    close_twice(&rt, shards, &mut first, &mut second)
 }

@@ -7,7 +7,7 @@ use crate::jobs::after;
 use crate::locks::{in_memory, one};
 use dcc_act::{Act, Kind, TopUp};
 use dcc_receipts::{Receipt, check_receipts};
-use dcc_records::Records;
+use dcc_records::{MemoryRecords, Records};
 use dcc_running::{Seat, Shards};
 use dcc_shard::{ExpiryAnswer, TopUpAnswer};
 use std::alloc::Global;
@@ -90,16 +90,39 @@ fn count<W: Wait, R: Records>(rt: &W, alloc: Global, shards: &Shards<R>) -> Resu
     Ok(shards.subs(rt, alloc, 0)?.len())
 }
 
+/// Makes each call, and asserts how many receipts they give.
+fn make_each<W: Wait + Abort + AllocGlobal, R: Records>(
+    rt: &W,
+    shards: &Shards<R>,
+    caller: &mut Caller,
+) -> Result<(), Fail>
+    requires { 0 < shards.now.count }
+{
+    top_up_thrice(rt, shards, caller);
+    end_session(rt, shards, caller);
+    assert_eq!(rt; count(rt, rt.alloc(), shards)?, 1);
+    assert_eq!(rt; caller.seat.receipts().len(), 4);
+    Ok(())
+}
+
+/// The seat at which each call was made.
+fn seat_of_each<W: Wait + Abort + AllocGlobal, R: Records>(
+    rt: &W,
+    shards: &Shards<R>,
+) -> Result<Seat, Fail>
+    requires { 0 < shards.now.count }
+{
+    let mut caller = caller(rt.alloc(), shards)?;
+    make_each(rt, shards, &mut caller)?;
+    caller.stand_up(rt.alloc(), shards)
+}
+
 #[test]
 fn each_call_gives_its_receipt(rt: HostRuntime) -> Result<(), Fail> {
     let shards = one(&rt, in_memory(&rt)?)?;
-    let mut caller = caller(rt.alloc(), &shards)?;
-    top_up_thrice(&rt, &shards, &mut caller);
-    end_session(&rt, &shards, &mut caller);
-    assert_eq!(rt; count(&rt, rt.alloc(), &shards)?, 1);
-    assert_eq!(rt; caller.seat.receipts().len(), 4);
-    let seat = caller.stand_up(rt.alloc(), &shards)?;
-    assert_eq!(rt; close(rt.alloc(), shards, alone(rt.alloc(), seat)?), 0);
+    let seat = seat_of_each(&rt, &shards)?;
+    let seats = alone(rt.alloc(), seat)?;
+    assert_eq!(rt; close(rt.alloc(), shards, seats), 0);
     Ok(())
 }
 
@@ -119,24 +142,22 @@ fn close_twice<R: Records + Drop>(
     }
 }
 
-#[test]
-fn a_seat_is_missing(rt: HostRuntime) -> Result<(), Fail> {
-    let shards = one(&rt, in_memory(&rt)?)?;
-    let mut caller = caller(rt.alloc(), &shards)?;
-    top_up_thrice(&rt, &shards, &mut caller);
-    let seat = caller.stand_up(rt.alloc(), &shards)?;
-    assert_eq!(rt; close_twice(rt.alloc(), shards, seat)?, (61, 0));
-    Ok(())
+/// A seat of some shards, at which money was topped up in these, the same or others.
+fn seat_of_top_ups<W: Wait + Abort + AllocGlobal, R: Records>(
+    rt: &W,
+    shards: &Shards<R>,
+    others: &Shards<R>,
+) -> Result<Seat, Fail> {
+    let mut caller = caller(rt.alloc(), shards)?;
+    top_up_thrice(rt, others, &mut caller);
+    caller.stand_up(rt.alloc(), shards)
 }
 
 #[test]
-fn a_receipt_is_stray(rt: HostRuntime) -> Result<(), Fail> {
+fn a_seat_is_missing(rt: HostRuntime) -> Result<(), Fail> {
     let shards = one(&rt, in_memory(&rt)?)?;
-    let others = one(&rt, in_memory(&rt)?)?;
-    let mut caller = caller(rt.alloc(), &shards)?;
-    top_up_thrice(&rt, &others, &mut caller);
-    let seat = caller.stand_up(rt.alloc(), &shards)?;
-    assert_eq!(rt; close(rt.alloc(), shards, alone(rt.alloc(), seat)?), 60);
+    let seat = seat_of_top_ups(&rt, &shards, &shards)?;
+    assert_eq!(rt; close_twice(rt.alloc(), shards, seat)?, (61, 0));
     Ok(())
 }
 
@@ -151,14 +172,43 @@ fn ask_others<S: Wait + Abort + RandomSource + AllocGlobal>(
     Ok(())
 }
 
+/// A seat of these shards at which money was topped up in others.
+fn seat_of_others<W: Wait + Abort + AllocGlobal + RandomSource>(
+    rt: &W,
+    shards: &Shards<MemoryRecords>,
+) -> Result<Seat, Fail> {
+    let others = one(rt, in_memory(rt)?)?;
+    let seat = seat_of_top_ups(rt, shards, &others);
+    drop(others);
+    seat
+}
+
+#[test]
+fn a_receipt_is_stray(rt: HostRuntime) -> Result<(), Fail> {
+    let shards = one(&rt, in_memory(&rt)?)?;
+    let seat = seat_of_others(&rt, &shards)?;
+    let seats = alone(rt.alloc(), seat)?;
+    assert_eq!(rt; close(rt.alloc(), shards, seats), 60);
+    Ok(())
+}
+
+/// A seat whose last receipt is of an act before one that was told as unknown.
+fn seat_out_of_order<W: Wait + Abort + AllocGlobal + RandomSource, R: Records>(
+    rt: &W,
+    shards: &Shards<R>,
+) -> Result<Seat, Fail> {
+    let mut caller = caller(rt.alloc(), shards)?;
+    top_up_thrice(rt, shards, &mut caller);
+    ask_others(rt, &mut caller)?;
+    caller.stand_up(rt.alloc(), shards)
+}
+
 #[test]
 fn receipts_are_out_of_order(rt: HostRuntime) -> Result<(), Fail> {
     let shards = one(&rt, in_memory(&rt)?)?;
-    let mut caller = caller(rt.alloc(), &shards)?;
-    top_up_thrice(&rt, &shards, &mut caller);
-    ask_others(&rt, &mut caller)?;
-    let seat = caller.stand_up(rt.alloc(), &shards)?;
-    assert_eq!(rt; close(rt.alloc(), shards, alone(rt.alloc(), seat)?), 62);
+    let seat = seat_out_of_order(&rt, &shards)?;
+    let seats = alone(rt.alloc(), seat)?;
+    assert_eq!(rt; close(rt.alloc(), shards, seats), 62);
     Ok(())
 }
 
@@ -178,16 +228,25 @@ fn topped(amount: u64) -> Option<Act> {
     })
 }
 
+/// Asserts that the receipts of top-ups are those of their acts, of no others, and not before that of an unknown subscriber.
+fn check_each<S: Wait + Abort + RandomSource + AllocGlobal>(
+    rt: &S,
+    acts: &[Act],
+    caller: &mut Caller,
+) -> Result<(), Fail> {
+    assert_eq!(rt; check(acts, caller.seat.receipts()), 0);
+    assert_eq!(rt; check(&[], caller.seat.receipts()), 60);
+    assert_eq!(rt; check(acts, &[]), 61);
+    ask_others(rt, caller)?;
+    assert_eq!(rt; check(acts, caller.seat.receipts()), 62);
+    Ok(())
+}
+
 #[test]
 fn receipts_of_one_seat(rt: HostRuntime) -> Result<(), Fail> {
     let shards = one(&rt, in_memory(&rt)?)?;
     let mut caller = caller(rt.alloc(), &shards)?;
     top_up_thrice(&rt, &shards, &mut caller);
     let acts = [topped(1000).ok_or("an act")?];
-    assert_eq!(rt; check(&acts, caller.seat.receipts()), 0);
-    assert_eq!(rt; check(&[], caller.seat.receipts()), 60);
-    assert_eq!(rt; check(&acts, &[]), 61);
-    ask_others(&rt, &mut caller)?;
-    assert_eq!(rt; check(&acts, caller.seat.receipts()), 62);
-    Ok(())
+    check_each(&rt, &acts, &mut caller)
 }

@@ -3,7 +3,7 @@
 ghost use Rattle.std.specs.Prelude.{◌≡◌, IfOk};
 
 use crate::history::{ACTS, FUNDS, History, busy, subscribers};
-use crate::locks::{in_memory, shard_over};
+use crate::locks::{in_memory, pair};
 use crate::placed::are_shards;
 use dcc_act::Sub;
 use dcc_engine::{Engine, Event, Out};
@@ -31,15 +31,28 @@ fn engine_over<S: RandomSource + AllocGlobal, R: Records + Drop>(
     first: R,
     second: R,
 ) -> Result<Engine<R>, Fail> {
-    let alloc = rt.alloc();
-    let plan = Plan::read(alloc, PLAN)?;
-    let first = shard_over(rt, first)?;
-    let identity = first.identity().copy()?;
-    let mut shards = Vec::new(alloc);
-    shards.push(first)?;
-    shards.push(shard_over(rt, second)?)?;
-    let shards = as_one(plan.terms(), identity, shards)?;
-    Ok(Engine::open(alloc, plan, shards)?)
+    let plan = Plan::read(rt.alloc(), PLAN)?;
+    let shards = shards_over(rt, plan.terms(), first, second)?;
+    Ok(Engine::open(rt.alloc(), plan, shards)?)
+}
+
+/// Two shards over these records, as one.
+fn shards_over<S: RandomSource + AllocGlobal, R: Records + Drop>(
+    rt: &S,
+    terms: &Terms,
+    first: R,
+    second: R,
+) -> Result<Shards<R>, Fail>
+    ensures { IfOk result (λ shards. shards.shard.terms ≡ terms.now) }
+{
+    let shards = pair(rt, first, second)?;
+    let identity = identity_of(&shards)?;
+    as_one(terms, identity, shards)
+}
+
+/// Who the first shard answers for.
+fn identity_of<R: Records>(shards: &[Shard<R>]) -> Result<Identity, Fail> {
+    Ok(shards.first().ok_or("a shard")?.identity().copy()?)
 }
 
 /// These shards as one, where they may stand so.
@@ -68,6 +81,19 @@ fn turns(
     turns_of(alloc, &mut engine, history, sub)
 }
 
+/// What an event comes to.
+fn turn_of(
+    alloc: Global,
+    engine: &mut Engine<MemoryRecords>,
+    event: &[Event],
+    of: Option<Sub>,
+    sub: Sub,
+) -> Result<Turn, Fail> {
+    let out = engine.run(alloc, event)?.pop().ok_or("an out")?;
+    let acts = acts_of(engine, sub);
+    Ok(Turn { of, out, acts })
+}
+
 /// What the events come to, one after another.
 fn turns_of(
     alloc: Global,
@@ -77,9 +103,7 @@ fn turns_of(
 ) -> Result<Vec<Turn>, Fail> {
     let mut turns = Vec::new(alloc);
     for (event, of) in history.events.chunks(1).zip(&history.subs) {
-        let out = engine.run(alloc, event)?.pop().ok_or("an out")?;
-        let acts = acts_of(engine, sub);
-        turns.push(Turn { of: *of, out, acts })?;
+        turns.push(turn_of(alloc, engine, event, *of, sub)?)?;
     }
     Ok(turns)
 }
@@ -221,15 +245,30 @@ fn assert_made_once(
     turns: &[Turn],
 ) -> Result<(), Fail> {
     let outs = engine.run(rt.alloc(), &history.events)?;
+    assert_alike(rt, turns, &outs);
+    assert_all_held(rt, engine)
+}
+
+/// Asserts that all events are answered as ever.
+fn assert_alike(rt: &impl Abort, turns: &[Turn], outs: &[Out]) {
     assert_eq!(rt; outs.len(), turns.len());
-    for (i, (turn, out)) in turns.iter().zip(&outs).enumerate() {
+    for (i, (turn, out)) in turns.iter().zip(outs).enumerate() {
         assert!(rt; are_alike(out, &turn.out), "event {i} again");
     }
+}
+
+/// Asserts that each act of both subscribers is made once.
+fn assert_all_held<R: Records>(rt: &impl Abort, engine: &Engine<R>) -> Result<(), Fail> {
     for sub in subscribers()? {
-        let account = engine.account(sub).ok_or("an account")?;
-        assert_eq!(rt; (account.acts().len(), account.funds()), (ACTS, FUNDS));
+        assert_eq!(rt; sums_of(engine, sub), Some((ACTS, FUNDS)));
     }
     Ok(())
+}
+
+/// How many acts a subscriber has, and its funds.
+fn sums_of<R: Records>(engine: &Engine<R>, sub: Sub) -> Option<(usize, i128)> {
+    let account = engine.account(sub)?;
+    Some((account.acts().len(), account.funds()))
 }
 
 /// Runs the history, in which the subscriber's `n`-th append fails.
@@ -246,18 +285,53 @@ fn run_until_stopped(
     assert_held(rt, engine, sub, n)
 }
 
-/// Runs the history with an append that fails, of the shard at this index, and again over what is found after a restart.
-fn run_twice(
+/// Runs the history with an append that fails, of the shard at this index: the engine over what is found after a restart.
+fn run_and_reopen(
     rt: &(impl Abort + RandomSource + AllocGlobal),
     history: &History,
     turns: &[Turn],
     (index, sub): (usize, Sub),
     n: usize,
-) -> Result<(), Fail> {
+) -> Result<Engine<MemoryRecords>, Fail> {
     let mut engine = failing_engine(rt, index, n as u64)?;
     run_until_stopped(rt, &mut engine, history, turns, sub, n)?;
-    let mut again = reopened(rt, engine)?;
+    reopened(rt, engine)
+}
+
+/// Runs the history with an append that fails, and again over what is found after a restart.
+fn run_twice(
+    rt: &(impl Abort + RandomSource + AllocGlobal),
+    history: &History,
+    turns: &[Turn],
+    of: (usize, Sub),
+    n: usize,
+) -> Result<(), Fail> {
+    let mut again = run_and_reopen(rt, history, turns, of, n)?;
     assert_made_once(rt, &mut again, history, turns)
+}
+
+/// The same for each append of the subscriber in turn.
+fn run_for_each(
+    rt: &(impl Abort + RandomSource + AllocGlobal),
+    history: &History,
+    turns: &[Turn],
+    of: (usize, Sub),
+) -> Result<(), Fail> {
+    assert_eq!(rt; turns.last().map(|turn| turn.acts), Some(ACTS));
+    for n in 1..=ACTS + 1 {
+        run_twice(rt, history, turns, of, n)?;
+    }
+    Ok(())
+}
+
+/// The same of the subscriber that the shard at this index keeps.
+fn run_of(
+    rt: &(impl Abort + RandomSource + AllocGlobal),
+    history: &History,
+    of: (usize, Sub),
+) -> Result<(), Fail> {
+    let turns = turns(rt, history, of.1)?;
+    run_for_each(rt, history, &turns, of)
 }
 
 /// The shard whose append fails refuses its subscriber from there on, the other answers as ever, and what is opened again of both
@@ -265,12 +339,8 @@ fn run_twice(
 #[test]
 fn an_engine_outlives_each_append_that_fails(rt: HostRuntime) -> Result<(), Fail> {
     let history = History::new(rt.alloc())?;
-    for (index, sub) in subscribers()?.into_iter().enumerate() {
-        let turns = turns(&rt, &history, sub)?;
-        assert_eq!(rt; turns.last().map(|turn| turn.acts), Some(ACTS));
-        for n in 1..=ACTS + 1 {
-            run_twice(&rt, &history, &turns, (index, sub), n)?;
-        }
+    for of in subscribers()?.into_iter().enumerate() {
+        run_of(&rt, &history, of)?;
     }
     Ok(())
 }

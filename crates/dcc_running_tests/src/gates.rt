@@ -8,9 +8,10 @@ use dcc_running::Shards;
 use dcc_shard::{ExpiryAnswer, TopUpAnswer};
 use std::alloc::Global;
 use std::hint::spin_loop;
+use std::process::Abort;
 use std::sync::Wait;
 use std::test::Fail;
-use std::thread::join;
+use std::thread::{Threads, join};
 
 /// Each call of the other shard, once an append has come to the gate, which is opened behind them: whether each was answered.
 fn call_beside<W: Wait, R: Records>(
@@ -35,29 +36,40 @@ fn call_beside<W: Wait, R: Records>(
         && matches!(ended, Some(ExpiryAnswer::Closed { .. }))
 }
 
+/// Calls of both shards at once, of which the first one's append is held at its gate.
+fn call_at_once<W: Wait + Threads + Abort + Sync + AllocGlobal>(
+    rt: &W,
+    shards: &Shards<GateRecords>,
+    shut: &Gate,
+) -> Result<(), Fail> {
+    let alloc = rt.alloc();
+    let mut held = Caller::new(alloc, shards, b"491700000001", b"gw1.example;1;1")?;
+    let mut beside = Caller::new(alloc, shards, b"491700000002", b"gw2.example;1;1")?;
+    let (topped, is_answered) = join(
+        rt,
+        || held.top_up(rt, alloc, shards, 1, 1000),
+        || call_beside(rt, alloc, shards, &mut beside, shut),
+    );
+    assert!(rt; is_answered);
+    assert!(rt;
+        matches!(
+            topped,
+            Some(TopUpAnswer::Done {
+                place: 1,
+                fresh: true
+            })
+        )
+    );
+    Ok(())
+}
+
 /// With one lock round both shards the append waits until it fails: its caller is told so.
 #[test]
 fn a_shard_answers_beside_an_append(rt: HostRuntime) -> Result<(), Fail> {
-    let alloc = rt.alloc();
     let (shut, open) = (Gate::new(), Gate::new());
     open.open();
     let first = GateRecords::new(in_memory(&rt)?, &shut);
     let second = GateRecords::new(in_memory(&rt)?, &open);
     let shards = two(&rt, first, second)?;
-    let mut held = Caller::new(alloc, &shards, b"491700000001", b"gw1.example;1;1")?;
-    let mut beside = Caller::new(alloc, &shards, b"491700000002", b"gw2.example;1;1")?;
-    let (topped, is_answered) = join(
-        &rt,
-        || held.top_up(&rt, alloc, &shards, 1, 1000),
-        || call_beside(&rt, alloc, &shards, &mut beside, &shut),
-    );
-    assert!(rt; is_answered);
-    assert_eq!(rt;
-        topped,
-        Some(TopUpAnswer::Done {
-            place: 1,
-            fresh: true
-        })
-    );
-    Ok(())
+    call_at_once(&rt, &shards, &shut)
 }

@@ -74,10 +74,21 @@ pub(crate) fn one<S: RandomSource + AllocGlobal, R: Records + Drop>(
 ) -> Result<Shards<R>, Fail>
     ensures { IfOk result (λ locked. 0 < locked.count) }
 {
-    let shard = shard_over(rt, records)?;
-    let mut shards = Vec::new(rt.alloc());
-    shards.push(shard)?;
+    let mut shards = Vec::with_capacity(rt.alloc(), 1)?;
+    shards.push_reserved(shard_over(rt, records)?);
     locked(rt, shards)
+}
+
+/// Shards of what both records hold.
+pub(crate) fn pair<S: RandomSource + AllocGlobal, R: Records + Drop>(
+    rt: &S,
+    first: R,
+    second: R,
+) -> Result<Vec<Shard<R>>, Fail> {
+    let mut shards = Vec::with_capacity(rt.alloc(), 2)?;
+    shards.push_reserved(shard_over(rt, first)?);
+    shards.push_reserved(shard_over(rt, second)?);
+    Ok(shards)
 }
 
 /// Two shards, each under its lock.
@@ -86,10 +97,5 @@ pub(crate) fn two<S: RandomSource + AllocGlobal, R: Records + Drop>(
     first: R,
     second: R,
 ) -> Result<Shards<R>, Fail> {
-    let first = shard_over(rt, first)?;
-    let second = shard_over(rt, second)?;
-    let mut shards = Vec::new(rt.alloc());
-    shards.push(first)?;
-    shards.push(second)?;
-    locked(rt, shards)
+    locked(rt, pair(rt, first, second)?)
 }
