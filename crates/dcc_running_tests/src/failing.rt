@@ -315,11 +315,11 @@ fn run_for_each(
     rt: &(impl Abort + RandomSource + AllocGlobal),
     history: &History,
     turns: &[Turn],
-    of: (usize, Sub),
+    (index, sub): (usize, Sub),
 ) -> Result<(), Fail> {
     assert_eq!(rt; turns.last().map(|turn| turn.acts), Some(ACTS));
     for n in 1..=ACTS + 1 {
-        run_twice(rt, history, turns, of, n)?;
+        run_twice(rt, history, turns, (index, sub), n)?;
     }
     Ok(())
 }
@@ -328,10 +328,10 @@ fn run_for_each(
 fn run_of(
     rt: &(impl Abort + RandomSource + AllocGlobal),
     history: &History,
-    of: (usize, Sub),
+    (index, sub): (usize, Sub),
 ) -> Result<(), Fail> {
-    let turns = turns(rt, history, of.1)?;
-    run_for_each(rt, history, &turns, of)
+    let turns = turns(rt, history, sub)?;
+    run_for_each(rt, history, &turns, (index, sub))
 }
 
 /// The shard whose append fails refuses its subscriber from there on, the other answers as ever, and what is opened again of both
