@@ -18,36 +18,36 @@ use Rattle.dcc_connect.specs.Writing.{items_of, octets_in, ends_in, whole_in, Go
 use Rattle.dcc_connect.specs.inner.Sends.{Counts}
 use Rattle.dcc_connect.specs.inner.Items.{FirstFault, answers_with, WritesOctets, WritesItem, HasSent, HasWritten, HasTaken, last_fault}
 
-cases_le : (m n : ℕ) → (m ≤ n) ⊎ (n < m)
+pub cases_le : (m n : ℕ) → (m ≤ n) ⊎ (n < m)
 cases_le m n = elim (cases_Bool (nat_le m n)) [ inl t ↦ inl (grind (arith, nat_tests)) | inr f ↦ inr (grind (arith, nat_tests)) ]
 
-octets_end : (items : List Item) → octets_in (items ++ End ∷ []) ≡ octets_in items
+pub octets_end : (items : List Item) → octets_in (items ++ End ∷ []) ≡ octets_in items
 octets_end [] = refl
 octets_end (Octets o ∷ items) = ap (λ x. o ++ x) (octets_end items)
 octets_end (End ∷ items) = octets_end items
 
-octets_more : (items : List Item) (octets : List ℕ) → octets_in (items ++ Octets octets ∷ []) ≡ octets_in items ++ octets
+pub octets_more : (items : List Item) (octets : List ℕ) → octets_in (items ++ Octets octets ∷ []) ≡ octets_in items ++ octets
 octets_more [] octets = append-nil octets
 octets_more (Octets o ∷ items) octets = ap (λ x. o ++ x) (octets_more items octets) ∙ sym (append_assoc o (octets_in items) octets)
 octets_more (End ∷ items) octets = octets_more items octets
 
-ends_end : (items : List Item) → ends_in (items ++ End ∷ []) ≡ ends_in items + 1
+pub ends_end : (items : List Item) → ends_in (items ++ End ∷ []) ≡ ends_in items + 1
 ends_end [] = refl
 ends_end (Octets o ∷ items) = ends_end items
 ends_end (End ∷ items) = ap (λ n. n + 1) (ends_end items)
 
-ends_more : (items : List Item) (octets : List ℕ) → ends_in (items ++ Octets octets ∷ []) ≡ ends_in items
+pub ends_more : (items : List Item) (octets : List ℕ) → ends_in (items ++ Octets octets ∷ []) ≡ ends_in items
 ends_more [] octets = refl
 ends_more (Octets o ∷ items) octets = ends_more items octets
 ends_more (End ∷ items) octets = ap (λ n. n + 1) (ends_more items octets)
 
-whole_end : (n : ℕ) (items : List Item) → whole_in n (items ++ End ∷ []) ≡ whole_in n items
+pub whole_end : (n : ℕ) (items : List Item) → whole_in n (items ++ End ∷ []) ≡ whole_in n items
 whole_end n [] = refl
 whole_end n (Octets o ∷ items) = rw (whole_end (n - length o) items) refl
 whole_end n (End ∷ items) = whole_end n items
 
 -- what is cut short stays so
-whole_cut : (n : ℕ) (items later : List Item) → n < length (octets_in items) → whole_in n (items ++ later) ≡ whole_in n items
+pub whole_cut : (n : ℕ) (items later : List Item) → n < length (octets_in items) → whole_in n (items ++ later) ≡ whole_in n items
 whole_cut n [] later h = absurd (omega arith)
 whole_cut n (Octets o ∷ items) later h =
     let long = length-append o (octets_in items) in
@@ -58,7 +58,7 @@ whole_cut n (Octets o ∷ items) later h =
 whole_cut n (End ∷ items) later h = whole_cut n items later h
 
 -- behind what is whole the others are counted
-whole_through : (n : ℕ) (items later : List Item) → whole_in (length (octets_in items) + n) (items ++ later) ≡ whole_in (length (octets_in items)) items + whole_in n later
+pub whole_through : (n : ℕ) (items later : List Item) → whole_in (length (octets_in items) + n) (items ++ later) ≡ whole_in (length (octets_in items)) items + whole_in n later
 whole_through n [] later = ap (λ k. whole_in k later) (zero-add n) ∙ sym (zero-add (whole_in n later))
 whole_through n (Octets o ∷ items) later =
     let long = length-append o (octets_in items) in
@@ -71,10 +71,10 @@ whole_through n (Octets o ∷ items) later =
     rw (a, b, p, q) (omega arith)
 whole_through n (End ∷ items) later = whole_through n items later
 
-one_whole : (o : List ℕ) (n : ℕ) → n ≡ length o → whole_in n (Octets o ∷ []) ≡ 1
+pub one_whole : (o : List ℕ) (n : ℕ) → n ≡ length o → whole_in n (Octets o ∷ []) ≡ 1
 one_whole o n e = let t : nat_le (length o) n ≡ true = grind (arith, nat_tests) in rw t refl
 
-one_cut : (o : List ℕ) (n : ℕ) → n < length o → whole_in n (Octets o ∷ []) ≡ 0
+pub one_cut : (o : List ℕ) (n : ℕ) → n < length o → whole_in n (Octets o ∷ []) ≡ 0
 one_cut o n h = let f : nat_le (length o) n ≡ false = grind (arith, nat_tests) in rw f refl
 
 -- ---- one item later
@@ -288,7 +288,7 @@ next_item senders turns items End p q sent a b c cs ds es h fewer l w out k =
 next_item senders turns items (Octets octets) p q sent a b c cs ds es h fewer l w out k =
     octets_item senders turns items octets p.fault p q sent a b c cs ds es refl h fewer l w out k
 
-items_snoc : (more : List (Tagged Item)) (t : Tagged Item) → items_of (more ++ t ∷ []) ≡ items_of more ++ t.item ∷ []
+pub items_snoc : (more : List (Tagged Item)) (t : Tagged Item) → items_of (more ++ t ∷ []) ≡ items_of more ++ t.item ∷ []
 items_snoc [] t = refl
 items_snoc (u ∷ more) t = ap (λ x. u.item ∷ x) (items_snoc more t)
 
@@ -369,18 +369,9 @@ stops senders turns a b old new p end cs h few why fault answers =
       },
     )
 
-octets_ended : (f : Option ConnectFault) (octets : List ℕ) (p q : Progress) (b c : Option (List ℕ)) (ds es : Counts) → WritesOctets f octets p q b c ds es → q.ended ≤ p.ended + 1
-octets_ended (Some f) octets p q b c ds es k = let e = ap (λ (x : Progress). x.ended) k.0 in omega arith
-octets_ended None octets p q b c ds es k = let e = k.5 in omega arith
-
 octets_left : (f : Option ConnectFault) (octets : List ℕ) (p q : Progress) (b c : Option (List ℕ)) (ds es : Counts) → WritesOctets f octets p q b c ds es → es.left ≤ ds.left
 octets_left (Some f) octets p q b c ds es k = let e = k.1.2 in omega arith
 octets_left None octets p q b c ds es k = k.4
-
--- one more at most has ended
-pub ended_by : (item : Item) (p q : Progress) (b c : Option (List ℕ)) (ds es : Counts) → WritesItem item p q b c ds es → q.ended ≤ p.ended + 1
-ended_by End p q b c ds es k = let e = ap (λ (x : Progress). x.ended) k.0 in omega arith
-ended_by (Octets octets) p q b c ds es k = octets_ended p.fault octets p q b c ds es k
 
 -- turns only go
 pub left_by : (item : Item) (p q : Progress) (b c : Option (List ℕ)) (ds es : Counts) → WritesItem item p q b c ds es → es.left ≤ ds.left

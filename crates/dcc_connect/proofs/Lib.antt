@@ -4,4 +4,5 @@ pub mod Passing
 pub mod Turning
 pub mod Octets
 pub mod Items
+pub mod Batches
 pub mod Replying

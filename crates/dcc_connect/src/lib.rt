@@ -12,6 +12,7 @@
 
 mod connection;
 mod fault;
+mod gathering;
 mod handing;
 mod laws;
 mod reading;

@@ -77,7 +77,7 @@ impl<I: Read, O: Shut> Task<I, O> {
                 from,
                 answers,
             } => {
-                let end = write_gate(rt, shared.notices, *gate, output, from);
+                let end = write_gate(rt, shared.alloc, shared.notices, *gate, output, from);
                 *answers = end.answers;
             }
             Task::Work(worker) => {

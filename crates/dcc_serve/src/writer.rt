@@ -6,6 +6,7 @@ use crate::face::{Notice, Notices, Shut};
 use crate::reader::TURNS;
 use dcc_connect::{Item, WriteEnd, write_side};
 use dcc_lane::Receiver;
+use std::alloc::Global;
 use std::io::{self, ErrorKind, Write};
 use std::sync::Wait;
 
@@ -42,6 +43,7 @@ impl<O: Shut> Write for Ending<O> {
 /// Writes what a gateway is answered until all that answer it have ended, and ends the connection behind it.
 pub(crate) fn write_gate<W: Wait, O: Shut, N: Notices>(
     rt: &W,
+    alloc: Global,
     notices: &N,
     gate: usize,
     ending: &mut Ending<O>,
@@ -49,7 +51,7 @@ pub(crate) fn write_gate<W: Wait, O: Shut, N: Notices>(
 ) -> WriteEnd
     ensures { WritesOut result from.old from.new (O.contents ending.old.output) (O.contents ending.new.output) }
 {
-    let end = write_side(rt, ending, from, TURNS);
+    let end = write_side(rt, alloc, ending, from, TURNS);
     ending.output.shut();
     let gate = gate.saturating_add(1);
     notices.tell(rt, Notice::Written { gate, end });

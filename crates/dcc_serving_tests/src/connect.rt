@@ -64,10 +64,13 @@ struct Sink {
     most: usize,
     room: usize,
     refuses: bool,
+    /// How often it was called.
+    calls: u32,
 }
 
 impl Write for Sink {
     fn write(&mut self, buf: &[u8]) -> io::Result<usize> {
+        self.calls = self.calls.saturating_add(1);
         if self.room == 0 && self.refuses {
             return Err(Error::from(ErrorKind::BrokenPipe));
         }
@@ -165,6 +168,7 @@ fn taking(alloc: Global, most: usize, room: usize, refuses: bool) -> Sink {
         most,
         room,
         refuses,
+        calls: 0,
     }
 }
 
@@ -383,7 +387,7 @@ fn write_all_of<W: Wait + std::thread::Threads + Sync>(
     let ((), end) = join(
         rt,
         || put_all(rt, alloc, sender, count),
-        || write_side(rt, output, &mut receiver, ENOUGH),
+        || write_side(rt, alloc, output, &mut receiver, ENOUGH),
     );
     Ok(end)
 }
@@ -417,6 +421,48 @@ fn a_failed_writer_still_takes(rt: HostRuntime) -> Result<(), Fail> {
     };
     assert_eq!(&rt; end, failed);
     assert_eq!(&rt; output.taken.as_slice(), b"capabilities,ca".as_slice());
+    Ok(())
+}
+
+/// Writes three items, which all stand in the lane before.
+fn write_full_lane(rt: &HostRuntime, output: &mut Sink) -> Result<WriteEnd, Fail> {
+    let alloc = rt.alloc();
+    let (mut senders, mut receiver) = Lane::<Item>::new(alloc, 8, 1)?;
+    let Some(sender) = senders.pop() else {
+        return Err("no sender".into());
+    };
+    put_all(rt, alloc, sender, 3);
+    Ok(write_side(rt, alloc, output, &mut receiver, ENOUGH))
+}
+
+#[test]
+fn what_the_lane_has_goes_out_in_one_call(rt: HostRuntime) -> Result<(), Fail> {
+    let mut output = taking(rt.alloc(), 100, 100, true);
+    let end = write_full_lane(&rt, &mut output)?;
+    let all = WriteEnd {
+        fault: None,
+        answers: 3,
+    };
+    assert_eq!(&rt; end, all);
+    assert_eq!(&rt; output.calls, 1);
+    assert_eq!(&rt;
+        output.taken.as_slice(),
+        b"capabilities,capabilities,capabilities,".as_slice()
+    );
+    Ok(())
+}
+
+/// The writer takes 30 of their 39 octets, and then fails.
+#[test]
+fn of_what_went_out_together_the_whole_are_counted(rt: HostRuntime) -> Result<(), Fail> {
+    let mut output = taking(rt.alloc(), 100, 30, true);
+    let end = write_full_lane(&rt, &mut output)?;
+    let failed = WriteEnd {
+        fault: Some(ConnectFault::Write { written: 30 }),
+        answers: 2,
+    };
+    assert_eq!(&rt; end, failed);
+    assert_eq!(&rt; output.calls, 2);
     Ok(())
 }
 

@@ -1,0 +1,70 @@
+-- What was taken and hasn't gone out: octets of some items, and where each of these ends among them.
+use Rattle.std.specs.Prelude.{◌≡◌, ℕ, ◌+◌, ◌≤◌, ◌<◌, ◌⊎◌, nat_le, List, [], ◌∷◌, ◌++◌, length, take, count_by, Option, Some, None}
+use Rattle.std.specs.Io.KnownBytes.{Appends}
+use Rattle.dcc_lane.specs.declared.rule.Tagged.{Tagged}
+use Rattle.dcc_connect.specs.declared.writing.Item.{Item}
+use Rattle.dcc_connect.specs.declared.writing.Item.TheVariants.{Octets, End}
+use Rattle.dcc_connect.specs.declared.writing.Progress.{Progress}
+use Rattle.dcc_connect.specs.declared.gathering.Gathered.{Gathered}
+use Rattle.dcc_connect.specs.declared.fault.ConnectFault.{ConnectFault}
+use Rattle.dcc_connect.specs.declared.fault.ConnectFault.TheVariants.{Write}
+use Rattle.dcc_connect.specs.inner.Sends.{Counts}
+use Rattle.dcc_connect.specs.inner.Items.{Stays, WritesOctets, WritesItem, HasTaken}
+use Rattle.dcc_connect.specs.Writing.{items_of, octets_in, ends_in, whole_in}
+
+-- how many of these ends are within the first so many octets
+abbrev pub within : ℕ → List ℕ → ℕ
+within count ends = count_by (λ end. nat_le end count) ends
+
+-- an item's octets joined those that were gathered, which are no more than so many
+abbrev pub Joins : ℕ → List ℕ → Gathered → Gathered → Type 0
+Joins most octets old new =
+    (new.octets.items ≡ old.octets.items ++ octets) × (new.ends.items ≡ old.ends.items ++ length (old.octets.items ++ octets) ∷ [])
+    × (length (old.octets.items ++ octets) ≤ most)
+
+-- so many of the octets went out: all, or the first of them with a fault of the writer
+abbrev pub Flushes : (octets ends : List ℕ) → Progress → Progress → Option (List ℕ) → Option (List ℕ) → Counts → Counts → Type 0
+Flushes octets ends p q before after old new =
+    (count : ℕ) × (count ≤ length octets) × Appends before after (take count octets) × (new.written ≡ old.written + count) × (new.left ≤ old.left)
+    × (q.ended ≡ p.ended) × (q.answers ≡ p.answers + within count ends)
+    × (((q.fault ≡ p.fault) × (count ≡ length octets) × (old.left ≤ new.left + count))
+    ⊎ ((q.fault ≡ Some (Write new.written)) × (count < length octets) × (old.left ≤ new.left + count + 1)))
+
+-- what is gathered goes out, or stays
+abbrev pub MayFlush : Gathered → Gathered → Progress → Progress → Option (List ℕ) → Option (List ℕ) → Counts → Counts → Type 0
+MayFlush g h p q before after old new =
+    ((h.octets.items ≡ g.octets.items) × (h.ends.items ≡ g.ends.items) × (q ≡ p) × Stays before after old new)
+    ⊎ ((h.octets.items ≡ []) × (h.ends.items ≡ []) × Flushes g.octets.items g.ends.items p q before after old new)
+
+-- octets are gathered, or what was gathered goes out, and they behind it
+abbrev pub GathersOctets : List ℕ → Gathered → Gathered → Progress → Progress → Option (List ℕ) → Option (List ℕ) → Counts → Counts → Type 0
+GathersOctets octets g h p q before after old new =
+    ((p.fault ≡ None) × Joins old.left octets g h × (q ≡ p) × Stays before after old new)
+    ⊎ ((r : Progress) × (mid : Option (List ℕ)) × (counts : Counts) × (h.octets.items ≡ []) × (h.ends.items ≡ [])
+    × Flushes g.octets.items g.ends.items p r before mid old counts × WritesOctets r.fault octets r q mid after counts new)
+
+-- of an item; an end leaves what was gathered as it is
+abbrev pub Gathers : Item → Gathered → Gathered → Progress → Progress → Option (List ℕ) → Option (List ℕ) → Counts → Counts → Type 0
+Gathers End g h p q before after old new = (h.octets.items ≡ g.octets.items) × (h.ends.items ≡ g.ends.items) × WritesItem End p q before after old new
+Gathers (Octets octets) g h p q before after old new = GathersOctets octets g h p q before after old new
+
+-- of what was taken of a lane all went out but the octets that were gathered
+pub record HasGathered (senders turns : ℕ) (before now : Option (List ℕ)) (old new : List (Tagged Item)) (progress : Progress) (counts : Counts) (octets ends : List ℕ) : Type 0 where
+  pub more : List (Tagged Item)
+  pub sent : List ℕ
+  pub taken : new ≡ old ++ more
+  pub out : Appends before now sent
+  pub fault : progress.fault ≡ None
+  pub joined : sent ++ octets ≡ octets_in (items_of more)
+  pub turned : turns ≤ length (items_of more) + length sent + counts.left
+  pub written : counts.written ≡ length sent
+  pub answers : (count : ℕ) → count ≤ length octets → whole_in (length sent + count) (items_of more) ≡ progress.answers + within count ends
+  pub bound : (count : ℕ) → length octets ≤ count → within count ends ≡ within (length octets) ends
+  pub few : progress.answers + length ends ≤ length (items_of more)
+  pub ended : ends_in (items_of more) ≡ progress.ended
+  pub spent : length (items_of more) + counts.left ≤ turns
+
+-- so far have items come that were taken of a lane: without a fault some octets may be gathered
+abbrev pub HasCome : Option ConnectFault → (senders turns : ℕ) → (before now : Option (List ℕ)) → (old new : List (Tagged Item)) → Progress → Counts → (octets ends : List ℕ) → Type 0
+HasCome None senders turns before now old new progress counts octets ends = HasGathered senders turns before now old new progress counts octets ends
+HasCome (Some fault) senders turns before now old new progress counts octets ends = (octets ≡ []) × (ends ≡ []) × HasTaken senders turns before now old new progress counts
