@@ -2,6 +2,7 @@
 
 ghost use Rattle.std.specs.Prelude.{IfErr, OnOk};
 ghost use Rattle.std.specs.Io.KnownBytes.{Appends};
+ghost use Rattle.std.specs.declared.net.SocketAddr.{SocketAddr};
 ghost use Rattle.dcc_program.specs.Servings.{listening_line, IsTellingBegun, IsServed, IsServedBegun};
 
 use crate::command_line::ServeAsk;
@@ -12,11 +13,12 @@ use dcc_replay::identity_of;
 use dcc_serve::{Service, serve_run};
 use dcc_sockets::{Door, Input, NoticeLines, Output, SystemClock};
 use dcc_streams::write_all;
+use dcc_tariff::Plan;
 use std::alloc::Global;
 use std::fs;
 use std::hash::RandomState;
 use std::io::{Eprint, Write};
-use std::net::{Net, SocketAddr, TcpListener, TcpStream};
+use std::net::{Net, SocketAddr, SocketAddrV4, TcpListener, TcpStream};
 use std::random::RandomSource;
 use std::rt::Files;
 use std::sync::Wait;
@@ -46,36 +48,82 @@ pub fn serve<
     let hasher = RandomState::new(rt)?;
     let mut file = fs::open(rt, ask.place.plan)?;
     let plan = plan_from(alloc, &mut file)?;
-    let identity = identity_of(alloc, &plan)?;
-    let opened = shards_over(alloc, stores, ask.place.folder, &plan, &identity, hasher);
+    serve_under(rt, stores, &plan, hasher, ask, output)
+}
+
+/// Serves under a plan.
+fn serve_under<
+    R: Net<Listener = TcpListener, Stream = TcpStream>
+        + Threads
+        + Wait
+        + Clock
+        + Eprint
+        + Sync
+        + AllocGlobal,
+    S: Stores,
+    W: Write,
+>(
+    rt: &R,
+    stores: &S,
+    plan: &Plan,
+    hasher: RandomState,
+    ask: &ServeAsk<'_>,
+    output: &mut W,
+) -> Result<(), Failure>
+    ensures whole { OnOk result (IsServed ask.now.rounds.rounds (W.contents output.old) (W.contents output.new)) }
+    ensures part { IfErr result (IsServedBegun ask.now.rounds.rounds (W.contents output.old) (W.contents output.new)) }
+{
+    let alloc = rt.alloc();
+    let identity = identity_of(alloc, plan)?;
+    let opened = shards_over(alloc, stores, ask.place.folder, plan, &identity, hasher);
     let shards = match opened {
         Ok(shards) => shards,
         Err(refusal) => return Err(Failure::from(OperatorFault::from(refusal))),
     };
-    let mut door = Door::bind(rt, alloc, ask.address)?;
-    let address = door.address()?;
-    if let Err(failure) = tell_address(alloc, address, output) {
-        return Err(failure);
-    }
+    let mut door = match open_door(rt, alloc, ask.address, output) {
+        Ok(door) => door,
+        Err(failure) => {
+            // By a call: shards that are let go in place are proved part by part.
+            drop(shards);
+            return Err(failure);
+        }
+    };
     let clock = SystemClock::new(rt);
     let notices = NoticeLines::new(rt);
     let service = Service {
-        plan: &plan,
+        plan,
         identity: &identity,
         clock: &clock,
         notices: &notices,
         hasher,
     };
-    serve_run::<R, S::Records, Input, Output, Door, SystemClock<'_, R>, NoticeLines<'_, R>, W>(
-        rt,
-        alloc,
-        &service,
-        shards,
-        &mut door,
-        output,
-        &ask.rounds,
-    )?;
-    Ok(())
+    let served = serve_run::<
+        R,
+        S::Records,
+        Input,
+        Output,
+        Door,
+        SystemClock<'_, R>,
+        NoticeLines<'_, R>,
+        W,
+    >(rt, alloc, &service, shards, &mut door, output, &ask.rounds);
+    Ok(served?)
+}
+
+/// Listens at an address, and writes where that is.
+fn open_door<N: Net<Listener = TcpListener, Stream = TcpStream>, W: Write>(
+    rt: &N,
+    alloc: Global,
+    address: SocketAddrV4,
+    output: &mut W,
+) -> Result<Door, Failure>
+    ensures whole { OnOk result ((address : SocketAddr) × Appends (W.contents output.old) (W.contents output.new) (listening_line address)) }
+    ensures part { IfErr result (IsTellingBegun (W.contents output.old) (W.contents output.new)) }
+{
+    let door = Door::bind(rt, alloc, address)?;
+    let found = door.address()?;
+    tell_address(alloc, found, output)?;
+    Ok(door)
 }
 
 /// Writes where the server listens.
