@@ -1,6 +1,9 @@
 //! Stores in files.
 
-ghost use Rattle.std.specs.Prelude.{◌≡◌, IfOk, IfSome};
+ghost use Rattle.std.specs.Prelude.{◌≡◌, ◌⊎◌, IfOk, IfSome};
+ghost use Rattle.sqlite.specs.Held.{state};
+ghost use Rattle.sqlite.specs.State.{HasCleanDisk};
+ghost use Rattle.dcc_files.specs.Stores.{IsSettingOf, AreOfShard};
 
 use crate::file_records::FileRecords;
 use dcc_operator::{StoreRefusal, Stores};
@@ -91,14 +94,23 @@ fn opened<S: Alter + Drop>(
     hasher: RandomState,
 ) -> Result<Option<SqlRecords<S>>, StoreRefusal>
     ensures terms { IfOk result (λ found. IfSome found (λ records. records.terms ≡ plan.now.terms)) }
+    ensures shard { IfOk result (λ found. IfSome found (λ records. HasCleanDisk (state S.Store records.conn)
+        → AreOfShard plan.now shard (state S.Store conn).now.trees)) }
 {
     let Some(setting) = setting_of(plan, shard) else {
+        // By a call, here and below: a connection that is let go in place is proved part by part.
+        drop(conn);
         return Err(LAYOUT);
     };
     match SqlRecords::open(alloc, conn, &setting, hasher) {
         Ok(records) => Ok(Some(records)),
-        Err((OpenFault::Empty, _)) => Ok(None),
-        Err((fault, _)) => Err(StoreRefusal(fault.number())),
+        Err((fault, conn)) => {
+            drop(conn);
+            match fault {
+                OpenFault::Empty => Ok(None),
+                fault => Err(StoreRefusal(fault.number())),
+            }
+        }
     }
 }
 
@@ -111,18 +123,27 @@ fn opened_or_made<S: Alter + Drop>(
     hasher: RandomState,
 ) -> Result<SqlRecords<S>, StoreRefusal>
     ensures terms { IfOk result (λ records. records.terms ≡ plan.now.terms) }
+    ensures shard { IfOk result (λ records. HasCleanDisk (state S.Store records.conn)
+        → AreOfShard plan.now shard (state S.Store conn).now.trees ⊎ AreOfShard plan.now shard (state S.Store records.conn).now.trees) }
 {
     let Some(setting) = setting_of(plan, shard) else {
+        drop(conn);
         return Err(LAYOUT);
     };
-    let conn = match SqlRecords::open(alloc, conn, &setting, hasher) {
+    let (fault, conn) = match SqlRecords::open(alloc, conn, &setting, hasher) {
         Ok(records) => return Ok(records),
-        Err((OpenFault::Empty, conn)) => conn,
-        Err((fault, _)) => return Err(StoreRefusal(fault.number())),
+        Err(refused) => refused,
     };
+    if !matches!(fault, OpenFault::Empty) {
+        drop(conn);
+        return Err(StoreRefusal(fault.number()));
+    }
     match SqlRecords::create(alloc, conn, &setting, hasher) {
         Ok(records) => Ok(records),
-        Err((fault, _)) => Err(StoreRefusal(fault.number())),
+        Err((fault, conn)) => {
+            drop(conn);
+            Err(StoreRefusal(fault.number()))
+        }
     }
 }
 
@@ -133,11 +154,7 @@ fn path_of(alloc: Global, folder: &str, shard: usize) -> Result<String, AllocErr
 
 /// What the store of a shard is of, under a plan: names of visible ASCII are text, and shards are few, so that it is there.
 fn setting_of(plan: &Plan, shard: usize) -> Option<Setting<'_>>
-    ensures shard { IfSome result (λ setting. setting.shard ≡ shard) }
-    ensures shards { IfSome result (λ setting. setting.shards ≡ plan.now.shards) }
-    ensures host { IfSome result (λ setting. setting.host.now ≡ plan.now.host) }
-    ensures realm { IfSome result (λ setting. setting.realm.now ≡ plan.now.realm) }
-    ensures terms { IfSome result (λ setting. setting.terms ≡ plan.now.terms) }
+    ensures { IfSome result (IsSettingOf plan.now shard) }
 {
     let (Ok(host), Ok(realm)) = (str::from_utf8(plan.host()), str::from_utf8(plan.realm())) else {
         return None;

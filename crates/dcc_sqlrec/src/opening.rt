@@ -54,7 +54,7 @@ pub fn open_store<S: Alter>(
     ensures kept { HasCleanDisk (state S.Store conn.new) → conn.old.schema ≡ layout
         → IfOk result (λ tallies. KeepsBook setting.now.terms (state S.Store conn.new) tallies.entries) }
     ensures set { HasCleanDisk (state S.Store conn.new) → conn.old.schema ≡ layout
-        → IfOk result (λ tallies. setting_rows (state S.Store conn.old).now.trees ≡ setting_row setting.now ∷ []) }
+        → IfOk result (λ tallies. setting_rows (state S.Store conn.new).now.trees ≡ setting_row setting.now ∷ []) }
     ensures still { HasCleanDisk (state S.Store conn.new) → conn.old.schema ≡ layout
         → result ≢ Err OpenFault.Device → IsUndone (state S.Store conn.old) (state S.Store conn.new) }
     ensures other { HasCleanDisk (state S.Store conn.new) → conn.old.schema ≡ layout

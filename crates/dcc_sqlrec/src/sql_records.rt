@@ -114,7 +114,7 @@ impl<S: Alter> SqlRecords<S> {
         ensures going { IfOk result (λ records. records.stopped ≡ false) }
         // The tables are those of a store, and it is of this setting.
         ensures schema { IfOk result (λ records. conn.schema ≡ layout) }
-        ensures setting { IfOk result (λ records. HasCleanDisk (state S.Store records.conn) → setting_rows (state S.Store conn).now.trees ≡ setting_row setting.now ∷ []) }
+        ensures setting { IfOk result (λ records. HasCleanDisk (state S.Store records.conn) → setting_rows (state S.Store records.conn).now.trees ≡ setting_row setting.now ∷ []) }
         // The records hold the book that was in the tables, and nothing changed.
         ensures found { IfOk result (λ records. HasCleanDisk (state S.Store records.conn) → ∥ FindsBook records.terms (state S.Store conn).committed.trees (leaves records.terms (state S.Store records.conn)) ∥₁) }
         ensures still { IfOk result (λ records. HasCleanDisk (state S.Store records.conn) → IsUndone (state S.Store conn) (state S.Store records.conn)) }

@@ -1,7 +1,9 @@
-use Rattle.std.proofs.Common.{◌≡◌}
+use Rattle.std.proofs.Common.{◌≡◌, ap, ◌∙◌}
 use Rattle.std.proofs.lemmas.Result.{IfOk-weaker}
 use Rattle.sqlite.specs.Held.{state}
+use Rattle.sqlite.specs.Effect.{Database}
 use Rattle.dcc_sqlrec.specs.Setting.{setting_row}
+use Rattle.dcc_sqlrec.specs.Trees.{setting_rows}
 use Rattle.dcc_sqlrec.specs.inner.Opening.{rows_in}
 use Rattle.dcc_sqlrec.proofs.Answering.{setting_shown, setting_there}
 use Rattle.dcc_sqlrec.proofs.Opened.{keeps_pages}
@@ -30,9 +32,12 @@ returns-clause-other g c clean has is there =
 
 pub returns-clause-set : goal.returns-clause-set
 returns-clause-set g c clean has =
-    let shown = (c.in-Ok.ensures.rows clean has).setting in
+    let it = c.in-Ok.ensures in
+    let shown = (it.rows clean has).setting in
+    let same = (it.same clean has).0.now_is in
     IfOk-weaker c.judge_store.result _ _
-    (λ tallies is. setting_shown (state g.S.Store c.args.conn.now).now.trees c.in-Ok.found.setting.items (setting_row c.args.setting.now) shown is) c.judge_store.ensures.set
+    (λ tallies is. ap (λ (db : Database). setting_rows db.trees) same
+    ∙ setting_shown (state g.S.Store c.args.conn.now).now.trees c.in-Ok.found.setting.items (setting_row c.args.setting.now) shown is) c.judge_store.ensures.set
 
 pub returns-clause-ours : goal.returns-clause-ours
 returns-clause-ours g c clean has is =
