@@ -1,6 +1,7 @@
 //! Stores in files.
 
-ghost use Rattle.std.specs.Prelude.{◌≡◌, ◌⊎◌, IfOk, IfSome};
+ghost use Rattle.std.specs.Prelude.{◌≡◌, IfOk, IfSome};
+ghost use Rattle.sqlite.specs.Files.{file_state};
 ghost use Rattle.sqlite.specs.Held.{state};
 ghost use Rattle.sqlite.specs.State.{HasCleanDisk};
 ghost use Rattle.dcc_files.specs.Stores.{IsSettingOf, AreOfShard};
@@ -48,8 +49,9 @@ impl<'r> FileStores<'r> {
 impl Stores for FileStores<'_> {
     type Records = FileRecords;
 
-    // What files hold no clause says.
-    ghost opens = { λ _ _ _ _ _. Unit {0} };
+    // Where the disk has returned what was written, the tables were made for that shard under that plan. What else files hold, and in
+    // which folder they are, no clause says.
+    ghost opens = { λ _ _ plan shard r. HasCleanDisk (file_state r.records.conn) → AreOfShard plan shard (file_state r.records.conn).now.trees };
 
     fn open(
         &self,
@@ -95,7 +97,7 @@ fn opened<S: Alter + Drop>(
 ) -> Result<Option<SqlRecords<S>>, StoreRefusal>
     ensures terms { IfOk result (λ found. IfSome found (λ records. records.terms ≡ plan.now.terms)) }
     ensures shard { IfOk result (λ found. IfSome found (λ records. HasCleanDisk (state S.Store records.conn)
-        → AreOfShard plan.now shard (state S.Store conn).now.trees)) }
+        → AreOfShard plan.now shard (state S.Store records.conn).now.trees)) }
 {
     let Some(setting) = setting_of(plan, shard) else {
         // By a call, here and below: a connection that is let go in place is proved part by part.
@@ -124,7 +126,7 @@ fn opened_or_made<S: Alter + Drop>(
 ) -> Result<SqlRecords<S>, StoreRefusal>
     ensures terms { IfOk result (λ records. records.terms ≡ plan.now.terms) }
     ensures shard { IfOk result (λ records. HasCleanDisk (state S.Store records.conn)
-        → AreOfShard plan.now shard (state S.Store conn).now.trees ⊎ AreOfShard plan.now shard (state S.Store records.conn).now.trees) }
+        → AreOfShard plan.now shard (state S.Store records.conn).now.trees) }
 {
     let Some(setting) = setting_of(plan, shard) else {
         drop(conn);
