@@ -425,8 +425,7 @@ fn a_failed_writer_still_takes(rt: HostRuntime) -> Result<(), Fail> {
 }
 
 /// Writes three items, which all stand in the lane before.
-fn write_full_lane(rt: &HostRuntime, output: &mut Sink) -> Result<WriteEnd, Fail> {
-    let alloc = rt.alloc();
+fn write_full_lane<W: Wait>(rt: &W, alloc: Global, output: &mut Sink) -> Result<WriteEnd, Fail> {
     let (mut senders, mut receiver) = Lane::<Item>::new(alloc, 8, 1)?;
     let Some(sender) = senders.pop() else {
         return Err("no sender".into());
@@ -438,7 +437,7 @@ fn write_full_lane(rt: &HostRuntime, output: &mut Sink) -> Result<WriteEnd, Fail
 #[test]
 fn what_the_lane_has_goes_out_in_one_call(rt: HostRuntime) -> Result<(), Fail> {
     let mut output = taking(rt.alloc(), 100, 100, true);
-    let end = write_full_lane(&rt, &mut output)?;
+    let end = write_full_lane(&rt, rt.alloc(), &mut output)?;
     let all = WriteEnd {
         fault: None,
         answers: 3,
@@ -456,7 +455,7 @@ fn what_the_lane_has_goes_out_in_one_call(rt: HostRuntime) -> Result<(), Fail> {
 #[test]
 fn of_what_went_out_together_the_whole_are_counted(rt: HostRuntime) -> Result<(), Fail> {
     let mut output = taking(rt.alloc(), 100, 30, true);
-    let end = write_full_lane(&rt, &mut output)?;
+    let end = write_full_lane(&rt, rt.alloc(), &mut output)?;
     let failed = WriteEnd {
         fault: Some(ConnectFault::Write { written: 30 }),
         answers: 2,
