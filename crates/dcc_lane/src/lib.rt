@@ -7,7 +7,8 @@
 //! these are equal, all that it put was taken, in order, whole and once.
 //!
 //! `put` waits while the lane is full and `take` while it is empty; that a wait ends, and that `try_take` finds an item that is queued, is
-//! tested and not proved. A wait spins, and then sleeps until the other side rings.
+//! tested and not proved. A wait spins, and then sleeps until the other side rings. Who leaves items by [`Sender::try_leave`] rings for them later;
+//! senders that wait for room are rung together, once a quarter of it was taken or the lane was found empty.
 #![tactic(auto)]
 
 mod bell;

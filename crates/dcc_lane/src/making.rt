@@ -10,6 +10,7 @@ use crate::sender::Sender;
 use std::alloc::{AllocError, Global};
 use std::marker::PhantomData;
 use std::sync::Arc;
+use std::sync::atomic::AtomicBool;
 
 /// Lanes of items of one type.
 pub struct Lane<T> {
@@ -50,6 +51,7 @@ impl<T: Drop> Lane<T> {
                 number,
                 sent: 0,
                 pass: end,
+                owes: AtomicBool::new(false),
             });
         }
         let receiver = Receiver {
@@ -57,6 +59,8 @@ impl<T: Drop> Lane<T> {
             shared,
             taken,
             pass,
+            freed: 0,
+            quarter: capacity / 4,
         };
         Ok((all, receiver))
     }

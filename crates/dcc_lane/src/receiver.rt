@@ -19,6 +19,9 @@ pub struct Receiver<T> {
     pub(crate) shared: Arc<Shared<T>, Global>,
     pub(crate) taken: Vec<u64>,
     pub(crate) pass: End<T>,
+    /// So many items were taken since senders that wait for room were rung; at a quarter of the lane's room they are.
+    pub(crate) freed: usize,
+    pub(crate) quarter: usize,
     ghost tied: { IsPassOf (arc_value shared).queue pass },
     ghost known: { view pass ≡ receiver (vec_len taken) (view pass).taken [] },
     ghost counted: { (k : ℕ) → k < vec_len taken → slice_index taken.items k ≡ length (of k (view pass).taken) },
@@ -76,7 +79,7 @@ impl<T: Drop> Receiver<T> {
         self.taken.len()
     }
 
-    /// Takes the oldest item. It waits while there is none.
+    /// Takes the oldest item. It waits while there is none. Senders are woken as by [`Receiver::try_take`].
     pub fn take<R: Wait>(&mut self, rt: &R) -> T
         ensures same { IsSameReceiver self.old self.new }
         ensures taken { TakesOne self.old result self.new }
@@ -92,8 +95,35 @@ impl<T: Drop> Receiver<T> {
     }
 
     /// Takes the oldest item, or none where the lane was empty at one moment. It waits for no item, but may try again while a sender
-    /// is in the midst of its step.
+    /// is in the midst of its step. Senders that wait for room are woken together, once a quarter of the lane's room was taken, or none was
+    /// found: who then takes nothing for a while has to ring first.
     pub fn try_take<R: Wait>(&mut self, rt: &R) -> Option<T>
+        ensures same { IsSameReceiver self.old self.new }
+        ensures taken { MatchOption result (taken_of self.new ≡ taken_of self.old) (λ x. TakesOne self.old x self.new) }
+    {
+        let taken = self.pop(rt);
+        if taken.is_some() {
+            self.freed = self.freed.saturating_add(1);
+        }
+        if taken.is_none() || self.freed >= self.quarter {
+            self.ring();
+        }
+        taken
+    }
+
+    /// Wakes the senders that wait for room, where there is some since they were woken.
+    pub fn ring(&mut self)
+        ensures same { IsSameReceiver self.old self.new }
+        ensures taken { taken_of self.new ≡ taken_of self.old }
+    {
+        if self.freed > 0 {
+            self.freed = 0;
+            self.shared.room.ring();
+        }
+    }
+
+    /// Takes the oldest item, or none where the lane was empty at one moment, and wakes nobody.
+    fn pop<R: Wait>(&mut self, rt: &R) -> Option<T>
         ensures same { IsSameReceiver self.old self.new }
         ensures taken { MatchOption result (taken_of self.new ≡ taken_of self.old) (λ x. TakesOne self.old x self.new) }
     {
@@ -103,7 +133,6 @@ impl<T: Drop> Receiver<T> {
             never(rt)
         };
         self.taken[from] = count;
-        self.shared.room.ring();
         Some(item)
     }
 
@@ -162,6 +191,8 @@ impl<T: Drop> Receiver<T> {
             shared,
             taken: _,
             mut pass,
+            freed: _,
+            quarter: _,
         } = self;
         let mut senders = senders;
         while senders.len() > 0 {
@@ -170,6 +201,7 @@ impl<T: Drop> Receiver<T> {
                 number: _,
                 sent: _,
                 pass: end,
+                owes: _,
             } = senders.remove(0);
             shared.queue.absorb::<Joins>(&mut pass, end);
         }

@@ -7,6 +7,7 @@ ghost use Rattle.dcc_lane.specs.Rule.{sender};
 use crate::bell::Patience;
 use crate::rule::{End, Puts, Shared, Tagged};
 use std::alloc::Global;
+use std::sync::atomic::{AtomicBool, Ordering};
 use std::sync::{Arc, Wait};
 
 /// One of the senders of a lane.
@@ -16,6 +17,8 @@ pub struct Sender<T> {
     pub(crate) number: usize,
     pub(crate) sent: u64,
     pub(crate) pass: End<T>,
+    /// Whether an item was left for which the receiver wasn't rung.
+    pub(crate) owes: AtomicBool,
     ghost tied: { IsPassOf (arc_value shared).queue pass },
     ghost known: { view pass ≡ sender number (view pass).put },
     ghost counted: { sent ≡ length (view pass).put },
@@ -32,7 +35,8 @@ impl<T: Drop> Sender<T> {
         self.number
     }
 
-    /// Puts an item at the lane's end. It waits while the lane is full.
+    /// Puts an item at the lane's end, and wakes the receiver. Where the lane is full it waits until the receiver rings for room, and the
+    /// receiver is woken first for what was left.
     pub fn put<R: Wait>(&mut self, rt: &R, item: T)
         ensures same { IsSameSender self.old self.new }
         ensures put { put_of self.new ≡ put_of self.old ++ item ∷ [] }
@@ -44,6 +48,7 @@ impl<T: Drop> Sender<T> {
                 Ok(()) => return,
                 Err(back) => {
                     item = back;
+                    self.ring();
                     patience.pause(rt, &self.shared.room);
                 }
             }
@@ -51,8 +56,20 @@ impl<T: Drop> Sender<T> {
         unreachable!()
     }
 
-    /// Puts an item, or hands it back where the lane was full at one moment.
+    /// Puts an item and wakes the receiver, or hands it back where the lane was full at one moment, and wakes nobody.
     pub fn try_put<R: Wait>(&mut self, rt: &R, item: T) -> Result<(), T>
+        ensures same { IsSameSender self.old self.new }
+        ensures ok { OnOk result (put_of self.new ≡ put_of self.old ++ item ∷ []) }
+        ensures err { IfErr result (λ back. (back ≡ item) × (put_of self.new ≡ put_of self.old)) }
+    {
+        self.try_leave(rt, item)?;
+        self.ring();
+        Ok(())
+    }
+
+    /// Puts an item as [`Sender::try_put`] does, but wakes nobody: a receiver that sleeps does so until [`Sender::ring`], or until an item is put.
+    /// Who leaves items has to ring before it waits for anything, and before it ends.
+    pub fn try_leave<R: Wait>(&mut self, rt: &R, item: T) -> Result<(), T>
         ensures same { IsSameSender self.old self.new }
         ensures ok { OnOk result (put_of self.new ≡ put_of self.old ++ item ∷ []) }
         ensures err { IfErr result (λ back. (back ≡ item) × (put_of self.new ≡ put_of self.old)) }
@@ -71,13 +88,21 @@ impl<T: Drop> Sender<T> {
         {
             Ok(()) => {
                 self.sent = sent;
-                self.shared.items.ring();
+                self.owes.store(true, Ordering::Relaxed);
                 Ok(())
             }
             Err(back) => {
                 let Tagged { from: _, item } = back;
                 Err(item)
             }
+        }
+    }
+
+    /// Wakes the receiver, where it sleeps and an item was left for it.
+    pub fn ring(&self) {
+        if self.owes.load(Ordering::Relaxed) {
+            self.owes.store(false, Ordering::Relaxed);
+            self.shared.items.ring();
         }
     }
 }

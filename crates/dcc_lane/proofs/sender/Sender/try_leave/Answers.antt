@@ -1,7 +1,7 @@
 use Rattle.std.proofs.Common.{ap, sym}
 use Rattle.crossbeam_queue.specs.Passes.{view}
 use Rattle.dcc_lane.proofs.Moves.{puts}
-use Rattle.dcc_lane.proofs.sender.Sender.try_put.Goals as goal
+use Rattle.dcc_lane.proofs.sender.Sender.try_leave.Goals as goal
 
 pub push_as-requires-clause-rule : goal.push_as-requires-clause-rule
 push_as-requires-clause-rule g c =

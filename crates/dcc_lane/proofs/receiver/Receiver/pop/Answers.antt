@@ -3,7 +3,7 @@ use Rattle.std.proofs.lemmas.Grind.{common_steps}
 use Rattle.crossbeam_queue.specs.Passes.{view}
 use Rattle.dcc_lane.specs.Rule.{of}
 use Rattle.dcc_lane.proofs.Moves.{takes, counted_more}
-use Rattle.dcc_lane.proofs.receiver.Receiver.try_take.Goals as goal
+use Rattle.dcc_lane.proofs.receiver.Receiver.pop.Goals as goal
 
 pub pop_as-requires-clause-rule : goal.pop_as-requires-clause-rule
 pop_as-requires-clause-rule g c = (takes _ _ (ap (λ v. v.receives) c.args.self.now.known), λ items views held at. tt)
