@@ -87,7 +87,7 @@ left_same : (f : Option ConnectFault) (senders turns : ℕ) (items : List Item) 
     → HasSent f senders turns items sent cs → HasSent f senders turns items sent es
 left_same None senders turns items sent cs es e h = let turned = h.1 in (h.0, omega arith)
 left_same (Some (Write w)) senders turns items sent cs es e h = let turned = h.2 in (h.0, h.1, omega arith)
-left_same (Some TooManyTurns) senders turns items sent cs es e h = (h.0, h.1, h.2, sym e ∙ h.3, h.4)
+left_same (Some TooManyTurns) senders turns items sent cs es e h = (h.0, h.1, h.2, sym e ∙ h.3, h.4, h.5)
 left_same (Some Read) senders turns items sent cs es e h = absurd h
 left_same (Some (Header f)) senders turns items sent cs es e h = absurd h
 left_same (Some Memory) senders turns items sent cs es e h = absurd h
@@ -329,8 +329,8 @@ joined_whole count more sent octets o ends items e fits answers bound =
     ]
 
 come_joined : (senders turns : ℕ) (a b c : Option (List ℕ)) (old mid new : List (Tagged Item)) (t : Tagged Item) (p : Progress) (cs ds es : Counts) (octets ends o : List ℕ)
-    → HasGathered senders turns a b old mid p cs octets ends → cs.left ≡ ds.left + 1 → ds.written ≡ cs.written → new ≡ mid ++ t ∷ [] → t.item ≡ Octets o → Stays b c ds es
-    → HasGathered senders turns a c old new p es (octets ++ o) (ends ++ length (octets ++ o) ∷ [])
+    → HasGathered turns a b old mid p cs octets ends → cs.left ≡ ds.left + 1 → ds.written ≡ cs.written → new ≡ mid ++ t ∷ [] → t.item ≡ Octets o → Stays b c ds es
+    → HasGathered turns a c old new p es (octets ++ o) (ends ++ length (octets ++ o) ∷ [])
 come_joined senders turns a b c old mid new t p cs ds es octets ends o h l w is at k =
     let left = k.2 in
     let written = k.1 in
@@ -374,7 +374,7 @@ come_octets : (senders turns : ℕ) (a b c : Option (List ℕ)) (old mid new : L
     → GathersOctets o g h p q b c ds es → HasCome q.fault senders turns a c old new q es h.octets.items h.ends.items
 come_octets senders turns a b c old mid new t o p q cs ds es g h was fewer l w is at k = elim k [
   | inl joins ↦ (
-      let now : HasGathered senders turns a b old mid p cs g.octets.items g.ends.items = subst (λ f. HasCome f senders turns a b old mid p cs g.octets.items g.ends.items) joins.0 was in
+      let now : HasGathered turns a b old mid p cs g.octets.items g.ends.items = subst (λ f. HasCome f senders turns a b old mid p cs g.octets.items g.ends.items) joins.0 was in
       let more = come_joined senders turns a b c old mid new t p cs ds es g.octets.items g.ends.items o now l w is at joins.3 in
       let none : HasCome p.fault senders turns a c old new p es (g.octets.items ++ o) (g.ends.items ++ length (g.octets.items ++ o) ∷ []) =
       subst (λ f. HasCome f senders turns a c old new p es (g.octets.items ++ o) (g.ends.items ++ length (g.octets.items ++ o) ∷ [])) (sym joins.0) more in

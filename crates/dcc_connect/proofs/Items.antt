@@ -1,5 +1,5 @@
 -- What went out of items, one item later.
-use Rattle.std.proofs.Common.{◌≡◌, ℕ, ◌+◌, ◌-◌, ◌≤◌, ◌<◌, nat_le, nat_lt, Bool, true, false, List, [], ◌∷◌, ◌++◌, length, take, drop, take-append-drop, refl, sym, ap, ◌∙◌, subst, append_assoc, None, Some, Option, ◌⊎◌, inl, inr, arith, length-append, length-take, zero-add}
+use Rattle.std.proofs.Common.{◌≡◌, ℕ, zero, suc, ◌+◌, ◌-◌, ◌≤◌, ◌<◌, nat_le, nat_lt, Bool, true, false, List, [], ◌∷◌, ◌++◌, length, take, drop, take-append-drop, refl, sym, ap, ◌∙◌, subst, append_assoc, None, Some, Option, ◌⊎◌, inl, inr, arith, length-append, length-take, zero-add}
 use Rattle.std.specs.Io.KnownBytes.{Appends}
 use Rattle.std.proofs.KnownBytes.{Appends-nil, Appends-trans}
 use Rattle.std.proofs.lemmas.Bool.{cases_Bool}
@@ -14,7 +14,7 @@ use Rattle.dcc_connect.specs.declared.writing.Progress.{Progress}
 use Rattle.dcc_connect.specs.declared.writing.WriteEnd.{WriteEnd}
 use Rattle.dcc_connect.specs.declared.fault.ConnectFault.{ConnectFault}
 use Rattle.dcc_connect.specs.declared.fault.ConnectFault.TheVariants.{Read, Write, TooManyTurns, Header, Memory}
-use Rattle.dcc_connect.specs.Writing.{items_of, octets_in, ends_in, whole_in, GoesOut, EndsWithSenders, TakesAndWrites}
+use Rattle.dcc_connect.specs.Writing.{items_of, octets_in, but_last, ends_in, whole_in, GoesOut, EndsWithSenders, TakesAndWrites}
 use Rattle.dcc_connect.specs.inner.Sends.{Counts}
 use Rattle.dcc_connect.specs.inner.Items.{FirstFault, answers_with, WritesOctets, WritesItem, HasSent, HasWritten, HasTaken, last_fault}
 
@@ -128,6 +128,12 @@ drop_whole Read senders turns items octets sent cs es h l = absurd h
 drop_whole (Header f) senders turns items octets sent cs es h l = absurd h
 drop_whole Memory senders turns items octets sent cs es h l = absurd h
 
+all_but_last : (items : List Item) (octets : List ℕ) → but_last (items ++ Octets octets ∷ []) ≡ items
+all_but_last items octets =
+    let long = length-append items (Octets octets ∷ []) in
+    let size : length (items ++ Octets octets ∷ []) - 1 ≡ length items = omega arith in
+    ap (λ n. take n (items ++ Octets octets ∷ [])) size ∙ take-append-le (length items) items (Octets octets ∷ []) (omega arith) ∙ take_all (length items) items (omega arith)
+
 -- octets go out behind all before, whole or not
 go_out : (f : Option ConnectFault) (senders turns count : ℕ) (items : List Item) (octets sent : List ℕ) (cs ds es : Counts) → HasSent None senders turns items sent cs
     → cs.left ≡ ds.left + 1 → ds.written ≡ length sent → es.written ≡ ds.written + count → count ≤ length octets → ends_in items < senders → FirstFault f count (length octets) ds es
@@ -173,6 +179,7 @@ go_out (Some TooManyTurns) senders turns count items octets sent cs ds es h l w 
       ap (λ s. s ++ take count octets) h.0 ∙ sym (take-append-add (octets_in items) octets count) ∙ ap (λ n. take n (octets_in items ++ octets)) (sym at) ∙ ap (take (length (sent ++ take count octets))) (sym (octets_more items octets)),
       none,
       omega arith,
+      rw (all_but_last items octets) (omega arith),
     )
 go_out (Some Read) senders turns count items octets sent cs ds es h l w v within fewer k = absurd k
 go_out (Some (Header f)) senders turns count items octets sent cs ds es h l w v within fewer k = absurd k
@@ -316,12 +323,25 @@ goes_on senders turns a b c old mid new t p q cs ds es h fewer l w e k =
       so = subst (λ x. HasWritten senders turns x q on.0 es) (sym (items_snoc h.more t)) on.2;
     }
 
+octets_fewer : (n : ℕ) (items : List Item) → length (octets_in (take n items)) ≤ length (octets_in items)
+octets_fewer zero items = omega arith
+octets_fewer (suc n) [] = omega arith
+octets_fewer (suc n) (Octets o ∷ items) =
+    let on = octets_fewer n items in
+    let some = length-append o (octets_in (take n items)) in
+    let all = length-append o (octets_in items) in
+    omega arith
+octets_fewer (suc n) (End ∷ items) = octets_fewer n items
+
 last_out : (f : Option ConnectFault) (missing : Bool) (senders turns : ℕ) (items : List Item) (sent : List ℕ) (cs : Counts) → HasSent f senders turns items sent cs
     → GoesOut (last_fault f missing) items sent
-last_out None true senders turns items sent cs h = ([], append-nil sent ∙ h.0)
+last_out None true senders turns items sent cs h =
+    let size = ap length h.0 in
+    let fewer = octets_fewer (length items - 1) items in
+    (([], append-nil sent ∙ h.0), omega arith)
 last_out None false senders turns items sent cs h = h.0
 last_out (Some (Write w)) missing senders turns items sent cs h = (h.0, h.1)
-last_out (Some TooManyTurns) missing senders turns items sent cs h = subst (λ s. IsPrefix s (octets_in items)) (sym h.2) (drop (length sent) (octets_in items), take-append-drop (length sent) (octets_in items))
+last_out (Some TooManyTurns) missing senders turns items sent cs h = (subst (λ s. IsPrefix s (octets_in items)) (sym h.2) (drop (length sent) (octets_in items), take-append-drop (length sent) (octets_in items)), h.5)
 last_out (Some Read) missing senders turns items sent cs h = absurd h
 last_out (Some (Header f)) missing senders turns items sent cs h = absurd h
 last_out (Some Memory) missing senders turns items sent cs h = absurd h

@@ -20,6 +20,10 @@ octets_in [] = []
 octets_in (Octets octets ∷ items) = octets ++ octets_in items
 octets_in (End ∷ items) = octets_in items
 
+-- those before the last
+abbrev pub but_last : List Item → List Item
+but_last items = take (length items - 1) items
+
 -- how many senders have ended
 abbrev pub ends_in : List Item → ℕ
 ends_in [] = 0
@@ -32,11 +36,12 @@ whole_in count [] = 0
 whole_in count (Octets octets ∷ items) = if nat_le (length octets) count then whole_in (count - length octets) items + 1 else 0
 whole_in count (End ∷ items) = whole_in count items
 
--- what went out of the items that were taken: all, or with a fault a beginning
+-- what went out of the items that were taken: all, or with a fault a beginning; where turns were used up, all of those before the last, and
+-- of the last a beginning
 abbrev pub GoesOut : Option ConnectFault → List Item → List ℕ → Type 0
 GoesOut None items out = out ≡ octets_in items
 GoesOut (Some (Write written)) items out = (written < length (octets_in items)) × (out ≡ take written (octets_in items))
-GoesOut (Some TooManyTurns) items out = IsPrefix out (octets_in items)
+GoesOut (Some TooManyTurns) items out = IsPrefix out (octets_in items) × (length (octets_in (but_last items)) ≤ length out)
 GoesOut (Some Read) items out = ⊥
 GoesOut (Some (Header fault)) items out = ⊥
 GoesOut (Some Memory) items out = ⊥

@@ -9,7 +9,7 @@ use crate::fault::{ConnectFault, ConnectionEnd};
 use crate::handing::Clock;
 use crate::laws::stream_laws;
 use crate::sending::{Tally, send};
-use crate::turns::{Turn, next_message, read_turn};
+use crate::turns::{PIECE, Turn, next_message, read_turn};
 use dcc_act::Moment;
 use dcc_base::Reply;
 use dcc_message::Framer;
@@ -54,13 +54,14 @@ pub fn serve_connection<I: Read, O: Write, C: Clock, A: Answerer>(
 {
     stream_laws();
     let mut framer = Framer::new(alloc);
+    let mut piece = [0u8; PIECE];
     let mut tally = Tally::new(turns);
     for turn in 0..turns {
         prove!(turn < turns);
         if !tally.spend() {
             return ConnectionEnd::Fault(ConnectFault::TooManyTurns);
         }
-        match read_turn(input, &mut framer) {
+        match read_turn(input, &mut framer, &mut piece) {
             Err(fault) => return ConnectionEnd::Fault(fault),
             Ok(Turn::End) => return ConnectionEnd::End,
             Ok(Turn::Fed) => {}

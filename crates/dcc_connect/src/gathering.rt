@@ -1,12 +1,9 @@
 //! Octets of answers that go out together, in one call of the writer.
 
-ghost use Rattle.std.specs.Prelude.{◌≡◌, ◌+◌, ◌≤◌, ◌<◌, ◌^◌, [], MatchBool, length};
-ghost use Rattle.dcc_connect.specs.inner.Gathers.{within, Joins, Flushes};
+ghost use Rattle.std.specs.Prelude.{◌≡◌, [], MatchBool};
+ghost use Rattle.dcc_connect.specs.inner.Gathers.{within, Joins};
 
-use crate::sending::{Tally, send};
-use crate::writing::Progress;
 use std::alloc::Global;
-use std::io::Write;
 
 /// So many octets are gathered, at most: an answer beyond them goes out by itself.
 const MOST_GATHERED: usize = 16_384;
@@ -31,22 +28,15 @@ impl Gathered {
         }
     }
 
-    /// How many octets there are.
-    pub fn len(&self) -> usize
-        ensures { result ≡ length self.now.octets.items }
-    {
-        self.octets.len()
-    }
-
-    /// Adds an item's octets, where with them there are no more than so many turns, nor too many for one call, and memory isn't refused;
-    /// whether it did.
+    /// Adds an item's octets and tells whether it did: it doesn't where there are none, where with them there are more octets than turns or
+    /// more than are gathered, or where memory is refused.
     pub fn add(&mut self, octets: &[u8], turns: u32) -> bool
         ensures { MatchBool result (Joins turns octets.now self.old self.new) ((self.new.octets.items ≡ self.old.octets.items) × (self.new.ends.items ≡ self.old.ends.items)) }
     {
         let Some(end) = self.octets.len().checked_add(octets.len()) else {
             return false;
         };
-        if end > MOST_GATHERED || end > turns as usize {
+        if octets.is_empty() || end > MOST_GATHERED || end > turns as usize {
             return false;
         }
         if self.ends.reserve(1).is_err() || self.octets.extend_from_slice(octets).is_err() {
@@ -57,7 +47,7 @@ impl Gathered {
     }
 
     /// How many items end within the first so many octets.
-    fn whole(&self, count: u64) -> u64
+    pub fn whole(&self, count: u64) -> u64
         ensures { result ≡ within count self.now.ends.items }
     {
         let mut whole = 0usize;
@@ -68,28 +58,4 @@ impl Gathered {
         }
         whole as u64
     }
-}
-
-/// Sends what was gathered: one call of the writer, where it takes all. The condition: there is a turn for each octet.
-pub(crate) fn flush<O: Write>(
-    output: &mut O,
-    gathered: &mut Gathered,
-    tally: &mut Tally,
-    progress: &mut Progress,
-)
-    requires turns { length gathered.old.octets.items ≤ tally.old.left }
-    requires answers { progress.old.answers + length gathered.old.ends.items < 2 ^ 64 }
-    ensures octets { gathered.new.octets.items ≡ [] }
-    ensures ends { gathered.new.ends.items ≡ [] }
-    ensures sent { Flushes gathered.old.octets.items gathered.old.ends.items progress.old progress.new (O.contents output.old) (O.contents output.new)
-        (record { left = tally.old.left; written = tally.old.written }) (record { left = tally.new.left; written = tally.new.written }) }
-{
-    let before = tally.written;
-    let sent = send(output, gathered.octets.as_slice(), tally);
-    progress.answers += gathered.whole(tally.written - before);
-    if let Err(fault) = sent {
-        progress.fault = Some(fault);
-    }
-    gathered.octets.clear();
-    gathered.ends.clear();
 }

@@ -7,7 +7,8 @@
 //! of the writer what went out is the beginning of as many octets as the fault tells, and nothing is written after it. Each counts its
 //! turns, ends at their bound, and tells [`ConnectFault::TooManyTurns`] just there.
 //!
-//! What a clause can't say, and tests show: that a reader or writer that fails is told as its own fault.
+//! What a clause can't say, and tests show: that a reader or writer that fails is told as its own fault; and that what a lane has at once goes
+//! out in one call, up to 16,384 octets, and isn't held back while the lane is empty.
 #![tactic(auto)]
 
 mod connection;

@@ -7,7 +7,7 @@ ghost use Rattle.dcc_connect.specs.inner.Steps.{HandsReady};
 use crate::fault::{ConnectFault, ConnectionEnd};
 use crate::handing::{Clock, Handed, Submitter};
 use crate::laws::stream_laws;
-use crate::turns::{Turn, next_message, read_turn};
+use crate::turns::{PIECE, Turn, next_message, read_turn};
 use dcc_message::Framer;
 use std::alloc::Global;
 use std::io::Read;
@@ -34,9 +34,10 @@ pub fn read_side<W: Wait, I: Read, C: Clock, S: Submitter>(
 {
     stream_laws();
     let mut framer = Framer::new(alloc);
+    let mut piece = [0u8; PIECE];
     for turn in 0..turns {
         prove!(turn < turns);
-        match read_turn(input, &mut framer) {
+        match read_turn(input, &mut framer, &mut piece) {
             Err(fault) => return ConnectionEnd::Fault(fault),
             Ok(Turn::End) => return ConnectionEnd::End,
             Ok(Turn::Fed) => {}

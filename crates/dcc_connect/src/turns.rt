@@ -11,7 +11,7 @@ use dcc_octets::OctetString;
 use std::io::{ErrorKind, Read};
 
 /// As many octets are asked for at a time.
-const PIECE: usize = 4096;
+pub(crate) const PIECE: usize = 4096;
 
 /// So often a call that is interrupted is made again in the same turn.
 pub(crate) const MOST_CALLS: u32 = 16;
@@ -25,12 +25,15 @@ pub(crate) enum Turn {
     End,
 }
 
-/// One turn of the reader. The framer is fed all that it gives, or nothing where memory is refused.
-pub(crate) fn read_turn<I: Read>(input: &mut I, framer: &mut Framer) -> Result<Turn, ConnectFault>
+/// One turn of the reader, by way of this piece. The framer is fed all that it gives, or nothing where memory is refused.
+pub(crate) fn read_turn<I: Read>(
+    input: &mut I,
+    framer: &mut Framer,
+    piece: &mut [u8; PIECE],
+) -> Result<Turn, ConnectFault>
     ensures { TakesPiece result (I.remaining input.old) (I.remaining input.new) framer.old framer.new }
 {
-    let mut piece = [0u8; PIECE];
-    match read_once(input, &mut piece) {
+    match read_once(input, piece) {
         None => Err(ConnectFault::Read),
         Some(0) => Ok(Turn::End),
         Some(count) => match framer.feed(&piece[..count]) {

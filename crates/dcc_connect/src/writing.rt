@@ -1,13 +1,13 @@
 //! The writer's side of a connection.
 
-ghost use Rattle.std.specs.Prelude.{◌≡◌, ◌+◌, ◌-◌, ◌≤◌, ◌<◌, ◌^◌, nat_lt, None, length};
+ghost use Rattle.std.specs.Prelude.{◌≡◌, ◌+◌, ◌-◌, ◌≤◌, ◌<◌, ◌^◌, [], nat_lt, None, length};
 ghost use Rattle.dcc_lane.specs.Ends.{senders_of, taken_of, IsSameReceiver, TakesOne};
 ghost use Rattle.dcc_connect.specs.Writing.{TakesAndWrites};
-ghost use Rattle.dcc_connect.specs.inner.Gathers.{MayFlush, Gathers, GathersOctets};
+ghost use Rattle.dcc_connect.specs.inner.Gathers.{Flushes, MayFlush, Gathers, GathersOctets};
 ghost use Rattle.dcc_connect.specs.inner.Items.{WritesOctets, last_fault};
 
 use crate::fault::ConnectFault;
-use crate::gathering::{Gathered, flush};
+use crate::gathering::Gathered;
 use crate::sending::{Tally, send};
 use dcc_lane::Receiver;
 use dcc_octets::OctetString;
@@ -41,7 +41,7 @@ pub struct WriteEnd {
 /// turns are used up. It waits where the lane or the writer waits.
 ///
 /// Faults: [`ConnectFault::Write`], the writer failed or took no octet; [`ConnectFault::TooManyTurns`], the turns were used up before
-/// every sender had ended, and no fault came before.
+/// every sender had ended, and no fault came before: all that was taken is out, but for what is missing of the last item.
 pub fn write_side<W: Wait, O: Write>(
     rt: &W,
     alloc: Global,
@@ -66,6 +66,7 @@ pub fn write_side<W: Wait, O: Write>(
             break;
         }
         let item = take_next(rt, output, from, &mut gathered, &mut tally, &mut progress);
+        from.ring();
         gather(output, item, &mut gathered, &mut tally, &mut progress);
     }
     flush(output, &mut gathered, &mut tally, &mut progress);
@@ -85,7 +86,7 @@ fn leave_turns<O: Write>(
     ensures sent { MayFlush gathered.old gathered.new progress.old progress.new (O.contents output.old) (O.contents output.new)
         (record { left = tally.old.left; written = tally.old.written }) (record { left = tally.new.left; written = tally.new.written }) }
 {
-    if gathered.len() >= tally.left as usize {
+    if gathered.octets.len() >= tally.left as usize {
         flush(output, gathered, tally, progress);
     }
 }
@@ -155,9 +156,33 @@ fn gather_octets<O: Write>(
     write_octets(output, octets, tally, progress);
 }
 
+/// Sends what was gathered: one call of the writer, where it takes all. The condition: there is a turn for each octet.
+fn flush<O: Write>(
+    output: &mut O,
+    gathered: &mut Gathered,
+    tally: &mut Tally,
+    progress: &mut Progress,
+)
+    requires turns { length gathered.old.octets.items ≤ tally.old.left }
+    requires answers { progress.old.answers + length gathered.old.ends.items < 2 ^ 64 }
+    ensures octets { gathered.new.octets.items ≡ [] }
+    ensures ends { gathered.new.ends.items ≡ [] }
+    ensures sent { Flushes gathered.old.octets.items gathered.old.ends.items progress.old progress.new (O.contents output.old) (O.contents output.new)
+        (record { left = tally.old.left; written = tally.old.written }) (record { left = tally.new.left; written = tally.new.written }) }
+{
+    let before = tally.written;
+    let sent = send(output, gathered.octets.as_slice(), tally);
+    progress.answers += gathered.whole(tally.written - before);
+    if let Err(fault) = sent {
+        progress.fault = Some(fault);
+    }
+    gathered.octets.clear();
+    gathered.ends.clear();
+}
+
 /// How far a writer has come.
 #[derive(Drop)]
-pub(crate) struct Progress {
+struct Progress {
     /// So many senders have ended.
     pub ended: usize,
     /// So many items of octets went out whole.

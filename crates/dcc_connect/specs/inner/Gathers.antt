@@ -16,11 +16,11 @@ use Rattle.dcc_connect.specs.Writing.{items_of, octets_in, ends_in, whole_in}
 abbrev pub within : ℕ → List ℕ → ℕ
 within count ends = count_by (λ end. nat_le end count) ends
 
--- an item's octets joined those that were gathered, which are no more than so many
+-- an item's octets, which are some, joined those that were gathered; together they are no more than so many, nor than are gathered
 abbrev pub Joins : ℕ → List ℕ → Gathered → Gathered → Type 0
 Joins most octets old new =
     (new.octets.items ≡ old.octets.items ++ octets) × (new.ends.items ≡ old.ends.items ++ length (old.octets.items ++ octets) ∷ [])
-    × (length (old.octets.items ++ octets) ≤ most)
+    × (length (old.octets.items ++ octets) ≤ most) × (0 < length octets) × (length (old.octets.items ++ octets) ≤ 16384)
 
 -- so many of the octets went out: all, or the first of them with a fault of the writer
 abbrev pub Flushes : (octets ends : List ℕ) → Progress → Progress → Option (List ℕ) → Option (List ℕ) → Counts → Counts → Type 0
@@ -49,7 +49,7 @@ Gathers End g h p q before after old new = (h.octets.items ≡ g.octets.items) �
 Gathers (Octets octets) g h p q before after old new = GathersOctets octets g h p q before after old new
 
 -- of what was taken of a lane all went out but the octets that were gathered
-pub record HasGathered (senders turns : ℕ) (before now : Option (List ℕ)) (old new : List (Tagged Item)) (progress : Progress) (counts : Counts) (octets ends : List ℕ) : Type 0 where
+pub record HasGathered (turns : ℕ) (before now : Option (List ℕ)) (old new : List (Tagged Item)) (progress : Progress) (counts : Counts) (octets ends : List ℕ) : Type 0 where
   pub more : List (Tagged Item)
   pub sent : List ℕ
   pub taken : new ≡ old ++ more
@@ -66,5 +66,5 @@ pub record HasGathered (senders turns : ℕ) (before now : Option (List ℕ)) (o
 
 -- so far have items come that were taken of a lane: without a fault some octets may be gathered
 abbrev pub HasCome : Option ConnectFault → (senders turns : ℕ) → (before now : Option (List ℕ)) → (old new : List (Tagged Item)) → Progress → Counts → (octets ends : List ℕ) → Type 0
-HasCome None senders turns before now old new progress counts octets ends = HasGathered senders turns before now old new progress counts octets ends
+HasCome None senders turns before now old new progress counts octets ends = HasGathered turns before now old new progress counts octets ends
 HasCome (Some fault) senders turns before now old new progress counts octets ends = (octets ≡ []) × (ends ≡ []) × HasTaken senders turns before now old new progress counts

@@ -8,7 +8,7 @@ use Rattle.dcc_connect.specs.declared.fault.ConnectFault.{ConnectFault}
 use Rattle.dcc_connect.specs.declared.fault.ConnectFault.TheVariants.{Read, Write, TooManyTurns, Header, Memory}
 use Rattle.dcc_connect.specs.inner.Sends.{Counts}
 use Rattle.dcc_lane.specs.declared.rule.Tagged.{Tagged}
-use Rattle.dcc_connect.specs.Writing.{items_of, octets_in, ends_in, whole_in}
+use Rattle.dcc_connect.specs.Writing.{items_of, octets_in, but_last, ends_in, whole_in}
 
 -- nothing went out
 abbrev pub Stays : Option (List ℕ) → Option (List ℕ) → Counts → Counts → Type 0
@@ -46,6 +46,7 @@ HasSent (Some (Write written)) senders turns items out counts =
     (written < length (octets_in items)) × (out ≡ take written (octets_in items)) × (turns ≤ length items + length out + 1 + counts.left)
 HasSent (Some TooManyTurns) senders turns items out counts =
     (ends_in items < senders) × (length out < length (octets_in items)) × (out ≡ take (length out) (octets_in items)) × (counts.left ≡ 0) × (turns ≤ length items + length out)
+    × (length (octets_in (but_last items)) ≤ length out)
 HasSent (Some Read) senders turns items out counts = ⊥
 HasSent (Some (Header fault)) senders turns items out counts = ⊥
 HasSent (Some Memory) senders turns items out counts = ⊥

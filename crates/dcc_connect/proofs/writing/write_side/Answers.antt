@@ -1,4 +1,4 @@
-use Rattle.std.proofs.Common.{◌≡◌, ◌≤◌, ◌⊎◌, length, refl, sym, ap, subst, inl, inr, arith, rules}
+use Rattle.std.proofs.Common.{◌≡◌, ◌≤◌, ◌⊎◌, ◌∙◌, length, refl, sym, ap, subst, inl, inr, arith, rules}
 use Rattle.dcc_lane.specs.Ends.{taken_of}
 use Rattle.dcc_connect.specs.declared.writing.Progress.{Progress}
 use Rattle.dcc_connect.specs.Writing.{TakesAndWrites}
@@ -43,7 +43,7 @@ loop-turn-preserved g c =
       turned = omega arith;
       room = item.0;
       come = come_turn _ _ _ _ _ _ _ _ _ _ _ _ _ _ _ _ _ _ _ _ c.loop-turn.gathered c.leave_turns.new.gathered c.take_next-item.new.gathered c.gather.new.gathered c.loop-turn.invariant.come c.if-progress-senders.false c.leave_turns.ensures.sent spent c.if-not-spend.ensures.written
-          c.take_next-item.ensures.sent c.take_next-item.ensures.taken.2 c.gather.ensures;
+          c.take_next-item.ensures.sent (c.ring.ensures.taken ∙ c.take_next-item.ensures.taken.2) c.gather.ensures;
     }
 
 pub returns-clause-written : goal.returns-clause-written

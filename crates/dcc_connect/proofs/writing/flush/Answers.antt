@@ -1,6 +1,6 @@
 use Rattle.std.proofs.Common.{◌-◌, arith}
 use Rattle.dcc_connect.proofs.Batches.{within_few}
-use Rattle.dcc_connect.proofs.gathering.flush.Goals as goal
+use Rattle.dcc_connect.proofs.writing.flush.Goals as goal
 
 pub overflow_add-progress : goal.overflow_add-progress
 overflow_add-progress g c =
