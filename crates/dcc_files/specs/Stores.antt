@@ -14,6 +14,6 @@ pub record IsSettingOf (plan : PlanView) (shard : ℕ) (setting : Setting) : Typ
   pub realm : setting.realm.now ≡ plan.realm
   pub terms : setting.terms ≡ plan.terms
 
--- the tables were made for this shard under this plan
+-- the setting that stands in the tables is that of this shard under this plan; the tariffs of a plan are no part of it
 abbrev pub AreOfShard : PlanView → ℕ → Trees → Type 0
 AreOfShard plan shard db = (setting : Setting) × IsSettingOf plan shard setting × (setting_rows db ≡ setting_row setting ∷ [])

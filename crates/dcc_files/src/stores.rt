@@ -1,10 +1,11 @@
 //! Stores in files.
 
-ghost use Rattle.std.specs.Prelude.{◌≡◌, IfOk, IfSome};
+ghost use Rattle.std.specs.Prelude.{◌≡◌, IfOk, IfSome, IfNone};
 ghost use Rattle.sqlite.specs.Files.{file_state};
 ghost use Rattle.sqlite.specs.Held.{state};
 ghost use Rattle.sqlite.specs.State.{HasCleanDisk};
 ghost use Rattle.dcc_files.specs.Stores.{IsSettingOf, AreOfShard};
+ghost use Rattle.dcc_sqlrec.specs.Tables.{no_schema};
 
 use crate::file_records::FileRecords;
 use dcc_operator::{StoreRefusal, Stores};
@@ -49,7 +50,7 @@ impl<'r> FileStores<'r> {
 impl Stores for FileStores<'_> {
     type Records = FileRecords;
 
-    // Where the disk has returned what was written, the tables were made for that shard under that plan. What else files hold, and in
+    // Where the disk has returned what was written, the setting in the tables is that of the shard under the plan. What else files hold, and in
     // which folder they are, no clause says.
     ghost opens = { λ _ _ plan shard r. HasCleanDisk (file_state r.records.conn) → AreOfShard plan shard (file_state r.records.conn).now.trees };
 
@@ -98,6 +99,7 @@ fn opened<S: Alter + Drop>(
     ensures terms { IfOk result (λ found. IfSome found (λ records. records.terms ≡ plan.now.terms)) }
     ensures shard { IfOk result (λ found. IfSome found (λ records. HasCleanDisk (state S.Store records.conn)
         → AreOfShard plan.now shard (state S.Store records.conn).now.trees)) }
+    ensures none { IfOk result (λ found. IfNone found (conn.schema ≡ no_schema)) }
 {
     let Some(setting) = setting_of(plan, shard) else {
         // By a call, here and below: a connection that is let go in place is proved part by part.
