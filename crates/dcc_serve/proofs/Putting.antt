@@ -10,6 +10,12 @@ put_at [] i s none item within is = absurd (omega arith)
 put_at (x ∷ xs) zero s none item within is = ap (λ lane. lane ∷ all_put xs) is
 put_at (x ∷ xs) (suc i) s none item within is = ap (λ lanes. put_of x ∷ lanes) (put_at xs i s none item (omega arith) is)
 
+pub put_nothing : {T : Type 0} (senders : List (Sender T)) (i : ℕ) (s none : Sender T) → i < length senders
+    → put_of s ≡ put_of (get_or senders i none) → all_put (set senders i s) ≡ all_put senders
+put_nothing [] i s none within is = absurd (omega arith)
+put_nothing (x ∷ xs) zero s none within is = ap (λ lane. lane ∷ all_put xs) is
+put_nothing (x ∷ xs) (suc i) s none within is = ap (λ lanes. put_of x ∷ lanes) (put_nothing xs i s none (omega arith) is)
+
 pub put_past : {T : Type 0} (senders : List (Sender T)) (i : ℕ) (item : T) → length senders ≤ i → all_put senders ≡ put_into i item (all_put senders)
 put_past [] i item past = refl
 put_past (x ∷ xs) zero item past = absurd (omega arith)

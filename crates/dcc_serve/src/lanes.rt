@@ -93,6 +93,27 @@ pub(crate) fn put_into<W: Wait, T: Drop>(rt: &W, lanes: &mut Vec<Sender<T>>, ind
     lanes[index].put(rt, item);
 }
 
+/// Puts an item into the lane of this index, where there is one, and lets who takes of it sleep, until `ring_all`. Where the lane is full, all are
+/// woken before it waits.
+pub(crate) fn leave_in<W: Wait, T: Drop>(rt: &W, lanes: &mut Vec<Sender<T>>, index: usize, item: T)
+    ensures { all_put lanes.new.items ≡ put_into index item (all_put lanes.old.items) }
+{
+    if index >= lanes.len() {
+        return;
+    }
+    if let Err(item) = lanes[index].try_leave(rt, item) {
+        ring_all(lanes.as_slice());
+        put_into(rt, lanes, index, item);
+    }
+}
+
+/// Wakes all that take of these lanes and were let sleep.
+pub(crate) fn ring_all<T: Drop>(lanes: &[Sender<T>]) {
+    for lane in lanes {
+        lane.ring();
+    }
+}
+
 /// Tells each worker that the gateway of this index asks for nothing more.
 pub(crate) fn end_all<W: Wait>(rt: &W, workers: &mut Vec<Sender<Work>>, gate: usize)
     ensures { all_put workers.new.items ≡ put_all (work.End gate) (all_put workers.old.items) }

@@ -1,12 +1,12 @@
 //! The worker of a shard.
 
 ghost use Rattle.std.specs.Prelude.{◌≡◌, ◌<◌};
-ghost use Rattle.dcc_lane.specs.Ends.{senders_of};
+ghost use Rattle.dcc_lane.specs.Ends.{IsSameReceiver, TakesOne, senders_of};
 ghost use Rattle.dcc_serve.specs.Counting.{acts_of};
 ghost use Rattle.dcc_serve.specs.Lanes.{all_put};
 ghost use Rattle.dcc_serve.specs.Working.{Answers, DoesOne, HasDone, Sweeps, octets_in};
 
-use crate::lanes::put_into;
+use crate::lanes::{leave_in, put_into, ring_all};
 use crate::work::{Request, Work};
 use dcc_act::Moment;
 use dcc_connect::Item;
@@ -17,6 +17,10 @@ use dcc_running::{Seat, Shards};
 use dcc_shard::RequestAnswer;
 use std::alloc::Global;
 use std::sync::Wait;
+
+/// A worker that took so many items without a wait has more to do than it can: from then on it wakes writers once for so many items, in which
+/// their threads don't take the processor from it.
+const BUSY: u32 = 8;
 
 /// A worker's ends of lanes, and its seat.
 #[derive(Drop)]
@@ -37,11 +41,13 @@ impl Worker {
     {
         let gates = self.from.senders();
         let mut ended = 0usize;
+        let mut since = 0u32;
         for _ in rt.forever() {
+            wake(self.writers.as_slice(), since);
             if ended >= gates {
                 return;
             }
-            if self.take_one(rt, alloc, shards) {
+            if self.take_one(rt, alloc, shards, &mut since) {
                 ended += 1;
             }
         }
@@ -49,11 +55,17 @@ impl Worker {
     }
 
     /// Takes one item and does it; whether a gateway has ended.
-    fn take_one<W: Wait, R: Records>(&mut self, rt: &W, alloc: Global, shards: &Shards<R>) -> bool
+    fn take_one<W: Wait, R: Records>(
+        &mut self,
+        rt: &W,
+        alloc: Global,
+        shards: &Shards<R>,
+        since: &mut u32,
+    ) -> bool
         requires { self.old.shard < shards.now.count }
         ensures { DoesOne self.old self.new result }
     {
-        match self.from.take(rt) {
+        match next(rt, &mut self.from, self.writers.as_slice(), since) {
             Work::Request(request) => {
                 answer(
                     rt,
@@ -103,7 +115,43 @@ impl Worker {
     }
 }
 
-/// Makes a request and puts its answer into its gateway's lane; where there is none, nothing.
+/// Takes the next item, and counts those that were there without a wait. Before it waits, the writers are woken that were let sleep; and all that
+/// sleep before what is no request, since a sweep takes long, and an end may have to wait for room.
+fn next<W: Wait>(
+    rt: &W,
+    from: &mut Receiver<Work>,
+    writers: &[Sender<Item>],
+    since: &mut u32,
+) -> Work
+    ensures same { IsSameReceiver from.old from.new }
+    ensures taken { TakesOne from.old result from.new }
+{
+    let work = match from.try_take(rt) {
+        Some(work) => {
+            *since = since.wrapping_add(1);
+            work
+        }
+        None => {
+            ring_all(writers);
+            *since = 0;
+            from.take(rt)
+        }
+    };
+    if !matches!(work, Work::Request(_)) {
+        from.ring();
+        ring_all(writers);
+    }
+    work
+}
+
+/// Wakes the writers for which answers were left, by how many items were there without a wait.
+fn wake(writers: &[Sender<Item>], since: u32) {
+    if since < BUSY || since % BUSY == 0 {
+        ring_all(writers);
+    }
+}
+
+/// Makes a request and puts its answer into its gateway's lane, whose writer isn't woken yet; where there is none, nothing.
 fn answer<W: Wait, R: Records>(
     rt: &W,
     alloc: Global,
@@ -120,7 +168,7 @@ fn answer<W: Wait, R: Records>(
     let Some(octets) = octets_of(answer) else {
         return;
     };
-    put_into(rt, writers, gate, Item::Octets(octets));
+    leave_in(rt, writers, gate, Item::Octets(octets));
 }
 
 /// Ends what is due of each subscriber of the shard; one that is refused leaves the others. Without memory for the list of

@@ -14,6 +14,7 @@ use std::alloc::Global;
 use std::io::{self, Error, ErrorKind, Read, Write};
 use std::process::Abort;
 use std::sync::Wait;
+use std::sync::atomic::{AtomicBool, Ordering};
 use std::test::Fail;
 use std::thread::join;
 
@@ -421,6 +422,55 @@ fn a_failed_writer_still_takes(rt: HostRuntime) -> Result<(), Fail> {
     };
     assert_eq!(&rt; end, failed);
     assert_eq!(&rt; output.taken.as_slice(), b"capabilities,ca".as_slice());
+    Ok(())
+}
+
+/// Takes all, and tells that it was called.
+#[derive(Drop)]
+struct Telling<'a> {
+    called: &'a AtomicBool,
+}
+
+impl Write for Telling<'_> {
+    fn write(&mut self, buf: &[u8]) -> io::Result<usize> {
+        self.called.store(true, Ordering::SeqCst);
+        Ok(buf.len())
+    }
+
+    fn flush(&mut self) -> io::Result<()> {
+        Ok(())
+    }
+}
+
+/// Puts an item, and that it ends once the writer was called.
+fn put_in_turn<W: Wait>(rt: &W, alloc: Global, mut sender: Sender<Item>, called: &AtomicBool) {
+    if let Ok(octets) = Vec::from_slice(alloc, FIRST) {
+        sender.put(rt, Item::Octets(OctetString::from_vec(octets)));
+        for _ in rt.forever() {
+            if called.load(Ordering::SeqCst) {
+                break;
+            }
+        }
+    }
+    sender.put(rt, Item::End);
+}
+
+/// A writer that kept what it has until the next item came would wait for ever.
+#[test]
+fn nothing_waits_while_the_lane_is_empty(rt: HostRuntime) -> Result<(), Fail> {
+    let alloc = rt.alloc();
+    let called = AtomicBool::new(false);
+    let (mut senders, mut receiver) = Lane::<Item>::new(alloc, 2, 1)?;
+    let Some(sender) = senders.pop() else {
+        return Err("no sender".into());
+    };
+    let mut output = Telling { called: &called };
+    let ((), end) = join(
+        &rt,
+        || put_in_turn(&rt, alloc, sender, &called),
+        || write_side(&rt, alloc, &mut output, &mut receiver, ENOUGH),
+    );
+    assert_eq!(&rt; end.fault, None);
     Ok(())
 }
 

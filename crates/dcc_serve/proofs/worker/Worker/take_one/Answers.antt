@@ -6,7 +6,7 @@ use Rattle.dcc_serve.proofs.worker.Worker.take_one.Goals as goal
 pub returns-in-Request : goal.returns-in-Request
 returns-in-Request g c = record {
   one = work.Request c.in-Request.request;
-  taken = taken_one c.args.self.now.from c.take.new.self (work.Request c.in-Request.request) c.in-Request.ensures.taken;
+  taken = taken_one c.args.self.now.from c.next.new.from (work.Request c.in-Request.request) c.in-Request.ensures.taken;
   done = c.answer.ensures;
   ended_is = refl;
   senders = c.in-Request.ensures.same.1;
@@ -16,7 +16,7 @@ returns-in-Request g c = record {
 pub returns-in-Sweep : goal.returns-in-Sweep
 returns-in-Sweep g c = record {
   one = work.Sweep c.in-Sweep.moment;
-  taken = taken_one c.args.self.now.from c.take.new.self (work.Sweep c.in-Sweep.moment) c.in-Sweep.ensures.taken;
+  taken = taken_one c.args.self.now.from c.next.new.from (work.Sweep c.in-Sweep.moment) c.in-Sweep.ensures.taken;
   done = (c.sweep.ensures, refl);
   ended_is = refl;
   senders = c.in-Sweep.ensures.same.1;
@@ -26,7 +26,7 @@ returns-in-Sweep g c = record {
 pub returns-in-End : goal.returns-in-End
 returns-in-End g c = record {
   one = work.End c.in-End.gate;
-  taken = taken_one c.args.self.now.from c.take.new.self (work.End c.in-End.gate) c.in-End.ensures.taken;
+  taken = taken_one c.args.self.now.from c.next.new.from (work.End c.in-End.gate) c.in-End.ensures.taken;
   done = (refl, c.put_into.ensures);
   ended_is = refl;
   senders = c.in-End.ensures.same.1;
