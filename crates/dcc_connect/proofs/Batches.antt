@@ -497,14 +497,14 @@ come_spent senders turns a b c old mid p q cs ds es g h was first z y w = come_m
 -- what was gathered goes out at last
 pub come_last : (senders turns : ℕ) (a b c : Option (List ℕ)) (old new : List (Tagged Item)) (p q : Progress) (cs ds : Counts) (octets ends : List ℕ) (end : WriteEnd)
     → HasCome p.fault senders turns a b old new p cs octets ends → p.ended ≤ senders → (senders ≤ p.ended) ⊎ (cs.left ≡ 0) → Flushes octets ends p q b c cs ds
-    → end.fault ≡ last_fault q.fault (nat_lt q.ended senders) → end.answers ≡ q.answers → TakesAndWrites end senders turns a c old new
-come_last senders turns a b c old new p q cs ds octets ends end was few why gone fault answers =
+    → end.fault ≡ last_fault q.fault (nat_lt q.ended senders) → end.answers ≡ q.answers → end.ended ≡ q.ended → TakesAndWrites end senders turns a c old new
+come_last senders turns a b c old new p q cs ds octets ends end was few why gone fault answers counted =
     let out = come_flushed p.fault senders turns 0 a b c old new p q cs cs ds ds octets ends refl was (omega arith) refl (omega arith) refl gone in
     let taken = to_taken q.fault senders turns a c old new q ds refl out in
     let ended = gone.5 in
     let left = gone.4 in
     let done : (senders ≤ q.ended) ⊎ (ds.left ≡ 0) = elim why [ inl k ↦ inl (omega arith) | inr k ↦ inr (omega arith) ] in
-    stops senders turns a c old new q end ds taken (omega arith) done fault answers
+    stops senders turns a c old new q end ds taken (omega arith) done fault answers counted
 
 pub may_room : (b c : Option (List ℕ)) (p q : Progress) (ds es : Counts) (g h : Gathered) → length g.octets.items ≤ ds.left → MayFlush g h p q b c ds es → length h.octets.items ≤ es.left
 may_room b c p q ds es g h room may = elim may [

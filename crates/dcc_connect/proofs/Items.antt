@@ -367,8 +367,8 @@ last_ends (Some Memory) missing senders turns items sent cs h few m n = absurd h
 -- no more is taken: every sender has ended, or no turn is left
 pub stops : (senders turns : ℕ) (a b : Option (List ℕ)) (old new : List (Tagged Item)) (p : Progress) (end : WriteEnd) (cs : Counts)
     → HasTaken senders turns a b old new p cs → p.ended ≤ senders → (senders ≤ p.ended) ⊎ (cs.left ≡ 0)
-    → end.fault ≡ last_fault p.fault (nat_lt p.ended senders) → end.answers ≡ p.answers → TakesAndWrites end senders turns a b old new
-stops senders turns a b old new p end cs h few why fault answers =
+    → end.fault ≡ last_fault p.fault (nat_lt p.ended senders) → end.answers ≡ p.answers → end.ended ≡ p.ended → TakesAndWrites end senders turns a b old new
+stops senders turns a b old new p end cs h few why fault answers counted =
     let ended = h.so.ended in
     let spent = h.so.spent in
     let missing : nat_lt p.ended senders ≡ true → (ends_in (items_of h.more) < senders) × (cs.left ≡ 0) =
@@ -386,6 +386,7 @@ stops senders turns a b old new p end cs h few why fault answers =
         answers = answers ∙ h.so.answers;
         turned = omega arith;
         few = omega arith;
+        counted = counted ∙ sym ended;
       },
     )
 

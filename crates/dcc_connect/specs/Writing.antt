@@ -62,6 +62,7 @@ pub record IsWritten (end : WriteEnd) (senders turns : ℕ) (items : List Item) 
   pub answers : end.answers ≡ whole_in (length out) items
   pub turned : length items ≤ turns
   pub few : ends_in items ≤ senders
+  pub counted : end.ended ≡ ends_in items
 
 -- items were taken, and of their octets just these went out
 abbrev pub TakesAndWrites : WriteEnd → (senders turns : ℕ) → Option (List ℕ) → Option (List ℕ) → List (Tagged Item) → List (Tagged Item) → Type 0

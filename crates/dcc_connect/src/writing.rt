@@ -32,6 +32,8 @@ pub struct WriteEnd {
     pub fault: Option<ConnectFault>,
     /// How many items of octets went out whole.
     pub answers: u64,
+    /// How many of the lane's senders have ended: all, but where the turns were used up before.
+    pub ended: usize,
 }
 
 /// Takes items of a lane and writes their octets, in order, until every sender has ended. What the lane has at once goes out in one call of
@@ -205,6 +207,7 @@ impl Progress {
     fn end(self, senders: usize) -> WriteEnd
         ensures fault { result.fault ≡ last_fault self.fault (nat_lt self.ended senders) }
         ensures answers { result.answers ≡ self.answers }
+        ensures ended { result.ended ≡ self.ended }
     {
         let fault = match self.fault {
             Some(fault) => Some(fault),
@@ -214,6 +217,7 @@ impl Progress {
         WriteEnd {
             fault,
             answers: self.answers,
+            ended: self.ended,
         }
     }
 }

@@ -1,4 +1,5 @@
 pub mod Putting
+pub mod Resting
 pub mod Doings
 pub mod Handings
 pub mod Tellings

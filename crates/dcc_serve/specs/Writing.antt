@@ -1,12 +1,19 @@
 -- What the writer of a gateway does.
-use Rattle.std.specs.Prelude.{ℕ, ◌-◌, ◌^◌, List, Option}
-use Rattle.dcc_connect.specs.Writing.{TakesAndWrites}
+use Rattle.std.specs.Prelude.{◌≡◌, ℕ, ◌+◌, ◌-◌, ◌^◌, List, ◌++◌, Option}
+use Rattle.dcc_connect.specs.Writing.{TakesAndWrites, ends_in, items_of}
 use Rattle.dcc_connect.specs.declared.writing.Item.{Item}
 use Rattle.dcc_connect.specs.declared.writing.WriteEnd.{WriteEnd}
 use Rattle.dcc_lane.specs.Ends.{senders_of, taken_of, IsSameReceiver}
 use Rattle.dcc_lane.specs.declared.receiver.Receiver.{Receiver}
+use Rattle.dcc_lane.specs.declared.rule.Tagged.{Tagged}
 
--- Of what it took of its lane just those octets went out to its connection that its end says, and it ended with every sender.
+-- where so many had ended, further items were taken until so many had
+abbrev pub TakesRest : (ended senders : ℕ) → List (Tagged Item) → List (Tagged Item) → Type 0
+TakesRest ended senders old new = (rest : List (Tagged Item)) × (new ≡ old ++ rest) × (ended + ends_in (items_of rest) ≡ senders)
+
+-- Of what it took of its lane just those octets went out to its connection that its end says. What came behind that was taken and dropped: it
+-- ended with every sender.
 abbrev pub WritesOut : WriteEnd → Receiver Item → Receiver Item → Option (List ℕ) → Option (List ℕ) → Type 0
 WritesOut end old new before after =
-    IsSameReceiver old new × TakesAndWrites end (senders_of old) (2 ^ 32 - 1) before after (taken_of old) (taken_of new)
+    (mid : List (Tagged Item)) × IsSameReceiver old new × TakesAndWrites end (senders_of old) (2 ^ 32 - 1) before after (taken_of old) mid
+    × TakesRest end.ended (senders_of old) mid (taken_of new)

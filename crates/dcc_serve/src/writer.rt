@@ -1,6 +1,8 @@
 //! The writer of a gateway.
 
-ghost use Rattle.dcc_serve.specs.Writing.{WritesOut};
+ghost use Rattle.std.specs.Prelude.{◌≤◌};
+ghost use Rattle.dcc_lane.specs.Ends.{IsSameReceiver, senders_of, taken_of};
+ghost use Rattle.dcc_serve.specs.Writing.{TakesRest, WritesOut};
 
 use crate::face::{Notice, Notices, Shut};
 use crate::reader::TURNS;
@@ -40,7 +42,8 @@ impl<O: Shut> Write for Ending<O> {
     }
 }
 
-/// Writes what a gateway is answered until all that answer it have ended, and ends the connection behind it.
+/// Writes what a gateway is answered until all that answer it have ended, and ends the connection behind it. Behind the last turn it still takes, so
+/// that nobody waits for room in its lane.
 pub(crate) fn write_gate<W: Wait, O: Shut, N: Notices>(
     rt: &W,
     alloc: Global,
@@ -55,5 +58,26 @@ pub(crate) fn write_gate<W: Wait, O: Shut, N: Notices>(
     ending.output.shut();
     let gate = gate.saturating_add(1);
     notices.tell(rt, Notice::Written { gate, end });
+    drop_rest(rt, from, end.ended);
     end
+}
+
+/// Takes what comes and drops it, where so many senders have ended, until all have.
+fn drop_rest<W: Wait>(rt: &W, from: &mut Receiver<Item>, ended: usize)
+    requires { ended ≤ senders_of from.old }
+    ensures same { IsSameReceiver from.old from.new }
+    ensures taken { TakesRest ended (senders_of from.old) (taken_of from.old) (taken_of from.new) }
+{
+    let senders = from.senders();
+    let mut ended = ended;
+    for _ in rt.forever() {
+        if ended >= senders {
+            return;
+        }
+        match from.take(rt) {
+            Item::End => ended += 1,
+            Item::Octets(_) => {}
+        }
+    }
+    unreachable!()
 }

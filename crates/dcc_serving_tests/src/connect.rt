@@ -401,6 +401,7 @@ fn writes_until_the_sender_ends(rt: HostRuntime) -> Result<(), Fail> {
     let all = WriteEnd {
         fault: None,
         answers: 3,
+        ended: 1,
     };
     assert_eq!(&rt; end, all);
     assert_eq!(&rt;
@@ -419,6 +420,7 @@ fn a_failed_writer_still_takes(rt: HostRuntime) -> Result<(), Fail> {
     let failed = WriteEnd {
         fault: Some(ConnectFault::Write { written: 15 }),
         answers: 1,
+        ended: 1,
     };
     assert_eq!(&rt; end, failed);
     assert_eq!(&rt; output.taken.as_slice(), b"capabilities,ca".as_slice());
@@ -491,6 +493,7 @@ fn what_the_lane_has_goes_out_in_one_call(rt: HostRuntime) -> Result<(), Fail> {
     let all = WriteEnd {
         fault: None,
         answers: 3,
+        ended: 1,
     };
     assert_eq!(&rt; end, all);
     assert_eq!(&rt; output.calls, 1);
@@ -509,6 +512,7 @@ fn of_what_went_out_together_the_whole_are_counted(rt: HostRuntime) -> Result<()
     let failed = WriteEnd {
         fault: Some(ConnectFault::Write { written: 30 }),
         answers: 2,
+        ended: 1,
     };
     assert_eq!(&rt; end, failed);
     assert_eq!(&rt; output.calls, 2);

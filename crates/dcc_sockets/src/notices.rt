@@ -50,7 +50,11 @@ impl fmt::Display for NoticeLine<'_> {
                 write!(f, "dcc: gateway {gate} {end}")
             }
             Notice::Written { gate, end } => {
-                let WriteEnd { fault, answers } = end;
+                let WriteEnd {
+                    fault,
+                    answers,
+                    ended: _,
+                } = end;
                 match fault {
                     None => write!(f, "dcc: gateway {gate} took {answers} answers"),
                     Some(fault) => {

@@ -67,4 +67,4 @@ returns-clause-written g c =
           ))
     ] in
     subst (λ n. TakesAndWrites c.end.result n c.args.turns (g.O.Write.contents c.args.output.now) (g.O.Write.contents c.flush.new.output) (taken_of c.args.from.now) (taken_of c.loop-turn.from)) c.senders-senders.ensures
-    (come_last c.senders-senders.result c.args.turns _ _ _ _ _ c.loop-turn-test.progress c.flush.new.progress _ _ _ _ c.end.result came.0 came.1 came.2 c.flush.ensures.sent c.end.ensures.fault c.end.ensures.answers)
+    (come_last c.senders-senders.result c.args.turns _ _ _ _ _ c.loop-turn-test.progress c.flush.new.progress _ _ _ _ c.end.result came.0 came.1 came.2 c.flush.ensures.sent c.end.ensures.fault c.end.ensures.answers c.end.ensures.ended)
