@@ -457,21 +457,32 @@ fn put_in_turn<W: Wait>(rt: &W, alloc: Global, mut sender: Sender<Item>, called:
     sender.put(rt, Item::End);
 }
 
-/// A writer that kept what it has until the next item came would wait for ever.
-#[test]
-fn nothing_waits_while_the_lane_is_empty(rt: HostRuntime) -> Result<(), Fail> {
-    let alloc = rt.alloc();
-    let called = AtomicBool::new(false);
+/// Writes what a sender puts in turn with the writer's calls.
+fn write_in_turn<W: Wait + std::thread::Threads + Sync>(
+    rt: &W,
+    alloc: Global,
+    called: &AtomicBool,
+) -> Result<WriteEnd, Fail> {
     let (mut senders, mut receiver) = Lane::<Item>::new(alloc, 2, 1)?;
     let Some(sender) = senders.pop() else {
         return Err("no sender".into());
     };
-    let mut output = Telling { called: &called };
     let ((), end) = join(
-        &rt,
-        || put_in_turn(&rt, alloc, sender, &called),
-        || write_side(&rt, alloc, &mut output, &mut receiver, ENOUGH),
+        rt,
+        || put_in_turn(rt, alloc, sender, called),
+        || {
+            let mut output = Telling { called };
+            write_side(rt, alloc, &mut output, &mut receiver, ENOUGH)
+        },
     );
+    Ok(end)
+}
+
+/// A writer that kept what it has until the next item came would wait for ever.
+#[test]
+fn nothing_waits_while_the_lane_is_empty(rt: HostRuntime) -> Result<(), Fail> {
+    let called = AtomicBool::new(false);
+    let end = write_in_turn(&rt, rt.alloc(), &called)?;
     assert_eq!(&rt; end.fault, None);
     Ok(())
 }
