@@ -1,5 +1,5 @@
 // A server of direct debits in plain Rust, to stand beside `dcc serve`: a thread that reads and one that writes for each gateway, one that charges
-// for each shard, lanes of 64 items between them, the checks of codec.rs, and maps in memory as its accounts. `rustc -O server.rs`; no crates.
+// for each shard, lanes of 256 items between them, the checks of codec.rs, and maps in memory as its accounts. `rustc -O server.rs`; no crates.
 //
 //     server GATEWAYS SHARDS
 //
@@ -16,7 +16,7 @@ use std::thread;
 
 include!("codec.rs");
 
-const LANE: usize = 64;
+const LANE: usize = 256;
 const PIECE: usize = 4096;
 const FUNDS: u64 = 1_000_000_000_000;
 const PRICE: u64 = 5;

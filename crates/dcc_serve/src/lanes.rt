@@ -13,7 +13,7 @@ use std::alloc::{AllocError, Global};
 use std::sync::Wait;
 
 /// So many items a lane has room for; where it is full, its senders wait.
-const CAPACITY: usize = 64;
+const CAPACITY: usize = 256;
 
 /// The ends of lanes to workers or writers: who takes, and for each that puts its senders, in the order of who takes.
 #[derive(Drop)]

@@ -20,7 +20,7 @@ use std::sync::Wait;
 
 /// A worker that took so many items without a wait has more to do than it can: from then on it wakes writers once for so many items, in which
 /// their threads don't take the processor from it.
-const BUSY: u32 = 8;
+const BUSY: u32 = 32;
 
 /// A worker's ends of lanes, and its seat.
 #[derive(Drop)]
