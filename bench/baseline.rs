@@ -1,5 +1,8 @@
-// The same work in plain Rust, as one would write it without a framework: `rustc -O baseline.rs`; no crates. It prints what `dcc_bench codec N`,
-// `dcc_bench request N` and `dcc_bench engine SUBSCRIBERS HELD SHARDS` print, and of `dcc_bench account ACCOUNTS HELD` what stands for debits and repeats.
+// The same work in plain Rust, as one would write it without a framework: `rustc -O baseline.rs`; no crates. It prints what `dcc_bench codec N` and
+// `dcc_bench account ACCOUNTS HELD` print.
+
+// Of codec.rs, dispatch.rs and accounts.rs, which the servers beside this file include too, it needs a part.
+#![allow(dead_code)]
 
 use std::hint::black_box;
 use std::time::Duration;
@@ -12,10 +15,6 @@ const REQUEST: &str = "010000e4c0000110000000040000000000000000\
 0000011b4000000f6578616d706c6500000001024000000c00000004000001cd4000001464617461406578616d706c65\
 000001a04000000c000000040000019f4000000c00000000000001b44000000c00000000000001bb40000028\
 000001c24000000c00000000000001bc40000014343931373030303030303030000001b540000018000001a54000001000000000000003e9";
-
-const EXCHANGE: &str = "0100006c80000101000000000000000300000004\
-00000108400000136777312e6578616d706c6500000001284000000f6578616d706c6500000001014000000e00017f0000010000\
-0000010a4000000c000000000000010d0000000a67770000000001024000000c00000004";
 
 const MOMENT: u64 = 1_751_328_000;
 
@@ -30,33 +29,21 @@ fn octets_of(hex: &str) -> Vec<u8> {
     digits.chunks(2).map(|pair| pair[0] << 4 | pair[1]).collect()
 }
 
-/// The server under a plan of so many groups, of which each has one tariff.
 fn make_server() -> Server {
     Server { host: b"ocs.example".to_vec(), realm: b"example".to_vec(), validity: 600 }
 }
 
-fn make_plan(groups: u32) -> Plan {
-    let rating = |place| Rating {
-        group: 10 + place,
-        unit: Unit::Octets,
-        tariffs: vec![(1_577_836_800, Tariff { price: 5 + place, block: 1000 })],
-    };
-    Plan { ratings: (0..groups).map(rating).collect(), default_group: 10, quantum: 100_000 }
-}
-
-/// The outcome of a request whose services are granted 1,001 octets each, of groups of their own; none where they don't ask.
-fn success(kind: u32, number: u32, services: u32, asks: bool) -> Outcome {
-    let form = if kind == 4 { Form::Single } else { Form::Multi };
-    let granted = |place| Granted {
-        form,
-        group: (kind != 4).then_some(10 + place),
+/// The outcome of the sample debit: 1,001 octets are granted.
+fn debited() -> Outcome {
+    let service = Granted {
+        form: Form::Single,
+        group: None,
         ids: Vec::new(),
         result: 2001,
-        grant: asks.then_some((Unit::Octets, 1001)),
+        grant: Some((Unit::Octets, 1001)),
         is_final: false,
     };
-    let services = (0..services).map(granted).collect();
-    Outcome { session: b"gw1.example;1;1".to_vec(), kind, number, result: 2001, services }
+    Outcome { session: b"gw1.example;1;1".to_vec(), kind: 4, number: 0, result: 2001, services: vec![service] }
 }
 
 fn set(debit: &mut [u8], i: u32) {
@@ -141,7 +128,7 @@ fn sum_of_answers(server: &Server, said: &Outcome, debit: &mut [u8], count: u32)
 
 /// The debits of `dcc_bench codec N`.
 fn codec(count: u32) -> Measured<()> {
-    let (server, said) = (make_server(), success(4, 0, 1, true));
+    let (server, said) = (make_server(), debited());
     let mut debit = octets_of(REQUEST);
     let mut mark = timed("codec list", count, || list_all(&mut debit, count))?;
     mark ^= timed("codec read", count, || read_all(&mut debit, count))?;
@@ -152,7 +139,6 @@ fn codec(count: u32) -> Measured<()> {
     Ok(())
 }
 
-include!("requests.rs");
 include!("growth.rs");
 
 #[repr(C)]
@@ -197,9 +183,7 @@ fn main() -> Measured<()> {
     let numbers: Option<Vec<u32>> = words.iter().skip(1).map(|word| word.parse().ok()).collect();
     match (words.first().map(String::as_str), numbers.as_deref()) {
         (Some("codec"), Some(&[count])) => codec(count),
-        (Some("request"), Some(&[count])) => requests(count),
         (Some("account"), Some(&[accounts, held])) => accounts_of(accounts, held),
-        (Some("engine"), Some(&[subscribers, held, shards])) => engine(subscribers, held, shards as usize),
-        _ => Err("usage: codec N | request N | account ACCOUNTS HELD | engine SUBSCRIBERS HELD SHARDS"),
+        _ => Err("usage: codec N | account ACCOUNTS HELD"),
     }
 }

@@ -1,28 +1,20 @@
-//! Steps of accounts that hold many acts: a direct debit, an update of one of the open sessions, a repeat of a late and of any act, and a
-//! top-up; and the looks of updates.
+//! Steps of accounts that hold many acts: a direct debit, a repeat of any of these, and a top-up.
 
-ghost use Rattle.std.specs.Prelude.{◌≡◌, ◌≤◌, true, is_some};
-ghost use Rattle.std.specs.Option.{ForSome};
+ghost use Rattle.std.specs.Prelude.{◌≡◌, true, is_some};
 
-use crate::engines::{MOMENT, make_plan, moment};
+use crate::codec::TERMS;
 use crate::rounds::timed;
 use anyhow::{Context, Result};
 use dcc_account::Account;
 use dcc_act::{
-    Act, Action, Form, Kind, Moment, OneTimeEvent, RequestKey, Service, ServiceIds, Services,
-    SessionId, SessionRequest, TopUp,
+    Act, Action, Form, Kind, Moment, OneTimeEvent, RequestKey, Service, ServiceIds, SessionId,
+    TopUp,
 };
-use dcc_tariff::{Plan, Tariff, Terms, UnitKind};
+use dcc_tariff::{Tariff, UnitKind};
 use std::alloc::Global;
 use std::hash::RandomState;
 use std::random::RandomSource;
 use std::time::CpuClock;
-
-/// The session of debits, by its number: those from 0 up to it may be open.
-const DEBITS: u32 = 64;
-
-/// The group of all services.
-const GROUP: u32 = 10;
 
 /// The steps of one round.
 const STEPS: u32 = 1_000;
@@ -30,14 +22,20 @@ const STEPS: u32 = 1_000;
 /// The money that each account is given, in minor units.
 const MONEY: u64 = 1_000_000_000_000;
 
+/// When everything happens, in seconds since 1970.
+const MOMENT: u64 = 1_751_328_000;
+
+/// The tariff of each debit.
+const TARIFF: Tariff = Tariff {
+    price: 5,
+    block: 1000,
+};
+
 /// What all acts have in common.
 #[derive(Clone, Copy)]
-pub(crate) struct Setting {
-    pub alloc: Global,
-    pub moment: Moment,
-    pub tariff: Tariff,
-    /// So many sessions each account has open, each with one service.
-    pub sessions: u32,
+struct Setting {
+    alloc: Global,
+    moment: Moment,
 }
 
 /// Measures each kind of step on accounts that hold so many acts each, taken in turn.
@@ -45,51 +43,33 @@ pub fn measure<R: AllocGlobal + RandomSource + Print + Eprint + CpuClock>(
     rt: &R,
     accounts: u32,
     held: u32,
-    sessions: u32,
 ) -> Result<()> {
     let alloc = rt.alloc();
     let hasher = RandomState::new(rt)?;
-    let plan = make_plan(alloc)?;
-    let setting = setting_of(alloc, &plan, sessions)?;
+    let moment = Moment::new(MOMENT).context("a moment")?;
+    let setting = Setting { alloc, moment };
     let mut all = Vec::new(alloc);
-    add_all(&setting, plan.terms(), hasher, &mut all, accounts, held)?;
+    for _ in 0..accounts {
+        all.push(Account::new(alloc, &TERMS, hasher))?;
+        fill_last(&setting, &mut all, held)?;
+    }
     measure_on(rt, &setting, &mut all, held)
 }
 
-/// What all acts under this plan have in common.
-pub(crate) fn setting_of(alloc: Global, plan: &Plan, sessions: u32) -> Result<Setting> {
-    let moment = moment(MOMENT)?;
-    let (_unit, tariff) = plan.at(GROUP, MOMENT).context("a tariff")?;
-    Ok(Setting {
-        alloc,
-        moment,
-        tariff,
-        sessions,
-    })
-}
-
-/// Adds so many accounts, which hold so many acts each.
-fn add_all(
-    setting: &Setting,
-    terms: &Terms,
-    hasher: RandomState,
-    all: &mut Vec<Account>,
-    accounts: u32,
-    held: u32,
-) -> Result<()> {
-    for _ in 0..accounts {
-        all.push(Account::new(setting.alloc, terms, hasher))?;
-        fill_last(setting, all, held)?;
-    }
-    Ok(())
-}
-
-/// Fills the last of the accounts with so many acts.
+/// Gives the last of the accounts its money, and makes direct debits up to so many acts.
 fn fill_last(setting: &Setting, all: &mut [Account], held: u32) -> Result<()> {
     match all.last_mut() {
         Some(account) => fill(setting, account, held),
         None => Ok(()),
     }
+}
+
+fn fill(setting: &Setting, account: &mut Account, held: u32) -> Result<()> {
+    step(account, top_up(setting, 0)?)?;
+    for number in 1..held {
+        step(account, debit(setting, number)?)?;
+    }
+    Ok(())
 }
 
 /// Measures each kind of step on these accounts, which hold so many acts each.
@@ -108,18 +88,6 @@ fn measure_on(
         steps,
         || debit_all(setting, all, &mut next),
     )?;
-    let updates = timed(
-        rt,
-        "account update",
-        steps,
-        || update_all(setting, all, &mut next),
-    )?;
-    let late = timed(
-        rt,
-        "account late repeat",
-        steps,
-        || repeat_late(setting, all, held),
-    )?;
     let repeats = timed(
         rt,
         "account repeat",
@@ -133,23 +101,7 @@ fn measure_on(
         || top_up_all(setting, all, &mut next),
     )?;
     let funds = funds_of(all);
-    let sessions = setting.sessions;
-    let looks = looks_of(setting, all, &mut next)?;
-    println!(rt;
-        "account {accounts} {held} new {debits} {updates} {late} {repeats} {top_ups} funds {funds} sessions {sessions} looks {looks}"
-    )?;
-    Ok(())
-}
-
-/// Gives an account its money, opens its sessions, and makes direct debits up to so many acts.
-fn fill(setting: &Setting, account: &mut Account, held: u32) -> Result<()> {
-    step(account, top_up(setting, 0)?)?;
-    for session in 0..setting.sessions {
-        step(account, first(setting, session)?)?;
-    }
-    for number in setting.sessions.saturating_add(1)..held {
-        step(account, debit(setting, number)?)?;
-    }
+    println!(rt; "account {accounts} {held} new {debits} {repeats} {top_ups} funds {funds}")?;
     Ok(())
 }
 
@@ -170,43 +122,16 @@ fn debit_all(setting: &Setting, all: &mut [Account], next: &mut u32) -> Result<u
     Ok(made)
 }
 
-fn update_all(setting: &Setting, all: &mut [Account], next: &mut u32) -> Result<u64> {
-    let mut made = 0u64;
-    for i in 0..STEPS as usize {
-        *next = next.wrapping_add(1);
-        made = made.wrapping_add(stepped(all, i, update(setting, *next, *next)?)?);
-    }
-    Ok(made)
-}
-
-fn repeat_late(setting: &Setting, all: &mut [Account], held: u32) -> Result<u64> {
-    let mut made = 0u64;
-    let debits = held
-        .saturating_sub(setting.sessions.saturating_add(1))
-        .max(1);
-    for i in 0..STEPS {
-        // As a gateway sends again what it has just sent.
-        let back = (i % debits).wrapping_add(1);
-        made = made.wrapping_add(stepped(
-            all,
-            i as usize,
-            debit(setting, held.wrapping_sub(back))?,
-        )?);
-    }
-    Ok(made)
-}
-
 fn repeat_all(setting: &Setting, all: &mut [Account], held: u32) -> Result<u64> {
     let mut made = 0u64;
-    let begin = setting.sessions.saturating_add(1);
-    let debits = held.saturating_sub(begin).max(1);
+    let debits = held.saturating_sub(1).max(1);
     for i in 0..STEPS {
         // Steps that are far from one another, so that they aren't in the caches.
         let number = i.wrapping_mul(7_919) % debits;
         made = made.wrapping_add(stepped(
             all,
             i as usize,
-            debit(setting, begin.wrapping_add(number))?,
+            debit(setting, number.wrapping_add(1))?,
         )?);
     }
     Ok(made)
@@ -219,20 +144,6 @@ fn top_up_all(setting: &Setting, all: &mut [Account], next: &mut u32) -> Result<
         made = made.wrapping_add(stepped(all, i, top_up(setting, u64::from(*next))?)?);
     }
     Ok(made)
-}
-
-/// The looks of so many updates, in turn.
-fn looks_of(setting: &Setting, all: &mut [Account], next: &mut u32) -> Result<u64> {
-    let mut looks = 0u64;
-    for account in all {
-        for _ in 0..setting.sessions {
-            *next = next.wrapping_add(1);
-            let step = account.prepare(update(setting, *next, *next)?)?;
-            looks = looks.wrapping_add(step.looks());
-            account.install(step);
-        }
-    }
-    Ok(looks)
 }
 
 /// Makes an act of one of the accounts, in turn.
@@ -253,11 +164,11 @@ fn top_up(setting: &Setting, ticket: u64) -> Result<Act> {
 }
 
 /// A direct debit of 1,000 octets.
-pub(crate) fn debit(setting: &Setting, number: u32) -> Result<Act> {
+fn debit(setting: &Setting, number: u32) -> Result<Act> {
     let event = OneTimeEvent {
-        key: key(setting, DEBITS, number)?,
+        key: key(setting.alloc, b"gw1.example;1;1", number)?,
         action: Action::DirectDebiting,
-        service: service(setting, false),
+        service: service(setting.alloc),
     };
     Ok(Act {
         moment: setting.moment,
@@ -265,69 +176,24 @@ pub(crate) fn debit(setting: &Setting, number: u32) -> Result<Act> {
     })
 }
 
-/// The first request of a session.
-fn first(setting: &Setting, session: u32) -> Result<Act> {
-    let request = SessionRequest {
-        key: key(setting, session, 0)?,
-        services: services(setting, false)?,
-    };
-    Ok(Act {
-        moment: setting.moment,
-        kind: Kind::Initial(request),
-    })
-}
-
-/// A further request of one of the sessions in turn, which reports what it was granted.
-fn update(setting: &Setting, turn: u32, number: u32) -> Result<Act> {
-    let session = turn % setting.sessions.max(1);
-    let request = SessionRequest {
-        key: key(setting, session, number)?,
-        services: services(setting, true)?,
-    };
-    Ok(Act {
-        moment: setting.moment,
-        kind: Kind::Update(request),
-    })
-}
-
-/// One service.
-fn services(setting: &Setting, reports: bool) -> Result<Services> {
-    let mut items = Vec::new(setting.alloc);
-    items.push(service(setting, reports))?;
-    Services::from_vec(items).context("services")
-}
-
-/// A service that asks for 1,000 octets, and where it is to reports as many.
-fn service(setting: &Setting, reports: bool) -> Service
+/// A service that asks for 1,000 octets.
+fn service(alloc: Global) -> Service
     ensures { is_some result.asked ≡ true }
 {
     Service {
-        group: Some(GROUP),
-        ids: ServiceIds::new(setting.alloc),
+        group: Some(10),
+        ids: ServiceIds::new(alloc),
         form: Form::Single,
         asked: Some(1_000),
-        used: used(reports),
+        used: None,
         unit: Some(UnitKind::Octets),
-        tariff: Some(setting.tariff),
+        tariff: Some(TARIFF),
     }
 }
 
-/// What a service reports.
-fn used(reports: bool) -> Option<u64>
-    ensures { ForSome result (λ units. units ≤ 1_000) }
-{
-    match reports {
-        true => Some(1_000),
-        false => None,
-    }
-}
-
-/// The key of a request, under a Session-Id as long as the sample debit's.
-fn key(setting: &Setting, session: u32, number: u32) -> Result<RequestKey> {
-    let name = format!(in setting.alloc; "gw1.example;1;{session}")?;
-    let sid = SessionId::from_vec(Vec::from_slice(setting.alloc, name.as_bytes())?).context(
-        "a name",
-    )?;
+/// The key of a request.
+fn key(alloc: Global, name: &[u8], number: u32) -> Result<RequestKey> {
+    let sid = SessionId::from_vec(name.to_vec(alloc)?).context("a name")?;
     Ok(RequestKey { sid, number })
 }
 

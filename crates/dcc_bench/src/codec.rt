@@ -18,10 +18,10 @@ use std::alloc::Global;
 use std::time::CpuClock;
 
 /// What an answer is written of: who answers, and what.
-pub(crate) type Reply = (Identity, Outcome);
+type Reply = (Identity, Outcome);
 
 /// The terms of the answer.
-const TERMS: Terms = Terms {
+pub(crate) const TERMS: Terms = Terms {
     validity: 600,
     hold: 1200,
     currency: 978,
@@ -115,7 +115,7 @@ fn sum_of_answers(alloc: Global, reply: &Reply, count: u32) -> Result<u64> {
 }
 
 /// Reads a request, and writes its answer.
-pub(crate) fn answer(alloc: Global, reply: &Reply, octets: &[u8]) -> Result<Vec<u8>>
+fn answer(alloc: Global, reply: &Reply, octets: &[u8]) -> Result<Vec<u8>>
     requires least { 20 ≤ length octets.now }
     requires most { length octets.now ≤ 65_000 }
 {
@@ -145,7 +145,7 @@ fn written(alloc: Global, reply: &Reply, header: &Header, proxies: &Proxies) -> 
 }
 
 /// The answer to a debit of 1,001 octets.
-pub(crate) fn make_reply(alloc: Global) -> Result<Reply> {
+fn make_reply(alloc: Global) -> Result<Reply> {
     let identity = identity(alloc)?;
     Ok((identity, debited(alloc)?))
 }

@@ -1,4 +1,4 @@
-//! What accounts say, of which answers are written.
+//! What an account says to the sample debit, of which its answer is written.
 
 use anyhow::{Context, Result};
 use dcc_act::{
@@ -8,25 +8,15 @@ use dcc_act::{
 use dcc_tariff::{Tariff, UnitKind};
 use std::alloc::Global;
 
-/// The outcome of the sample debit: 1,001 octets are granted.
+/// Success, by which 1,001 octets are granted.
 pub(crate) fn debited(alloc: Global) -> Result<Outcome> {
-    let service = granted(alloc, Form::Single, None, true);
+    let service = granted(alloc);
     let services = ServiceAnswers::from_vec(vec![in alloc; service]?).context("services")?;
-    success(alloc, RequestType::Event, 0, services)
-}
-
-/// Success of a request of the sample debit's session, with these services.
-pub(crate) fn success(
-    alloc: Global,
-    request: RequestType,
-    number: u32,
-    services: ServiceAnswers,
-) -> Result<Outcome> {
     Ok(Outcome::Answered(Answer {
-        request,
+        request: RequestType::Event,
         key: RequestKey {
             sid: session(alloc, b"gw1.example;1;1")?,
-            number,
+            number: 0,
         },
         result: ResultCode::Success,
         services,
@@ -40,14 +30,14 @@ fn session(alloc: Global, octets: &[u8]) -> Result<SessionId> {
     SessionId::from_vec(octets.to_vec(alloc)?).context("a session")
 }
 
-/// A service that is answered, where it asks with 1,001 octets.
-pub(crate) fn granted(alloc: Global, form: Form, group: Option<u32>, asks: bool) -> ServiceAnswer {
+/// The service of a debit.
+fn granted(alloc: Global) -> ServiceAnswer {
     ServiceAnswer {
-        group,
+        group: None,
         ids: ServiceIds::new(alloc),
-        form,
+        form: Form::Single,
         result: ResultCode::Success,
-        grant: if asks { Some(GRANT) } else { None },
+        grant: Some(GRANT),
         is_final: false,
     }
 }

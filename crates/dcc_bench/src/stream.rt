@@ -8,7 +8,7 @@ use dcc_message::Framer;
 use std::alloc::Global;
 use std::time::CpuClock;
 
-/// Measures framing, where the messages are taken after each piece, and copying the same messages alone.
+/// Measures framing, where the messages are taken after each piece.
 pub fn measure<R: AllocGlobal + Print + Eprint + CpuClock>(
     rt: &R,
     octets: u32,
@@ -21,12 +21,6 @@ pub fn measure<R: AllocGlobal + Print + Eprint + CpuClock>(
     let mark = timed(rt, "framer octet", length, || {
         framed(alloc, stream, piece as usize)
     })?;
-    let copies = timed(rt, "framer copy", length, || {
-        copied(alloc, stream, piece as usize)
-    })?;
-    if mark != copies {
-        bail!("other messages than the stream's");
-    }
     println!(rt; "framer {octets} {piece} mark {mark:016x}")?;
     Ok(())
 }
@@ -52,22 +46,6 @@ fn framed(alloc: Global, stream: &[u8], piece: usize) -> Result<u64> {
             let Some(message) = taken(&mut framer)? else {
                 break;
             };
-            mark = marked(mark, message.as_slice(), 15);
-        }
-    }
-    Ok(mark)
-}
-
-/// A mark of the messages, each copied to its own vector and kept until its piece is through: what framing them takes of
-/// memory.
-fn copied(alloc: Global, stream: &[u8], piece: usize) -> Result<u64> {
-    let mut mark = 0;
-    for part in stream.chunks((piece / LENGTH).max(1).saturating_mul(LENGTH)) {
-        let mut messages = Vec::new(alloc);
-        for message in part.chunks(LENGTH) {
-            messages.push(Vec::from_slice(alloc, message)?)?;
-        }
-        for message in &messages {
             mark = marked(mark, message.as_slice(), 15);
         }
     }
