@@ -10,7 +10,7 @@ use std::alloc::{AllocError, Global};
 use std::marker::Model;
 
 /// Stored acts, in the order in which they were made. An act is read only by a call that counts it.
-#[derive(Debug, Drop)]
+#[derive(Drop)]
 pub struct Journal {
     acts: Vec<Act>,
 }

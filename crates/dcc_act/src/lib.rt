@@ -32,7 +32,7 @@ pub use act::{Act, Kind};
 pub use entry::{Entry, EntryKind, EntryName};
 pub use grant::Grant;
 pub use journal::Journal;
-pub use laws::same_subscribers_are_equal;
+pub use laws::{numbers_are_given, same_subscribers_are_equal};
 pub use limits::{MAX_AMOUNT, MAX_IDS, MAX_SECONDS, MAX_SERVICES, MAX_SESSIONS};
 pub use looks::Looks;
 pub use moment::Moment;

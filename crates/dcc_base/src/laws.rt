@@ -1,6 +1,6 @@
-//! The law of replies. It is the contract of a function that does nothing.
+//! The laws of replies and of numbers. Each is the contract of a function that does nothing.
 
-ghost use Rattle.std.specs.Prelude.{◌≡◌, ℕ, ◌≤◌, true, false, List, length, Ok, Err};
+ghost use Rattle.std.specs.Prelude.{◌≡◌, ℕ, ◌≤◌, ◌∷◌, [], true, false, codes, List, length, Ok, Err};
 ghost use Rattle.std.specs.List.{sum_by};
 ghost use Rattle.dcc_avp.specs.Spelling.{AvpView, padded_len};
 ghost use Rattle.dcc_avp.specs.Reading.{FaultView};
@@ -14,8 +14,22 @@ ghost use Rattle.dcc_base.specs.declared.peer.Peer.{Peer as PeerView};
 ghost use Rattle.dcc_base.specs.Requests.{Read};
 ghost use Rattle.dcc_base.specs.Peers.{hears, replied};
 
+use crate::answer::{FAMILY, OWN_VENDOR, PRODUCT, SUCCESS};
+use crate::capabilities::NO_INBAND_SECURITY;
+use crate::requests::LAST_DISCONNECT_CAUSE;
 use dcc_answer::{busy_by_result, read_back};
 use dcc_request::shown_within;
+
+/// The numbers that definitions cite by name: DIAMETER_SUCCESS (RFC 6733, section 7.1.2), the address family of IPv4 (section 4.3.1), the server's Vendor-Id
+/// and Product-Name (sections 5.3.3 and 5.3.7), NO_INBAND_SECURITY (section 6.10) and the greatest Disconnect-Cause (section 5.4.3).
+pub fn numbers_are_given()
+    ensures success { SUCCESS ≡ 2001 }
+    ensures family { FAMILY ≡ 0 ∷ 1 ∷ [] }
+    ensures vendor { OWN_VENDOR ≡ 0 }
+    ensures product { PRODUCT ≡ codes "dcc" }
+    ensures security { NO_INBAND_SECURITY ≡ 0 }
+    ensures cause { LAST_DISCONNECT_CAUSE ≡ 2 }
+{}
 
 /// No reply is the busy answer, where the server's names and its address are within their limits, the list fits a message
 /// and its proxies can be spelled. What is replied to a message that is heard has at least a header.

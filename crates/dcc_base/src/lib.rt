@@ -19,6 +19,6 @@ mod reply;
 mod requests;
 
 pub use host::Host;
-pub use laws::told_apart;
+pub use laws::{numbers_are_given, told_apart};
 pub use peer::Peer;
 pub use reply::Reply;

@@ -1,6 +1,6 @@
 //! A peer, and its replies.
 
-ghost use Rattle.std.specs.Prelude.{◌≡◌, ◌≤◌, ◌&&◌, ℕ, List, [], false, length, Option, Ok, Err, is_some, option_map, IfOk, OnErr, MatchBool};
+ghost use Rattle.std.specs.Prelude.{◌≡◌, ◌≤◌, ◌&&◌, ℕ, List, [], false, length, Option, Ok, Err, is_some, option_map, IfOk, OnErr, MatchBool, true};
 ghost use Rattle.std.specs.List.{sum_by};
 ghost use Rattle.dcc_avp.specs.Spelling.{padded_len};
 ghost use Rattle.dcc_request.specs.Layout.{layout_fault};
@@ -94,8 +94,8 @@ impl Peer {
 
     /// Takes a message whose list can't be read, by the fault of its layout: as `take`, but where the header is right, the
     /// refusal is DIAMETER_INVALID_AVP_LENGTH (5014), with the AVP that stands for the broken one; and the answer takes
-    /// nothing over from the list, neither a session nor proxies. A fault that isn't one of layout, as want of memory, says
-    /// nothing of the message: then nothing is replied, and the peer stays.
+    /// nothing over from the list, neither a session nor proxies. The fault has to be of the layout, as each fault is that the
+    /// reading of a list returns and that isn't want of memory.
     ///
     /// The only error is want of memory, and then the peer is as it was.
     pub fn take_unread(
@@ -105,15 +105,16 @@ impl Peer {
         header: &Header,
         fault: &AvpFault,
     ) -> Result<Reply, AllocError>
+        requires { is_some (layout_fault fault.now) ≡ true }
         ensures ok { IfOk result (λ reply. (reply, self.new)
             ≡ replied_to_fault identity.now self.old header.now (layout_fault fault.now)) }
         ensures err { OnErr result (self.new ≡ self.old) }
         ensures busy { IfOk result (λ reply. is_busy reply.octets ≡ false) }
-        ensures some { IfOk result (λ reply. MatchBool (answers_to self.old header.now && is_some (layout_fault fault.now))
+        ensures some { IfOk result (λ reply. MatchBool (answers_to self.old header.now)
             (HEADER_LENGTH ≤ length reply.octets) (reply.octets ≡ [])) }
     {
         let Some(broken) = unread(fault) else {
-            return Ok(Reply::silent(alloc));
+            unreachable!()
         };
         if !self.hears(header) {
             return Ok(self.pass_over(alloc));

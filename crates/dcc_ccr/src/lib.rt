@@ -19,6 +19,7 @@
 
 mod amounts;
 mod contradiction;
+mod laws;
 mod read;
 mod request;
 mod request_type;
@@ -27,6 +28,7 @@ mod steps;
 mod subscription;
 
 pub use amounts::Amounts;
+pub use laws::numbers_are_given;
 pub use read::read_ccr;
 pub use request::{Request, subscriber};
 pub use request_type::RequestType;

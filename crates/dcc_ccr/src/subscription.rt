@@ -15,7 +15,7 @@ use std::alloc::Global;
 use std::marker::Model;
 
 /// END_USER_E164: an international telephone number (Subscription-Id-Type, RFC 8506, section 8.47).
-pub(crate) const E164: u32 = 0;
+pub const E164: u32 = 0;
 
 /// A Subscription-Id: the number of its type, and the AVPs of its type and its data.
 #[derive(Debug, Drop)]

@@ -15,7 +15,9 @@ ghost use Rattle.dcc_credit.specs.inner.Limits.{IsAnswerable};
 use crate::services::{put_finals, put_services, put_validities};
 use crate::told::{put_balance, put_cost};
 use dcc_act::{Answer, Outcome, RequestKey, RequestType};
-use dcc_answer::{MAX_OWN, Proxies, begin_answer, busy_by_result, finish_answer, put, put_u32};
+use dcc_answer::{
+    MAX_ANSWER, MAX_OWN, Proxies, begin_answer, busy_by_result, finish_answer, put, put_u32,
+};
 use dcc_avp::codes;
 use dcc_message::{HEADER_LENGTH, Header, Identity, applications};
 use dcc_tariff::Terms;
@@ -37,6 +39,7 @@ pub fn write_cca(
     ensures exact { IfOk result (λ answer. answer.items ≡ answer_octets identity.now terms.now request.now proxies.now outcome.now) }
     ensures not_busy { IfOk result (λ answer. is_busy answer.items ≡ false) }
     ensures some { IfOk result (λ answer. HEADER_LENGTH ≤ length answer.items) }
+    ensures bounded { IfOk result (λ answer. length answer.items ≤ MAX_ANSWER) }
 {
     dcc_avp::read_back();
     busy_by_result();
@@ -54,6 +57,7 @@ fn answer_within(
     outcome: &Outcome,
 ) -> Result<Vec<u8>, AllocError>
     ensures exact { IfOk result (λ answer. answer.items ≡ answer_octets identity.now terms.now request.now proxies.now outcome.now) }
+    ensures bounded { IfOk result (λ answer. length answer.items ≤ MAX_ANSWER) }
     ensures limits { OnOk result (IsAnswerable identity.now outcome.now) }
     ensures spelled { OnOk result (SpellProxies proxies.now) }
 {

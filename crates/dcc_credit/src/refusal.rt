@@ -1,6 +1,6 @@
 //! The refusal of a request.
 
-ghost use Rattle.std.specs.Prelude.{◌≡◌, ◌≤◌, ◌++◌, [], Some, true, false, length, vec_len, option_map, IfOk, OnOk};
+ghost use Rattle.std.specs.Prelude.{◌≡◌, ◌≤◌, ◌++◌, [], Some, true, false, is_some, length, vec_len, option_map, IfOk, OnOk};
 ghost use Rattle.std.specs.List.{flat_map, sum_by, AllByRecursion};
 ghost use Rattle.std.specs.Option.{option_to_list, ForSome};
 ghost use Rattle.dcc_octets.specs.Names.{is_short};
@@ -16,8 +16,8 @@ ghost use Rattle.dcc_answer.specs.Sizes.{Grows};
 ghost use Rattle.dcc_credit.specs.Refusals.{Taken, number_of, taken_from, number_avps, origin_avps, refusal_avps, refusal_octets, unread_octets};
 
 use dcc_answer::{
-    Proxies, Session, begin_answer, busy_by_result, finish_answer, put, put_failed, put_u32,
-    session_id,
+    MAX_ANSWER, Proxies, Session, begin_answer, busy_by_result, finish_answer, put, put_failed,
+    put_u32, session_id,
 };
 use dcc_avp::{Avp, AvpFault, codes};
 use dcc_message::{HEADER_LENGTH, Header, Identity, MAX_LENGTH, applications};
@@ -58,6 +58,7 @@ pub fn write_refusal(
         ≡ refusal_octets identity.now request.now (taken_from avps.now) proxies.now refused.now) }
     ensures not_busy { IfOk result (λ answer. is_busy answer.items ≡ false) }
     ensures some { IfOk result (λ answer. HEADER_LENGTH ≤ length answer.items) }
+    ensures bounded { IfOk result (λ answer. length answer.items ≤ MAX_ANSWER) }
 {
     busy_by_result();
     refusal_within(
@@ -72,21 +73,24 @@ pub fn write_refusal(
 
 /// Writes the refusal of a request whose list can't be read, by the fault of its layout: DIAMETER_INVALID_AVP_LENGTH
 /// (5014, RFC 6733, section 7.1.5) with the AVP that stands for the broken one. Nothing is taken over from the list, so a
-/// client that matches answers by their Session-Id finds none. The error is want of memory, also where that is the fault.
+/// client that matches answers by their Session-Id finds none. The fault has to be of the layout, as each fault is that the
+/// reading of a list returns and that isn't want of memory. At want of memory there is no message.
 pub fn write_unread(
     alloc: Global,
     identity: &Identity,
     request: &Header,
     fault: &AvpFault,
 ) -> Result<Vec<u8>, AllocError>
+    requires { is_some (layout_fault fault.now) ≡ true }
     ensures exact { IfOk result (λ answer. option_map (unread_octets identity.now request.now) (layout_fault fault.now) ≡ Some answer.items) }
     ensures not_busy { IfOk result (λ answer. is_busy answer.items ≡ false) }
     ensures some { IfOk result (λ answer. HEADER_LENGTH ≤ length answer.items) }
+    ensures bounded { IfOk result (λ answer. length answer.items ≤ MAX_ANSWER) }
 {
     busy_by_result();
     shown_within();
     let Some(refused) = unread(fault) else {
-        return Err(AllocError);
+        unreachable!()
     };
     let nothing = TakenOver {
         session: None,
@@ -109,6 +113,7 @@ fn refusal_within(
 ) -> Result<Vec<u8>, AllocError>
     requires { sum_by padded_len refused.now.failed ≤ MAX_LENGTH }
     ensures exact { IfOk result (λ answer. answer.items ≡ refusal_octets identity.now request.now taken.now proxies.now refused.now) }
+    ensures bounded { IfOk result (λ answer. length answer.items ≤ MAX_ANSWER) }
     ensures server { OnOk result (IsServer identity.now) }
     ensures short { OnOk result (ForSome taken.now.session (λ octets. is_short octets ≡ true)) }
     ensures failed { OnOk result (AllByRecursion HasSpelling (failed_avps refused.now.failed)) }

@@ -8,10 +8,12 @@
 
 mod fault;
 mod hold;
+mod laws;
 mod limits;
 mod pool;
 
 pub use fault::{Ceiling, Floor, Short};
 pub use hold::{Hold, Parked};
+pub use laws::numbers_are_given;
 pub use limits::MOST_MONEY;
 pub use pool::{Pool, Settled};

@@ -1,12 +1,33 @@
 //! The laws of headers and of streams. Each is the contract of a function that does nothing.
 
 ghost use Rattle.std.specs.Prelude.{◌≡◌, ◌+◌, ◌++◌, ◌∷◌, [], true, false, ℕ, List, length, take, drop, Ok};
+ghost use Rattle.dcc_message.specs.declared.applications.TheConstants as applications;
+ghost use Rattle.dcc_message.specs.declared.commands.TheConstants as commands;
+ghost use Rattle.dcc_message.specs.declared.command_flags.TheConstants as command_flags;
 ghost use Rattle.dcc_message.specs.HeaderView.{HeaderView};
 ghost use Rattle.dcc_message.specs.Headers.{header_of, message, IsHeader};
 ghost use Rattle.std.specs.List.{concat};
 ghost use Rattle.dcc_message.specs.Streams.{length_field, begins_whole, messages, rest, messages_by_pieces, rest_by_pieces};
 
-use crate::length::HEADER_LENGTH;
+use crate::length::{HEADER_LENGTH, MAX_LENGTH};
+
+/// The numbers that definitions cite by name: the octets of a header and the most octets of a message (RFC 6733, section 3), the Command Codes (RFC 6733,
+/// section 3.1, and RFC 8506, section 3), the Application-Ids (RFC 6733, section 2.4, and RFC 8506, section 1.3) and the Command Flags (RFC 6733, section 3).
+pub fn numbers_are_given()
+    ensures header { HEADER_LENGTH ≡ 20 }
+    ensures most { MAX_LENGTH ≡ 65_532 }
+    ensures capabilities { commands.CAPABILITIES_EXCHANGE ≡ 257 }
+    ensures credit_control { commands.CREDIT_CONTROL ≡ 272 }
+    ensures watchdog { commands.DEVICE_WATCHDOG ≡ 280 }
+    ensures disconnect { commands.DISCONNECT_PEER ≡ 282 }
+    ensures base { applications.BASE ≡ 0 }
+    ensures charging { applications.CREDIT_CONTROL ≡ 4 }
+    ensures relay { applications.RELAY ≡ 0xffff_ffff }
+    ensures request { command_flags.REQUEST ≡ 0x80 }
+    ensures proxiable { command_flags.PROXIABLE ≡ 0x40 }
+    ensures error { command_flags.ERROR ≡ 0x20 }
+    ensures retransmitted { command_flags.RETRANSMITTED ≡ 0x10 }
+{}
 
 /// The header of a message that was written is read back, where it fits: with the length of the message, which is of
 /// whole words up to 65,532 octets.

@@ -16,5 +16,5 @@ mod length;
 pub use framer::Framer;
 pub use header::{Header, HeaderFault, begin_message, finish_message, read_header, write_message};
 pub use identity::{DiameterIdentity, Identity};
-pub use laws::{any_pieces, header_read_back};
+pub use laws::{any_pieces, header_read_back, numbers_are_given};
 pub use length::{HEADER_LENGTH, LengthFault, MAX_LENGTH};

@@ -1,14 +1,21 @@
 //! Laws of the definitions: what the layers above need to know of outcomes and acts without a look into them. None of
 //! these functions does anything: each has a law as its contract.
 
+ghost use Rattle.std.specs.Prelude.{◌≡◌, pos};
 ghost use Rattle.dcc_model.specs.Laws.{LaterChangesNothing, OneMoreAct, AfterStays, NewStays, PlaceStays, OutcomesStay, ActsStay};
 ghost use Rattle.dcc_model.specs.Laws.{ActsAreActs, NoActs, KeptStay, AccountStays, NewIsLast, PlaceHolds, UnknownHasNoPlace};
 ghost use Rattle.dcc_model.specs.Laws.{IdleExpiryHasNoPlace, LastComesAfter, UnknownBefore, NewAreDecided, RepeatsAreFirsts, RepeatsAreOld};
 ghost use Rattle.dcc_model.specs.Laws.{RequestsAreAnswered, TopUpsAreAdded, ExpiriesEnd};
 ghost use Rattle.dcc_model.specs.Laws.{IsKeyed, FundsAreLimited, FreeIsCovered, GrantsAreCovered, EntriesAddUp, FewAreOpen, SessionsOpenOnce, LiveAreOpen, LiveIsFound};
 
+use crate::decide::CEILING;
 use crate::money::services_of;
 use dcc_act::Act;
+
+/// The limit that definitions cite by name: funds are at most 10^18 minor units.
+pub fn numbers_are_given()
+    ensures { CEILING ≡ pos 1_000_000_000_000_000_000 }
+{}
 
 /// What comes later changes no outcome.
 pub fn later_acts_change_no_outcome()

@@ -28,7 +28,7 @@ pub use judgement::{Judgement, Standing};
 pub use keys::{is_expiry, request_key};
 pub use laws::{
     acts_come_to_their_own, funds_are_accounted_for, keys_are_apart, later_acts_change_no_outcome,
-    leaving_out_changes_nothing, one_more_act, places_hold, sessions_open_once,
+    leaving_out_changes_nothing, numbers_are_given, one_more_act, places_hold, sessions_open_once,
 };
 pub use looked_at::services_looked_at;
 pub use money::{credited, debited};

@@ -5,10 +5,12 @@
 //! octets that several crates have is told by one test with one definition.
 #![tactic(auto)]
 
+mod laws;
 mod names;
 mod numbers;
 mod octet_string;
 
+pub use laws::numbers_are_given;
 pub use names::{FIRST_VISIBLE, LAST_VISIBLE, MAX_NAME, are_visible, is_name, is_short};
 pub use numbers::{put_over, u24_at, u24_octets, u32_at, u32_in, u64_in};
 pub use octet_string::OctetString;

@@ -19,7 +19,7 @@ pub use agree::{agrees_with, begins};
 pub use answers::is_answered;
 pub use check::check_receipts;
 pub use fault::CloseFault;
-pub use laws::same_acts_are_equal;
+pub use laws::{numbers_are_given, same_acts_are_equal};
 pub use marks::Marks;
 pub use order::each_in_order;
 pub use receipt::{Receipt, Told};

@@ -1,6 +1,6 @@
-//! The laws of how many octets reading and checking find. Each is the contract of a function that does nothing.
+//! The laws of numbers, and of how many octets reading and checking find. Each is the contract of a function that does nothing.
 
-ghost use Rattle.std.specs.Prelude.{ℕ, ◌≤◌, List, length, IfOk, IfErr};
+ghost use Rattle.std.specs.Prelude.{◌≡◌, ℕ, ◌≤◌, List, length, IfOk, IfErr};
 ghost use Rattle.std.specs.Int.{next_multiple_of};
 ghost use Rattle.std.specs.List.{sum_by, AllByRecursion};
 ghost use Rattle.dcc_avp.specs.Spelling.{AvpView, padded_len};
@@ -10,6 +10,14 @@ ghost use Rattle.dcc_request.specs.declared.command.Command.{Command};
 ghost use Rattle.dcc_request.specs.Layout.{message_list, unread};
 ghost use Rattle.dcc_request.specs.Checks.{checked, missing_avp};
 ghost use Rattle.dcc_request.specs.Sizes.{AreWithin, IsGroupWithin};
+
+use crate::table::{EVENT_TYPE, MAX_SERVICES};
+
+/// The numbers that definitions cite by name: 16 services for a request, and EVENT_REQUEST (RFC 8506, section 8.3).
+pub fn numbers_are_given()
+    ensures services { MAX_SERVICES ≡ 16 }
+    ensures event { EVENT_TYPE ≡ 4 }
+{}
 
 /// What checking finds has few octets where the message's list has: with their padding, the AVPs that a refusal shows have
 /// together at most the octets of a message, and so has each AVP of the list and of the walked groups. An AVP that stands for

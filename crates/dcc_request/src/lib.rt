@@ -29,7 +29,7 @@ mod walk;
 
 pub use cause::Cause;
 pub use command::{Command, check, command_of};
-pub use laws::{list_within, shown_within};
+pub use laws::{list_within, numbers_are_given, shown_within};
 pub use layout::{read_message_list, unread};
 pub use refused::{Failed, Refused, clear};
 pub use stop::Stop;

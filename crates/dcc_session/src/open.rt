@@ -26,7 +26,6 @@ use std::marker::Model;
 /// A session that is open: until when it is held, in seconds, and its live grants, each with a hold on the pool of just its
 /// price. It can't be let go: the only ways out are [`Open::end`] and [`Open::park`], and the compiler refuses a program in
 /// which one is lost.
-#[derive(Debug)]
 pub struct Open {
     pub(crate) pool: u64,
     pub(crate) deadline: u64,

@@ -12,7 +12,7 @@ use std::marker::Model;
 
 /// An open session that is put away as data, with its holds. What it holds stays reserved; it can't be copied, so that no hold
 /// is parked twice.
-#[derive(Debug, Drop)]
+#[derive(Drop)]
 pub struct ParkedSession {
     pub(crate) pool: u64,
     pub(crate) deadline: u64,

@@ -24,6 +24,6 @@ pub use change::{Change, Turn};
 pub use facts::Facts;
 pub use judgement::Judgement;
 pub use judging::judge;
-pub use laws::{money_is_within, sessions_hold_what_is_reserved};
+pub use laws::{money_is_within, numbers_are_given, sessions_hold_what_is_reserved};
 pub use limits::{FARTHEST, POOL};
 pub use open_session::OpenSession;

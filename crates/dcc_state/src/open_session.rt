@@ -13,7 +13,7 @@ use dcc_session::{Held, ParkedSession};
 use std::marker::Model;
 
 /// An open session with its holds, put away under its name between requests.
-#[derive(Debug, Drop)]
+#[derive(Drop)]
 pub struct OpenSession {
     pub(crate) sid: SessionId,
     pub(crate) session: ParkedSession,
