@@ -1,6 +1,6 @@
 //! An answer's octets: its header, and behind its AVPs those that it takes over.
 
-ghost use Rattle.std.specs.Prelude.{◌≡◌, ◌++◌, drop, replicate, vec_len, IfOk};
+ghost use Rattle.std.specs.Prelude.{◌≡◌, ◌++◌, ◌≤◌, drop, length, replicate, vec_len, IfOk};
 ghost use Rattle.dcc_message.specs.Headers.{message};
 ghost use Rattle.dcc_answer.specs.Answers.{answer_header as header_of_answer};
 ghost use Rattle.dcc_answer.specs.Proxies.{SpellProxies};
@@ -15,6 +15,9 @@ const ROOM: usize = 256;
 
 /// The most octets of an answer without its proxies: they and the proxies fit the three octets of a message's length.
 pub const MAX_OWN: usize = 100_000;
+
+/// The most octets of an answer: those of its own and its proxies' are fewer.
+pub const MAX_ANSWER: usize = 200_000;
 
 /// Begins an answer: room for its header, behind which its AVPs are appended. At want of memory there is none.
 pub fn begin_answer(alloc: Global) -> Result<Vec<u8>, AllocError>
@@ -37,6 +40,7 @@ pub fn finish_answer(
     requires { Grows HEADER_LENGTH (vec_len begun) MAX_OWN }
     ensures octets { IfOk result (λ answer. answer.items
         ≡ message (header_of_answer request.now bits) (drop HEADER_LENGTH begun.items ++ proxies.now)) }
+    ensures bounded { IfOk result (λ answer. length answer.items ≤ MAX_ANSWER) }
     ensures spelled { SpellProxies proxies.now }
 {
     begun.extend_from_slice(proxies.as_slice())?;

@@ -1,6 +1,6 @@
 //! Failed-AVP: what an answer shows its request's sender as wrong.
 
-ghost use Rattle.std.specs.Prelude.{◌≡◌, ◌+◌, ◌*◌, ◌≤◌, ◌++◌, vec_len, OnOk};
+ghost use Rattle.std.specs.Prelude.{◌≡◌, ◌+◌, ◌*◌, ◌≤◌, ◌++◌, take, vec_len, OnOk, OnErr};
 ghost use Rattle.std.specs.List.{flat_map, sum_by, AllByRecursion};
 ghost use Rattle.dcc_avp.specs.Spelling.{padded, padded_len, HasSpelling};
 ghost use Rattle.dcc_request.specs.Refusals.{failed_in};
@@ -13,10 +13,27 @@ use dcc_request::Failed;
 use std::alloc::AllocError;
 
 /// Appends the Failed-AVP of a refusal (RFC 6733, section 7.5), with copies of its AVPs, which together have at most the
-/// octets of two messages; nothing where there are none.
+/// octets of two messages; nothing where there are none. At want of memory nothing is appended.
 pub fn put_failed(out: &mut Vec<u8>, failed: &Failed<'_>) -> Result<(), AllocError>
     requires { sum_by padded_len (failed_in failed.now) ≤ 2 * MAX_LENGTH }
     ensures ok { OnOk result (out.new.items ≡ out.old.items ++ flat_map padded (failed_avps (failed_in failed.now))) }
+    ensures err { OnErr result (out.new.items ≡ out.old.items) }
+    ensures spelled { OnOk result (AllByRecursion HasSpelling (failed_avps (failed_in failed.now))) }
+    ensures grows { OnOk result (Grows (vec_len out.old) (vec_len out.new) (8 + sum_by padded_len (failed_in failed.now))) }
+{
+    let before = out.len();
+    let appended = append_failed(out, failed);
+    if appended.is_err() {
+        out.truncate(before);
+    }
+    appended
+}
+
+/// Appends the Failed-AVP. At want of memory a part of it may stand behind the octets that were there.
+fn append_failed(out: &mut Vec<u8>, failed: &Failed<'_>) -> Result<(), AllocError>
+    requires { sum_by padded_len (failed_in failed.now) ≤ 2 * MAX_LENGTH }
+    ensures ok { OnOk result (out.new.items ≡ out.old.items ++ flat_map padded (failed_avps (failed_in failed.now))) }
+    ensures err { OnErr result (take (vec_len out.old) out.new.items ≡ out.old.items) }
     ensures spelled { OnOk result (AllByRecursion HasSpelling (failed_avps (failed_in failed.now))) }
     ensures grows { OnOk result (Grows (vec_len out.old) (vec_len out.new) (8 + sum_by padded_len (failed_in failed.now))) }
 {

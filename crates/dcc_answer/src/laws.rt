@@ -15,7 +15,16 @@ ghost use Rattle.dcc_answer.specs.Failed.{failed_avps};
 ghost use Rattle.dcc_answer.specs.Proxies.{proxies_of, SpellProxies};
 ghost use Rattle.dcc_answer.specs.Results.{are_busy, is_busy};
 
+use crate::answer::{MAX_ANSWER, MAX_OWN};
 use crate::protocol_error::TOO_BUSY;
+
+/// The numbers that definitions and clauses cite by name: DIAMETER_TOO_BUSY (RFC 6733, section 7.1.3), and the most octets of an answer, without its proxies
+/// and with them.
+pub fn numbers_are_given()
+    ensures busy { TOO_BUSY ≡ 3004 }
+    ensures own { MAX_OWN ≡ 100_000 }
+    ensures answer { MAX_ANSWER ≡ 200_000 }
+{}
 
 /// Whether an answer is the busy one is told by its own AVPs alone, where they can be spelled: by the first Result-Code, for
 /// proxies are Proxy-Info. So an answer that reports a protocol error is busy just where its code is. Each answer has at

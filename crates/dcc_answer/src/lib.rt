@@ -14,10 +14,10 @@ mod protocol_error;
 mod proxies;
 mod session;
 
-pub use answer::{MAX_OWN, begin_answer, finish_answer};
+pub use answer::{MAX_ANSWER, MAX_OWN, begin_answer, finish_answer};
 pub use avps::{put, put_u32, put_u64};
 pub use failed::put_failed;
-pub use laws::{busy_by_result, proxies_are_spelled, read_back};
+pub use laws::{busy_by_result, numbers_are_given, proxies_are_spelled, read_back};
 pub use protocol_error::{TOO_BUSY, write_busy, write_error};
 pub use proxies::Proxies;
 pub use session::{Session, session_id};

@@ -10,7 +10,7 @@ ghost use Rattle.dcc_answer.specs.Proxies.{SpellProxies};
 ghost use Rattle.dcc_answer.specs.Results.{is_busy};
 ghost use Rattle.dcc_answer.specs.Sizes.{Grows};
 
-use crate::answer::{begin_answer, finish_answer};
+use crate::answer::{MAX_ANSWER, begin_answer, finish_answer};
 use crate::avps::{put, put_u32};
 use crate::proxies::Proxies;
 use crate::session::Session;
@@ -35,6 +35,7 @@ pub fn write_error(
     ensures exact { IfOk result (λ error. error.items ≡ error_octets identity.now code session.entry request.now proxies.now) }
     ensures busy { IfOk result (λ error. is_busy error.items ≡ (code == TOO_BUSY)) }
     ensures some { IfOk result (λ error. HEADER_LENGTH ≤ length error.items) }
+    ensures bounded { IfOk result (λ error. length error.items ≤ MAX_ANSWER) }
 {
     dcc_avp::read_back();
     error_within(alloc, identity, code, session, request, proxies)
@@ -51,6 +52,7 @@ fn error_within(
     proxies: &Proxies,
 ) -> Result<Vec<u8>, AllocError>
     ensures exact { IfOk result (λ error. error.items ≡ error_octets identity.now code session.entry request.now proxies.now) }
+    ensures bounded { IfOk result (λ error. length error.items ≤ MAX_ANSWER) }
     ensures server { OnOk result (IsServer identity.now) }
     ensures short { OnOk result (ForSome session.entry (λ octets. is_short octets ≡ true)) }
     ensures spelled { OnOk result (SpellProxies proxies.now) }
@@ -91,6 +93,7 @@ pub fn write_busy(
     ensures exact { IfOk result (λ busy. busy.items ≡ busy_octets identity.now session.entry request.now proxies.now) }
     ensures busy { IfOk result (λ busy. is_busy busy.items ≡ true) }
     ensures some { IfOk result (λ busy. HEADER_LENGTH ≤ length busy.items) }
+    ensures bounded { IfOk result (λ busy. length busy.items ≤ MAX_ANSWER) }
 {
     write_error(alloc, identity, TOO_BUSY, session, request, proxies)
 }

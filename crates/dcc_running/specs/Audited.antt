@@ -6,6 +6,8 @@ use Rattle.dcc_message.specs.declared.identity.Identity.{Identity}
 use Rattle.dcc_act.specs.declared.sub.Sub.{Sub}
 use Rattle.dcc_model.specs.Outcomes.{acts}
 use Rattle.dcc_receipts.specs.Audit.{own, begins, agrees, is_answered, times, in_order}
+use Rattle.dcc_receipts.specs.declared.fault.CloseFault.{CloseFault}
+use Rattle.dcc_receipts.specs.declared.fault.CloseFault.TheVariants.{Memory, ReceiptStray, ActWithoutReceipt, OutOfOrder}
 use Rattle.dcc_receipts.specs.declared.receipt.Receipt.{Receipt}
 use Rattle.dcc_records.specs.Books.{Held}
 use Rattle.dcc_running.specs.Books.{BooksView, AreShards, at_opening, book}
@@ -37,6 +39,13 @@ AreCovered books seats = (sub : Sub) (place : ℕ) → length (at_opening books.
 -- in each seat a receipt is after all that it had of the same subscriber before
 abbrev pub AreOrdered : List (List Receipt) → Type 0
 AreOrdered seats = (sub : Sub) → list_all (λ receipts. in_order [] (own sub receipts)) seats ≡ true
+
+-- why the comparison fails: each test is the first that doesn't hold; nothing is said where memory was short
+abbrev pub IsFault : {R : Type 0} → CloseFault → BooksView R → List (List Receipt) → Type 0
+IsFault Memory books seats = Unit {0}
+IsFault ReceiptStray books seats = AreTrue books seats → ⊥
+IsFault ActWithoutReceipt books seats = AreTrue books seats × (AreCovered books seats → ⊥)
+IsFault OutOfOrder books seats = AreTrue books seats × AreCovered books seats × (AreOrdered seats → ⊥)
 
 -- what is held of each subscriber is what its own list makes
 abbrev pub AreOwn : {R : Type 0} → BooksView R → Type 0

@@ -1,10 +1,9 @@
 //! The tests of `close`, on plain data.
 
-ghost use Rattle.std.specs.Prelude.{◌≡◌, ◌≢◌, ◌≤◌, ◌<◌, ◌↔◌, ◌&&◌, ℕ, [], true, false, Err, length, IfOk, OnOk, IfSome, IfNone};
+ghost use Rattle.std.specs.Prelude.{◌≡◌, ◌≢◌, ◌≤◌, ◌<◌, ◌↔◌, ◌&&◌, ℕ, [], true, false, length, IfErr, IfOk, OnOk, IfSome, IfNone};
 ghost use Rattle.std.specs.List.{list_all};
 ghost use Rattle.dcc_act.specs.declared.sub.Sub.{Sub};
-ghost use Rattle.dcc_receipts.specs.declared.fault.CloseFault.TheVariants.{Memory, ReceiptStray, ActWithoutReceipt, OutOfOrder};
-ghost use Rattle.dcc_running.specs.Audited.{is_true, are_true, times_in, AreTrue, AreCovered, AreOrdered, AreOwn};
+ghost use Rattle.dcc_running.specs.Audited.{is_true, are_true, times_in, AreTrue, AreCovered, AreOrdered, AreOwn, IsFault};
 ghost use Rattle.dcc_running.specs.Books.{AreShards, at_opening, book};
 ghost use Rattle.dcc_running.specs.inner.Marked.{AreMarked};
 ghost use Rattle.dcc_account.specs.Accounts.{outcomes};
@@ -31,9 +30,7 @@ pub(crate) fn audit<R: Records>(
     seats: &[Seat],
 ) -> Result<(), CloseFault>
     ensures ok { OnOk result (AreTrue books.now seats.now × AreCovered books.now seats.now × AreOrdered seats.now × AreOwn books.now) }
-    ensures stray { result ≡ Err ReceiptStray → AreTrue books.now seats.now → ⊥ }
-    ensures uncovered { result ≡ Err ActWithoutReceipt → AreTrue books.now seats.now × (AreCovered books.now seats.now → ⊥) }
-    ensures unordered { result ≡ Err OutOfOrder → AreTrue books.now seats.now × AreCovered books.now seats.now × (AreOrdered seats.now → ⊥) }
+    ensures fault { IfErr result (λ fault. IsFault fault books.now seats.now) }
 {
     let Some(marks) = true_marks(alloc, books, seats)? else {
         return Err(CloseFault::ReceiptStray);

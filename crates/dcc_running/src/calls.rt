@@ -1,23 +1,25 @@
-//! The calls of many threads: each takes one lock, and adds its receipt to its caller's seat.
+//! The calls of many threads: each takes one lock, and adds its receipt to its caller's seat before it lets go of it.
 
-ghost use Rattle.std.specs.Prelude.{◌≡◌, ◌≤◌, ◌+◌, ◌++◌, [], true, false, is_some, vec_len, vec_capacity, IfOk, OnOk};
+ghost use Rattle.std.specs.Prelude.{◌≡◌, ◌≤◌, ◌+◌, ◌++◌, [], true, false, is_some, length, vec_len, vec_capacity, IfOk, OnOk};
+ghost use Rattle.dcc_answer.specs.declared.answer.TheConstants.{MAX_ANSWER};
 ghost use Rattle.dcc_model.specs.Keys.{request_key};
-ghost use Rattle.dcc_shard.specs.Answers.{IsToldApart, IsRefusedBy, session_of_act, is_judged};
+ghost use Rattle.dcc_shard.specs.Answers.{IsAnswer, IsExpired, IsTold, IsToldApart, IsRefusedBy, expiry_act, is_judged, is_judged_expiry, is_judged_top_up, octets_of, session_of_act, top_up_act};
+ghost use Rattle.dcc_shard.specs.Shards.{IsStep};
 ghost use Rattle.dcc_running.specs.Calls.{IsAnswerTo, IsToldOf, IsEndOf, receipts_of, top_up_receipts, told_receipts, expiry_receipts, plain_receipt};
 
 use crate::job::Job;
-use crate::room::{MOST, twice};
+use crate::room::twice;
 use crate::seat::Seat;
 use crate::shards::Shards;
 use dcc_act::{Act, Kind, Moment, Sub, TopUp};
-use dcc_answer::{Proxies, write_busy};
+use dcc_answer::{MAX_ANSWER, Proxies, write_busy};
 use dcc_credit::lend_session;
 use dcc_message::{Header, Identity};
 use dcc_model::request_key;
 use dcc_octets::OctetString;
 use dcc_receipts::{Receipt, Told};
 use dcc_records::Records;
-use dcc_shard::{ExpiryAnswer, RequestAnswer, TopUpAnswer};
+use dcc_shard::{ExpiryAnswer, RequestAnswer, Shard, TopUpAnswer};
 use std::alloc::{AllocError, Global};
 use std::sync::Wait;
 
@@ -43,10 +45,9 @@ impl<R: Records> Shards<R> {
         let Ok(act) = room_for(&mut seat.receipts, &mut seat.spare, &job.act) else {
             return busy(alloc, &self.identity, &job);
         };
-        let answer = self
-            .lock_of(rt, &job.sub)
-            .step(alloc, job.sub, act, &job.header, &job.proxies);
-        keep(rt, alloc, &mut seat.receipts, &mut seat.spare, job, answer)
+        let mut shard = self.lock_of(rt, &job.sub);
+        let (receipts, spare) = (&mut seat.receipts, &mut seat.spare);
+        make(alloc, &mut shard, receipts, spare, job, act)
     }
 }
 
@@ -73,12 +74,8 @@ impl<R: Records> Shards<R> {
         let Ok(()) = seat.receipts.reserve(1) else {
             return TopUpAnswer::Refused;
         };
-        let answer = self
-            .lock_of(rt, &sub)
-            .top_up(alloc, sub, moment, ticket, amount);
-        let kind = Kind::TopUp(top_up);
-        keep_top_up(alloc, &mut seat.receipts, sub, Act { moment, kind }, answer);
-        answer
+        let mut shard = self.lock_of(rt, &sub);
+        add(alloc, &mut shard, &mut seat.receipts, sub, moment, top_up)
     }
 
     /// Ends the subscriber's sessions that are held until this moment or an earlier one, as its shard does. It waits for the shard's
@@ -97,18 +94,80 @@ impl<R: Records> Shards<R> {
         let Ok(()) = seat.receipts.reserve(1) else {
             return ExpiryAnswer::Refused;
         };
-        let answer = self.lock_of(rt, &sub).expire(alloc, sub, moment);
-        if let ExpiryAnswer::Closed { sessions, place } = answer {
-            let act = Act {
-                moment,
-                kind: Kind::Expiry,
-            };
-            let told = Told::Closed { sessions };
-            seat.receipts
-                .push_reserved(plain(alloc, sub, act, place, told, true));
-        }
-        answer
+        let mut shard = self.lock_of(rt, &sub);
+        end(alloc, &mut shard, &mut seat.receipts, sub, moment)
     }
+}
+
+/// Makes a request's act in this shard, answers it, and adds the receipt of the answer, where it gives one. The conditions: the act is the job's, and
+/// there is room for the receipt.
+fn make<R: Records>(
+    alloc: Global,
+    shard: &mut Shard<R>,
+    receipts: &mut Vec<Receipt>,
+    spare: &mut Vec<u8>,
+    job: Job,
+    act: Act,
+) -> RequestAnswer
+    requires request { is_some (request_key job.act.kind) ≡ true }
+    requires act { act ≡ job.act }
+    requires room { vec_len receipts.old + 1 ≤ vec_capacity receipts.old }
+    requires empty { spare.old.items ≡ [] }
+    requires spare { MAX_ANSWER ≤ vec_capacity spare.old }
+    ensures answer { IsAnswer shard.old.shard job.sub job.act job.header job.proxies result }
+    ensures step { IsStep shard.old.shard shard.new.shard (is_judged result) job.sub job.act }
+    ensures apart { IsToldApart result }
+    ensures spare { spare.new.items ≡ [] }
+    ensures receipt { receipts.new.items ≡ receipts.old.items ++ receipts_of job result }
+{
+    let answer = shard.step(alloc, job.sub, act, &job.header, &job.proxies);
+    keep(alloc, receipts, spare, job, answer)
+}
+
+/// Puts money into a subscriber's account in this shard, and adds the receipt, where there is one. The condition: there is room for it.
+fn add<R: Records>(
+    alloc: Global,
+    shard: &mut Shard<R>,
+    receipts: &mut Vec<Receipt>,
+    sub: Sub,
+    moment: Moment,
+    top_up: TopUp,
+) -> TopUpAnswer
+    requires { vec_len receipts.old + 1 ≤ vec_capacity receipts.old }
+    ensures answer { IsTold shard.old.shard sub moment top_up.ticket top_up.amount result }
+    ensures step { IsStep shard.old.shard shard.new.shard (is_judged_top_up result) sub (top_up_act moment top_up.ticket top_up.amount) }
+    ensures receipt { receipts.new.items ≡ receipts.old.items ++ top_up_receipts sub moment top_up.ticket top_up.amount result }
+{
+    let (ticket, amount) = (top_up.ticket, top_up.amount);
+    let answer = shard.top_up(alloc, sub, moment, ticket, amount);
+    let kind = Kind::TopUp(top_up);
+    keep_top_up(alloc, receipts, sub, Act { moment, kind }, answer);
+    answer
+}
+
+/// Ends what is due of a subscriber in this shard, and adds the receipt, where there is one. The condition: there is room for it.
+fn end<R: Records>(
+    alloc: Global,
+    shard: &mut Shard<R>,
+    receipts: &mut Vec<Receipt>,
+    sub: Sub,
+    moment: Moment,
+) -> ExpiryAnswer
+    requires { vec_len receipts.old + 1 ≤ vec_capacity receipts.old }
+    ensures answer { IsExpired shard.old.shard sub moment result }
+    ensures step { IsStep shard.old.shard shard.new.shard (is_judged_expiry result) sub (expiry_act moment) }
+    ensures receipt { receipts.new.items ≡ receipts.old.items ++ expiry_receipts sub moment result }
+{
+    let answer = shard.expire(alloc, sub, moment);
+    if let ExpiryAnswer::Closed { sessions, place } = answer {
+        let act = Act {
+            moment,
+            kind: Kind::Expiry,
+        };
+        let told = Told::Closed { sessions };
+        receipts.push_reserved(plain(alloc, sub, act, place, told, true));
+    }
+    answer
 }
 
 /// Room for one receipt more, spare room for a copy of any answer, where it isn't there from a call before, and a copy of the act. The only
@@ -117,10 +176,11 @@ fn room_for(receipts: &mut Vec<Receipt>, spare: &mut Vec<u8>, act: &Act) -> Resu
     ensures items { receipts.new.items ≡ receipts.old.items }
     ensures spare { spare.new.items ≡ spare.old.items }
     ensures room { OnOk result (vec_len receipts.new + 1 ≤ vec_capacity receipts.new) }
+    ensures kept { OnOk result (MAX_ANSWER ≤ vec_capacity spare.new) }
     ensures act { IfOk result (λ copy. copy ≡ act.now) }
 {
     let act = act.copy()?;
-    spare.reserve(MOST)?;
+    spare.reserve(MAX_ANSWER)?;
     receipts.reserve(1)?;
     Ok(act)
 }
@@ -142,8 +202,7 @@ fn busy(alloc: Global, identity: &Identity, job: &Job) -> RequestAnswer
 }
 
 /// Adds the receipt of an answer to a job, where it gives one, and gives the answer back.
-fn keep<W: Wait>(
-    rt: &W,
+fn keep(
     alloc: Global,
     receipts: &mut Vec<Receipt>,
     spare: &mut Vec<u8>,
@@ -152,6 +211,7 @@ fn keep<W: Wait>(
 ) -> RequestAnswer
     requires room { vec_len receipts.old + 1 ≤ vec_capacity receipts.old }
     requires empty { spare.old.items ≡ [] }
+    requires bounded { length (octets_of answer) ≤ vec_capacity spare.old }
     ensures same { result ≡ answer }
     ensures spare { spare.new.items ≡ [] }
     ensures receipt { receipts.new.items ≡ receipts.old.items ++ receipts_of job answer }
@@ -168,7 +228,7 @@ fn keep<W: Wait>(
             place,
             fresh,
         } => {
-            let (kept, octets) = twice(rt, alloc, spare, octets);
+            let (kept, octets) = twice(alloc, spare, octets);
             let answer = Told::Octets(kept);
             receipts.push_reserved(Receipt {
                 sub,
@@ -186,7 +246,7 @@ fn keep<W: Wait>(
             }
         }
         RequestAnswer::Unknown { octets } => {
-            let (kept, octets) = twice(rt, alloc, spare, octets);
+            let (kept, octets) = twice(alloc, spare, octets);
             let answer = Told::Octets(kept);
             receipts.push_reserved(Receipt {
                 sub,

@@ -1,8 +1,7 @@
 //! The end: all receipts are compared with the books.
 
 ghost use Rattle.std.specs.Prelude.{◌≡◌, length, IfOk, IfErr};
-ghost use Rattle.dcc_receipts.specs.declared.fault.CloseFault.TheVariants.{ReceiptStray, ActWithoutReceipt, OutOfOrder};
-ghost use Rattle.dcc_running.specs.Audited.{AreTrue, AreCovered, AreOrdered, AreOwn};
+ghost use Rattle.dcc_running.specs.Audited.{AreTrue, AreCovered, AreOrdered, AreOwn, IsFault};
 
 use crate::audit::audit;
 use crate::books::Books;
@@ -36,10 +35,7 @@ impl<R: Records> Shards<R> {
         ensures opening { IfOk result (λ books. books.opening ≡ self.opening) }
         ensures count { IfOk result (λ books. length books.parts ≡ self.count) }
         // Each fault comes just where its test is the first that fails.
-        ensures stray { IfErr result (λ u. u.fault ≡ ReceiptStray → AreTrue u.books seats.items → ⊥) }
-        ensures uncovered { IfErr result (λ u. u.fault ≡ ActWithoutReceipt → AreTrue u.books seats.items × (AreCovered u.books seats.items → ⊥)) }
-        ensures unordered { IfErr result (λ u. u.fault ≡ OutOfOrder
-            → AreTrue u.books seats.items × AreCovered u.books seats.items × (AreOrdered seats.items → ⊥)) }
+        ensures fault { IfErr result (λ u. IsFault u.fault u.books seats.items) }
         // All is handed back.
         ensures back { IfErr result (λ u. (u.books.terms ≡ self.terms) × (u.books.identity ≡ self.identity) × (u.books.opening ≡ self.opening)
             × (length u.books.parts ≡ self.count)) }

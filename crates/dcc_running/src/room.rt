@@ -5,22 +5,16 @@ ghost use Rattle.std.specs.Prelude.{◌≡◌, ◌≤◌, [], length, vec_capaci
 use dcc_octets::OctetString;
 use std::alloc::Global;
 use std::mem::replace;
-use std::sync::Wait;
-
-/// The most octets of an answer that may have to be copied. No answer has more: its own AVPs are at most 100,000 octets and its proxies
-/// at most 65,532.
-pub(crate) const MOST: usize = 200_000;
 
 /// An answer for its receipt and for its caller. The receipt lives long, so it has the copy, which takes no more than the octets want;
-/// where memory for one is refused, the caller has one in the spare room, which is used up by it. An answer that were longer than this
-/// room would wait for memory.
-pub(crate) fn twice<W: Wait>(
-    rt: &W,
+/// where memory for one is refused, the caller has one in the spare room, which is used up by it. The condition: the spare room has as much room.
+pub(crate) fn twice(
     alloc: Global,
     spare: &mut Vec<u8>,
     octets: OctetString,
 ) -> (OctetString, OctetString)
-    requires { spare.old.items ≡ [] }
+    requires empty { spare.old.items ≡ [] }
+    requires room { length octets ≤ vec_capacity spare.old }
     ensures kept { result.0 ≡ octets }
     ensures told { result.1 ≡ octets }
     ensures spare { spare.new.items ≡ [] }
@@ -28,16 +22,8 @@ pub(crate) fn twice<W: Wait>(
     if let Ok(copy) = octets.copy() {
         return (copy, octets);
     }
-    if octets.as_slice().len() <= spare.capacity() {
-        let told = filled(replace(spare, Vec::new(alloc)), &octets);
-        return (octets, told);
-    }
-    for _ in rt.forever() {
-        if let Ok(copy) = octets.copy() {
-            return (copy, octets);
-        }
-    }
-    unreachable!()
+    let told = filled(replace(spare, Vec::new(alloc)), &octets);
+    (octets, told)
 }
 
 /// A copy of octets in room for them.

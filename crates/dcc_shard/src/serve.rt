@@ -6,7 +6,7 @@ ghost use Rattle.dcc_answer.specs.Results.{is_busy};
 ghost use Rattle.dcc_credit.specs.Answers.{answer_octets};
 ghost use Rattle.dcc_model.specs.Keys.{ticket, is_expiry};
 ghost use Rattle.dcc_shard.specs.Shards.{held_in};
-ghost use Rattle.dcc_shard.specs.Answers.{answer_at, answer_after, session_of_act, IsRefusedBy, IsToldApart, is_judged};
+ghost use Rattle.dcc_shard.specs.Answers.{answer_at, answer_after, session_of_act, octets_of, IsRefusedBy, IsToldApart, is_judged};
 ghost use Rattle.dcc_shard.specs.Answers.{told, told_after, is_judged_top_up, ended, ended_after, is_judged_expiry};
 ghost use Rattle.dcc_shard.specs.Stored.{IsKept};
 ghost use Rattle.dcc_shard.specs.inner.Books.{IsStepOfBooks};
@@ -15,7 +15,7 @@ use crate::answers::{ExpiryAnswer, RequestAnswer, TopUpAnswer};
 use crate::kept::KeptBooks;
 use dcc_account::Step;
 use dcc_act::{Act, Kind, Outcome, SessionId, Sub};
-use dcc_answer::{Proxies, write_busy};
+use dcc_answer::{MAX_ANSWER, Proxies, write_busy};
 use dcc_credit::{lend_session, write_cca};
 use dcc_message::{Header, Identity};
 use dcc_model::{acts_come_to_their_own, places_hold};
@@ -68,6 +68,7 @@ pub(crate) fn answer<R: Records>(
         envelope.now.proxies.now (held_in kept.old.books.rows sub) act) }
     ensures judged { IfOk result (λ answer. is_judged answer ≡ true) }
     ensures apart { IfOk result IsToldApart }
+    ensures bounded { IfOk result (λ answer. length (octets_of answer) ≤ MAX_ANSWER) }
     ensures step { OnOk result (IsStepOfBooks kept.old.books kept.new.books sub act) }
     ensures going { OnOk result ((R.is_stopped kept.old.records ≡ false) × (R.is_stopped kept.new.records ≡ false)) }
     ensures kept { IsKept kept.old.books.terms (held_in kept.old.books.rows) sub act
@@ -102,6 +103,7 @@ fn write_answer(
         envelope.now.proxies.now step.now.outcome) step.now.place step.now.is_new) }
     ensures judged { IfOk result (λ answer. is_judged answer ≡ true) }
     ensures apart { IfOk result IsToldApart }
+    ensures bounded { IfOk result (λ answer. length (octets_of answer) ≤ MAX_ANSWER) }
 {
     let octets = write_cca(
         alloc,
@@ -119,6 +121,7 @@ fn answer_with(step: &Step, octets: OctetString) -> RequestAnswer
     ensures value { result ≡ answer_at octets step.now.place step.now.is_new }
     ensures judged { is_judged result ≡ true }
     ensures apart { is_busy octets ≡ false → HEADER_LENGTH ≤ length octets → IsToldApart result }
+    ensures octets { octets_of result ≡ octets }
 {
     answer_placed(octets, step.place(), step.is_new())
 }
@@ -128,6 +131,7 @@ fn answer_placed(octets: OctetString, place: Option<u64>, fresh: bool) -> Reques
     ensures value { result ≡ answer_at octets place fresh }
     ensures judged { is_judged result ≡ true }
     ensures apart { is_busy octets ≡ false → HEADER_LENGTH ≤ length octets → IsToldApart result }
+    ensures octets { octets_of result ≡ octets }
 {
     match place {
         Some(place) => RequestAnswer::Done {
@@ -149,6 +153,7 @@ pub(crate) fn busy(
         (option_map (λ session. session.now) session.entry) result }
     ensures judged { is_judged result ≡ false }
     ensures apart { IsToldApart result }
+    ensures bounded { length (octets_of result) ≤ MAX_ANSWER }
 {
     let busy = write_busy(
         alloc,

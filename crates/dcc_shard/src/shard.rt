@@ -1,6 +1,6 @@
 //! The shard.
 
-ghost use Rattle.std.specs.Prelude.{◌≡◌, ◌≢◌, ◌+◌, ◌<◌, ◌↔◌, [], true, false, IfOk, IfErr, IfSome, IfNone, OnOk, IsErr, Err, is_some};
+ghost use Rattle.std.specs.Prelude.{◌≡◌, ◌≢◌, ◌≤◌, ◌+◌, ◌<◌, ◌↔◌, [], true, false, length, IfOk, IfErr, IfSome, IfNone, OnOk, IsErr, Err, is_some};
 ghost use Rattle.std.specs.List.Sorted.{IsStrictlySortedBy};
 ghost use Rattle.dcc_act.specs.declared.sub.Sub.{Sub};
 ghost use Rattle.dcc_model.specs.Keys.{request_key};
@@ -11,7 +11,7 @@ ghost use Rattle.dcc_records.specs.declared.fault.StoreFault.TheVariants.{Device
 ghost use Rattle.dcc_shard.specs.Shards.{held, held_in, AreOwn, IsStep, is_among};
 ghost use Rattle.dcc_shard.specs.Stored.{IsKept, IsLeft, LeavesHeld, LeavesOneMore};
 ghost use Rattle.dcc_shard.specs.Routes.{shard_of};
-ghost use Rattle.dcc_shard.specs.Answers.{IsAnswer, IsToldApart, IsTold, is_judged, is_judged_top_up, top_up_act};
+ghost use Rattle.dcc_shard.specs.Answers.{IsAnswer, IsToldApart, IsTold, octets_of, is_judged, is_judged_top_up, top_up_act};
 ghost use Rattle.dcc_shard.specs.Answers.{IsExpired, is_judged_expiry, expiry_act};
 
 use crate::answers::{ExpiryAnswer, RequestAnswer, TopUpAnswer};
@@ -20,7 +20,7 @@ use crate::kept::KeptBooks;
 use crate::serve::{Envelope, answer, busy, copied, end, session_of_act, tell};
 use dcc_account::Account;
 use dcc_act::{Act, Kind, Moment, Sub, TopUp};
-use dcc_answer::Proxies;
+use dcc_answer::{MAX_ANSWER, Proxies};
 use dcc_message::{Header, Identity};
 use dcc_records::{Records, StoreFault, content_has_one_book};
 use std::alloc::{AllocError, Global};
@@ -177,6 +177,8 @@ impl<R: Records> Shard<R> {
         ensures going { is_judged result ≡ true → R.is_stopped self.new.records ≡ false }
         ensures stopped { R.is_stopped self.old.records ≡ true → is_judged result ≡ false }
         ensures apart { IsToldApart result }
+        // No answer has more octets.
+        ensures bounded { length (octets_of result) ≤ MAX_ANSWER }
     {
         self.kept.acts_are_kept();
         let envelope = Envelope {

@@ -7,7 +7,7 @@ ghost use Rattle.dcc_model.specs.Keys.{request_key};
 ghost use Rattle.dcc_shard.specs.Shards.{held, AreOwn, IsStep, is_among, are_apart};
 ghost use Rattle.dcc_shard.specs.Stored.{StoredView};
 ghost use Rattle.dcc_shard.specs.Routes.{shard_of, route_order, part_of, IsPartStep};
-ghost use Rattle.dcc_shard.specs.Answers.{IsAnswer, IsToldApart, IsTold, is_judged, is_judged_top_up, top_up_act};
+ghost use Rattle.dcc_shard.specs.Answers.{IsAnswer, IsToldApart, IsTold, octets_of, is_judged, is_judged_top_up, top_up_act};
 ghost use Rattle.dcc_shard.specs.Answers.{IsExpired, is_judged_expiry, expiry_act};
 
 use crate::answers::{ExpiryAnswer, RequestAnswer, TopUpAnswer};
@@ -15,7 +15,7 @@ use crate::route::shard_of;
 use crate::shard::Shard;
 use dcc_account::Account;
 use dcc_act::{Act, Moment, Sub, same_subscribers_are_equal};
-use dcc_answer::Proxies;
+use dcc_answer::{MAX_ANSWER, Proxies};
 use dcc_message::{Header, Identity};
 use dcc_model::leaving_out_changes_nothing;
 use dcc_records::Records;
@@ -149,6 +149,8 @@ impl<R: Records> Shards<R> {
         ensures stopped { (none : StoredView R) → R.is_stopped (part_of self.old.parts sub none).records ≡ true → is_judged result ≡ false }
         ensures own { AreOwn self.new.shard }
         ensures apart { IsToldApart result }
+        // No answer has more octets.
+        ensures bounded { length (octets_of result) ≤ MAX_ANSWER }
         ensures count { length self.new.parts ≡ length self.old.parts }
     {
         same_subscribers_are_equal();
