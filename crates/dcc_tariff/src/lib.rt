@@ -21,13 +21,14 @@ mod place;
 mod plan;
 mod prices;
 mod reading;
+mod rows;
 mod tables;
 mod tariff;
 mod terms;
 mod version;
 
 pub use fault::PlanFault;
-pub use laws::{best_grant_is_the_greatest_covered, prices_never_fall};
+pub use laws::{best_grant_is_the_greatest_covered, numbers_are_given, prices_never_fall};
 pub use limits::{
     LAST_SECOND, MAX_BLOCK_PRICE, MAX_HOLD, MAX_PRICE, MAX_SHARDS, MAX_TABLES, MAX_UNITS,
 };
