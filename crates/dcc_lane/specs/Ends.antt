@@ -11,7 +11,7 @@ use Rattle.dcc_lane.specs.declared.receiver.Receiver.{Receiver}
 use Rattle.dcc_lane.specs.declared.receiver.Count.{Count}
 use Rattle.dcc_lane.specs.declared.receiver.LaneFault.{LaneFault}
 use Rattle.dcc_lane.specs.declared.receiver.LaneFault.TheVariants.{SenderMissing, Memory}
-use Rattle.dcc_lane.specs.Rule.{of}
+use Rattle.dcc_lane.specs.Rule.{of, IsIn}
 
 module _ {T : Type 0} where
   -- which lane an end is of
@@ -60,6 +60,10 @@ module _ {T : Type 0} where
   -- what was taken of a sender is a beginning of what it put
   abbrev pub IsBegun : Receiver T → Sender T → Type 0
   IsBegun r s = IsPrefix (of (number_of s) (taken_of r)) (put_of s)
+
+  -- each item that was taken is one that one of these senders put
+  abbrev pub AreHeard : Receiver T → List (Sender T) → Type 0
+  AreHeard r ss = (t : Tagged T) → IsIn t (taken_of r) → (s : Sender T) × IsIn s ss × (number_of s ≡ t.from) × IsIn t.item (put_of s)
 
   -- a sender of this number put so many items
   abbrev pub IsPutBy : List (Sender T) → ℕ → ℕ → Type 0

@@ -1,11 +1,16 @@
 -- The rule of a lane's queue, over what the queue holds and what each pass knows.
-use Rattle.std.specs.Prelude.{◌≡◌, ℕ, ◌≤◌, ◌<◌, Bool, true, false, cond, nat_eq, Option, Some, None, List, [], ◌∷◌, ◌++◌}
+use Rattle.std.specs.Prelude.{◌≡◌, ℕ, ◌≤◌, ◌<◌, ◌⊎◌, true, false, cond, nat_eq, Option, Some, None, List, [], ◌∷◌, ◌++◌}
 use Rattle.std.specs.List.{AllByRecursion}
 use mathlib.Core.Option.{some}
 use mathlib.Core.List.{IsPrefix}
 use lib.ListN.{get_elem?}
 use Rattle.dcc_lane.specs.declared.rule.Known.{Known}
 use Rattle.dcc_lane.specs.declared.rule.Tagged.{Tagged}
+
+-- it stands in the list
+abbrev pub IsIn : {X : Type 0} → X → List X → Type 0
+IsIn x [] = ⊥
+IsIn x (y ∷ ys) = (y ≡ x) ⊎ IsIn x ys
 
 module _ {T : Type 0} where
   abbrev pub sender : ℕ → List T → Known T

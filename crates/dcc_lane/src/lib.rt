@@ -3,8 +3,9 @@
 //! Stands on `crossbeam_queue`, whose queue keeps a rule through every atomic step of every thread (`specs/Rule.antt`): of each sender,
 //! what was taken and then what is queued is what it put, in order, each once. So at any moment what was taken of a sender is a beginning
 //! of what it put. The contract that it gives: [`Sender::put`] adds its item to what that sender put, [`Receiver::take`] adds one item of
-//! some sender to what was taken, and [`Receiver::finish`], once it has all senders, tells of each how many were put and taken; where
-//! these are equal, all that it put was taken, in order, whole and once.
+//! some sender to what was taken, and [`Receiver::finish`], once it has all senders, tells of each how many were put and taken, and of
+//! each item that was taken one of the senders that put it. Where the counts of a sender are equal, all that it put was taken, in order, whole and once
+//! ([`equal_counts`]).
 //!
 //! `put` waits while the lane is full and `take` while it is empty; that a wait ends, and that `try_take` finds an item that is queued, is
 //! tested and not proved. A wait spins, and then sleeps until the other side rings. Who leaves items by [`Sender::try_leave`] rings for them later;
@@ -12,12 +13,14 @@
 #![tactic(auto)]
 
 mod bell;
+mod laws;
 mod making;
 mod receiver;
 mod rule;
 mod search;
 mod sender;
 
+pub use laws::{equal_counts, numbers_are_given};
 pub use making::Lane;
 pub use receiver::{Count, LaneFault, Receiver, Unfinished};
 pub use sender::Sender;

@@ -2,7 +2,8 @@
 ghost use Rattle.std.specs.Prelude.{◌≡◌, ◌<◌, [], ℕ, vec_len, slice_index, length};
 ghost use Rattle.std.specs.Arc.{arc_value};
 ghost use Rattle.crossbeam_queue.specs.Passes.{view, IsPassOf};
-ghost use Rattle.dcc_lane.specs.Rule.{receiver, of};
+ghost use Rattle.dcc_lane.specs.Rule.{receiver, of, IsIn};
+ghost use Rattle.dcc_lane.specs.declared.rule.Tagged.{Tagged};
 
 use crate::bell::Patience;
 use crate::rule::{Compares, End, Joins, Shared, Tagged, Takes};
@@ -25,6 +26,7 @@ pub struct Receiver<T> {
     ghost tied: { IsPassOf (arc_value shared).queue pass },
     ghost known: { view pass ≡ receiver (vec_len taken) (view pass).taken [] },
     ghost counted: { (k : ℕ) → k < vec_len taken → slice_index taken.items k ≡ length (of k (view pass).taken) },
+    ghost numbered: { (t : Tagged T) → IsIn t (view pass).taken → t.from < vec_len taken },
 }
 
 /// How many items of one sender were put and taken.
@@ -70,7 +72,7 @@ pub struct Unfinished<T> {
 impl<T: Drop> Receiver<T> {
     ghost use Rattle.std.specs.Prelude.{MatchOption, IfOk, OnOk, IfErr, IfSome, IfNone};
     ghost use Rattle.std.specs.List.{All};
-    ghost use Rattle.dcc_lane.specs.Ends.{lane_of, senders_of, number_of, taken_of, IsSameReceiver, TakesOne, IsOfLane, HasNoneOf, IsBegun, IsPutBy, AreCounts, IsMissing};
+    ghost use Rattle.dcc_lane.specs.Ends.{lane_of, senders_of, number_of, taken_of, IsSameReceiver, TakesOne, IsOfLane, HasNoneOf, IsBegun, IsPutBy, AreCounts, AreHeard, IsMissing};
 
     /// How many senders the lane was made with.
     pub fn senders(&self) -> usize
@@ -144,6 +146,7 @@ impl<T: Drop> Receiver<T> {
         requires { All (IsOfLane (lane_of self)) senders.items }
         ensures counts { IfOk result (λ counts. (vec_len counts ≡ senders_of self) × AreCounts self senders.items counts.items) }
         ensures begun { OnOk result (All (IsBegun self) senders.items) }
+        ensures heard { OnOk result (AreHeard self senders.items) }
         ensures back { IfErr result (λ u. (u.receiver ≡ self) × (u.senders ≡ senders)) }
         ensures missing { IfErr result (λ u. IsMissing u.fault self senders.items) }
     {

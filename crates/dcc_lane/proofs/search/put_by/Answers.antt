@@ -1,5 +1,4 @@
-use Rattle.std.proofs.Common.{ap, sym, refl, rules, arith, subst, ◌∙◌, length}
-use Rattle.std.proofs.lemmas.List.Elements.{All-more}
+use Rattle.std.proofs.Common.{refl, subst, length}
 use Rattle.std.proofs.lemmas.Option.{slice_get_read}
 use Rattle.std.proofs.lemmas.List.{take_all}
 use Rattle.dcc_lane.specs.Ends.{HasNoneOf}

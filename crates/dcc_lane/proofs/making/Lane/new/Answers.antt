@@ -1,9 +1,8 @@
-use Rattle.std.proofs.Common.{ap, refl, sym, rules, arith, ◌∙◌, ◌≡◌, ◌+◌, get_or, length, replicate, subst}
+use Rattle.std.proofs.Common.{ap, sym, rules, arith, ◌∙◌, ◌≡◌, get_or, length, subst}
 use Rattle.dcc_lane.proofs.Moves.{begins, splits}
 use Rattle.dcc_lane.specs.Ends.{AreNew}
-use Rattle.dcc_lane.specs.Rule.{of}
+use Rattle.dcc_lane.specs.Rule.{of, IsIn}
 use Rattle.dcc_lane.proofs.Fresh.{AreNew-push, all_new}
-use Rattle.std.proofs.lemmas.List.{get_or-replicate}
 use Rattle.std.proofs.lemmas.Grind.{common_steps}
 use Rattle.dcc_lane.proofs.making.Lane.new.Goals as goal
 
@@ -29,3 +28,6 @@ invariant_of-receiver-clause-counted g c k l =
 
 pub returns-clause-of_lane : goal.returns-clause-of_lane
 returns-clause-of_lane g c = all_new c.loop-number.pass.table_id 0 c.loop-number.all.items c.loop-number.invariant.made
+
+pub invariant_of-receiver-clause-numbered : goal.invariant_of-receiver-clause-numbered
+invariant_of-receiver-clause-numbered g c t i = absurd (subst (IsIn t) (ap (λ v. v.taken) c.loop-number.invariant.known) i)

@@ -1,6 +1,5 @@
-use Rattle.std.proofs.Common.{ap, sym, refl, rules, arith, subst, ◌≡◌, ◌<◌, ◌∙◌, get_or, length}
-use Rattle.std.proofs.lemmas.Grind.{common_steps, get_or_default_zero}
-use Rattle.std.proofs.lemmas.Option.{slice_get_read}
+use Rattle.std.proofs.Common.{sym, arith, subst, ◌≡◌, ◌<◌, ◌∙◌, get_or, length}
+use Rattle.std.proofs.lemmas.Grind.{get_or_default_zero}
 use Rattle.dcc_lane.specs.Rule.{of}
 use Rattle.dcc_lane.specs.Ends.{IsPutBy, AreCounts, taken_of}
 use Rattle.dcc_lane.proofs.Ending.{each_snoc}

@@ -1,10 +1,10 @@
-use Rattle.std.proofs.Common.{ap, sym, refl, rules, arith, subst, append_assoc, ◌≡◌, ◌<◌, ◌++◌, ◌∷◌, [], ◌∙◌, get_or, length, map}
+use Rattle.std.proofs.Common.{ap, sym, rules, arith, subst, ◌≡◌, ◌<◌, ◌++◌, ◌∷◌, [], ◌∙◌, length, map}
 use Rattle.std.proofs.lemmas.List.{append-nil, nil_from_length}
 use Rattle.std.specs.List.{All}
 use Rattle.std.proofs.lemmas.List.Elements.{All-drop}
 use Rattle.crossbeam_queue.specs.Passes.{view}
-use Rattle.dcc_lane.specs.Rule.{receiver, AreBegun}
-use Rattle.dcc_lane.specs.Ends.{left_by, lane_of, taken_of, senders_of, IsOfLane}
+use Rattle.dcc_lane.specs.Rule.{AreBegun}
+use Rattle.dcc_lane.specs.Ends.{left_by, lane_of, taken_of, IsOfLane}
 use Rattle.dcc_lane.proofs.Moves.{joins, compares}
 use Rattle.dcc_lane.proofs.Ending.{first_off, all_begun, joined_view, moved}
 use Rattle.dcc_lane.proofs.receiver.Receiver.join.Goals as goal
