@@ -45,8 +45,11 @@ use Rattle.sqlite_value.proofs.OrderLemmas.{value_cmp_total, value_cmp-Int, valu
 use Rattle.dcc_sqlrec.specs.Tables.{account_table, layout}
 use Rattle.dcc_act.specs.declared.entry.Entry.{Entry}
 use Rattle.dcc_sqlrows.specs.Rows.{act_row, entry_rows_of, account_row}
-use Rattle.dcc_sqlrec.specs.inner.Trees.{account_tree, three_columns, account_rows, IsKeyed, AddsActs, AddsEntries, DropsAccount, AddsAccount, SetsAccount, Appends, HasRun}
+use Rattle.dcc_sqlrec.specs.Trees.{IsStore}
+use Rattle.dcc_sqlrec.specs.inner.Trees.{account_tree, three_columns, account_rows, AreApart, IsKeyed, AddsActs, AddsEntries, DropsAccount, AddsAccount, SetsAccount, Appends, HasRun}
+use Rattle.dcc_sqlrec.proofs.Apart.{apart_along, apart_push, apart_without}
 use Rattle.dcc_sqlrec.proofs.Lists.{to_has, from_has}
+use Rattle.dcc_sqlrec.proofs.Stores.{store_of}
 use Rattle.dcc_sqlrec.proofs.Texts.{act_terms, of_sub, old_account, old_account_is, old_account_plain, new_account, new_account_is, new_account_plain}
 use Rattle.dcc_sqlrec.proofs.Inserts.{cast_int, cast_null, went, same_value, put_one, one_write}
 
@@ -177,6 +180,7 @@ dropped db next sub found keyed are applied =
             from_has (map three_columns rows) row (rw full.2 (mapped_has three_columns rows full.0 (without_all_has (ids_of found) rows full.0 in_less))),
             λ e. none_left sub rows found keyed are full.0 in_less (sym (ap (λ (r : Row). column r 0) full.2) ∙ e),
           );
+      once = λ apart. subst (λ (all : List Row). AreApart (map three_columns all)) (sym left) (apart_without (ids_of found) rows apart);
     }
 
 found_of : (db : Trees) (sub : List ℕ) (found : List Row) → IsAnswer of_sub (overlay db []) (Blob sub ∷ []) found → AreFound (of_this ∷ []) (db account_tree) (Blob sub ∷ []) found
@@ -241,8 +245,8 @@ keyed_more rows next new id is free whole keyed = record {
     back row h = Contains-push_cases rows new row (Contains-permutation next (rows ++ new ∷ []) row (IsPermutation-sym (rows ++ new ∷ []) next whole) h)
 
 account_added : (db next : Trees) (sub : List ℕ) (acts : ℕ) (funds : ℤ) (given : List Row) → given ≡ (Null ∷ account_row sub acts funds) ∷ [] → Applies layout Enforced db (edit_of db account_here [] Chosen 0 given) next
-    → AddsAccount (account_row sub acts funds) db next
-account_added db next sub acts funds given is applied =
+    → IsStore next → AddsAccount (account_row sub acts funds) db next
+account_added db next sub acts funds given is applied store =
     let new = Int (next_rowid (db account_tree)) ∷ account_row sub acts funds in
     let whole = put_one db next account_here given new (account_news db sub acts funds given is) applied in
     record {
@@ -251,6 +255,7 @@ account_added db next sub acts funds given is applied =
       entries = applied.tables.1.1.0 (λ e. absurd cc);
       keyed = keyed_more (db account_tree) (next account_tree) new (next_rowid (db account_tree)) refl whole.0 whole.1;
       accounts = subst (λ all. IsPermutation all (map three_columns (next account_tree))) (map-append three_columns (db account_tree) (new ∷ [])) (IsPermutation-map three_columns (db account_tree ++ new ∷ []) (next account_tree) whole.1);
+      store = store;
     }
 
 pub adds_account : (old new : State) (sub : List ℕ) (acts : ℕ) (funds : ℤ) (count : ℕ) → old.now.schema ≡ layout → ExecutesInside 0 new_account (account_row sub acts funds) old new (Ok count)
@@ -268,17 +273,19 @@ adds_account old new sub acts funds count has inside =
     let counted = went written.2 in
     let trees : done.0.trees ≡ written.0 = ap (λ (it : Written). it.trees) (same_value counted.2) ∙ same_value counted.1 in
     let applied = one_write db written.0 (edit_of db account_here [] Chosen 0 given.0) written.1 in
+    let schema : new.now.schema ≡ layout = ap (λ (d : Database). d.schema) now in
+    let all : new.now.trees ≡ written.0 = ap (λ (d : Database). d.trees) now ∙ trees in
     record {
       inside = inside.1.mode;
       committed = inside.1.committed_is;
-      schema = ap (λ (d : Database). d.schema) now;
-      changes = subst (AddsAccount (account_row sub acts funds) db) (sym (ap (λ (d : Database). d.trees) now ∙ trees)) (account_added db written.0 sub acts funds given.0 given.1.1 applied);
+      schema = schema;
+      changes = subst (AddsAccount (account_row sub acts funds) db) (sym all) (account_added db written.0 sub acts funds given.0 given.1.1 applied (subst IsStore all (store_of new.now w.sound schema)));
     }
 
 -- ---- one after the other
 
-pub sets_account : (a b c : State) (sub : List ℕ) (row : Row) → HasRun (DropsAccount sub) a b → HasRun (AddsAccount row) b c → HasRun (SetsAccount sub row) a c
-sets_account a b c sub row h k =
+pub sets_account : (a b c : State) (sub : List ℕ) (row : Row) → HasRun (DropsAccount sub) a b → HasRun (AddsAccount row) b c → column row 0 ≡ Blob sub → HasRun (SetsAccount sub row) a c
+sets_account a b c sub row h k of =
     let old = account_rows a.now.trees in
     let mid = account_rows b.now.trees in
     let new = account_rows c.now.trees in
@@ -297,6 +304,8 @@ sets_account a b c sub row h k =
           | inl was ↦ inl (h.changes.only it was)
           | inr same ↦ inr same
         ];
+        once = λ apart. apart_along (mid ++ row ∷ []) new k.changes.accounts (apart_push mid row (h.changes.once apart) (λ it there same. (h.changes.only it there).1 (ap (λ (r : Row). column r 0) same ∙ of)));
+        store = k.changes.store;
       };
     }
 
@@ -318,6 +327,8 @@ appends a b c d sub place body es funds h k m =
         there = m.changes.there;
         stays = λ row there apart. m.changes.stays row (rw rows there) apart;
         only = λ row there. elim (m.changes.only row there) [ inl was ↦ inl (subst (λ all. Contains all row) rows was.0, was.1) | inr same ↦ inr same ];
+        once = λ apart. m.changes.once (subst AreApart (sym rows) apart);
+        store = m.changes.store;
       };
     }
 

@@ -20,11 +20,12 @@ use Rattle.dcc_record.specs.Records.{record_of}
 use Rattle.dcc_records.specs.Books.{Held, with_act, IsBook}
 use Rattle.dcc_records.specs.Contents.{IsNext}
 use Rattle.dcc_sqlrows.specs.Rows.{sub_octets, act_row, entry_row, entry_rows_of, account_row}
-use Rattle.dcc_sqlrows.specs.Pages.{entries_at}
+use Rattle.dcc_sqlrows.specs.Pages.{entries_at, IsSub}
 use Rattle.dcc_sqlrows.specs.Held.{IsActRow, IsEntryRow, IsAccountRow}
 use Rattle.dcc_sqlrec.specs.Content.{HoldsBook}
 use Rattle.dcc_sqlrec.specs.inner.Reading.{HasActs}
-use Rattle.dcc_sqlrec.specs.inner.Trees.{act_rows, entry_rows, account_rows, Appends}
+use Rattle.dcc_sqlrec.specs.inner.Trees.{act_rows, entry_rows, account_rows, AreApart, Appends}
+use Rattle.dcc_sqlrec.proofs.Apart.{apart_along, apart_push, apart_append, apart_nothing}
 
 -- ---- places
 
@@ -100,6 +101,22 @@ all_there sub place es j e h =
 all_only : (sub : List ℕ) (place : ℕ) (es : List Entry) (row : Row) → Contains (entry_rows_of sub place 0 es) row → (j : ℕ) × (e : Entry) × (slice_get es j ≡ Some e) × (row ≡ entry_row sub place (j + 1) e)
 all_only sub place es row h = let it = rows_only sub place 0 es row h in (it.0, it.1, it.2, it.3 ∙ ap (λ (n : ℕ). entry_row sub place n it.1) (omega arith))
 
+-- no two entries of an act have one line
+lines_apart : (sub : List ℕ) (place line : ℕ) (es : List Entry) → AreApart (entry_rows_of sub place line es)
+lines_apart sub place line [] = apart_nothing [] refl
+lines_apart sub place line (e ∷ es) =
+    apart_append (entry_row sub place (line + 1) e ∷ []) (entry_rows_of sub place (line + 1) es) (λ i j d below within. absurd (omega (arith, below, within))) (lines_apart sub place (line + 1) es)
+    (λ x y in_first in_later same.
+    let it = rows_only sub place (line + 1) es y in_later in
+    let is : entry_row sub place (line + 1) e ≡ entry_row sub place (line + 1 + it.0 + 1) it.1 = sym (single x (entry_row sub place (line + 1) e) in_first) ∙ same ∙ it.3 in
+    let lines : line + 1 ≡ line + 1 + it.0 + 1 = cc in
+    omega (arith, lines))
+
+past_end : {X : Type 0} (xs : List X) (i : ℕ) (x : X) → slice_get xs i ≡ Some x → i ≡ length xs → ⊥
+past_end [] i x h e = absurd cc
+past_end (y ∷ xs) zero x h e = omega (arith, e)
+past_end (y ∷ xs) (suc i) x h e = past_end xs i x h (omega (arith, e))
+
 some_left : {X : Type 0} (xs : List X) (y : X) → xs ++ y ∷ [] ≢ []
 some_left [] y h = absurd cc
 some_left (x ∷ xs) y h = absurd cc
@@ -114,7 +131,7 @@ octets_apart a b h =
 
 -- ---- one act more
 
-module _ (terms : TermsView) (same : SameAreEqual) (old new : Trees) (held : Held) (sub : Sub) (act : Act) (more : List Entry) (book : HoldsBook terms old held) (next : IsNext terms (held sub) act more) (fit : IsAct act)
+module _ (terms : TermsView) (same : SameAreEqual) (old new : Trees) (held : Held) (sub : Sub) (act : Act) (more : List Entry) (book : HoldsBook terms old held) (next : IsNext terms (held sub) act more) (fit : IsAct act) (valid : IsSub sub)
     (changed : Appends (sub_octets sub) (length (held sub) + 1) (record_of act) more (funds terms (held sub ++ act ∷ [])) old new) where
   abbrev now : Held
   now = with_act sub act held
@@ -253,6 +270,35 @@ module _ (terms : TermsView) (same : SameAreEqual) (old new : Trees) (held : Hel
         (sub, rw with_own (some_left (held sub) act), rw (with_own, len) (sym set))
   ]
 
+  acts_once : AreApart (act_rows new)
+  acts_once =
+      let row = act_row (sub_octets sub) (place + 1) (record_of act) in
+      apart_along (act_rows old ++ row ∷ []) (act_rows new) changed.acts (apart_push (act_rows old) row book.acts.once (λ it there same.
+      let was = book.acts.only it there in
+      let is : act_row (sub_octets was.0) (was.1 + 1) (record_of was.2) ≡ row = sym was.4 ∙ same in
+      let octets : sub_octets was.0 ≡ sub_octets sub = cc in
+      let places : was.1 + 1 ≡ place + 1 = cc in
+      let one : was.0 ≡ sub = octets_apart was.0 sub octets in
+      past_end (held sub) was.1 was.2 (subst (λ (t : Sub). slice_get (held t) was.1 ≡ Some was.2) one was.3) (omega (arith, places))))
+
+  entries_once : AreApart (entry_rows new)
+  entries_once =
+      apart_along (entry_rows old ++ new_rows) (entry_rows new) changed.entries (apart_append (entry_rows old) new_rows book.entries.once (lines_apart (sub_octets sub) (place + 1) 0 more) (λ x y in_old in_new same.
+      let was = book.entries.only x in_old in
+      let it = all_only (sub_octets sub) (place + 1) more y in_new in
+      let is : entry_row (sub_octets was.0) (was.1 + 1) (was.2 + 1) was.3 ≡ entry_row (sub_octets sub) (place + 1) (it.0 + 1) it.1 = sym was.6 ∙ same ∙ it.3 in
+      let octets : sub_octets was.0 ≡ sub_octets sub = cc in
+      let places : was.1 + 1 ≡ place + 1 = cc in
+      let one : was.0 ≡ sub = octets_apart was.0 sub octets in
+      let below : was.1 < place = subst (λ (t : Sub). was.1 < length (held t)) one was.4 in
+      omega (arith, places, below)))
+
+  subs_now : (s : Sub) → now s ≢ [] → IsSub s
+  subs_now s some = elim (cases_Bool (same_sub sub s)) [
+    | inl one ↦ subst IsSub ((same sub s).0 one) valid
+    | inr apart ↦ book.subs s (λ none. some (with_other s apart ∙ none))
+  ]
+
   own_now : IsBook terms now
   own_now s = elim (cases_Bool (same_sub sub s)) [
     | inl one ↦ let e : sub ≡ s = (same sub s).0 one in rw (← e, with_own) next.own
@@ -262,10 +308,11 @@ module _ (terms : TermsView) (same : SameAreEqual) (old new : Trees) (held : Hel
   pub book_grows : HoldsBook terms new now
   book_grows = record {
     own = own_now;
+    subs = subs_now;
     fits = λ s i a h. elim (with_cases s i a h) [ inl was ↦ book.fits s i a was | inr last ↦ rw last.2 fit ];
-    acts = record { there = acts_there; only = acts_only };
-    entries = record { there = entries_there; only = entries_only };
-    accounts = record { there = accounts_there; only = accounts_only };
+    acts = record { there = acts_there; only = acts_only; once = acts_once };
+    entries = record { there = entries_there; only = entries_only; once = entries_once };
+    accounts = record { there = accounts_there; only = accounts_only; once = changed.once book.accounts.once };
   }
 
 -- ---- tables hold one book alone

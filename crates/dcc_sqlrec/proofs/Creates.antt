@@ -19,9 +19,10 @@ use Rattle.sqlite.proofs.Callers.{IsPlain, statement_of, runs_as}
 use Rattle.sqlite_schema.specs.declared.schema.Keys.TheVariants.{Enforced}
 use Rattle.dcc_sqlrec.specs.Tables.{setting_table, no_schema, one_table, two_tables, three_tables, layout, setting_text, act_text, entry_text, account_text, act_table, entry_table, account_table}
 use Rattle.dcc_sqlrec.specs.inner.Trees.{setting_tree}
-use Rattle.dcc_sqlrec.specs.Trees.{ten_columns, setting_rows}
+use Rattle.dcc_sqlrec.specs.Trees.{IsStore, ten_columns, setting_rows}
 use Rattle.dcc_sqlrec.specs.inner.Making.{HasMade, NoSetting, NoActs, NoEntries, NoRows, AreEmpty}
 use Rattle.dcc_sqlrec.proofs.Texts.{Makes, setting_is, setting_plain, act_is, act_plain, entry_is, entry_plain, account_is, account_plain, new_setting, setting_terms, new_setting_is, new_setting_plain}
+use Rattle.dcc_sqlrec.proofs.Stores.{store_of}
 use Rattle.dcc_sqlrec.proofs.Inserts.{cast_int, cast_null, went, same_value, one_write}
 
 module _ (before : Schema) (text : List ℕ) (table : Table) (is : Makes before text table) (plain : IsPlain (understood before text)) (counted : lacks_sequence (created before table) ≡ false) where
@@ -74,20 +75,20 @@ module _ (shard shards : ℤ) (host realm : List ℕ) (validity hold currency ex
   abbrev stored_setting : Row
   stored_setting = Int (pos 1) ∷ Null ∷ Int (pos 1) ∷ setting_params
 
-  -- there are no acts, entries and accounts, and this row of the setting
+  -- the tables of a store, with no acts, entries and accounts, and this row of the setting
   abbrev pub HasSetting : Trees → Type 0
-  HasSetting db = AreEmpty db × (setting_rows db ≡ (Int (pos 1) ∷ Int (pos 1) ∷ setting_params) ∷ [])
+  HasSetting db = AreEmpty db × (setting_rows db ≡ (Int (pos 1) ∷ Int (pos 1) ∷ setting_params) ∷ []) × IsStore db
 
   setting_news : (db : Trees) (given : List Row) → given ≡ stored_setting ∷ [] → (edit_of db setting_here [] Chosen 0 given).news ≡ stored_setting ∷ []
   setting_news db given is =
       ap (λ (all : List Row). (edit_of db setting_here [] Chosen 0 all).news) is
       ∙ rw (cast_null, cast_int (pos 1), cast_int shard, cast_int shards, cast_int validity, cast_int hold, cast_int currency, cast_int exponent) refl
 
-  setting_put : (db next : Trees) (given : List Row) → given ≡ stored_setting ∷ [] → Applies layout Enforced db (edit_of db setting_here [] Chosen 0 given) next → NoRows db → HasSetting next
-  setting_put db next given is applied none =
+  setting_put : (db next : Trees) (given : List Row) → given ≡ stored_setting ∷ [] → Applies layout Enforced db (edit_of db setting_here [] Chosen 0 given) next → NoRows db → IsStore next → HasSetting next
+  setting_put db next given is applied none store =
       let put : next setting_tree ≡ stored_setting ∷ [] =
       applied.rows ∙ ap (λ all. put_all (db setting_tree) all) (setting_news db given is) ∙ ap (λ (rows : List Row). put_all rows (stored_setting ∷ [])) none.0 in
-      ((applied.tables.1.0 (λ e. absurd cc) ∙ none.1.0, applied.tables.1.1.0 (λ e. absurd cc) ∙ none.1.1, applied.tables.1.1.1.0 (λ e. absurd cc) ∙ none.1.2), ap (map ten_columns) put)
+      ((applied.tables.1.0 (λ e. absurd cc) ∙ none.1.0, applied.tables.1.1.0 (λ e. absurd cc) ∙ none.1.1, applied.tables.1.1.1.0 (λ e. absurd cc) ∙ none.1.2), ap (map ten_columns) put, store)
 
   pub adds_setting : (old new : State) (count : ℕ) → old.now.schema ≡ layout → NoRows old.now.trees → ExecutesInside 0 new_setting setting_params old new (Ok count) → HasMade layout HasSetting old new
   adds_setting old new count has none inside =
@@ -102,10 +103,11 @@ module _ (shard shards : ℤ) (host realm : List ℕ) (validity hold currency ex
       let counted = went written.2 in
       let trees : done.0.trees ≡ written.0 = ap (λ (it : Written). it.trees) (same_value counted.2) ∙ same_value counted.1 in
       let applied = one_write db written.0 (edit_of db setting_here [] Chosen 0 given.0) written.1 in
-      let all = ap (λ (d : Database). d.trees) now ∙ trees in
+      let schema : new.now.schema ≡ layout = ap (λ (d : Database). d.schema) now in
+      let all : new.now.trees ≡ written.0 = ap (λ (d : Database). d.trees) now ∙ trees in
       record {
         inside = inside.1.mode;
         committed = inside.1.committed_is;
-        schema = ap (λ (d : Database). d.schema) now;
-        says = subst HasSetting (sym all) (setting_put db written.0 given.0 given.1.1 applied none);
+        schema = schema;
+        says = subst HasSetting (sym all) (setting_put db written.0 given.0 given.1.1 applied none (subst IsStore all (store_of new.now w.sound schema)));
       }

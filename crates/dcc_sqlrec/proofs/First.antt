@@ -1,5 +1,5 @@
 -- The book without acts.
-use Rattle.std.proofs.Common.{◌≡◌, ℤ, pos, List, [], refl, sym, ap, arith}
+use Rattle.std.proofs.Common.{◌≡◌, ℤ, pos, List, [], map, refl, sym, ap, arith}
 use Rattle.sqlite.specs.Order.{Row}
 use Rattle.sqlite.specs.Tree.{Trees}
 use Rattle.sqlite.specs.State.{State}
@@ -10,7 +10,8 @@ use Rattle.dcc_model.specs.Laws.{EntriesAddUp, NoActs as NoneMade}
 use Rattle.dcc_records.specs.Books.{no_acts}
 use Rattle.dcc_sqlrows.specs.declared.tally.Tally.{Tally}
 use Rattle.dcc_sqlrec.specs.Content.{HoldsBook}
-use Rattle.dcc_sqlrec.specs.inner.Trees.{account_tree, IsKeyed, HasCommitted}
+use Rattle.dcc_sqlrec.specs.inner.Trees.{account_tree, three_columns, seven_columns, act_rows, entry_rows, account_rows, IsKeyed, HasCommitted}
+use Rattle.dcc_sqlrec.proofs.Apart.{apart_nothing}
 use Rattle.dcc_sqlrec.specs.inner.Tallies.{AreTallies}
 use Rattle.dcc_sqlrec.specs.inner.Keeping.{Keeps, KeepsBook}
 use Rattle.dcc_sqlrec.specs.inner.Making.{AreEmpty, IsFirst}
@@ -19,10 +20,11 @@ use Rattle.dcc_sqlrec.specs.declared.setting.Setting.{Setting}
 holds_nothing : (terms : TermsView) (db : Trees) → NoneMade → AreEmpty db → HoldsBook terms db no_acts
 holds_nothing terms db none empty = record {
   own = λ sub. none terms;
+  subs = λ sub some. absurd (some refl);
   fits = λ sub i act h. absurd cc;
-  acts = record { there = λ row h. absurd (let e = h.3 in cc); only = λ row h. absurd (let r = rw empty.0 at h in omega (arith, r.1)) };
-  entries = record { there = λ row h. absurd (omega (arith, h.4)); only = λ row h. absurd (let r = rw empty.1 at h in omega (arith, r.1)) };
-  accounts = record { there = λ row h. absurd (h.1 refl); only = λ row h. absurd (let r = rw empty.2 at h in omega (arith, r.1)) };
+  acts = record { there = λ row h. absurd (let e = h.3 in cc); only = λ row h. absurd (let r = rw empty.0 at h in omega (arith, r.1)); once = apart_nothing (act_rows db) (ap (map three_columns) empty.0) };
+  entries = record { there = λ row h. absurd (omega (arith, h.4)); only = λ row h. absurd (let r = rw empty.1 at h in omega (arith, r.1)); once = apart_nothing (entry_rows db) (ap (map seven_columns) empty.1) };
+  accounts = record { there = λ row h. absurd (h.1 refl); only = λ row h. absurd (let r = rw empty.2 at h in omega (arith, r.1)); once = apart_nothing (account_rows db) (ap (map three_columns) empty.2) };
 }
 
 no_funds : (terms : TermsView) → EntriesAddUp → funds terms [] ≡ pos 0

@@ -1,5 +1,9 @@
 pub mod Texts
 pub mod Answering
+pub mod Apart
+pub mod Ordered
+pub mod Layouts
+pub mod Stores
 pub mod Loads
 pub mod Inserts
 pub mod Steps

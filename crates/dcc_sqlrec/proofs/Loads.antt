@@ -26,6 +26,7 @@ use Rattle.dcc_sqlrec.specs.Content.{leaves}
 use Rattle.dcc_sqlrec.specs.inner.Reading.{LeftOrUndone, IsSettled, HasOtherLayout, HasActs}
 use Rattle.dcc_sqlrec.specs.inner.Keeping.{KeepsBook}
 use Rattle.dcc_sqlrec.proofs.Stopping.{Settles, Differ, content_prop, kept_leaves, only_kept, kept_undone, along}
+use Rattle.dcc_sqlrec.proofs.Apart.{apart_along}
 use Rattle.dcc_sqlrec.proofs.Books.{same_acts, acts_held}
 
 pub unchanged_still : (old new : State) → new.in_transaction ≡ false → IsSettled old → IsUnchanged old new → IsUndone old new
@@ -46,6 +47,7 @@ pub just_along : (rows all : List Row) (Says : Row → Type 0) → IsPermutation
 just_along rows all Says same it = record {
   there = λ row says. Contains-permutation rows all row (IsPermutation-sym all rows same) (it.there row says);
   only = λ row h. it.only row (Contains-permutation all rows row same h);
+  once = apart_along rows all (IsPermutation-sym all rows same) it.once;
 }
 
 pub has_acts : PagesHoldTheirActs → PagesFit → (db : Trees) (rows : List Row) (pages : List PageView) → IsPermutation (act_rows db) rows → rows ≡ book_act_rows pages → AreInOrder pages → AllByRecursion IsPage pages
@@ -55,7 +57,7 @@ has_acts hold fit db rows pages shown are sorted valid =
 
 -- ---- records that are loaded
 
-schema_prop : (s : Schema) → IsProp (s ≡ layout)
+pub schema_prop : (s : Schema) → IsProp (s ≡ layout)
 schema_prop s = hlevel (props, the_row.coded)
 
 module _ (terms : TermsView) (old new : State) (tallies : List (Sub × Tally)) (clean : doubt old.is_clean ≤ doubt new.is_clean)

@@ -20,6 +20,7 @@ use Rattle.dcc_records.specs.Laws.{OwnGrows, AccountsGrow}
 use Rattle.dcc_records.specs.Stops.{LeavesOnly, LeavesEither}
 use Rattle.dcc_sqlrows.specs.declared.tally.Tally.{Tally}
 use Rattle.dcc_sqlrec.specs.Tables.{layout}
+use Rattle.dcc_sqlrows.specs.Pages.{IsSub}
 use Rattle.dcc_sqlrows.specs.Rows.{sub_octets}
 use Rattle.dcc_sqlrec.specs.Content.{leaves}
 use Rattle.dcc_sqlrec.specs.inner.Trees.{account_tree, IsKeyed, Appends, HasCommitted, IsUndone}
@@ -59,7 +60,7 @@ module _ (terms : TermsView) (old new : State) (tallies : List (Sub × Tally)) (
       along terms k.0 known found same it)
 
   module _ (same : SameAreEqual) (differ : Differ) (own : OwnGrows) (grow : AccountsGrow) (sub : Sub) (act : Act) (more : List Entry) (next : (found : Content) → leaves terms old found → IsNext terms (found sub).acts act more)
-      (fit : IsAct act) (t n : Tally) (t_is : t ≡ tally_in tallies sub) (n_acts : n.acts ≡ t.acts + 1) (n_funds : n.funds ≡ t.funds +ℤ sum_of more) where
+      (fit : IsAct act) (valid : IsSub sub) (t n : Tally) (t_is : t ≡ tally_in tallies sub) (n_acts : n.acts ≡ t.acts + 1) (n_funds : n.funds ≡ t.funds +ℤ sum_of more) where
     abbrev Adds : Type 0
     Adds = HasCleanDisk new → old.now.schema ≡ layout → IsKeyed (old.now.trees account_tree) → HasCommitted (Appends (sub_octets sub) n.acts (record_of act) more n.funds) old new
 
@@ -76,7 +77,7 @@ module _ (terms : TermsView) (old new : State) (tallies : List (Sub × Tally)) (
     grown : Adds → HasCleanDisk new → (k : KeepsBook terms old tallies) → Keeps terms new (with_act sub act k.0)
     grown added now k =
         let was = was_clean now in
-        kept_grown terms same old new k.0 sub act more n.acts n.funds k.1 (is_next was k) fit (place_is k) (funds_are was k) (added now k.1.schema k.1.keyed)
+        kept_grown terms same old new k.0 sub act more n.acts n.funds k.1 (is_next was k) fit valid (place_is k) (funds_are was k) (added now k.1.schema k.1.keyed)
 
     pub kept_ok : Adds → (after : List (Sub × Tally)) → ((other : Sub) → tally_in after other ≡ cond (is_eq (sub_order sub other)) n (tally_in tallies other)) → HasCleanDisk new → ∥ KeepsBook terms new after ∥₁
     kept_ok added after set now =
@@ -104,7 +105,7 @@ module _ (terms : TermsView) (old new : State) (tallies : List (Sub × Tally)) (
         decided terms own known sub act found (∥∥₁_map (kept was) (λ k.
         let alike = same_held terms old k.0 known differ (stays k.1.is_open) was k.1 only in
         let one : IsContentOf terms k.0 found ⊎ IsContentOf terms (with_act sub act k.0) found =
-        either_left terms same old new k.0 sub act more n.acts n.funds k.1 (is_next was k) fit (place_is k) (funds_are was k) settles (survives k.1.schema k.1.keyed) found left in
+        either_left terms same old new k.0 sub act more n.acts n.funds k.1 (is_next was k) fit valid (place_is k) (funds_are was k) settles (survives k.1.schema k.1.keyed) found left in
         let r : IsContentOf terms known found ⊎ IsContentOf terms (with_act sub act known) found = elim one [
           | inl x ↦ inl (along terms k.0 known found alike x)
           | inr y ↦ inr (grown_along terms sub act k.0 known found alike y)

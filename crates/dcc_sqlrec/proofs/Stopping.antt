@@ -19,6 +19,7 @@ use Rattle.dcc_records.specs.Books.{Held, with_act}
 use Rattle.dcc_records.specs.Contents.{Content, Kept, IsContentOf, IsNext, kept_by}
 use Rattle.dcc_records.specs.Laws.{OwnGrows}
 use Rattle.dcc_records.specs.Stops.{LeavesOnly, LeavesEither}
+use Rattle.dcc_sqlrows.specs.Pages.{IsSub}
 use Rattle.dcc_sqlrows.specs.Rows.{sub_octets}
 use Rattle.dcc_sqlrec.specs.Content.{HoldsBook, leaves}
 use Rattle.dcc_sqlrec.specs.inner.Trees.{Appends, HasCommitted, IsUndone}
@@ -62,11 +63,11 @@ kept_undone terms old new held k it =
       holds = subst (λ (d : Database). HoldsBook terms d.trees held) (sym same) k.holds;
     }
 
-module _ (terms : TermsView) (same : SameAreEqual) (old new : State) (held : Held) (sub : Sub) (act : Act) (more : List Entry) (place : ℕ) (funds_now : ℤ) (k : Keeps terms old held) (next : IsNext terms (held sub) act more) (fit : IsAct act)
+module _ (terms : TermsView) (same : SameAreEqual) (old new : State) (held : Held) (sub : Sub) (act : Act) (more : List Entry) (place : ℕ) (funds_now : ℤ) (k : Keeps terms old held) (next : IsNext terms (held sub) act more) (fit : IsAct act) (valid : IsSub sub)
     (at : place ≡ length (held sub) + 1) (are : funds_now ≡ funds terms (held sub ++ act ∷ [])) where
   grown : (db : Trees) → Appends (sub_octets sub) place (record_of act) more funds_now old.now.trees db → HoldsBook terms db (with_act sub act held)
   grown db changed =
-      book_grows terms same old.now.trees db held sub act more k.holds next fit (rw (← at, ← are) changed)
+      book_grows terms same old.now.trees db held sub act more k.holds next fit valid (rw (← at, ← are) changed)
 
   pub kept_grown : HasCommitted (Appends (sub_octets sub) place (record_of act) more funds_now) old new → Keeps terms new (with_act sub act held)
   kept_grown it = record {

@@ -1,5 +1,5 @@
 -- What the tables hold of a book.
-use Rattle.std.specs.Prelude.{◌≡◌, ℕ, slice_get, Some}
+use Rattle.std.specs.Prelude.{◌≡◌, ◌≢◌, ℕ, [], slice_get, Some}
 use Rattle.sqlite.specs.Tree.{Trees}
 use Rattle.sqlite.specs.State.{State, HasCleanDisk}
 use Rattle.dcc_tariff.specs.Terms.{TermsView}
@@ -8,13 +8,15 @@ use Rattle.dcc_act.specs.declared.sub.Sub.{Sub}
 use Rattle.dcc_record.specs.Limits.{IsAct}
 use Rattle.dcc_records.specs.Books.{Held, IsBook}
 use Rattle.dcc_records.specs.Contents.{Content, IsContentOf}
+use Rattle.dcc_sqlrows.specs.Pages.{IsSub}
 use Rattle.dcc_sqlrows.specs.Held.{AreJust, IsActRow, IsEntryRow, IsAccountRow}
 use Rattle.dcc_sqlrec.specs.Trees.{act_rows, entry_rows, account_rows}
 
 -- The tables hold this book under these terms: of each subscriber the acts, which are those that the list itself makes, their
--- entries and the account.
+-- entries and the account, each once.
 pub record HoldsBook (terms : TermsView) (db : Trees) (held : Held) : Type 0 where
   pub own : IsBook terms held
+  pub subs : (sub : Sub) → held sub ≢ [] → IsSub sub
   pub fits : (sub : Sub) (i : ℕ) (act : Act) → slice_get (held sub) i ≡ Some act → IsAct act
   pub acts : AreJust (act_rows db) (IsActRow held)
   pub entries : AreJust (entry_rows db) (IsEntryRow terms held)

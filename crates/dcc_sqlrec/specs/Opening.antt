@@ -1,5 +1,5 @@
 -- What an opening finds.
-use Rattle.std.specs.Prelude.{◌≢◌, List, [], ◌∷◌}
+use Rattle.std.specs.Prelude.{◌≡◌, ◌≢◌, ◌⊎◌, List, [], ◌∷◌}
 use Rattle.sqlite.specs.Tree.{Trees}
 use Rattle.dcc_tariff.specs.Terms.{TermsView}
 use Rattle.dcc_records.specs.Books.{Held, PageView}
@@ -9,6 +9,8 @@ use Rattle.dcc_sqlrows.specs.Stored.{Rows, IsDamaged, AreOfBook}
 use Rattle.dcc_sqlrec.specs.Content.{HoldsBook}
 use Rattle.dcc_sqlrec.specs.Setting.{setting_row}
 use Rattle.dcc_sqlrec.specs.declared.setting.Setting.{Setting}
+use Rattle.dcc_sqlrec.specs.declared.fault.OpenFault.{OpenFault}
+use Rattle.dcc_sqlrec.specs.declared.fault.OpenFault.TheVariants.{Memory, Device, Layout}
 use Rattle.dcc_sqlrec.specs.Trees.{setting_rows}
 use Rattle.dcc_sqlrec.specs.Queries.{acts_query, entries_query, accounts_query, Shows}
 
@@ -33,3 +35,9 @@ FindsBook terms db left = (held : Held) × HoldsBook terms db held × LeavesOnly
 -- the rows of the setting are not that of this one
 abbrev pub HasOtherSetting : Setting → Trees → Type 0
 HasOtherSetting setting db = setting_rows db ≢ setting_row setting ∷ []
+
+-- why a store that a stop left isn't opened as that of a setting: memory was refused, the database failed, or a database that the stop
+-- leaves has another setting
+abbrev pub IsRefusedAfter : (Trees → Type 0) → Setting → OpenFault → Type 0
+IsRefusedAfter may_leave setting fault =
+    (fault ≡ Memory) ⊎ ((fault ≡ Device) ⊎ ((fault ≡ Layout) × ∥ ((db : Trees) × may_leave db × HasOtherSetting setting db) ∥₁))

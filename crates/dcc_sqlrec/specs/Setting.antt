@@ -4,7 +4,7 @@ use Rattle.sqlite.specs.declared.types.Value.TheVariants.{Int, Text}
 use Rattle.sqlite.specs.Order.{Row}
 use Rattle.sqlite.specs.Tree.{Trees}
 use Rattle.dcc_sqlrec.specs.declared.setting.Setting.{Setting}
-use Rattle.dcc_sqlrec.specs.Trees.{AreEmpty, setting_rows}
+use Rattle.dcc_sqlrec.specs.Trees.{AreEmpty, IsStore, setting_rows}
 
 -- row 1, of layout 1
 abbrev pub setting_row : Setting → Row
@@ -20,6 +20,6 @@ setting_row setting =
     ∷ Int (pos setting.terms.currency)
     ∷ Int setting.terms.exponent ∷ []
 
--- there are no acts, entries and accounts, and this is the setting
+-- the tables of a store, with no acts, entries and accounts, and this setting
 abbrev pub IsFirst : Setting → Trees → Type 0
-IsFirst setting db = AreEmpty db × (setting_rows db ≡ setting_row setting ∷ [])
+IsFirst setting db = AreEmpty db × (setting_rows db ≡ setting_row setting ∷ []) × IsStore db

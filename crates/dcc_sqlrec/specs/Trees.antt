@@ -3,6 +3,12 @@ use Rattle.std.specs.Prelude.{◌≡◌, ℕ, false, IsTrue, List, [], ◌∷◌
 use Rattle.sqlite.specs.Order.{Row, column}
 use Rattle.sqlite.specs.Tree.{Trees}
 use Rattle.sqlite.specs.State.{State}
+use Rattle.sqlite.specs.Effect.{IsDatabase}
+use Rattle.dcc_sqlrec.specs.Tables.{layout}
+
+-- the trees list the tables of a store and nothing else, and obey them
+unfoldable pub IsStore : Trees → Type 0
+IsStore db = IsDatabase (record { schema = layout; trees = db })
 
 -- the trees of the four tables
 abbrev pub setting_tree : ℕ

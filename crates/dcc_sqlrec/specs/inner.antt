@@ -6,3 +6,4 @@ pub mod Making
 pub mod Reading
 pub mod Rowids
 pub mod Opening
+pub mod Telling

@@ -7,6 +7,7 @@ ghost use Rattle.sqlite.specs.Held.{state};
 ghost use Rattle.dcc_record.specs.Limits.{IsAct};
 ghost use Rattle.dcc_record.specs.Records.{record_of};
 ghost use Rattle.dcc_sqlrec.specs.Tables.{layout};
+ghost use Rattle.dcc_sqlrows.specs.Pages.{IsSub};
 ghost use Rattle.dcc_sqlrows.specs.Rows.{sub_octets};
 ghost use Rattle.dcc_sqlrec.specs.inner.Trees.{account_tree, Appends, IsKeyed, HasCommitted, IsUndone};
 
@@ -36,6 +37,7 @@ pub fn store_act<S: Alter>(
         → IsUndone (state S.Store conn.old) (state S.Store conn.new) ⊎ (conn.new ≡ conn.old) }
     ensures fault { OnErr result ((result ≡ Err StoreFault.Memory) ⊎ (result ≡ Err StoreFault.Device)) }
     ensures fits { IsAct act.now }
+    ensures valid { IsSub sub }
     ensures crash { conn.old.schema ≡ layout → IsKeyed ((state S.Store conn.old).now.trees account_tree)
         → Survives (state S.Store conn.old) (state S.Store conn.new) (Appends (sub_octets sub) next.acts (record_of act.now) entries.now next.funds (state S.Store conn.old).now.trees) }
 {
@@ -54,7 +56,8 @@ pub fn store_act<S: Alter>(
 
 /// A subscriber as the tables have it: the type in one octet, and the data.
 fn octets_of(alloc: Global, sub: Sub) -> Result<Vec<u8>, AllocError>
-    ensures { IfOk result (λ octets. octets.items ≡ sub_octets sub) }
+    ensures value { IfOk result (λ octets. octets.items ≡ sub_octets sub) }
+    ensures valid { IsSub sub }
 {
     let mut octets = vec![in alloc; sub.kind()]?;
     octets.extend_from_slice(sub.name())?;

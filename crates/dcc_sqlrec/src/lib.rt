@@ -6,16 +6,17 @@
 //! what they hold of a book in `specs/Content.antt`.
 //!
 //! The contract that it gives:
-//! - [`SqlRecords::create`] makes the tables in an empty database in one transaction: a stop inside leaves the database as it
-//!   was, or with tables that hold no acts.
+//! - [`SqlRecords::create`] makes the tables in a database that has nothing in it, and nowhere else, in one transaction: a stop
+//!   inside leaves the database as it was, or with tables that hold no acts.
 //! - [`SqlRecords`] are `dcc_records::Records`. An append writes an act, its entries and its subscriber's account in one
 //!   transaction: after Ok a stop leaves the content of the book with the act, after want of memory that of the book before, and
 //!   after any other refusal, or inside the call, the one or the other; then nothing is done any more. A load reads the table
 //!   of acts by one statement, and judges each list of acts by an account of its own.
 //! - [`SqlRecords::open`] reads each table whole, by one statement, and judges the rows by the acts: Ok with the book that the tables
-//!   hold, or the first fault that applies, with nothing changed.
+//!   hold, or the first fault that applies, with nothing changed. Rows of a book are never told 54 or 55.
 //! - [`stop_and_open`] finds one of the databases that a stop leaves, and [`stop_and_reopen`] the records in it: what they hold is one
-//!   of the contents that a stop leaves.
+//!   of the contents that a stop leaves. Where a stop leaves a book's content, only want of memory, a database that fails or another
+//!   setting keeps it from being opened.
 #![tactic(auto)]
 
 mod adding;
@@ -34,6 +35,7 @@ mod rising;
 mod setting;
 mod sql_records;
 mod tally;
+mod telling;
 mod transaction;
 
 pub use fault::{CreateFault, OpenFault};

@@ -9,8 +9,9 @@ ghost use Rattle.dcc_sqlrec.specs.inner.Trees.{HasCommitted, IsUndone};
 ghost use Rattle.dcc_sqlrec.specs.inner.Making.{HasMade, NoSetting, NoActs, NoEntries, NoRows, IsFirst};
 
 use crate::setting::Setting;
+use crate::telling::told;
 use dcc_records::StoreFault;
-use sqlite::{Alter, Connection, Error, ErrorCode, Transaction, params};
+use sqlite::{Alter, Connection, Error, Transaction, params};
 use sqlite_schema::schema::Schema;
 
 /// Whether a database has nothing in it.
@@ -40,10 +41,7 @@ pub fn make_store<S: Alter>(
         return Ok(());
     };
     let answers = conn.prepare("SELECT 1").is_ok();
-    if answers && error == Error::SqliteFailure(ErrorCode::OutOfMemory) {
-        return Err(StoreFault::Memory);
-    }
-    Err(StoreFault::Device)
+    Err(told(&error, answers))
 }
 
 /// One transaction: the tables are made, or nothing changes. A stop at any call of the store leaves the one or the other.

@@ -1,6 +1,6 @@
 //! The opening of a store.
 
-ghost use Rattle.std.specs.Prelude.{◌≡◌, ◌≢◌, ◌⊎◌, ◌≤◌, false, Err, IfOk, OnOk, OnErr, List, [], ◌∷◌};
+ghost use Rattle.std.specs.Prelude.{◌≡◌, ◌≢◌, ◌⊎◌, ◌≤◌, false, Err, IsTrue, IfOk, OnOk, OnErr, List, [], ◌∷◌};
 ghost use Rattle.sqlite.specs.View.{doubt};
 ghost use Rattle.sqlite.specs.State.{HasCleanDisk, Survives, IsUnchanged};
 ghost use Rattle.sqlite.specs.Held.{state};
@@ -21,6 +21,7 @@ use crate::judging::judge_rows;
 use crate::parts::{Part, rows_of};
 use crate::rising::are_rising;
 use crate::setting::{Setting, is_setting};
+use crate::telling::open_fault;
 use dcc_act::Sub;
 use dcc_records::StoreFault;
 use dcc_sqlrows::{Tally, pages_hold_their_rows};
@@ -67,13 +68,13 @@ pub fn open_store<S: Alter>(
         → (result ≡ Err OpenFault.Damaged) ⊎ (result ≡ Err OpenFault.Disagree)
         → setting_rows (state S.Store conn.old).now.trees ≡ setting_row setting.now ∷ [] }
     ensures filled { result ≢ Err OpenFault.Empty }
+    ensures was_open { HasCleanDisk (state S.Store conn.new) → conn.old.schema ≡ layout → OnOk result (IsTrue (state S.Store conn.old).is_open) }
     ensures crash { Survives (state S.Store conn.old) (state S.Store conn.new) (HasOtherLayout (state S.Store conn.old)) }
 {
     pages_hold_their_rows();
     let found = match read_store(conn) {
         Ok(found) => found,
-        Err(StoreFault::Memory) => return Err(OpenFault::Memory),
-        Err(_) => return Err(OpenFault::Device),
+        Err(fault) => return Err(open_fault(fault)),
     };
     judge_store(alloc, &found, setting, hasher)
 }

@@ -10,8 +10,9 @@ ghost use Rattle.dcc_sqlrec.specs.inner.Trees.{IsUndone};
 ghost use Rattle.dcc_sqlrec.specs.inner.Reading.{LeftOrUndone, IsSettled, HasOtherLayout, query_of};
 
 use crate::reading::{read_accounts, read_acts, read_entries, read_rowids, read_setting};
+use crate::telling::told;
 use dcc_records::StoreFault;
-use sqlite::{Alter, Connection, Error, ErrorCode, Row};
+use sqlite::{Alter, Connection, Error, Row};
 
 /// A part of a store.
 #[derive(Clone, Copy)]
@@ -42,10 +43,7 @@ pub fn rows_of<S: Alter>(conn: &mut Connection<S>, part: Part) -> Result<Vec<Row
         Err(error) => error,
     };
     let answers = conn.prepare("SELECT 1").is_ok();
-    if answers && error == Error::SqliteFailure(ErrorCode::OutOfMemory) {
-        return Err(StoreFault::Memory);
-    }
-    Err(StoreFault::Device)
+    Err(told(&error, answers))
 }
 
 /// The rows of a part.

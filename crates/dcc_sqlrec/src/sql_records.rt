@@ -1,14 +1,15 @@
 //! Records over a database.
 
 ghost use Rattle.std.specs.Prelude.{◌≡◌, ◌≢◌, ◌⊎◌, false, [], ◌∷◌, IfOk, IfErr};
+ghost use Rattle.sqlite.specs.Tree.{Trees};
 ghost use Rattle.sqlite.specs.State.{HasCleanDisk, Survives};
 ghost use Rattle.sqlite.specs.Held.{state};
-ghost use Rattle.dcc_records.specs.Books.{no_acts};
+ghost use Rattle.dcc_records.specs.Books.{Held, no_acts};
 ghost use Rattle.dcc_records.specs.Stops.{LeavesOnly};
 ghost use Rattle.dcc_sqlrec.specs.Tables.{no_schema, layout};
-ghost use Rattle.dcc_sqlrec.specs.Content.{leaves};
+ghost use Rattle.dcc_sqlrec.specs.Content.{HoldsBook, leaves};
 ghost use Rattle.dcc_sqlrec.specs.Opening.{FindsBook, HasOtherSetting, IsDamagedIn, DisagreeIn};
-ghost use Rattle.dcc_sqlrec.specs.Trees.{IsUndone, setting_rows};
+ghost use Rattle.dcc_sqlrec.specs.Trees.{IsUndone, IsStore, setting_rows};
 ghost use Rattle.dcc_sqlrec.specs.Setting.{setting_row, IsFirst};
 ghost use Rattle.dcc_sqlrec.specs.inner.Keeping.{KeepsBook};
 
@@ -17,10 +18,10 @@ use crate::layout::has_layout;
 use crate::making::{is_blank, make_store};
 use crate::opening::open_store;
 use crate::setting::Setting;
+use crate::telling::create_fault;
 use dcc_act::Sub;
 use dcc_model::{funds_are_accounted_for, leaving_out_changes_nothing};
-use dcc_records::StoreFault;
-use dcc_sqlrows::Tally;
+use dcc_sqlrows::{Tally, books_have_pages};
 use dcc_tariff::Terms;
 use sqlite::{Alter, Connection};
 use std::alloc::Global;
@@ -37,6 +38,7 @@ pub struct SqlRecords<S: Alter> {
     pub(crate) stopped: bool,
     ghost idle: { conn.in_transaction ≡ false },
     ghost kept: { stopped ≡ false → HasCleanDisk (state S.Store conn) → ∥ KeepsBook terms (state S.Store conn) tallies.entries ∥₁ },
+    ghost store: { HasCleanDisk (state S.Store conn) → (db : Trees) → (state S.Store conn).may_leave db → ∥ IsStore db ∥₁ },
 }
 
 impl<S: Alter + Drop> Drop for SqlRecords<S> {
@@ -67,12 +69,14 @@ impl<S: Alter> SqlRecords<S> {
     ) -> Result<SqlRecords<S>, (CreateFault, Connection<S>)>
         ensures terms { IfOk result (λ records. records.terms ≡ setting.now.terms) }
         ensures going { IfOk result (λ records. records.stopped ≡ false) }
+        // It was made just where there was nothing.
+        ensures fresh { IfOk result (λ records. conn.schema ≡ no_schema) }
         ensures empty { IfOk result (λ records. LeavesOnly records.terms no_acts (leaves records.terms (state S.Store records.conn))) }
         ensures setting { IfOk result (λ records. HasCleanDisk (state S.Store records.conn) → setting_rows (state S.Store records.conn).now.trees ≡ setting_row setting.now ∷ []) }
         ensures crash { IfOk result (λ records. Survives (state S.Store conn) (state S.Store records.conn) (IsFirst setting.now)) }
         ensures undone { IfErr result (λ failed. failed.0 ≡ CreateFault.Memory → HasCleanDisk (state S.Store failed.1) → IsUndone (state S.Store conn) (state S.Store failed.1)) }
         ensures blank { IfErr result (λ failed. failed.0 ≡ CreateFault.Layout → (conn.schema ≢ no_schema) × (failed.1 ≡ conn)) }
-        ensures left { IfErr result (λ failed. Survives (state S.Store conn) (state S.Store failed.1) (IsFirst setting.now)) }
+        ensures left { IfErr result (λ failed. Survives (state S.Store conn) (state S.Store failed.1) (λ db. (conn.schema ≡ no_schema) × IsFirst setting.now db)) }
     {
         leaving_out_changes_nothing();
         funds_are_accounted_for();
@@ -92,8 +96,7 @@ impl<S: Alter> SqlRecords<S> {
                 tallies: BTreeMap::new(alloc),
                 stopped: false,
             }),
-            Err(StoreFault::Memory) => Err((CreateFault::Memory, conn)),
-            Err(_) => Err((CreateFault::Device, conn)),
+            Err(fault) => Err((create_fault(fault), conn)),
         }
     }
 
@@ -125,6 +128,9 @@ impl<S: Alter> SqlRecords<S> {
             ⊎ ((conn.schema ≡ layout) × (HasCleanDisk (state S.Store failed.1) → HasOtherSetting setting.now (state S.Store conn).now.trees))) }
         ensures damaged { IfErr result (λ failed. failed.0 ≡ OpenFault.Damaged → HasCleanDisk (state S.Store failed.1) → IsDamagedIn (state S.Store conn).now.trees) }
         ensures disagree { IfErr result (λ failed. failed.0 ≡ OpenFault.Disagree → HasCleanDisk (state S.Store failed.1) → DisagreeIn setting.now.terms (state S.Store conn).now.trees) }
+        // Tables that hold a book are neither damaged nor disagree.
+        ensures whole { IfErr result (λ failed. (failed.0 ≡ OpenFault.Damaged) ⊎ (failed.0 ≡ OpenFault.Disagree)
+            → HasCleanDisk (state S.Store failed.1) → (held : Held) → ¬ HoldsBook setting.now.terms (state S.Store conn).now.trees held) }
         // The rows are judged only where the tables are those of a store, and it is of this setting.
         ensures ours { IfErr result (λ failed. (failed.0 ≡ OpenFault.Damaged) ⊎ (failed.0 ≡ OpenFault.Disagree)
             → (conn.schema ≡ layout) × (HasCleanDisk (state S.Store failed.1) → setting_rows (state S.Store conn).now.trees ≡ setting_row setting.now ∷ [])) }
@@ -132,6 +138,7 @@ impl<S: Alter> SqlRecords<S> {
             → (failed.1 ≡ conn) ⊎ IsUndone (state S.Store conn) (state S.Store failed.1)) }
         ensures left { IfErr result (λ failed. Survives (state S.Store conn) (state S.Store failed.1) (λ _. ⊥)) }
     {
+        books_have_pages();
         if !conn.is_autocommit() {
             return Err((OpenFault::Device, conn));
         }
@@ -155,10 +162,11 @@ impl<S: Alter> SqlRecords<S> {
         }
     }
 
-    /// The connection, whose tables stay as they are.
+    /// The connection, whose tables stay as they are. Whatever a stop leaves of it is a store.
     pub fn into_connection(self) -> Connection<S>
         ensures same { result ≡ self.conn }
         ensures idle { result.in_transaction ≡ false }
+        ensures store { HasCleanDisk (state S.Store result) → (db : Trees) → (state S.Store result).may_leave db → ∥ IsStore db ∥₁ }
     {
         let SqlRecords {
             alloc: _,

@@ -1,6 +1,6 @@
 //! What records know of each subscriber without asking the database.
 
-ghost use Rattle.std.specs.Prelude.{◌≡◌, ◌+◌, ◌+ℤ◌, if◌then◌else◌, length, map, IsSome, IfSome, IfOk, OnOk};
+ghost use Rattle.std.specs.Prelude.{◌≡◌, ◌+◌, ◌+ℤ◌, if◌then◌else◌, length, map, IsSome, IfSome, IfNone, IfOk, OnOk};
 ghost use Rattle.std.specs.Map.{lookup};
 ghost use Rattle.std.specs.Ordering.{is_eq};
 ghost use Rattle.dcc_tariff.specs.Terms.{TermsView};
@@ -8,7 +8,7 @@ ghost use Rattle.dcc_act.specs.declared.sub.Sub.{Sub};
 ghost use Rattle.dcc_model.specs.Entries.{sum_of};
 ghost use Rattle.dcc_records.specs.Books.{acts_in, sub_order};
 ghost use Rattle.dcc_sqlrows.specs.Tallies.{tally_of};
-ghost use Rattle.dcc_sqlrec.specs.inner.Tallies.{tally_in, no_tally, AreTallies};
+ghost use Rattle.dcc_sqlrec.specs.inner.Tallies.{tally_in, no_tally, AreTallies, IsTooMuch, Pass};
 
 use dcc_act::{Entry, Sub, same_subscribers_are_equal};
 use dcc_model::funds_are_accounted_for;
@@ -21,6 +21,7 @@ use std::collections::BTreeMap;
 pub fn with_act(tally: Tally, entries: &[Entry]) -> Option<Tally>
     ensures acts { IfSome result (λ next. next.acts ≡ tally.acts + 1) }
     ensures funds { IfSome result (λ next. next.funds ≡ tally.funds +ℤ sum_of entries.now) }
+    ensures none { IfNone result (IsTooMuch tally entries.now) }
 {
     let acts = tally.acts.checked_add(1)?;
     let funds = add_amounts(tally.funds, entries)?;
@@ -29,7 +30,8 @@ pub fn with_act(tally: Tally, entries: &[Entry]) -> Option<Tally>
 
 /// The funds with the amounts of the entries, or none where they pass 64 bits.
 fn add_amounts(funds: i64, entries: &[Entry]) -> Option<i64>
-    ensures { IfSome result (λ total. total ≡ funds +ℤ sum_of entries.now) }
+    ensures total { IfSome result (λ total. total ≡ funds +ℤ sum_of entries.now) }
+    ensures none { IfNone result (Pass funds entries.now) }
 {
     match entries {
         [] => Some(funds),

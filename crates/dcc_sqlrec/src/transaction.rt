@@ -8,9 +8,10 @@ ghost use Rattle.dcc_sqlrec.specs.Tables.{layout};
 ghost use Rattle.dcc_sqlrec.specs.inner.Trees.{account_tree, Appends, IsKeyed, HasCommitted, IsUndone};
 
 use crate::adding::add_rows;
+use crate::telling::told;
 use dcc_act::Entry;
 use dcc_records::StoreFault;
-use sqlite::{Alter, Connection, Error, ErrorCode};
+use sqlite::{Alter, Connection, Error};
 
 /// One transaction: the rows are written, or nothing changes. A stop at any call of the store leaves the one or the other.
 fn commit_rows<S: Alter>(
@@ -61,8 +62,5 @@ pub fn append_rows<S: Alter>(
         return Ok(());
     };
     let answers = conn.prepare("SELECT 1").is_ok();
-    if answers && error == Error::SqliteFailure(ErrorCode::OutOfMemory) {
-        return Err(StoreFault::Memory);
-    }
-    Err(StoreFault::Device)
+    Err(told(&error, answers))
 }

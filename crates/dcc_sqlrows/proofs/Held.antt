@@ -18,8 +18,10 @@ use Rattle.dcc_record.specs.Limits.{IsAct}
 use Rattle.dcc_record.specs.Records.{record_of}
 use Rattle.dcc_records.specs.Books.{PageView, AreInOrder, acts_in, sub_order, IsBook}
 use Rattle.dcc_sqlrows.specs.Rows.{sub_octets, act_row, entry_row, entry_rows_of}
-use Rattle.dcc_sqlrows.specs.Pages.{IsPage, IsOwn, entries_at, act_rows_from, entry_rows_to, page_act_rows, page_entry_rows, page_account_row, book_act_rows, book_entry_rows, book_account_rows}
+use Rattle.dcc_sqlrows.specs.Pages.{IsSub, IsPage, IsOwn, entries_at, act_rows_from, entry_rows_to, page_act_rows, page_entry_rows, page_account_row, book_act_rows, book_entry_rows, book_account_rows}
 use Rattle.dcc_sqlrows.specs.Held.{AreJust, IsActRow, IsEntryRow, IsAccountRow}
+use Rattle.dcc_sqlrows.specs.Ordered.{act_order, entry_order, account_order}
+use Rattle.dcc_sqlrows.proofs.Strict.{once_strict, act_total, entry_total, account_total, book_acts_strict, book_entries_strict, book_accounts_strict}
 
 same_where_equal : (a b : Sub) → same_sub a b ≡ is_eq (sub_order a b)
 same_where_equal = search (comparing, rules)
@@ -112,11 +114,11 @@ others_later same page pages sub sorted some =
     let apart : same_sub page.sub sub ≡ false = apart_less page.sub sub (of_page (λ s. sub_order page.sub s ≡ Less) same pages sub sorted.0 some) in
     rw apart refl
 
-some_at : (xs : List Act) (i : ℕ) (x : Act) → slice_get xs i ≡ Some x → xs ≢ []
+pub some_at : (xs : List Act) (i : ℕ) (x : Act) → slice_get xs i ≡ Some x → xs ≢ []
 some_at [] i x h e = absurd cc
 some_at (y ∷ xs) i x h e = absurd cc
 
-some_below : (xs : List Act) (i : ℕ) → i < length xs → xs ≢ []
+pub some_below : (xs : List Act) (i : ℕ) → i < length xs → xs ≢ []
 some_below [] i h e = absurd (omega (arith, h))
 some_below (y ∷ xs) i h e = absurd cc
 
@@ -146,7 +148,7 @@ module _ (same : SameAreEqual) where
   ]
 
   pub acts_held : (pages : List PageView) → AreInOrder pages → AllByRecursion IsPage pages → AreJust (book_act_rows pages) (IsActRow (acts_in pages))
-  acts_held pages sorted valid = record { there = acts_of_page pages; only = λ row. page_of_acts pages row sorted }
+  acts_held pages sorted valid = record { there = acts_of_page pages; only = λ row. page_of_acts pages row sorted; once = once_strict act_order act_total (book_act_rows pages) (book_acts_strict pages sorted) }
 
   entries_of_page : (terms : TermsView) (pages : List PageView) (row : Row) → IsEntryRow terms (acts_in pages) row → Contains (book_entry_rows terms pages) row
   entries_of_page terms [] row h = absurd (omega (arith, h.4))
@@ -175,7 +177,7 @@ module _ (same : SameAreEqual) where
   ]
 
   pub entries_held : (terms : TermsView) (pages : List PageView) → AreInOrder pages → AllByRecursion IsPage pages → AreJust (book_entry_rows terms pages) (IsEntryRow terms (acts_in pages))
-  entries_held terms pages sorted valid = record { there = entries_of_page terms pages; only = λ row. page_of_entries terms pages row sorted }
+  entries_held terms pages sorted valid = record { there = entries_of_page terms pages; only = λ row. page_of_entries terms pages row sorted; once = once_strict entry_order entry_total (book_entry_rows terms pages) (book_entries_strict terms pages sorted) }
 
   account_of_page : (terms : TermsView) (pages : List PageView) (row : Row) → IsAccountRow terms (acts_in pages) row → Contains (book_account_rows terms pages) row
   account_of_page terms [] row h = absurd (h.1 refl)
@@ -199,7 +201,7 @@ module _ (same : SameAreEqual) where
   ]
 
   pub accounts_held : (terms : TermsView) (pages : List PageView) → AreInOrder pages → AllByRecursion IsPage pages → AreJust (book_account_rows terms pages) (IsAccountRow terms (acts_in pages))
-  accounts_held terms pages sorted valid = record { there = account_of_page terms pages; only = λ row. page_of_account terms pages row sorted valid }
+  accounts_held terms pages sorted valid = record { there = account_of_page terms pages; only = λ row. page_of_account terms pages row sorted valid; once = once_strict account_order account_total (book_account_rows terms pages) (book_accounts_strict terms pages sorted) }
 
 -- ---- a book of pages
 
@@ -220,4 +222,11 @@ pages_fit [] valid sub i act h = absurd cc
 pages_fit (page ∷ pages) valid sub i act h = elim (cases_Bool (same_sub page.sub sub)) [
   | inl one ↦ fit_at page.acts i act valid.0.fit (rw one at h)
   | inr apart ↦ pages_fit pages valid.1 sub i act (rw apart at h)
+]
+
+pub of_subs : SameAreEqual → (pages : List PageView) → AllByRecursion IsPage pages → (sub : Sub) → acts_in pages sub ≢ [] → IsSub sub
+of_subs same [] valid sub some = absurd (some refl)
+of_subs same (page ∷ pages) valid sub some = elim (cases_Bool (same_sub page.sub sub)) [
+  | inl one ↦ subst IsSub ((same page.sub sub).0 one) valid.0.is_of
+  | inr apart ↦ of_subs same pages valid.1 sub (λ none. some (rw apart none))
 ]

@@ -1,5 +1,5 @@
 -- The rows of a book, whatever their order.
-use Rattle.std.specs.Prelude.{◌≡◌, ◌≢◌, ℕ, ◌+◌, ◌<◌, List, [], length, slice_get, Some}
+use Rattle.std.specs.Prelude.{◌≡◌, ◌≢◌, ℕ, ◌+◌, ◌<◌, AllPairs, List, [], length, slice_get, Some}
 use Rattle.std.specs.List.{Contains, AllByRecursion}
 use Rattle.sqlite.specs.Order.{Row}
 use Rattle.dcc_tariff.specs.Terms.{TermsView}
@@ -11,7 +11,7 @@ use Rattle.dcc_record.specs.Limits.{IsAct}
 use Rattle.dcc_record.specs.Records.{record_of}
 use Rattle.dcc_records.specs.Books.{Held, PageView, AreInOrder, acts_in, IsBook}
 use Rattle.dcc_sqlrows.specs.Rows.{sub_octets, act_row, entry_row, account_row}
-use Rattle.dcc_sqlrows.specs.Pages.{entries_at, IsPage, IsOwn, book_act_rows, book_entry_rows, book_account_rows}
+use Rattle.dcc_sqlrows.specs.Pages.{entries_at, IsSub, IsPage, IsOwn, book_act_rows, book_entry_rows, book_account_rows}
 
 -- the row of an act that is held; places count from 1
 abbrev pub IsActRow : Held → Row → Type 0
@@ -27,10 +27,11 @@ IsEntryRow terms held row =
 abbrev pub IsAccountRow : TermsView → Held → Row → Type 0
 IsAccountRow terms held row = (sub : Sub) × (held sub ≢ []) × (row ≡ account_row (sub_octets sub) (length (held sub)) (funds terms (held sub)))
 
--- a table has each such row, and no other; their order says nothing
+-- a table has each such row once, and no other; their order says nothing
 pub record AreJust (rows : List Row) (Says : Row → Type 0) : Type 0 where
   pub there : (row : Row) → Says row → Contains rows row
   pub only : (row : Row) → Contains rows row → Says row
+  pub once : AllPairs (λ one other. one ≢ other) rows
 
 -- the rows of pages are those of the book that the pages are, and no others
 abbrev pub PagesHoldTheirActs : Type 0
@@ -51,3 +52,7 @@ PagesMakeABook = (terms : TermsView) (pages : List PageView) → AllByRecursion 
 -- the acts of pages are within their limits
 abbrev pub PagesFit : Type 0
 PagesFit = (pages : List PageView) → AllByRecursion IsPage pages → (sub : Sub) (i : ℕ) (act : Act) → slice_get (acts_in pages sub) i ≡ Some act → IsAct act
+
+-- and whoever has acts is a subscriber within the limits
+abbrev pub PagesAreOfSubs : Type 0
+PagesAreOfSubs = (pages : List PageView) → AllByRecursion IsPage pages → (sub : Sub) → acts_in pages sub ≢ [] → IsSub sub

@@ -3,4 +3,5 @@ pub mod Pages
 pub mod Tallies
 pub mod Stored
 pub mod Held
+pub mod Ordered
 pub mod inner

@@ -25,7 +25,7 @@ pub use entries::kind_code;
 pub use fault::ReadFault;
 pub use grouping::book_of;
 pub use judging::{are_own, judge};
-pub use laws::pages_hold_their_rows;
+pub use laws::{books_have_pages, pages_hold_their_rows};
 pub use line::{Line, are_of_subs, read_lines};
 pub use tally::Tally;
 pub use value::{has_count, has_number, has_text};

@@ -1,5 +1,5 @@
 -- What a statement of a transaction does to the tables.
-use Rattle.std.specs.Prelude.{◌≡◌, ◌≢◌, ◌⊎◌, ℕ, ℤ, false, IsTrue, List, [], ◌∷◌, ◌++◌}
+use Rattle.std.specs.Prelude.{◌≡◌, ◌≢◌, ◌⊎◌, AllPairs, ℕ, ℤ, false, IsTrue, List, [], ◌∷◌, ◌++◌}
 use Rattle.std.specs.List.{Contains}
 use Rattle.std.specs.List.Sorted.{IsPermutation}
 use Rattle.sqlite.specs.declared.types.Value.TheVariants.{Int, Blob}
@@ -7,6 +7,7 @@ use Rattle.sqlite.specs.Order.{Row, column}
 use Rattle.sqlite.specs.Tree.{Trees, rowid}
 use Rattle.sqlite.specs.State.{State}
 pub use Rattle.dcc_sqlrec.specs.Trees.{setting_tree, act_tree, entry_tree, account_tree, three_columns, seven_columns, act_rows, entry_rows, account_rows, IsUndone}
+use Rattle.dcc_sqlrec.specs.Trees.{IsStore}
 use Rattle.dcc_act.specs.declared.entry.Entry.{Entry}
 use Rattle.dcc_sqlrec.specs.Tables.{layout}
 use Rattle.dcc_sqlrows.specs.Rows.{act_row, entry_rows_of, account_row}
@@ -30,6 +31,10 @@ pub record IsKeyed (rows : List Row) : Type 0 where
   pub numbered : (row : Row) → Contains rows row → (id : ℤ) × (rowid row ≡ Int id)
   pub apart : (one other : Row) → Contains rows one → Contains rows other → rowid one ≡ rowid other → one ≡ other
 
+-- no row comes twice
+abbrev pub AreApart : List Row → Type 0
+AreApart rows = AllPairs (λ one other. one ≢ other) rows
+
 -- The rows of accounts are without those of one subscriber, and the other tables stay.
 pub record DropsAccount (sub : List ℕ) (old new : Trees) : Type 0 where
   pub setting : new setting_tree ≡ old setting_tree
@@ -38,6 +43,7 @@ pub record DropsAccount (sub : List ℕ) (old new : Trees) : Type 0 where
   pub keyed : IsKeyed (new account_tree)
   pub stays : (row : Row) → Contains (account_rows old) row → column row 0 ≢ Blob sub → Contains (account_rows new) row
   pub only : (row : Row) → Contains (account_rows new) row → Contains (account_rows old) row × (column row 0 ≢ Blob sub)
+  pub once : AreApart (account_rows old) → AreApart (account_rows new)
 
 -- One row of accounts is added, and the other tables stay.
 pub record AddsAccount (row : Row) (old new : Trees) : Type 0 where
@@ -46,6 +52,7 @@ pub record AddsAccount (row : Row) (old new : Trees) : Type 0 where
   pub entries : new entry_tree ≡ old entry_tree
   pub keyed : IsKeyed (old account_tree) → IsKeyed (new account_tree)
   pub accounts : IsPermutation (account_rows old ++ row ∷ []) (account_rows new)
+  pub store : IsStore new
 
 -- The row of one subscriber's account is set, those of the others and the other tables stay.
 pub record SetsAccount (sub : List ℕ) (set : Row) (old new : Trees) : Type 0 where
@@ -56,6 +63,8 @@ pub record SetsAccount (sub : List ℕ) (set : Row) (old new : Trees) : Type 0 w
   pub there : Contains (account_rows new) set
   pub stays : (row : Row) → Contains (account_rows old) row → column row 0 ≢ Blob sub → Contains (account_rows new) row
   pub only : (row : Row) → Contains (account_rows new) row → (Contains (account_rows old) row × (column row 0 ≢ Blob sub)) ⊎ (set ≡ row)
+  pub once : AreApart (account_rows old) → AreApart (account_rows new)
+  pub store : IsStore new
 
 -- An act is added with its entries, and its subscriber's account is set.
 pub record Appends (sub : List ℕ) (place : ℕ) (body : List ℕ) (es : List Entry) (funds : ℤ) (old new : Trees) : Type 0 where
@@ -66,6 +75,8 @@ pub record Appends (sub : List ℕ) (place : ℕ) (body : List ℕ) (es : List E
   pub there : Contains (account_rows new) (account_row sub place funds)
   pub stays : (row : Row) → Contains (account_rows old) row → column row 0 ≢ Blob sub → Contains (account_rows new) row
   pub only : (row : Row) → Contains (account_rows new) row → (Contains (account_rows old) row × (column row 0 ≢ Blob sub)) ⊎ (account_row sub place funds ≡ row)
+  pub once : AreApart (account_rows old) → AreApart (account_rows new)
+  pub store : IsStore new
 
 -- A statement of a transaction was run: the transaction goes on over the same layout, and the trees changed so.
 pub record HasRun (Changes : Trees → Trees → Type 0) (old new : State) : Type 0 where

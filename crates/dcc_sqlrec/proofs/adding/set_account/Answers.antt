@@ -1,4 +1,4 @@
-use Rattle.std.proofs.Common.{w64}
+use Rattle.std.proofs.Common.{w64, refl}
 use Rattle.std.proofs.lemmas.Int.{to_z-of_z}
 use Rattle.std.proofs.lemmas.Result.{on_ok_weaker}
 use Rattle.sqlite.specs.Held.{state}
@@ -13,4 +13,4 @@ returns-clause-set g c clean inside has keyed =
     let new = state g.S.Store c.add_account.new.tx.conn.now in
     let early = earlier mid new _ c.add_account.ensures.survives clean in
     let gone = c.in_ok-drop_account.ensures.dropped early inside has keyed in
-    on_ok_weaker c.add_account.result (λ added. sets_account old mid new c.args.sub.now _ gone added) (rw (to_z-of_z w64 c.args.funds c.ranges.funds) at c.add_account.ensures.added clean gone.inside gone.schema)
+    on_ok_weaker c.add_account.result (λ added. sets_account old mid new c.args.sub.now _ gone added refl) (rw (to_z-of_z w64 c.args.funds c.ranges.funds) at c.add_account.ensures.added clean gone.inside gone.schema)

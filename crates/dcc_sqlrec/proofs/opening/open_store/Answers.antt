@@ -18,7 +18,7 @@ returns-clause-kept g c clean has =
     let shown = it.rows clean has in
     IfOk-weaker c.judge_store.result _ _
     (λ tallies book.
-    keeps_pages law.acts law.entries law.accounts law.book law.fit c.args.setting.now.terms old (state g.S.Store c.read_store.new.conn) (rows_in c.in-Ok.found) book.pages tallies.entries
+    keeps_pages law.acts law.entries law.accounts law.book law.fit law.subs c.args.setting.now.terms old (state g.S.Store c.read_store.new.conn) (rows_in c.in-Ok.found) book.pages tallies.entries
     (it.still clean has c.requires.settled (λ e. absurd cc)) c.requires.settled (it.same clean has).0.was_open has (keyed_where_rising old.now.trees c.in-Ok.found.rowids.items shown.rowids book.rising) shown.rows book.rows book.tallied)
     c.judge_store.ensures.book
 
@@ -51,3 +51,7 @@ pub returns-clause-disagree : goal.returns-clause-disagree
 returns-clause-disagree g c clean has is =
     let no = c.judge_store.ensures.disagree is in
     (rows_in c.in-Ok.found, (c.in-Ok.ensures.rows clean has).rows, no.0, no.1)
+
+pub returns-clause-was_open : goal.returns-clause-was_open
+returns-clause-was_open g c clean has =
+    IfOk-weaker c.judge_store.result _ _ (λ tallies is. (c.in-Ok.ensures.same clean has).0.was_open) c.judge_store.ensures.set

@@ -2,6 +2,7 @@ use Rattle.std.proofs.Common.{◌≡◌, false, rules}
 use Rattle.sqlite.specs.Held.{state}
 use Rattle.dcc_records.specs.Books.{acts_in}
 use Rattle.dcc_sqlrec.proofs.Stopping.{Settles}
+use Rattle.dcc_sqlrec.proofs.Stores.{store_read}
 use Rattle.dcc_sqlrec.proofs.Loads.{left_before, kept_still, found_only, found_there}
 use Rattle.dcc_sqlrec.proofs.records.SqlRecordsRecords.load.Goals as goal
 
@@ -45,10 +46,19 @@ pub invariant_of-self : goal.invariant_of-self
 invariant_of-self g c =
     let r = c.args.self.now in
     let it = c.in-Ok.ensures in
-    record { idle = it.mode; kept = λ going. kept_still r.terms (state g.S.Store r.conn) (state g.S.Store c.load_book.new.conn) r.tallies.entries it.clean (r.kept going) (λ clean has settles. it.still clean has settles (λ e. absurd cc)) }
+    let going : r.stopped ≡ false = search rules in
+    record { idle = it.mode; kept = λ going. kept_still r.terms (state g.S.Store r.conn) (state g.S.Store c.load_book.new.conn) r.tallies.entries it.clean (r.kept going) (λ clean has settles. it.still clean has settles (λ e. absurd cc)); store = store_read r.terms (state g.S.Store r.conn) (state g.S.Store c.load_book.new.conn) r.tallies.entries it.clean (r.kept going) r.store it.crash }
 
 pub invariant_of-self-in-Err-Memory : goal.invariant_of-self-in-Err-Memory
 invariant_of-self-in-Err-Memory g c =
     let r = c.args.self.now in
     let it = c.in-Err-Memory.ensures in
-    record { idle = it.mode; kept = λ going. kept_still r.terms (state g.S.Store r.conn) (state g.S.Store c.load_book.new.conn) r.tallies.entries it.clean (r.kept going) (λ clean has settles. it.still clean has settles (λ e. absurd (let k = c.in-Err-Memory.field-0-is in cc))) }
+    let going : r.stopped ≡ false = search rules in
+    record { idle = it.mode; kept = λ going. kept_still r.terms (state g.S.Store r.conn) (state g.S.Store c.load_book.new.conn) r.tallies.entries it.clean (r.kept going) (λ clean has settles. it.still clean has settles (λ e. absurd (let k = c.in-Err-Memory.field-0-is in cc))); store = store_read r.terms (state g.S.Store r.conn) (state g.S.Store c.load_book.new.conn) r.tallies.entries it.clean (r.kept going) r.store it.crash }
+
+pub invariant_of-self-in-Err : goal.invariant_of-self-in-Err
+invariant_of-self-in-Err g c =
+    let r = c.args.self.now in
+    let going : r.stopped ≡ false = search rules in
+    let it = c.in-Err.ensures in
+    record { idle = it.mode; kept = λ e _. absurd cc; store = store_read r.terms (state g.S.Store r.conn) (state g.S.Store c.load_book.new.conn) r.tallies.entries it.clean (r.kept going) r.store it.crash }

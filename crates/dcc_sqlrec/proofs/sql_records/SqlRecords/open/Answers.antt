@@ -1,14 +1,24 @@
-use Rattle.std.proofs.Common.{◌≡◌, inl, inr, Err, ap, rules}
+use Rattle.std.proofs.Common.{◌≡◌, inl, inr, Err, IsTrue, ap, rules}
 use Rattle.sqlite.specs.Held.{state}
 use Rattle.dcc_sqlrec.specs.Tables.{layout}
 use Rattle.dcc_sqlrec.proofs.Stopping.{Settles}
 use Rattle.dcc_sqlrec.proofs.Opened.{finds_book, no_commit}
+use Rattle.dcc_sqlrec.proofs.Ordered.{no_book}
+use Rattle.dcc_sqlrec.proofs.Stores.{store_opened}
 use Rattle.dcc_sqlrec.proofs.sql_records.SqlRecords.open.Goals as goal
 
 pub invariant_of-result : goal.invariant_of-result
 invariant_of-result g c =
     let has : c.args.conn.schema ≡ layout = search rules in
-    record { idle = c.in-Ok.ensures.mode; kept = λ _ clean. ∣ c.in-Ok.ensures.kept clean has ∣₁ }
+    let old = state g.S.Store c.args.conn in
+    let conn = c.open_store.new.conn in
+    let settles : Settles (state g.S.Store conn) = λ is_open db may. g.met.S.Store.settled conn.store db is_open may in
+    let alone : IsTrue c.is_autocommit.result = search rules in
+    record {
+      idle = c.in-Ok.ensures.mode;
+      kept = λ _ clean. ∣ c.in-Ok.ensures.kept clean has ∣₁;
+      store = λ clean. store_opened old (state g.S.Store conn) settles c.schema.ensures.live (c.in-Ok.ensures.was_open clean has) (c.is_autocommit.ensures.settled alone) has (c.in-Ok.ensures.still clean has (λ e. absurd cc));
+    }
 
 pub returns-in-Ok-clause-found : goal.returns-in-Ok-clause-found
 returns-in-Ok-clause-found g c clean =
@@ -67,3 +77,11 @@ pub returns-in-Err-clause-left : goal.returns-in-Err-clause-left
 returns-in-Err-clause-left g c =
     let has : c.args.conn.schema ≡ layout = search rules in
     no_commit (state g.S.Store c.args.conn) (state g.S.Store c.open_store.new.conn) has c.in-Err.ensures.crash
+
+pub returns-in-Err-clause-whole : goal.returns-in-Err-clause-whole
+returns-in-Err-clause-whole g c is clean held =
+    let has : c.args.conn.schema ≡ layout = search rules in
+    no_book c.books_have_pages.ensures.pages c.books_have_pages.ensures.whole c.args.setting.now.terms (state g.S.Store c.args.conn).now.trees (elim is [
+      | inl damaged ↦ inl (c.in-Err.ensures.damaged clean has (ap Err damaged))
+      | inr disagree ↦ inr (c.in-Err.ensures.disagree clean has (ap Err disagree))
+    ]) held
