@@ -1,6 +1,6 @@
 -- What a shard holds that stands on what a stop left of another.
-use Rattle.std.proofs.Common.{◌≡◌, true, false, List, ◌∷◌, ◌++◌, length, take, drop, take-append-drop, append_assoc, sym, ap, subst, ◌∙◌}
-use Rattle.std.proofs.Math.Logic.{∥∥₁_elim}
+use Rattle.std.proofs.Common.{◌≡◌, ◌⊎◌, inl, inr, Bool, true, false, List, ◌∷◌, ◌++◌, length, take, drop, take-append-drop, append_assoc, sym, ap, subst, ◌∙◌}
+use Rattle.std.proofs.Math.Logic.{∥∥₁_elim, ∥∥₁_map}
 use Rattle.std.proofs.Props.{props}
 use Rattle.dcc_tariff.specs.Terms.{TermsView}
 use Rattle.dcc_act.specs.declared.act.Act.{Act}
@@ -9,8 +9,11 @@ use Rattle.dcc_model.specs.Keys.{same_key}
 use Rattle.dcc_model.specs.Laws.{RepeatsAreFirsts, RepeatsAreOld}
 use Rattle.dcc_model.specs.Outcomes.{after, is_new}
 use Rattle.dcc_records.specs.Books.{Held}
-use Rattle.dcc_records.specs.Contents.{Content, Kept}
-use Rattle.dcc_shard.specs.Stored.{IsLeft, GoesOnFrom, LeavesHeld}
+use Rattle.dcc_records.specs.Contents.{Content, Kept, IsContentOf}
+use Rattle.dcc_records.specs.Stops.{LeavesOnly}
+use Rattle.dcc_shard.specs.Shards.{held_then}
+use Rattle.dcc_shard.specs.Stored.{IsLeft, GoesOnFrom, LeavesHeld, LeavesOneMore}
+use Rattle.dcc_files.specs.Stops.{AreAlike, HoldsAgain}
 
 -- it holds what was held, and at most one act more of each subscriber
 pub goes_on : (terms : TermsView) (one other : Held) (leaves again : Content → Type 0) → LeavesHeld one leaves → IsLeft terms other again
@@ -31,3 +34,26 @@ first_again firsts olds terms one other before later act repeat is begins made a
     let P : List Act → Type 0 = λ all. (after terms all repeat ≡ after terms before act) × (is_new terms all repeat ≡ false) in
     let then : P (before ++ act ∷ (later ++ more)) = (firsts terms before (later ++ more) act repeat made alike, olds terms before (later ++ more) act repeat made alike) in
     subst P (sym whole) then
+
+-- books of one content are alike
+alike : (terms : TermsView) (one other : Held) (found : Content) → IsContentOf terms one found → IsContentOf terms other found → AreAlike one other
+alike terms one other found a b sub = sym (ap (λ (kept : Kept). kept.acts) (a sub)) ∙ ap (λ (kept : Kept). kept.acts) (b sub)
+
+pub holds_again : (terms now : TermsView) (one other : Held) (leaves again : Content → Type 0) (was_stopped : Bool) → RepeatsAreFirsts → RepeatsAreOld → now ≡ terms
+    → (was_stopped ≡ false → LeavesOnly terms one leaves) → (was_stopped ≡ true → LeavesOneMore terms one leaves) → LeavesHeld one leaves → IsLeft now other again
+    → ((found : Content) → again found → ∥ leaves found ∥₁) → HoldsAgain was_stopped terms one other
+holds_again terms now one other leaves again was_stopped firsts olds same only more held there back =
+    let left : IsLeft terms other again = subst (λ (t : TermsView). IsLeft t other again) same there in
+    record {
+      going = λ is sub. ∥∥₁_elim left (hlevel props) (λ found. ∥∥₁_elim (back found.0 found.2) (hlevel props) (λ was. alike terms one other found.0 (only is found.0 was) found.1 sub));
+      beyond = λ is. ∥∥₁_elim left (hlevel props) (λ found. ∥∥₁_elim (back found.0 found.2) (hlevel props) (λ was. ∥∥₁_map (more is) (λ it. (
+        it.0,
+        it.1,
+        elim (it.2 found.0 was) [
+          | inl before ↦ inl (alike terms one other found.0 before found.1)
+          | inr grown ↦ inr (alike terms (held_then terms it.0 it.1 one) other found.0 grown found.1)
+        ],
+      ))));
+      repeats = λ sub earlier later act repeat is made like.
+          first_again firsts olds terms (one sub) (other sub) earlier later act repeat is (goes_on terms one other leaves again held left back sub).0 made like;
+    }

@@ -1,10 +1,18 @@
 -- Of which shard a store is.
-use Rattle.std.specs.Prelude.{◌≡◌, ℕ, [], ◌∷◌}
+use Rattle.std.specs.Prelude.{◌≡◌, ◌≢◌, ◌⊎◌, ℕ, ◌^◌, ◌≤◌, IsUtf8, [], ◌∷◌}
 use Rattle.sqlite.specs.Tree.{Trees}
+use Rattle.sqlite.specs.Held.{Held, state}
+use Rattle.sqlite.specs.State.{HasCleanDisk}
+use Rattle.sqlite_trees.specs.declared.store.Store.{Ghosts}
+use Rattle.sqlite.specs.declared.error.Error.{Error}
+use Rattle.sqlite.specs.declared.error.Error.TheVariants.{SqliteFailure}
+use Rattle.sqlite.specs.declared.error.ErrorCode.TheVariants.{OutOfMemory}
 use Rattle.dcc_tariff.specs.Plans.{PlanView}
 use Rattle.dcc_sqlrec.specs.declared.setting.Setting.{Setting}
 use Rattle.dcc_sqlrec.specs.Setting.{setting_row}
+use Rattle.dcc_sqlrec.specs.Tables.{no_schema, layout}
 use Rattle.dcc_sqlrec.specs.Trees.{setting_rows}
+use Rattle.dcc_sqlrec.specs.Opening.{HasOtherSetting, IsDamagedIn, DisagreeIn}
 
 -- the setting of the store of a shard, by its index, under a plan
 pub record IsSettingOf (plan : PlanView) (shard : ℕ) (setting : Setting) : Type 0 where
@@ -17,3 +25,27 @@ pub record IsSettingOf (plan : PlanView) (shard : ℕ) (setting : Setting) : Typ
 -- the setting that stands in the tables is that of this shard under this plan; the tariffs of a plan are no part of it
 abbrev pub AreOfShard : PlanView → ℕ → Trees → Type 0
 AreOfShard plan shard db = (setting : Setting) × IsSettingOf plan shard setting × (setting_rows db ≡ setting_row setting ∷ [])
+
+-- a plan has no such setting: its names are no text, or its index is none that a store can have
+abbrev pub HasNoSetting : PlanView → ℕ → Type 0
+HasNoSetting plan shard = (¬ IsUtf8 plan.host) ⊎ ((¬ IsUtf8 plan.realm) ⊎ (2 ^ 32 ≤ shard))
+
+-- The number of the fault for which a database isn't opened as the store of a shard, with its cause: 50 want of memory, 51 the database failed,
+-- 53 other tables or another setting, 54 rows of no book, 55 a row of no act or of nobody. The rows are judged where the disk has returned
+-- what was written.
+abbrev pub IsOpenFault : {S : Type 0} → Ghosts S → PlanView → ℕ → Held S → ℕ → Type 0
+IsOpenFault {S} g plan shard conn number =
+    ((number ≡ 50) ⊎ (number ≡ 51))
+    ⊎ (((number ≡ 53) × (HasNoSetting plan shard ⊎ (((conn.schema ≢ no_schema) × (conn.schema ≢ layout))
+    ⊎ ((conn.schema ≡ layout) × (setting : Setting) × IsSettingOf plan shard setting × (after : Held S) × (HasCleanDisk (state g after) → HasOtherSetting setting (state g conn).now.trees)))))
+    ⊎ (((number ≡ 54) × (conn.schema ≡ layout) × (after : Held S) × (HasCleanDisk (state g after) → DisagreeIn plan.terms (state g conn).now.trees))
+    ⊎ ((number ≡ 55) × (conn.schema ≡ layout) × (after : Held S) × (HasCleanDisk (state g after) → IsDamagedIn (state g conn).now.trees))))
+
+-- what opening a file tells: want of memory, or that it failed
+abbrev pub connect_number : Error → ℕ
+connect_number (SqliteFailure OutOfMemory) = 50
+connect_number _ = 51
+
+-- the numbers for which a file is refused
+abbrev pub IsFileFault : ℕ → Type 0
+IsFileFault number = (number ≡ 50) ⊎ ((number ≡ 51) ⊎ ((number ≡ 53) ⊎ ((number ≡ 54) ⊎ (number ≡ 55))))

@@ -1,15 +1,17 @@
 //! Stores in files.
 
-ghost use Rattle.std.specs.Prelude.{◌≡◌, IfOk, IfSome, IfNone};
+ghost use Rattle.std.specs.Prelude.{◌≡◌, ◌≢◌, IfOk, IfErr, IfSome, IfNone};
 ghost use Rattle.sqlite.specs.Files.{file_state};
 ghost use Rattle.sqlite.specs.Held.{state};
 ghost use Rattle.sqlite.specs.State.{HasCleanDisk};
-ghost use Rattle.dcc_files.specs.Stores.{IsSettingOf, AreOfShard};
+ghost use Rattle.dcc_files.specs.Stores.{IsSettingOf, AreOfShard, HasNoSetting, IsOpenFault, IsFileFault, connect_number};
+ghost use Rattle.dcc_sqlrec.specs.Faults.{open_number, create_number};
 ghost use Rattle.dcc_sqlrec.specs.Tables.{no_schema};
+ghost use Rattle.dcc_sqlrec.specs.Trees.{IsUndone};
 
 use crate::file_records::FileRecords;
 use dcc_operator::{StoreRefusal, Stores};
-use dcc_sqlrec::{OpenFault, Setting, SqlRecords};
+use dcc_sqlrec::{CreateFault, OpenFault, Setting, SqlRecords};
 use dcc_tariff::Plan;
 use sqlite::{Alter, Connection, Error, ErrorCode, FileStore};
 use sqlite_std_file::File;
@@ -38,17 +40,21 @@ impl<'r> FileStores<'r> {
     }
 
     /// A connection to the database at a path, which is made where there is none.
-    fn connect(&self, path: &str) -> Result<Connection<FileStore<File>>, StoreRefusal> {
+    fn connect(&self, path: &str) -> Result<Connection<FileStore<File>>, StoreRefusal>
+        ensures { IfErr result (λ refusal. IsFileFault refusal.0) }
+    {
         match Connection::open(self.rt, path) {
             Ok(conn) => Ok(conn),
-            Err(Error::SqliteFailure(ErrorCode::OutOfMemory)) => Err(MEMORY),
-            Err(_) => Err(DEVICE),
+            Err(error) => Err(unconnected(&error)),
         }
     }
 }
 
 impl Stores for FileStores<'_> {
     type Records = FileRecords;
+
+    // Which files there are is the system's word, and has no clause.
+    ghost refuses = { λ _ _ _ _ number. IsFileFault number };
 
     // Where the disk has returned what was written, the setting in the tables is that of the shard under the plan. What else files hold, and in
     // which folder they are, no clause says.
@@ -100,6 +106,7 @@ fn opened<S: Alter + Drop>(
     ensures shard { IfOk result (λ found. IfSome found (λ records. HasCleanDisk (state S.Store records.conn)
         → AreOfShard plan.now shard (state S.Store records.conn).now.trees)) }
     ensures none { IfOk result (λ found. IfNone found (conn.schema ≡ no_schema)) }
+    ensures refused { IfErr result (λ refusal. IsOpenFault S.Store plan.now shard conn refusal.0) }
 {
     let Some(setting) = setting_of(plan, shard) else {
         // By a call, here and below: a connection that is let go in place is proved part by part.
@@ -110,15 +117,15 @@ fn opened<S: Alter + Drop>(
         Ok(records) => Ok(Some(records)),
         Err((fault, conn)) => {
             drop(conn);
-            match fault {
-                OpenFault::Empty => Ok(None),
-                fault => Err(StoreRefusal(fault.number())),
+            match unopened(fault) {
+                Some(refusal) => Err(refusal),
+                None => Ok(None),
             }
         }
     }
 }
 
-/// The same, and a store is made where there is nothing.
+/// The same, and a store is made where there is nothing, and nowhere else.
 fn opened_or_made<S: Alter + Drop>(
     alloc: Global,
     conn: Connection<S>,
@@ -129,6 +136,9 @@ fn opened_or_made<S: Alter + Drop>(
     ensures terms { IfOk result (λ records. records.terms ≡ plan.now.terms) }
     ensures shard { IfOk result (λ records. HasCleanDisk (state S.Store records.conn)
         → AreOfShard plan.now shard (state S.Store records.conn).now.trees) }
+    ensures still { IfOk result (λ records. conn.schema ≢ no_schema → HasCleanDisk (state S.Store records.conn)
+        → IsUndone (state S.Store conn) (state S.Store records.conn)) }
+    ensures refused { IfErr result (λ refusal. IsOpenFault S.Store plan.now shard conn refusal.0) }
 {
     let Some(setting) = setting_of(plan, shard) else {
         drop(conn);
@@ -138,17 +148,45 @@ fn opened_or_made<S: Alter + Drop>(
         Ok(records) => return Ok(records),
         Err(refused) => refused,
     };
-    if !matches!(fault, OpenFault::Empty) {
+    if let Some(refusal) = unopened(fault) {
         drop(conn);
-        return Err(StoreRefusal(fault.number()));
+        return Err(refusal);
     }
     match SqlRecords::create(alloc, conn, &setting, hasher) {
         Ok(records) => Ok(records),
         Err((fault, conn)) => {
             drop(conn);
-            Err(StoreRefusal(fault.number()))
+            Err(unmade(fault))
         }
     }
+}
+
+/// What a file that isn't opened is told as.
+fn unconnected(error: &Error) -> StoreRefusal
+    ensures { result.0 ≡ connect_number error.now }
+{
+    match error {
+        Error::SqliteFailure(ErrorCode::OutOfMemory) => MEMORY,
+        _ => DEVICE,
+    }
+}
+
+/// What a store that isn't opened is told as; none where there is nothing.
+fn unopened(fault: OpenFault) -> Option<StoreRefusal>
+    ensures some { IfSome result (λ refusal. (refusal.0 ≡ open_number fault) × (fault ≢ OpenFault.Empty)) }
+    ensures none { IfNone result (fault ≡ OpenFault.Empty) }
+{
+    match fault {
+        OpenFault::Empty => None,
+        fault => Some(StoreRefusal(fault.number())),
+    }
+}
+
+/// What a store that isn't made is told as.
+fn unmade(fault: CreateFault) -> StoreRefusal
+    ensures { result.0 ≡ create_number fault }
+{
+    StoreRefusal(fault.number())
 }
 
 /// The path of a shard's store.
@@ -158,7 +196,8 @@ fn path_of(alloc: Global, folder: &str, shard: usize) -> Result<String, AllocErr
 
 /// What the store of a shard is of, under a plan: names of visible ASCII are text, and shards are few, so that it is there.
 fn setting_of(plan: &Plan, shard: usize) -> Option<Setting<'_>>
-    ensures { IfSome result (IsSettingOf plan.now shard) }
+    ensures some { IfSome result (IsSettingOf plan.now shard) }
+    ensures none { IfNone result (HasNoSetting plan.now shard) }
 {
     let (Ok(host), Ok(realm)) = (str::from_utf8(plan.host()), str::from_utf8(plan.realm())) else {
         return None;
