@@ -1,6 +1,7 @@
 -- The moments at which messages are taken.
 use Rattle.std.specs.Prelude.{ℕ, List}
 
--- a message is taken as before, and the moment is one that the clock may tell
-abbrev pub timed : {S X : Type 0} → (ℕ → Type 0) → (S → ℕ → List ℕ → X → S → Type 0) → S → ℕ → List ℕ → X → S → Type 0
-timed tells takes s moment message x t = tells moment × takes s moment message x t
+-- What takes messages stands beside its clock. A message is taken as before at the moment that one reading of the clock told, which is this
+-- message's alone: the clock is as the reading left it.
+abbrev pub timed : {S C X : Type 0} → (C → ℕ → C → Type 0) → (S → ℕ → List ℕ → X → S → Type 0) → S × C → ℕ → List ℕ → X → S × C → Type 0
+timed tells takes s moment message x t = tells s.1 moment t.1 × takes s.0 moment message x t.0

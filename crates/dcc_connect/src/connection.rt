@@ -44,12 +44,12 @@ pub fn serve_connection<I: Read, O: Write, C: Clock, A: Answerer>(
     alloc: Global,
     input: &mut I,
     output: &mut O,
-    clock: &C,
+    clock: &mut C,
     answerer: &mut A,
     turns: u32,
 ) -> ConnectionEnd
-    ensures served { ReadsAndServes (timed (C.tells clock.now) A.answers) result turns (I.remaining input.old) (I.remaining input.new)
-        (O.contents output.old) (O.contents output.new) answerer.old answerer.new }
+    ensures served { ReadsAndServes (timed C.tells A.answers) result turns (I.remaining input.old) (I.remaining input.new)
+        (O.contents output.old) (O.contents output.new) (answerer.old, clock.old) (answerer.new, clock.new) }
     ensures end { EndsAtEnd result (I.remaining input.new) }
 {
     stream_laws();
@@ -77,11 +77,12 @@ pub fn serve_connection<I: Read, O: Write, C: Clock, A: Answerer>(
 fn answer_ready<O: Write, C: Clock, A: Answerer>(
     output: &mut O,
     framer: &mut Framer,
-    clock: &C,
+    clock: &mut C,
     answerer: &mut A,
     tally: &mut Tally,
 ) -> Result<(), ConnectionEnd>
-    ensures { AnswersReady (timed (C.tells clock.now) A.answers) result framer.old framer.new answerer.old answerer.new (O.contents output.old) (O.contents output.new)
+    ensures { AnswersReady (timed C.tells A.answers) result framer.old framer.new (answerer.old, clock.old) (answerer.new, clock.new)
+        (O.contents output.old) (O.contents output.new)
         (record { left = tally.old.left; written = tally.old.written }) (record { left = tally.new.left; written = tally.new.written }) }
 {
     while let Some(message) = next_message(framer)? {

@@ -3,16 +3,16 @@
 use dcc_act::Moment;
 use std::sync::Wait;
 
-/// The clock's moments.
+/// A clock. Each reading is a step of it, so that contracts tell one reading from another.
 pub trait Clock {
     ghost use Rattle.std.specs.Prelude.{ℕ};
 
-    /// The moments that it may tell.
-    ghost tells: { Self → ℕ → Type 0 };
+    /// What a reading may tell: the clock before it, the moment, and the clock after it.
+    ghost tells: { Self → ℕ → Self → Type 0 };
 
     /// The moment as of now.
-    fn moment(&self) -> Moment
-        ensures { tells self.now result };
+    fn moment(&mut self) -> Moment
+        ensures { tells self.old result self.new };
 }
 
 /// Whether the connection stays behind a message.

@@ -25,11 +25,12 @@ pub fn read_side<W: Wait, I: Read, C: Clock, S: Submitter>(
     rt: &W,
     alloc: Global,
     input: &mut I,
-    clock: &C,
+    clock: &mut C,
     to: &mut S,
     turns: u32,
 ) -> ConnectionEnd
-    ensures handed { ReadsAndHands (timed (C.tells clock.now) S.hands) result turns (I.remaining input.old) (I.remaining input.new) to.old to.new }
+    ensures handed { ReadsAndHands (timed C.tells S.hands) result turns (I.remaining input.old) (I.remaining input.new)
+        (to.old, clock.old) (to.new, clock.new) }
     ensures end { EndsAtEnd result (I.remaining input.new) }
 {
     stream_laws();
@@ -53,10 +54,11 @@ pub fn read_side<W: Wait, I: Read, C: Clock, S: Submitter>(
 fn hand_ready<W: Wait, C: Clock, S: Submitter>(
     rt: &W,
     framer: &mut Framer,
-    clock: &C,
+    clock: &mut C,
     to: &mut S,
 ) -> Result<(), ConnectionEnd>
-    ensures { HandsReady (HandsOn (timed (C.tells clock.now) S.hands)) (HandsLast (timed (C.tells clock.now) S.hands)) result framer.old framer.new to.old to.new }
+    ensures { HandsReady (HandsOn (timed C.tells S.hands)) (HandsLast (timed C.tells S.hands)) result framer.old framer.new
+        (to.old, clock.old) (to.new, clock.new) }
 {
     while let Some(message) = next_message(framer)? {
         match to.hand(rt, clock.moment(), message.as_slice()) {

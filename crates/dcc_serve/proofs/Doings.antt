@@ -19,7 +19,7 @@ pub taken_one : {T : Type 0} (old new : Receiver T) (item : T) → TakesOne old 
 taken_one old new item t = ap items_of t.2 ∙ one_item (taken_of old) t.0 item
 
 pub nothing_done : (w : Worker) → HasDone w w 0
-nothing_done w = record { works = []; taken = grind (arith, common_steps); done = refl; ended_are = refl; senders = refl; shard = refl }
+nothing_done w = record { works = []; taken = grind (arith, common_steps); done = refl; ended_are = refl; same = (refl, refl); lanes = refl; shard = refl }
 
 pub one_end : (works : List Work) (one : Work) → count_by is_end (works ++ one ∷ []) ≡ count_by is_end works + (if is_end one then 1 else 0)
 one_end works one = grind (arith, common_steps)
@@ -30,6 +30,7 @@ done_on a b c n m ended h d is = record {
   taken = d.taken ∙ ap (λ items. items ++ d.one ∷ []) h.taken ∙ append_assoc (items_of (taken_of a.from)) h.works (d.one ∷ []);
   done = FoldsTo-push Does (doing_of a) h.works (doing_of b) d.one (doing_of c) h.done d.done;
   ended_are = one_end h.works d.one ∙ ap (λ k. k + (if is_end d.one then 1 else 0)) h.ended_are ∙ sym (is ∙ ap (λ e. n + (if e then 1 else 0)) d.ended_is);
-  senders = d.senders ∙ h.senders;
+  same = (d.same.0 ∙ h.same.0, d.same.1 ∙ h.same.1);
+  lanes = d.lanes ∙ h.lanes;
   shard = d.shard ∙ h.shard;
 }

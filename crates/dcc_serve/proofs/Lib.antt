@@ -7,3 +7,6 @@ pub mod Counts
 pub mod Mapped
 pub mod Dealing
 pub mod Gathers
+pub mod LaneEnds
+pub mod Coming
+pub mod Going

@@ -1,8 +1,8 @@
 -- What putting an item changes of lanes.
 use Rattle.std.proofs.Common.{◌≡◌, ℕ, zero, suc, ◌<◌, ◌≤◌, List, [], ◌∷◌, ◌++◌, length, get_or, set, refl, ap, arith}
-use Rattle.dcc_lane.specs.Ends.{put_of}
+use Rattle.dcc_lane.specs.Ends.{lane_of_sender, put_of}
 use Rattle.dcc_lane.specs.declared.sender.Sender.{Sender}
-use Rattle.dcc_serve.specs.Lanes.{all_put, put_into, put_first, put_all}
+use Rattle.dcc_serve.specs.Lanes.{all_put, lanes_of, put_into, put_first, put_all}
 
 pub put_at : {T : Type 0} (senders : List (Sender T)) (i : ℕ) (s none : Sender T) (item : T) → i < length senders
     → put_of s ≡ put_of (get_or senders i none) ++ item ∷ [] → all_put (set senders i s) ≡ put_into i item (all_put senders)
@@ -34,3 +34,10 @@ pub put_each : {T : Type 0} (lanes : List (List T)) (i : ℕ) (item : T) → len
 put_each [] i item all = refl
 put_each (x ∷ xs) zero item all = absurd (omega arith)
 put_each (x ∷ xs) (suc i) item all = ap (λ lanes. (x ++ item ∷ []) ∷ lanes) (put_each xs i item (omega arith))
+
+-- a sender in the place of one of the same lane
+pub same_lanes : {T : Type 0} (senders : List (Sender T)) (i : ℕ) (s none : Sender T) → i < length senders
+    → lane_of_sender s ≡ lane_of_sender (get_or senders i none) → lanes_of (set senders i s) ≡ lanes_of senders
+same_lanes [] i s none within is = absurd (omega arith)
+same_lanes (x ∷ xs) zero s none within is = ap (λ lane. lane ∷ lanes_of xs) is
+same_lanes (x ∷ xs) (suc i) s none within is = ap (λ lanes. lane_of_sender x ∷ lanes) (same_lanes xs i s none (omega arith) is)

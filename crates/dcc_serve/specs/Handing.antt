@@ -14,8 +14,8 @@ use Rattle.dcc_dispatch.specs.Messages.Received.{Charging}
 use Rattle.dcc_dispatch.specs.Settings.{Setting}
 use Rattle.dcc_dispatch.specs.declared.decide.Dispatched.{Dispatched}
 use Rattle.dcc_dispatch.specs.declared.decide.Dispatched.TheVariants.{Replied, Asked}
-use Rattle.dcc_lane.specs.Ends.{put_of}
-use Rattle.dcc_serve.specs.Lanes.{all_put, put_into, put_all}
+use Rattle.dcc_lane.specs.Ends.{lane_of_sender, put_of}
+use Rattle.dcc_serve.specs.Lanes.{all_put, lanes_of, put_into, put_all}
 use Rattle.dcc_serve.specs.declared.reader.Reader.{Reader}
 use Rattle.dcc_serve.specs.declared.reader.Sweeps.{Sweeps}
 use Rattle.dcc_serve.specs.declared.work.Request.{Request}
@@ -32,6 +32,12 @@ pub record Reading : Type 0 where
 
 abbrev pub reading_of : Reader → Reading
 reading_of reader = record { asked = all_put reader.workers.items; replied = put_of reader.writer; requests = reader.requests; sweeps = reader.sweeps }
+
+-- it is of the same gateway, and puts into the same lanes
+pub record IsSameReader (old new : Reader) : Type 0 where
+  pub gate : new.gate ≡ old.gate
+  pub workers : lanes_of new.workers.items ≡ lanes_of old.workers.items
+  pub writer : lane_of_sender new.writer ≡ lane_of_sender old.writer
 
 -- one of what a message to a peer may come to, and where it leaves the peer
 abbrev pub IsDispatched : Setting → ℕ → List ℕ → (old new : Peer) → Dispatched → Type 0
@@ -85,7 +91,7 @@ AsksSweep moment old new =
 abbrev pub Hands : Setting → ℕ → List ℕ → Handed → Reader → Reader → Type 0
 Hands setting moment message handed old new =
     (word : Dispatched) × (between : Reading) × IsDispatched setting moment message old.peer new.peer word
-    × Passes old.gate word handed (reading_of old) between × AsksSweep moment between (reading_of new) × (new.gate ≡ old.gate)
+    × Passes old.gate word handed (reading_of old) between × AsksSweep moment between (reading_of new) × IsSameReader old new
 
 abbrev pub HandsUnder : Setting → Reader → ℕ → List ℕ → Handed → Reader → Type 0
 HandsUnder setting old moment message handed new = Hands setting moment message handed old new
@@ -95,9 +101,9 @@ abbrev pub Ends : ℕ → Reading → Reading → Type 0
 Ends gate old new =
     new ≡ record { asked = put_all (work.End gate) old.asked; replied = old.replied ++ End ∷ []; requests = old.requests; sweeps = old.sweeps }
 
--- Pieces were read, and of their octets the messages were handed on, each at a moment that the clock tells; behind the last the reader says
--- that it ends.
-abbrev pub ReadsOut : (ℕ → Type 0) → Setting → ConnectionEnd → Option (List ℕ) → Option (List ℕ) → Reader → Reader → Type 0
-ReadsOut tells setting end before after old new =
-    (last : Reader) × ReadsAndHands (timed tells (HandsUnder setting)) end (2 ^ 32 - 1) before after old last × EndsAtEnd end after
-    × Ends last.gate (reading_of last) (reading_of new)
+-- Pieces were read, and of their octets the messages were handed on, each at the moment of a reading of the clock that is its own; behind the last
+-- the reader says that it ends.
+abbrev pub ReadsOut : {C : Type 0} → (C → ℕ → C → Type 0) → C → Setting → ConnectionEnd → Option (List ℕ) → Option (List ℕ) → Reader → Reader → Type 0
+ReadsOut {C} tells clock setting end before after old new =
+    (last : Reader) × (later : C) × ReadsAndHands (timed tells (HandsUnder setting)) end (2 ^ 32 - 1) before after (old, clock) (last, later)
+    × EndsAtEnd end after × Ends old.gate (reading_of last) (reading_of new) × IsSameReader old new

@@ -1,11 +1,13 @@
 -- Lanes, and what is put into them.
 use Rattle.std.specs.Prelude.{◌≡◌, ℕ, zero, suc, List, [], ◌∷◌, ◌++◌, map, length, Option, Some, None}
 use Rattle.std.specs.Global.{Vec}
-use Rattle.std.specs.List.{AllByRecursion}
-use Rattle.dcc_lane.specs.Ends.{lane_of, lane_of_sender, put_of, senders_of, taken_of}
+use Rattle.std.specs.List.{All, AllByRecursion}
+use Rattle.atomic_table.specs.Seated.{TableId}
+use Rattle.dcc_lane.specs.Ends.{AreHeard, IsBegun, capacity_of, lane_of, lane_of_sender, put_of, senders_of, taken_of}
 use Rattle.dcc_lane.specs.declared.receiver.Receiver.{Receiver}
 use Rattle.dcc_lane.specs.declared.sender.Sender.{Sender}
 use Rattle.dcc_serve.specs.declared.lanes.Lanes.{Lanes}
+use Rattle.dcc_serve.specs.declared.lanes.TheConstants.{CAPACITY}
 
 -- all that was put into each of these lanes
 abbrev pub all_put : {T : Type 0} → List (Sender T) → List (List T)
@@ -33,9 +35,9 @@ abbrev pub put_all : {T : Type 0} → T → List (List T) → List (List T)
 put_all item lanes = map (λ lane. lane ++ item ∷ []) lanes
 
 module _ {T : Type 0} where
-  -- nothing was taken of its lane, which has so many senders
+  -- nothing was taken of its lane, which has so many senders and the room of a round's lanes
   abbrev pub IsNewReceiver : ℕ → Receiver T → Type 0
-  IsNewReceiver senders receiver = (senders_of receiver ≡ senders) × (taken_of receiver ≡ [])
+  IsNewReceiver senders receiver = (senders_of receiver ≡ senders) × (taken_of receiver ≡ []) × (capacity_of receiver ≡ CAPACITY)
 
   abbrev pub IsNewSender : Sender T → Type 0
   IsNewSender sender = put_of sender ≡ []
@@ -43,6 +45,10 @@ module _ {T : Type 0} where
   -- one sender of the lane of each of these, in order, which put nothing
   abbrev pub AreDealt : List (Receiver T) → List (Sender T) → Type 0
   AreDealt receivers senders = (map lane_of_sender senders ≡ map lane_of receivers) × AllByRecursion IsNewSender senders
+
+  -- the lanes that these put into
+  abbrev pub lanes_of : List (Sender T) → List TableId
+  lanes_of senders = map lane_of_sender senders
 
   abbrev pub lists_of : List (Vec (Sender T)) → List (List (Sender T))
   lists_of lists = map (λ (senders : Vec (Sender T)). senders.items) lists
@@ -59,3 +65,28 @@ module _ {T : Type 0} where
   deal [] senders = []
   deal (list ∷ lists) [] = list ∷ lists
   deal (list ∷ lists) (sender ∷ senders) = (list ++ sender ∷ []) ∷ deal lists senders
+
+  -- the first of each list, and what is behind it
+  abbrev pub firsts : List (List (Sender T)) → List (Sender T)
+  firsts [] = []
+  firsts ([] ∷ lists) = firsts lists
+  firsts ((sender ∷ senders) ∷ lists) = sender ∷ firsts lists
+
+  abbrev pub rests : List (List (Sender T)) → List (List (Sender T))
+  rests [] = []
+  rests ([] ∷ lists) = [] ∷ rests lists
+  rests ((sender ∷ senders) ∷ lists) = senders ∷ rests lists
+
+  -- what was taken of each of these senders is a beginning of what it put, and nothing else was taken
+  pub record IsHeard (receiver : Receiver T) (senders : List (Sender T)) : Type 0 where
+    pub begun : All (IsBegun receiver) senders
+    pub heard : AreHeard receiver senders
+
+  -- so it is of each lane and its sender of each list
+  abbrev pub AreAllHeard : List (Receiver T) → List (List (Sender T)) → Type 0
+  AreAllHeard [] lists = Unit {0}
+  AreAllHeard (receiver ∷ receivers) lists = IsHeard receiver (firsts lists) × AreAllHeard receivers (rests lists)
+
+-- in each list stands a sender of each of these lanes, in order
+abbrev pub AreOfLanes : List TableId → List (List TableId) → Type 0
+AreOfLanes lanes lists = AllByRecursion (λ list. list ≡ lanes) lists

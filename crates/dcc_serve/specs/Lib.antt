@@ -7,4 +7,6 @@ pub mod Writing
 pub mod Counting
 pub mod Tasks
 pub mod Gathering
+pub mod Finishing
+pub mod Answering
 pub mod Served

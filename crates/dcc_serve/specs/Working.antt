@@ -1,20 +1,20 @@
 -- What the worker of a shard does.
-use Rattle.std.specs.Prelude.{◌≡◌, ℕ, Bool, true, false, List, [], ◌∷◌, ◌++◌, count_by, Option, Some, None}
+use Rattle.std.specs.Prelude.{◌≡◌, ℕ, Bool, true, false, List, [], ◌∷◌, ◌++◌, ◌⊎◌, count_by, Option, Some, None}
 use Rattle.std.specs.List.{FoldsTo}
 use Rattle.std.specs.List.Sorted.{IsStrictlySortedBy}
 use Rattle.dcc_act.specs.declared.sub.Sub.{Sub}
 use Rattle.dcc_connect.specs.Writing.{items_of}
 use Rattle.dcc_connect.specs.declared.writing.Item.{Item}
 use Rattle.dcc_connect.specs.declared.writing.Item.TheVariants.{Octets, End}
-use Rattle.dcc_lane.specs.Ends.{senders_of, taken_of}
+use Rattle.dcc_lane.specs.Ends.{IsSameReceiver, taken_of}
 use Rattle.dcc_receipts.specs.declared.receipt.Receipt.{Receipt}
 use Rattle.dcc_records.specs.Books.{sub_order}
-use Rattle.dcc_running.specs.Calls.{IsAnswerTo, IsEndOf, receipts_of, expiry_receipts}
+use Rattle.dcc_running.specs.Calls.{AreSubs, IsAnswerTo, IsEndOf, receipts_of, expiry_receipts}
 use Rattle.dcc_shard.specs.Answers.{IsToldApart}
 use Rattle.dcc_shard.specs.declared.answers.ExpiryAnswer.{ExpiryAnswer}
 use Rattle.dcc_shard.specs.declared.answers.RequestAnswer.{RequestAnswer}
 use Rattle.dcc_shard.specs.declared.answers.RequestAnswer.TheVariants as answers
-use Rattle.dcc_serve.specs.Lanes.{all_put, put_into}
+use Rattle.dcc_serve.specs.Lanes.{all_put, lanes_of, put_into}
 use Rattle.dcc_serve.specs.declared.work.Request.{Request}
 use Rattle.dcc_serve.specs.declared.work.Work.{Work}
 use Rattle.dcc_serve.specs.declared.work.Work.TheVariants as work
@@ -50,9 +50,13 @@ Answers request old new =
 abbrev pub Expires : ℕ → List Receipt → Sub → List Receipt → Type 0
 Expires moment old sub new = (answer : ExpiryAnswer) × IsEndOf sub moment answer × (new ≡ old ++ expiry_receipts sub moment answer)
 
--- of each of some subscribers, in order
+-- of each of these subscribers, whatever the others are answered
+abbrev pub ExpiresEach : ℕ → List Sub → List Receipt → List Receipt → Type 0
+ExpiresEach moment subs old new = FoldsTo (Expires moment) old subs new
+
+-- of each subscriber of some shard that has acts, once and in order; or of none, where memory was short for their list
 abbrev pub Sweeps : ℕ → List Receipt → List Receipt → Type 0
-Sweeps moment old new = (subs : List Sub) × IsStrictlySortedBy sub_order subs × FoldsTo (Expires moment) old subs new
+Sweeps moment old new = (new ≡ old) ⊎ ((subs : List Sub) × IsStrictlySortedBy sub_order subs × AreSubs subs × ExpiresEach moment subs old new)
 
 abbrev pub Does : Doing → Work → Doing → Type 0
 Does old (work.Request request) new = Answers request old new
@@ -70,7 +74,8 @@ pub record DoesOne (old new : Worker) (ended : Bool) : Type 0 where
   pub taken : items_of (taken_of new.from) ≡ items_of (taken_of old.from) ++ one ∷ []
   pub done : Does (doing_of old) one (doing_of new)
   pub ended_is : ended ≡ is_end one
-  pub senders : senders_of new.from ≡ senders_of old.from
+  pub same : IsSameReceiver old.from new.from
+  pub lanes : lanes_of new.writers.items ≡ lanes_of old.writers.items
   pub shard : new.shard ≡ old.shard
 
 -- a worker took items, with so many ends, and did each in its turn
@@ -79,5 +84,6 @@ pub record HasDone (old new : Worker) (ended : ℕ) : Type 0 where
   pub taken : items_of (taken_of new.from) ≡ items_of (taken_of old.from) ++ works
   pub done : FoldsTo Does (doing_of old) works (doing_of new)
   pub ended_are : count_by is_end works ≡ ended
-  pub senders : senders_of new.from ≡ senders_of old.from
+  pub same : IsSameReceiver old.from new.from
+  pub lanes : lanes_of new.writers.items ≡ lanes_of old.writers.items
   pub shard : new.shard ≡ old.shard

@@ -26,9 +26,13 @@ pub trait Listener<I, O> {
 pub trait Shut: Write {
     ghost use Rattle.std.specs.Io.KnownBytes.{Keeps};
 
+    /// That both halves were ended.
+    ghost is_shut: { Self → Type 0 };
+
     /// Ends both halves at once: who reads the other one finds its end. What was written stays.
     fn shut(&mut self)
-        ensures { Keeps (Self.contents self.old) (Self.contents self.new) };
+        ensures kept { Keeps (Self.contents self.old) (Self.contents self.new) }
+        ensures shut { is_shut self.new };
 }
 
 /// What happened to a gateway or a shard. Gateways are counted from 1 in each round, shards from 0.

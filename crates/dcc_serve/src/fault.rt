@@ -1,10 +1,12 @@
 //! Why a server ends before its rounds are over.
 
 ghost use Rattle.std.specs.Prelude.{◌≡◌, false};
+ghost use Rattle.dcc_lane.specs.Faults.{lane_fault_number};
 ghost use Rattle.dcc_receipts.specs.Faults.{fault_number};
 ghost use Rattle.dcc_serve.specs.Lines.{is_store, of_number};
 ghost use Rattle.dcc_serve.specs.declared.fault.ServeFault.TheVariants as fault;
 
+use dcc_lane::LaneFault;
 use dcc_receipts::CloseFault;
 use dcc_streams::WriteFault;
 use std::alloc::{AllocError, AllocFailed};
@@ -19,7 +21,7 @@ pub enum ServeFault {
     /// The output or the listener failed.
     #[error("the output or the listener failed")]
     Io,
-    /// Receipts and books disagree, with this number: 60, 61 or 62.
+    /// Receipts and books disagree, with this number: 60, 61 or 62; or 80, the sender of a lane is missing.
     #[error("receipts disagree, fault {0}")]
     Close(u8),
     /// A store has the fault with this number: 51, it failed in the round whose line was printed.
@@ -48,6 +50,17 @@ impl From<WriteFault> for ServeFault {
 
     fn from(_fault: WriteFault) -> ServeFault {
         ServeFault::Io
+    }
+}
+
+/// What a fault of a lane ends a server with.
+pub(crate) fn of_lane(fault: LaneFault) -> ServeFault
+    ensures value { result ≡ of_number (lane_fault_number fault) }
+    ensures fault { is_store result ≡ false }
+{
+    match fault {
+        LaneFault::SenderMissing => ServeFault::Close(80),
+        LaneFault::Memory => ServeFault::Memory,
     }
 }
 

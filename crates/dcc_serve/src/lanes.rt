@@ -2,7 +2,7 @@
 
 ghost use Rattle.std.specs.Prelude.{◌≡◌, ◌<◌, [], length, IfOk};
 ghost use Rattle.std.specs.List.{AllByRecursion};
-ghost use Rattle.dcc_serve.specs.Lanes.{AreDealt, AreLanes, TakesFirst, all_put, deal, lists_of, put_into, put_all};
+ghost use Rattle.dcc_serve.specs.Lanes.{AreDealt, AreLanes, TakesFirst, all_put, deal, lanes_of, lists_of, put_into, put_all};
 ghost use Rattle.dcc_serve.specs.declared.work.Work.TheVariants as work;
 
 use crate::work::Work;
@@ -85,7 +85,8 @@ pub(crate) fn first_of<T>(list: &mut Vec<T>) -> Option<T>
 
 /// Puts an item into the lane of this index, where there is one.
 pub(crate) fn put_into<W: Wait, T: Drop>(rt: &W, lanes: &mut Vec<Sender<T>>, index: usize, item: T)
-    ensures { all_put lanes.new.items ≡ put_into index item (all_put lanes.old.items) }
+    ensures put { all_put lanes.new.items ≡ put_into index item (all_put lanes.old.items) }
+    ensures lanes { lanes_of lanes.new.items ≡ lanes_of lanes.old.items }
 {
     if index >= lanes.len() {
         return;
@@ -96,7 +97,8 @@ pub(crate) fn put_into<W: Wait, T: Drop>(rt: &W, lanes: &mut Vec<Sender<T>>, ind
 /// Puts an item into the lane of this index, where there is one, and lets who takes of it sleep, until `ring_all`. Where the lane is full, all are
 /// woken before it waits.
 pub(crate) fn leave_in<W: Wait, T: Drop>(rt: &W, lanes: &mut Vec<Sender<T>>, index: usize, item: T)
-    ensures { all_put lanes.new.items ≡ put_into index item (all_put lanes.old.items) }
+    ensures put { all_put lanes.new.items ≡ put_into index item (all_put lanes.old.items) }
+    ensures lanes { lanes_of lanes.new.items ≡ lanes_of lanes.old.items }
 {
     if index >= lanes.len() {
         return;
@@ -116,7 +118,8 @@ pub(crate) fn ring_all<T: Drop>(lanes: &[Sender<T>]) {
 
 /// Tells each worker that the gateway of this index asks for nothing more.
 pub(crate) fn end_all<W: Wait>(rt: &W, workers: &mut Vec<Sender<Work>>, gate: usize)
-    ensures { all_put workers.new.items ≡ put_all (work.End gate) (all_put workers.old.items) }
+    ensures put { all_put workers.new.items ≡ put_all (work.End gate) (all_put workers.old.items) }
+    ensures lanes { lanes_of workers.new.items ≡ lanes_of workers.old.items }
 {
     for index in 0..workers.len() {
         put_into(rt, workers, index, Work::End(gate));
@@ -125,7 +128,8 @@ pub(crate) fn end_all<W: Wait>(rt: &W, workers: &mut Vec<Sender<Work>>, gate: us
 
 /// Asks each worker for a sweep.
 pub(crate) fn ask_all_to_sweep<W: Wait>(rt: &W, workers: &mut Vec<Sender<Work>>, moment: Moment)
-    ensures { all_put workers.new.items ≡ put_all (work.Sweep moment) (all_put workers.old.items) }
+    ensures put { all_put workers.new.items ≡ put_all (work.Sweep moment) (all_put workers.old.items) }
+    ensures lanes { lanes_of workers.new.items ≡ lanes_of workers.old.items }
 {
     for index in 0..workers.len() {
         put_into(rt, workers, index, Work::Sweep(moment));

@@ -6,12 +6,15 @@
 //!
 //! In a round each gateway has a reader and a writer, and each shard a worker, each in a thread of its own. The lane to a worker has a
 //! sender for each gateway; the lane to a writer has one for each shard and one for its reader, which answers at once what asks no
-//! account. Each sender's last item says that it ends, and who takes ends after all of these.
+//! account. Each sender's last item says that it ends, and who takes ends after all of these. Behind a round each lane is ended with all its senders: what was taken
+//! of it is a beginning of what each of them put. So what goes out of a round answers what came in ([`answers_are_to_what_came`]).
 #![tactic(auto)]
 
 mod face;
 mod fault;
+mod finishing;
 mod lanes;
+mod laws;
 mod line;
 mod reader;
 mod round;
@@ -24,5 +27,6 @@ mod writer;
 
 pub use face::{Connection, Listener, Notice, Notices, Shut};
 pub use fault::ServeFault;
+pub use laws::{answers_are_to_what_came, numbers_are_given};
 pub use rounds::Rounds;
 pub use run::{Service, serve_run};

@@ -3,9 +3,9 @@
 ghost use Rattle.std.specs.Prelude.{◌≡◌, ◌++◌, true, is_some, length};
 ghost use Rattle.dcc_dispatch.specs.Dispatches.{IfAsked};
 ghost use Rattle.dcc_dispatch.specs.declared.decide.Dispatched.TheVariants.{Replied};
-ghost use Rattle.dcc_lane.specs.Ends.{put_of};
+ghost use Rattle.dcc_lane.specs.Ends.{lane_of_sender, put_of};
 ghost use Rattle.dcc_model.specs.Keys.{request_key};
-ghost use Rattle.dcc_serve.specs.Handing.{AsksSweep, Ends, Passes, ReadsOut, reading_of, replies, one_more, is_due, since_then};
+ghost use Rattle.dcc_serve.specs.Handing.{AsksSweep, Ends, IsSameReader, Passes, ReadsOut, reading_of, replies, one_more, is_due, since_then};
 ghost use Rattle.dcc_serve.specs.Lanes.{all_put, put_into};
 ghost use Rattle.dcc_serve.specs.declared.work.Work.TheVariants as work;
 ghost use Rattle.dcc_shard.specs.Routes.{shard_of};
@@ -124,7 +124,7 @@ impl Reader {
         requires { IfAsked word (λ sub act header proxies. is_some (request_key act.kind) ≡ true) }
         ensures passed { Passes self.old.gate word result (reading_of self.old) (reading_of self.new) }
         ensures peer { self.new.peer ≡ self.old.peer }
-        ensures gate { self.new.gate ≡ self.old.gate }
+        ensures same { IsSameReader self.old self.new }
     {
         match word {
             Dispatched::Replied(reply) => self.reply(rt, reply),
@@ -151,7 +151,7 @@ impl Reader {
     fn reply<W: Wait>(&mut self, rt: &W, reply: Reply) -> Handed
         ensures passed { Passes self.old.gate (Replied reply) result (reading_of self.old) (reading_of self.new) }
         ensures peer { self.new.peer ≡ self.old.peer }
-        ensures gate { self.new.gate ≡ self.old.gate }
+        ensures same { IsSameReader self.old self.new }
     {
         let Reply { octets, close } = reply;
         put_reply(rt, &mut self.writer, octets);
@@ -166,7 +166,7 @@ impl Reader {
         ensures writer { self.new.writer ≡ self.old.writer }
         ensures sweeps { self.new.sweeps ≡ self.old.sweeps }
         ensures peer { self.new.peer ≡ self.old.peer }
-        ensures gate { self.new.gate ≡ self.old.gate }
+        ensures same { IsSameReader self.old self.new }
     {
         self.requests = self.requests.saturating_add(1);
         if self.workers.is_empty() {
@@ -180,7 +180,7 @@ impl Reader {
     fn sweep<W: Wait>(&mut self, rt: &W, moment: Moment)
         ensures asked { AsksSweep moment (reading_of self.old) (reading_of self.new) }
         ensures peer { self.new.peer ≡ self.old.peer }
-        ensures gate { self.new.gate ≡ self.old.gate }
+        ensures same { IsSameReader self.old self.new }
     {
         if !self.sweeps.is_due() {
             return;
@@ -190,7 +190,8 @@ impl Reader {
 
     /// Says that it ends to all that take from it.
     fn end<W: Wait>(&mut self, rt: &W)
-        ensures { Ends self.old.gate (reading_of self.old) (reading_of self.new) }
+        ensures ends { Ends self.old.gate (reading_of self.old) (reading_of self.new) }
+        ensures same { IsSameReader self.old self.new }
     {
         end_all(rt, &mut self.workers, self.gate);
         self.writer.put(rt, Item::End);
@@ -199,7 +200,8 @@ impl Reader {
 
 /// Puts the octets of a reply into a writer's lane, where there are any.
 fn put_reply<W: Wait>(rt: &W, writer: &mut Sender<Item>, octets: OctetString)
-    ensures { put_of writer.new ≡ put_of writer.old ++ replies octets }
+    ensures put { put_of writer.new ≡ put_of writer.old ++ replies octets }
+    ensures lane { lane_of_sender writer.new ≡ lane_of_sender writer.old }
 {
     if octets.as_slice().is_empty() {
         return;
@@ -208,7 +210,7 @@ fn put_reply<W: Wait>(rt: &W, writer: &mut Sender<Item>, octets: OctetString)
 }
 
 /// Reads a gateway's messages and hands each on, until it ends, and says so.
-pub(crate) fn read_gate<W: Wait, I: Read, C: Clock, N: Notices>(
+pub(crate) fn read_gate<W: Wait, I: Read, C: Clock + Copy, N: Notices>(
     rt: &W,
     alloc: Global,
     plan: &Plan,
@@ -218,7 +220,7 @@ pub(crate) fn read_gate<W: Wait, I: Read, C: Clock, N: Notices>(
     input: &mut I,
     reader: &mut Reader,
 ) -> ConnectionEnd
-    ensures { ReadsOut (C.tells clock.now) (record { plan = plan.now; identity = identity.now }) result (I.remaining input.old) (I.remaining input.new)
+    ensures { ReadsOut C.tells clock.now (record { plan = plan.now; identity = identity.now }) result (I.remaining input.old) (I.remaining input.new)
         reader.old reader.new }
 {
     let gate = reader.gate.saturating_add(1);
@@ -229,7 +231,8 @@ pub(crate) fn read_gate<W: Wait, I: Read, C: Clock, N: Notices>(
         notices,
         reader,
     };
-    let end = read_side(rt, alloc, input, clock, &mut judge, TURNS);
+    let mut clock = *clock;
+    let end = read_side(rt, alloc, input, &mut clock, &mut judge, TURNS);
     judge.reader.end(rt);
     notices.tell(rt, Notice::Read { gate, end });
     end

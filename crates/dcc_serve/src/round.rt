@@ -1,10 +1,9 @@
 //! One round.
 
 ghost use Rattle.std.specs.Prelude.{◌≡◌, ◌≢◌, ◌<◌, ◌≤◌, ◌++◌, ℕ, false, [], length, slice_index_or, IfOk, IfErr};
-ghost use Rattle.std.specs.List.{filter_map};
 ghost use Rattle.dcc_act.specs.declared.sub.Sub.{Sub};
 ghost use Rattle.dcc_running.specs.Books.{AreShards};
-ghost use Rattle.dcc_serve.specs.Counting.{counts_in, seat_in};
+ghost use Rattle.dcc_serve.specs.Counting.{counts_in};
 ghost use Rattle.dcc_serve.specs.Gathering.{AddsGates, AreGathered, reader_of, workers_from, writer_of};
 ghost use Rattle.dcc_serve.specs.Lines.{is_store};
 ghost use Rattle.dcc_serve.specs.Served.{IsRound};
@@ -12,6 +11,7 @@ ghost use Rattle.dcc_serve.specs.Tasks.{AllRun};
 
 use crate::face::{Connection, Listener, Notice, Notices, Shut};
 use crate::fault::{ServeFault, of_close};
+use crate::finishing::finished;
 use crate::lanes::{Lanes, first_of, make_lanes};
 use crate::line::Counts;
 use crate::reader::{Reader, Sweeps};
@@ -25,7 +25,7 @@ use dcc_base::Peer;
 use dcc_connect::{Clock, Item};
 use dcc_lane::{Receiver, Sender};
 use dcc_records::Records;
-use dcc_running::{Seat, Shards};
+use dcc_running::Shards;
 use dcc_shard::Shard;
 use std::alloc::{AllocError, Global};
 use std::io::Read;
@@ -39,7 +39,7 @@ pub(crate) fn serve_round<
     I: Read + Send + Drop,
     O: Shut + Send + Drop,
     L: Listener<I, O>,
-    C: Clock + Sync,
+    C: Clock + Copy + Sync,
     N: Notices + Sync,
 >(
     rt: &W,
@@ -52,8 +52,8 @@ pub(crate) fn serve_round<
     requires shards { AreShards service.now.plan.now.terms service.now.identity.now shards.items }
     requires some { 1 ≤ length shards.items }
     requires most { length shards.items ≤ 8 }
-    ensures round { IfOk result (λ r. IsRound I.remaining O.contents (C.tells service.now.clock.now)
-        (record { plan = service.now.plan.now; identity = service.now.identity.now }) rounds.now.gates rounds.now.every shards.items r.0 r.1.items) }
+    ensures round { IfOk result (λ r. IsRound I.remaining O.contents C.tells service.now.clock.now
+        (record { plan = service.now.plan.now; identity = service.now.identity.now }) R.is_stopped R.may_leave rounds.now.gates rounds.now.every shards.items r.0 r.1.items) }
     ensures shards { IfOk result (λ r. AreShards service.now.plan.now.terms service.now.identity.now r.1.items) }
     ensures some { IfOk result (λ r. 1 ≤ length r.1.items) }
     ensures most { IfOk result (λ r. length r.1.items ≤ 8) }
@@ -78,10 +78,9 @@ pub(crate) fn serve_round<
         listener,
         rounds,
     )?;
-    let room = Vec::with_capacity(alloc, count)?;
     serve_all::<W, R, I, O, C, N>(rt, alloc, service, &locked, count, tasks.as_mut_slice());
     let counts = counted(tasks.as_slice());
-    let seats = seated(tasks, room)?;
+    let seats = finished(alloc, tasks)?;
     match locked.close(alloc, seats) {
         Ok(books) => Ok((counts, books.into_shards())),
         Err(unclosed) => Err(of_close(unclosed.fault)),
@@ -247,7 +246,7 @@ fn serve_all<
     R: Records + Send + Sync + Drop,
     I: Read + Send + Drop,
     O: Shut + Send + Drop,
-    C: Clock + Sync,
+    C: Clock + Copy + Sync,
     N: Notices + Sync,
 >(
     rt: &W,
@@ -258,7 +257,7 @@ fn serve_all<
     tasks: &mut [Task<I, O>],
 )
     requires { count ≡ locked.now.count }
-    ensures { AllRun I.remaining O.contents (C.tells service.now.clock.now) (record { plan = service.now.plan.now; identity = service.now.identity.now })
+    ensures { AllRun I.remaining O.contents C.tells service.now.clock.now (record { plan = service.now.plan.now; identity = service.now.identity.now })
         count tasks.old tasks.new }
 {
     let shared = Shared {
@@ -294,20 +293,4 @@ fn counted<I, O>(tasks: &[Task<I, O>]) -> Counts
         counts.acts = counts.acts.saturating_add(task.acts());
     }
     counts
-}
-
-/// The seats of a round's workers, in order, in the room that was taken for them. The only error is want of memory.
-fn seated<I: Drop, O: Drop>(
-    tasks: Vec<Task<I, O>>,
-    room: Vec<Seat>,
-) -> Result<Vec<Seat>, AllocError>
-    ensures { IfOk result (λ seats. seats.items ≡ room.items ++ filter_map seat_in tasks.items) }
-{
-    let mut seats = room;
-    for task in tasks {
-        if let Some(seat) = task.into_seat() {
-            seats.push(seat)?;
-        }
-    }
-    Ok(seats)
 }

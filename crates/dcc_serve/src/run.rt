@@ -52,7 +52,7 @@ pub fn serve_run<
     I: Read + Send + Drop,
     O: Shut + Send + Drop,
     L: Listener<I, O>,
-    C: Clock + Sync,
+    C: Clock + Copy + Sync,
     N: Notices + Sync,
     P: Write,
 >(
@@ -67,8 +67,8 @@ pub fn serve_run<
     requires shards { AreShards service.now.plan.now.terms service.now.identity.now shards.items }
     requires some { 1 ≤ length shards.items }
     requires most { length shards.items ≤ 8 }
-    ensures served { OnOk result ((last : List (StoredView R)) × AreServed (IsRound I.remaining O.contents (C.tells service.now.clock.now)
-        (record { plan = service.now.plan.now; identity = service.now.identity.now }) rounds.now.gates rounds.now.every)
+    ensures served { OnOk result ((last : List (StoredView R)) × AreServed (IsRound I.remaining O.contents C.tells service.now.clock.now
+        (record { plan = service.now.plan.now; identity = service.now.identity.now }) R.is_stopped R.may_leave rounds.now.gates rounds.now.every)
         rounds.now.rounds shards.items last (P.contents output.old) (P.contents output.new)) }
     ensures whole { OnOk result (AreTold rounds.now.rounds (P.contents output.old) (P.contents output.new)) }
     ensures part { IfErr result (λ fault. EndsWith fault rounds.now.rounds (P.contents output.old) (P.contents output.new)) }

@@ -2,7 +2,7 @@
 
 ghost use Rattle.std.specs.Prelude.{◌≡◌};
 ghost use Rattle.dcc_serve.specs.Tasks.{Runs};
-ghost use Rattle.dcc_serve.specs.Counting.{requests_in, answers_in, acts_in, seat_in};
+ghost use Rattle.dcc_serve.specs.Counting.{requests_in, answers_in, acts_in};
 
 use crate::face::{Notices, Shut};
 use crate::reader::{Reader, read_gate};
@@ -12,7 +12,7 @@ use dcc_connect::{Clock, Item};
 use dcc_lane::Receiver;
 use dcc_message::Identity;
 use dcc_records::Records;
-use dcc_running::{Seat, Shards};
+use dcc_running::Shards;
 use dcc_tariff::Plan;
 use std::alloc::Global;
 use std::io::Read;
@@ -50,12 +50,12 @@ pub(crate) struct Shared<'a, R: Records, C, N> {
 
 impl<I: Read, O: Shut> Task<I, O> {
     /// Does what there is to do.
-    pub fn run<W: Wait, R: Records, C: Clock, N: Notices>(
+    pub fn run<W: Wait, R: Records, C: Clock + Copy, N: Notices>(
         &mut self,
         rt: &W,
         shared: &Shared<'_, R, C, N>,
     )
-        ensures { Runs I.remaining O.contents (C.tells shared.now.clock.now) (record { plan = shared.now.plan.now; identity = shared.now.identity.now })
+        ensures { Runs I.remaining O.contents C.tells shared.now.clock.now (record { plan = shared.now.plan.now; identity = shared.now.identity.now })
             shared.now.count self.old self.new }
     {
         match self {
@@ -122,18 +122,6 @@ impl<I, O> Task<I, O> {
         match self {
             Task::Work(worker) => worker.acts(),
             Task::Read { .. } | Task::Write { .. } => 0,
-        }
-    }
-}
-
-impl<I: Drop, O: Drop> Task<I, O> {
-    /// The seat of a worker.
-    pub fn into_seat(self) -> Option<Seat>
-        ensures { result ≡ seat_in self }
-    {
-        match self {
-            Task::Work(worker) => Some(worker.into_seat()),
-            Task::Read { .. } | Task::Write { .. } => None,
         }
     }
 }

@@ -3,12 +3,12 @@
 ghost use Rattle.std.specs.Prelude.{◌≡◌, ◌<◌};
 ghost use Rattle.dcc_lane.specs.Ends.{IsSameReceiver, TakesOne, senders_of};
 ghost use Rattle.dcc_serve.specs.Counting.{acts_of};
-ghost use Rattle.dcc_serve.specs.Lanes.{all_put};
-ghost use Rattle.dcc_serve.specs.Working.{Answers, DoesOne, HasDone, Sweeps, octets_in};
+ghost use Rattle.dcc_serve.specs.Lanes.{all_put, lanes_of};
+ghost use Rattle.dcc_serve.specs.Working.{Answers, DoesOne, ExpiresEach, HasDone, Sweeps, octets_in};
 
 use crate::lanes::{leave_in, put_into, ring_all};
 use crate::work::{Request, Work};
-use dcc_act::Moment;
+use dcc_act::{Moment, Sub};
 use dcc_connect::Item;
 use dcc_lane::{Receiver, Sender};
 use dcc_octets::OctetString;
@@ -100,19 +100,6 @@ impl Worker {
         }
         count as u64
     }
-
-    /// Its seat.
-    pub fn into_seat(self) -> Seat
-        ensures { result ≡ self.seat }
-    {
-        let Worker {
-            shard: _,
-            seat,
-            from: _,
-            writers: _,
-        } = self;
-        seat
-    }
 }
 
 /// Takes the next item, and counts those that were there without a wait. Before it waits, the writers are woken that were let sleep; and all that
@@ -160,8 +147,9 @@ fn answer<W: Wait, R: Records>(
     writers: &mut Vec<Sender<Item>>,
     request: Request,
 )
-    ensures { Answers request (record { told = seat.old; put = all_put writers.old.items })
+    ensures answered { Answers request (record { told = seat.old; put = all_put writers.old.items })
         (record { told = seat.new; put = all_put writers.new.items }) }
+    ensures lanes { lanes_of writers.new.items ≡ lanes_of writers.old.items }
 {
     let Request { gate, job } = request;
     let answer = shards.submit(rt, alloc, seat, job);
@@ -171,8 +159,7 @@ fn answer<W: Wait, R: Records>(
     leave_in(rt, writers, gate, Item::Octets(octets));
 }
 
-/// Ends what is due of each subscriber of the shard; one that is refused leaves the others. Without memory for the list of
-/// subscribers nothing is ended.
+/// Ends what is due of each subscriber of the shard. Without memory for the list of subscribers nothing is ended.
 fn sweep<W: Wait, R: Records>(
     rt: &W,
     alloc: Global,
@@ -187,7 +174,21 @@ fn sweep<W: Wait, R: Records>(
     let Ok(subs) = shards.subs(rt, alloc, shard) else {
         return;
     };
-    for sub in &subs {
+    expire_each(rt, alloc, shards, seat, &subs, moment);
+}
+
+/// Ends what is due of each of these subscribers, in order; one that is refused leaves the others.
+fn expire_each<W: Wait, R: Records>(
+    rt: &W,
+    alloc: Global,
+    shards: &Shards<R>,
+    seat: &mut Seat,
+    subs: &[Sub],
+    moment: Moment,
+)
+    ensures { ExpiresEach moment subs.now seat.old seat.new }
+{
+    for sub in subs {
         let _answer = shards.expire(rt, alloc, seat, *sub, moment);
     }
 }

@@ -52,7 +52,8 @@ pub(crate) fn write_gate<W: Wait, O: Shut, N: Notices>(
     ending: &mut Ending<O>,
     from: &mut Receiver<Item>,
 ) -> WriteEnd
-    ensures { WritesOut result from.old from.new (O.contents ending.old.output) (O.contents ending.new.output) }
+    ensures written { WritesOut result from.old from.new (O.contents ending.old.output) (O.contents ending.new.output) }
+    ensures shut { O.is_shut ending.new.output }
 {
     let end = write_side(rt, alloc, ending, from, TURNS);
     ending.output.shut();

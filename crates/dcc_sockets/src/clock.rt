@@ -5,10 +5,10 @@ ghost use Rattle.dcc_tariff.specs.declared.limits.TheConstants.{LAST_SECOND};
 
 use dcc_act::Moment;
 use dcc_tariff::LAST_SECOND;
+use std::alloc::AllocError;
 
 /// The clock of the system, in whole seconds since 1970-01-01T00:00:00Z. Before that, and where there is no clock, it tells the first
 /// moment, and past the last moment the last.
-#[derive(Clone, Copy)]
 pub struct SystemClock<'r, C: std::time::Clock> {
     clock: &'r C,
 }
@@ -20,11 +20,20 @@ impl<'r, C: std::time::Clock> SystemClock<'r, C> {
     }
 }
 
+// By hand, since a derive would ask for a runtime that can be copied, and only a reference to it is.
+impl<C: std::time::Clock> Clone for SystemClock<'_, C> {
+    fn clone(&self) -> Result<Self, AllocError> {
+        Ok(*self)
+    }
+}
+
+impl<C: std::time::Clock> Copy for SystemClock<'_, C> {}
+
 impl<C: std::time::Clock> dcc_connect::Clock for SystemClock<'_, C> {
     // What the system's clock tells no clause says.
-    ghost tells = { λ _ _. Unit {0} };
+    ghost tells = { λ _ _ _. Unit {0} };
 
-    fn moment(&self) -> Moment {
+    fn moment(&mut self) -> Moment {
         match self.clock.since_1970() {
             Ok(time) => at_most_the_last(time.as_secs()),
             Err(_) => at_most_the_last(0),

@@ -50,6 +50,9 @@ impl Write for Output {
 }
 
 impl Shut for Output {
+    // What a socket does no clause says.
+    ghost is_shut = { λ _. Unit {0} };
+
     /// A connection that is lost already needs no more, so that a refusal tells nothing.
     fn shut(&mut self) {
         let _refused = self.stream.shutdown(Shutdown::Both);

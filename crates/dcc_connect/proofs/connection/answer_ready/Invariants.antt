@@ -6,7 +6,7 @@ use Rattle.dcc_connect.proofs.connection.answer_ready.Given as goal
 
 abbrev pub invariant-loop-message : goal.invariant-loop-message
 invariant-loop-message g l =
-    HasAnswered (timed (g.C.Clock.tells l.fn.clock) g.A.Answerer.answers) l.fn.framer l.framer l.fn.answerer l.answerer (g.O.Write.contents l.fn.output) (g.O.Write.contents l.output)
+    HasAnswered (timed g.C.Clock.tells g.A.Answerer.answers) l.fn.framer l.framer (l.fn.answerer, l.fn.clock) (l.answerer, l.clock) (g.O.Write.contents l.fn.output) (g.O.Write.contents l.output)
     (record { left = l.fn.tally.left; written = l.fn.tally.written }) (record { left = l.tally.left; written = l.tally.written })
 
 abbrev pub decreases-loop-message : goal.decreases-loop-message

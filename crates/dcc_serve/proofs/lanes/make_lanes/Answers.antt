@@ -18,7 +18,7 @@ loop-alloc-preserved g c =
     let long = length-map c.loop-alloc.senders.items (λ (list : Vec (Sender g.row.T.Denot)). list.items) in
     record {
       few = omega (arith, ap length c.in_ok-push.ensures.items, length-append {A = Receiver g.row.T.Denot});
-      new = subst (AllByRecursion (IsNewReceiver c.args.putters)) (sym c.in_ok-push.ensures.items) (all_push (IsNewReceiver c.args.putters) rs r was.new c.in_ok-more.ensures.receiver);
+      new = subst (AllByRecursion (IsNewReceiver c.args.putters)) (sym c.in_ok-push.ensures.items) (all_push (IsNewReceiver c.args.putters) rs r was.new (c.in_ok-more.ensures.receiver.0, c.in_ok-more.ensures.receiver.1, c.in_ok-more.ensures.capacity));
       lists = sym (length-map c.in_ok-senders-2.senders.items (λ (list : Vec (Sender g.row.T.Denot)). list.items)) ∙ ap length c.in_ok-senders-2.ensures
           ∙ deal_length (lists_of c.loop-alloc.senders.items) c.in_ok-more.more.items ∙ long ∙ was.lists;
       dealt = subst (λ (all : List (Receiver g.row.T.Denot)). AllByRecursion (AreDealt all) (lists_of c.in_ok-senders-2.senders.items)) (sym c.in_ok-push.ensures.items)

@@ -1,11 +1,14 @@
-use Rattle.std.proofs.Common.{◌≡◌, ℕ, List, length, ◌++◌, take, ◌∙◌, sym, ap, subst, arith}
+use Rattle.std.proofs.Common.{◌≡◌, ℕ, List, length, map, refl, ◌++◌, take, ◌∙◌, sym, ap, subst, arith}
 use Rattle.std.proofs.Math.Seq.{take-append_seam}
 use Rattle.std.specs.List.{filter_map}
 use Rattle.dcc_receipts.specs.declared.receipt.Receipt.{Receipt}
 use Rattle.dcc_running.specs.Audited.{AreCovered, AreOrdered, AreTrue}
 use Rattle.dcc_running.specs.Books.{Opening, at_opening}
 use Rattle.dcc_serve.specs.Counting.{seat_in}
+use Rattle.dcc_dispatch.specs.Settings.{Setting}
+use Rattle.dcc_serve.specs.Finishing.{AreFinished, AreTied, ends_in}
 use Rattle.dcc_serve.specs.Gathering.{AreGathered}
+use Rattle.dcc_serve.proofs.LaneEnds.{ended_tied}
 use Rattle.dcc_serve.specs.Tasks.{AllRun}
 use Rattle.dcc_serve.specs.declared.tasks.Task.{Task}
 use Rattle.dcc_serve.proofs.round.serve_round.Goals as goal
@@ -30,21 +33,39 @@ returns-in-Ok-close-clause-round g c =
     let long : c.in_ok-tasks.tasks.len ≡ length c.serve_all.new.tasks = omega (arith, same) in
     let last : c.serve_all.new.tasks ≡ ended = sym (c.as_slice.ensures.value ∙ front_is c.in_ok-tasks.tasks.len c.serve_all.new.tasks _ long) in
     let seats : c.in_ok-seats.seats.items ≡ filter_map seat_in ended =
-    c.in_ok-seats.ensures
-    ∙ ap (λ (ts : List (Task g.row.I.Denot g.row.O.Denot)). c.in_ok-room.room.items ++ filter_map seat_in ts) (sym c.as_slice.ensures.value)
-    ∙ ap (λ (room : List (List Receipt)). room ++ filter_map (seat_in {I = g.row.I.Denot} {O = g.row.O.Denot}) ended) c.in_ok-room.ensures.items in
+    c.in_ok-seats.ensures.seats ∙ ap (λ (ts : List (Task g.row.I.Denot g.row.O.Denot)). filter_map seat_in ts) (sym c.as_slice.ensures.value) in
     record {
       begun = begun;
       ended = ended;
       books = books;
       gathered = subst (λ (n : ℕ). AreGathered n gates every begun) count c.in_ok-tasks.ensures.tasks;
-      ran = said_of (AllRun g.I.Read.remaining g.O.Write.contents (g.C.Clock.tells c.args.service.now.clock.now)
+      ran = said_of (AllRun g.I.Read.remaining g.O.Write.contents g.C.Clock.tells c.args.service.now.clock.now
           (record { plan = c.args.service.now.plan.now; identity = c.args.service.now.identity.now })) c.len-count.result (length c.args.shards.items)
           c.as_mut_slice.result.now begun c.serve_all.new.tasks ended count first last c.serve_all.ensures;
       all = sym (ap length last) ∙ same;
+      finished = subst (λ (ts : List (Task g.row.I.Denot g.row.O.Denot)). AreFinished ts) (sym c.as_slice.ensures.value) c.in_ok-seats.ensures.finished;
       counted = c.counted-counts.ensures;
       opened = λ sub. ap (λ (opening : Opening). at_opening opening sub) c.in-Ok-close.ensures.opening ∙ c.in-Ok.ensures.opening sub;
       audited = subst (λ (all : List (List Receipt)). AreTrue books all × AreCovered books all × AreOrdered all) seats
           (c.in-Ok-close.ensures.audited.0, c.in-Ok-close.ensures.audited.1, c.in-Ok-close.ensures.audited.2);
+      own = c.in-Ok-close.ensures.audited.3;
       left = c.into_shards.ensures.parts;
+      kept = c.into_shards.ensures.kept;
+      held = c.into_shards.ensures.left;
     }
+
+pub finished-requires : goal.finished-requires
+finished-requires g c =
+    let begun = c.in_ok-tasks.tasks.items in
+    let ended = c.as_slice.result.now in
+    let first : c.as_mut_slice.result.now ≡ begun = c.as_mut_slice.ensures.value in
+    let same : length c.serve_all.new.tasks ≡ length begun = omega (arith, ap length first, c.serve_all.auto.tasks) in
+    let long : c.in_ok-tasks.tasks.len ≡ length c.serve_all.new.tasks = omega (arith, same) in
+    let last : c.serve_all.new.tasks ≡ ended = sym (c.as_slice.ensures.value ∙ front_is c.in_ok-tasks.tasks.len c.serve_all.new.tasks _ long) in
+    let setting : Setting = record { plan = c.args.service.now.plan.now; identity = c.args.service.now.identity.now } in
+    subst (λ (ts : List (Task g.row.I.Denot g.row.O.Denot)). AreTied (map ends_in ts)) c.as_slice.ensures.value
+    (ended_tied g.I.Read.remaining g.O.Write.contents g.C.Clock.tells c.args.service.now.clock.now setting c.len-count.result c.args.rounds.now.gates c.args.rounds.now.every begun ended
+    c.in_ok-tasks.ensures.tasks
+    (said_of (AllRun g.I.Read.remaining g.O.Write.contents g.C.Clock.tells c.args.service.now.clock.now setting) c.len-count.result c.len-count.result c.as_mut_slice.result.now begun
+    c.serve_all.new.tasks ended refl first last c.serve_all.ensures)
+    (sym (ap length last) ∙ same))

@@ -1,22 +1,10 @@
-use Rattle.std.proofs.Common.{◌≡◌, ◌+◌, [], ◌∷◌, ◌++◌, ◌∙◌, sym, ap, refl, subst, take}
-use Rattle.std.proofs.lemmas.Fn.{FoldsTo-push}
-use Rattle.std.proofs.lemmas.List.{take_more}
-use Rattle.std.specs.List.{FoldsTo}
-use Rattle.std.specs.List.Sorted.{IsStrictlySortedBy}
-use Rattle.dcc_serve.specs.Working.{Expires}
+use Rattle.std.proofs.Common.{inl, inr, refl}
 use Rattle.dcc_serve.proofs.worker.sweep.Goals as goal
 
 pub returns-in_default : goal.returns-in_default
-unfolding IsStrictlySortedBy
-returns-in_default g c = ([], tt, refl)
+returns-in_default g c = inl refl
 
-pub loop-sub-preserved : goal.loop-sub-preserved
-loop-sub-preserved g c =
-    let items = c.deref-sub-items.result.now in
-    let i = c.loop-sub.sub-index in
-    let sub = c.sub-item.result in
-    let more : take (i + 1) items ≡ take i items ++ sub ∷ [] =
-    take_more items i sub c.loop-sub-test.true ∙ ap (λ s. take i items ++ s ∷ []) (sym c.sub-item.is) in
-    subst (λ subs. FoldsTo (Expires c.args.moment) c.args.seat.now subs c.expire-answer.new.seat) (sym more)
-    (FoldsTo-push (Expires c.args.moment) c.args.seat.now (take i items) c.loop-sub.seat sub c.expire-answer.new.seat c.loop-sub.invariant
-    (c.expire-answer.result, c.expire-answer.ensures.answer, c.expire-answer.ensures.receipt))
+pub returns : goal.returns
+returns g c =
+    let subs = c.in-Ok.subs.items in
+    inr (subs, c.in-Ok.ensures.order, c.in-Ok.ensures.held, (let each = c.expire_each.ensures in rw c.deref.ensures.value at each))

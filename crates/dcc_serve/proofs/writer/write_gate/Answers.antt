@@ -10,8 +10,8 @@ drop_rest-requires g c =
     let same = c.write_side-end.ensures.same.1 in
     omega arith
 
-pub returns : goal.returns
-returns g c =
+pub returns-clause-written : goal.returns-clause-written
+returns-clause-written g c =
     let same = c.write_side-end.ensures.same in (
       taken_of c.write_side-end.new.from,
       (c.drop_rest.ensures.same.0 ∙ same.0, c.drop_rest.ensures.same.1 ∙ same.1),

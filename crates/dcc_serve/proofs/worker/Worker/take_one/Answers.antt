@@ -7,9 +7,10 @@ pub returns-in-Request : goal.returns-in-Request
 returns-in-Request g c = record {
   one = work.Request c.in-Request.request;
   taken = taken_one c.args.self.now.from c.next.new.from (work.Request c.in-Request.request) c.in-Request.ensures.taken;
-  done = c.answer.ensures;
+  done = c.answer.ensures.answered;
   ended_is = refl;
-  senders = c.in-Request.ensures.same.1;
+  same = c.in-Request.ensures.same;
+  lanes = c.answer.ensures.lanes;
   shard = refl;
 }
 
@@ -19,7 +20,8 @@ returns-in-Sweep g c = record {
   taken = taken_one c.args.self.now.from c.next.new.from (work.Sweep c.in-Sweep.moment) c.in-Sweep.ensures.taken;
   done = (c.sweep.ensures, refl);
   ended_is = refl;
-  senders = c.in-Sweep.ensures.same.1;
+  same = c.in-Sweep.ensures.same;
+  lanes = refl;
   shard = refl;
 }
 
@@ -27,8 +29,9 @@ pub returns-in-End : goal.returns-in-End
 returns-in-End g c = record {
   one = work.End c.in-End.gate;
   taken = taken_one c.args.self.now.from c.next.new.from (work.End c.in-End.gate) c.in-End.ensures.taken;
-  done = (refl, c.put_into.ensures);
+  done = (refl, c.put_into.ensures.put);
   ended_is = refl;
-  senders = c.in-End.ensures.same.1;
+  same = c.in-End.ensures.same;
+  lanes = c.put_into.ensures.lanes;
   shard = refl;
 }

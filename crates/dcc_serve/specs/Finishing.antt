@@ -1,0 +1,93 @@
+-- How the lanes of a round end, once its threads have.
+use Rattle.std.specs.Prelude.{◌≡◌, ℕ, List, [], ◌∷◌, ◌++◌, map, Option, Some, None}
+use Rattle.std.specs.Global.{Vec}
+use Rattle.std.specs.List.{filter_map}
+use Rattle.atomic_table.specs.Seated.{TableId}
+use Rattle.dcc_connect.specs.declared.writing.Item.{Item}
+use Rattle.dcc_lane.specs.Ends.{lane_of, lane_of_sender}
+use Rattle.dcc_lane.specs.declared.receiver.Receiver.{Receiver}
+use Rattle.dcc_lane.specs.declared.sender.Sender.{Sender}
+use Rattle.dcc_serve.specs.Counting.{seat_in}
+use Rattle.dcc_serve.specs.Lanes.{AreAllHeard, AreOfLanes, lanes_of, lists_of}
+use Rattle.dcc_serve.specs.declared.finishing.Parts.{Parts}
+use Rattle.dcc_serve.specs.declared.tasks.Task.{Task}
+use Rattle.dcc_serve.specs.declared.tasks.Task.TheVariants as task
+use Rattle.dcc_serve.specs.declared.work.Work.{Work}
+
+-- which lanes a thread has ends of
+pub record Ends : Type 0 where
+  pub work : Option TableId
+  pub asks : Option (List TableId)
+  pub items : Option TableId
+  pub reply : Option TableId
+  pub answers : Option (List TableId)
+
+-- of some threads the readers, and so each worker, has a sender of each lane that it puts into
+pub record AreTied (ends : List Ends) : Type 0 where
+  pub asked : AreOfLanes (filter_map (λ (e : Ends). e.work) ends) (filter_map (λ (e : Ends). e.asks) ends)
+  pub answered : AreOfLanes (filter_map (λ (e : Ends). e.items) ends) (filter_map (λ (e : Ends). e.reply) ends ∷ filter_map (λ (e : Ends). e.answers) ends)
+
+-- one more, where there is one
+abbrev pub with : {X : Type 0} → List X → Option X → List X
+with xs None = xs
+with xs (Some x) = xs ++ x ∷ []
+
+module _ {I O : Type 0} where
+  -- the lane that a worker takes of, and its senders to the gateways' writers
+  abbrev pub work_in : Task I O → Option (Receiver Work)
+  work_in (task.Read input reader) = None
+  work_in (task.Write gate output from answers) = None
+  work_in (task.Work worker) = Some worker.from
+
+  abbrev pub answers_of : Task I O → Option (Vec (Sender Item))
+  answers_of (task.Read input reader) = None
+  answers_of (task.Write gate output from answers) = None
+  answers_of (task.Work worker) = Some worker.writers
+
+  -- a reader's senders to the workers, and the one to its writer
+  abbrev pub asks_of : Task I O → Option (Vec (Sender Work))
+  asks_of (task.Read input reader) = Some reader.workers
+  asks_of (task.Write gate output from answers) = None
+  asks_of (task.Work worker) = None
+
+  abbrev pub reply_of : Task I O → Option (Sender Item)
+  reply_of (task.Read input reader) = Some reader.writer
+  reply_of (task.Write gate output from answers) = None
+  reply_of (task.Work worker) = None
+
+  -- the lane that a writer takes of
+  abbrev pub items_in : Task I O → Option (Receiver Item)
+  items_in (task.Read input reader) = None
+  items_in (task.Write gate output from answers) = Some from
+  items_in (task.Work worker) = None
+
+  abbrev pub ends_in : Task I O → Ends
+  ends_in (task.Read input reader) =
+      record { work = None; asks = Some (lanes_of reader.workers.items); items = None; reply = Some (lane_of_sender reader.writer); answers = None }
+  ends_in (task.Write gate output from answers) = record { work = None; asks = None; items = Some (lane_of from); reply = None; answers = None }
+  ends_in (task.Work worker) =
+      record { work = Some (lane_of worker.from); asks = None; items = None; reply = None; answers = Some (lanes_of worker.writers.items) }
+
+  -- what a thread leaves is behind what was there, each with its kind
+  pub record AddsTask (one : Task I O) (old new : Parts) : Type 0 where
+    pub seats : new.seats.items ≡ with old.seats.items (seat_in one)
+    pub work : new.work.items ≡ with old.work.items (work_in one)
+    pub answers : new.answers.items ≡ with old.answers.items (answers_of one)
+    pub asks : new.asks.items ≡ with old.asks.items (asks_of one)
+    pub replies : new.replies.items ≡ with old.replies.items (reply_of one)
+    pub items : new.items.items ≡ with old.items.items (items_in one)
+
+  -- the ends and the seats of some threads, each with those of its kind
+  pub record ArePartsOf (tasks : List (Task I O)) (parts : Parts) : Type 0 where
+    pub seats : parts.seats.items ≡ filter_map seat_in tasks
+    pub work : parts.work.items ≡ filter_map work_in tasks
+    pub asks : parts.asks.items ≡ filter_map asks_of tasks
+    pub items : parts.items.items ≡ filter_map items_in tasks
+    pub replies : parts.replies.items ≡ filter_map reply_of tasks
+    pub answers : parts.answers.items ≡ filter_map answers_of tasks
+
+  -- What the worker of a shard took of a gateway's reader is a beginning of what that put for it, and the worker took nothing else. So it is of what a
+  -- gateway's writer took of its reader and of each worker.
+  pub record AreFinished (tasks : List (Task I O)) : Type 0 where
+    pub asked : AreAllHeard (filter_map work_in tasks) (lists_of (filter_map asks_of tasks))
+    pub answered : AreAllHeard (filter_map items_in tasks) (filter_map reply_of tasks ∷ lists_of (filter_map answers_of tasks))

@@ -1,0 +1,189 @@
+//! How the lanes of a round end.
+
+ghost use Rattle.std.specs.Prelude.{◌≡◌, ◌∷◌, [], false, map, IfErr, IfOk, OnOk};
+ghost use Rattle.std.specs.List.{All, filter_map};
+ghost use Rattle.dcc_lane.specs.Ends.{IsOfLane, lane_of};
+ghost use Rattle.dcc_serve.specs.Counting.{seat_in};
+ghost use Rattle.dcc_serve.specs.Finishing.{AddsTask, AreFinished, ArePartsOf, AreTied, ends_in};
+ghost use Rattle.dcc_serve.specs.Lanes.{AreAllHeard, AreOfLanes, IsHeard, firsts, lanes_of, lists_of, rests};
+ghost use Rattle.dcc_serve.specs.Lines.{is_store};
+
+use crate::fault::{ServeFault, of_lane};
+use crate::lanes::first_of;
+use crate::reader::Reader;
+use crate::tasks::Task;
+use crate::work::Work;
+use crate::worker::Worker;
+use dcc_connect::Item;
+use dcc_lane::{Receiver, Sender};
+use dcc_running::Seat;
+use std::alloc::{AllocError, Global};
+
+/// What the threads of a round leave: the seats of its workers, and all ends of its lanes, each with those of its kind.
+#[derive(Drop)]
+pub(crate) struct Parts {
+    pub seats: Vec<Seat>,
+    /// Of the workers, by shard: the lane that each takes of, and its senders to the writers.
+    pub work: Vec<Receiver<Work>>,
+    pub answers: Vec<Vec<Sender<Item>>>,
+    /// Of the readers, by gateway: each one's senders to the workers, and the one to its writer.
+    pub asks: Vec<Vec<Sender<Work>>>,
+    pub replies: Vec<Sender<Item>>,
+    /// Of the writers, by gateway: the lane that each takes of.
+    pub items: Vec<Receiver<Item>>,
+}
+
+/// Ends each lane of a round with all its senders, and gives the seats of the workers, in order. The condition: each reader and each worker has a
+/// sender of every lane that it puts into.
+///
+/// Errors: memory was short, or a sender is missing.
+pub(crate) fn finished<I: Drop, O: Drop>(
+    alloc: Global,
+    tasks: Vec<Task<I, O>>,
+) -> Result<Vec<Seat>, ServeFault>
+    requires { AreTied (map ends_in tasks.items) }
+    ensures seats { IfOk result (λ seats. seats.items ≡ filter_map seat_in tasks.items) }
+    ensures finished { OnOk result (AreFinished tasks.items) }
+    ensures fault { IfErr result (λ fault. is_store fault ≡ false) }
+{
+    let Parts {
+        seats,
+        work,
+        answers,
+        asks,
+        replies,
+        items,
+    } = parted(alloc, tasks)?;
+    finish_all(alloc, work, asks)?;
+    let mut putters = answers;
+    putters.insert(0, replies)?;
+    finish_all(alloc, items, putters)?;
+    Ok(seats)
+}
+
+/// Takes threads apart. The only error is want of memory.
+fn parted<I: Drop, O: Drop>(alloc: Global, tasks: Vec<Task<I, O>>) -> Result<Parts, AllocError>
+    ensures { IfOk result (λ parts. ArePartsOf tasks.items parts) }
+{
+    let mut parts = Parts::new(alloc);
+    for task in tasks {
+        parts = with_task(parts, task)?;
+    }
+    Ok(parts)
+}
+
+impl Parts {
+    /// No parts yet. It takes no memory.
+    fn new(alloc: Global) -> Parts
+        ensures seats { result.seats.items ≡ [] }
+        ensures work { result.work.items ≡ [] }
+        ensures answers { result.answers.items ≡ [] }
+        ensures asks { result.asks.items ≡ [] }
+        ensures replies { result.replies.items ≡ [] }
+        ensures items { result.items.items ≡ [] }
+    {
+        Parts {
+            seats: Vec::new(alloc),
+            work: Vec::new(alloc),
+            answers: Vec::new(alloc),
+            asks: Vec::new(alloc),
+            replies: Vec::new(alloc),
+            items: Vec::new(alloc),
+        }
+    }
+}
+
+/// These parts, and what one thread more leaves. The only error is want of memory.
+fn with_task<I: Drop, O: Drop>(parts: Parts, task: Task<I, O>) -> Result<Parts, AllocError>
+    ensures { IfOk result (λ more. AddsTask task parts more) }
+{
+    let mut parts = parts;
+    match task {
+        Task::Read { input: _, reader } => {
+            let Reader {
+                gate: _,
+                peer: _,
+                workers,
+                writer,
+                sweeps: _,
+                requests: _,
+            } = reader;
+            parts.asks.push(workers)?;
+            parts.replies.push(writer)?;
+            Ok(parts)
+        }
+        Task::Write {
+            gate: _,
+            output: _,
+            from,
+            answers: _,
+        } => {
+            parts.items.push(from)?;
+            Ok(parts)
+        }
+        Task::Work(worker) => {
+            let Worker {
+                shard: _,
+                seat,
+                from,
+                writers,
+            } = worker;
+            parts.seats.push(seat)?;
+            parts.work.push(from)?;
+            parts.answers.push(writers)?;
+            Ok(parts)
+        }
+    }
+}
+
+/// Ends each of these lanes with its sender of each list.
+fn finish_all<T: Drop>(
+    alloc: Global,
+    receivers: Vec<Receiver<T>>,
+    senders: Vec<Vec<Sender<T>>>,
+) -> Result<(), ServeFault>
+    requires { AreOfLanes (map lane_of receivers.items) (map lanes_of (lists_of senders.items)) }
+    ensures heard { OnOk result (AreAllHeard receivers.items (lists_of senders.items)) }
+    ensures fault { IfErr result (λ fault. is_store fault ≡ false) }
+{
+    let mut receivers = receivers;
+    let mut senders = senders;
+    while let Some(receiver) = first_of(&mut receivers) {
+        let (firsts, rests) = firsts_of(alloc, senders)?;
+        senders = rests;
+        finish(receiver, firsts)?;
+    }
+    Ok(())
+}
+
+/// Ends a lane with all its senders.
+fn finish<T: Drop>(receiver: Receiver<T>, senders: Vec<Sender<T>>) -> Result<(), ServeFault>
+    requires { All (IsOfLane (lane_of receiver)) senders.items }
+    ensures heard { OnOk result (IsHeard receiver senders.items) }
+    ensures fault { IfErr result (λ fault. is_store fault ≡ false) }
+{
+    match receiver.finish(senders) {
+        Ok(_counts) => Ok(()),
+        Err(unfinished) => Err(of_lane(unfinished.fault)),
+    }
+}
+
+/// The first sender of each list, and what is behind it. The only error is want of memory.
+fn firsts_of<T: Drop>(
+    alloc: Global,
+    lists: Vec<Vec<Sender<T>>>,
+) -> Result<(Vec<Sender<T>>, Vec<Vec<Sender<T>>>), AllocError>
+    ensures firsts { IfOk result (λ r. r.0.items ≡ firsts (lists_of lists.items)) }
+    ensures rests { IfOk result (λ r. lists_of r.1.items ≡ rests (lists_of lists.items)) }
+{
+    let mut lists = lists;
+    let mut firsts = Vec::with_capacity(alloc, lists.len())?;
+    let mut rests = Vec::with_capacity(alloc, lists.len())?;
+    while let Some(mut list) = first_of(&mut lists) {
+        if let Some(sender) = first_of(&mut list) {
+            firsts.push(sender)?;
+        }
+        rests.push(list)?;
+    }
+    Ok((firsts, rests))
+}
