@@ -1,5 +1,5 @@
 -- What a command does over the store of one shard.
-use Rattle.std.specs.Prelude.{⊤, ◌≡◌, ◌≢◌, ℕ, List, [], Option, Some, None}
+use Rattle.std.specs.Prelude.{⊤, ◌≡◌, ◌≢◌, ℕ, Bool, List, [], Option, Some, None}
 use Rattle.std.specs.Io.KnownBytes.{Appends}
 use Rattle.dcc_tariff.specs.Plans.{PlanView}
 use Rattle.dcc_message.specs.declared.identity.Identity.{Identity}
@@ -9,6 +9,10 @@ use Rattle.dcc_shard.specs.Answers.{IsTold, is_judged_top_up, top_up_act}
 use Rattle.dcc_shard.specs.Routes.{shard_of}
 use Rattle.dcc_shard.specs.Shards.{ShardView, held, AreOwn, IsStep}
 use Rattle.dcc_operator.specs.declared.commands.TopUpAsk.{TopUpAsk}
+use Rattle.dcc_records.specs.Contents.{Content}
+use Rattle.dcc_operator.specs.declared.fault.OperatorFault.{OperatorFault}
+use Rattle.dcc_operator.specs.declared.fault.OperatorFault.TheVariants.{Store}
+use Rattle.dcc_operator.specs.Openings.{IsFaultOver}
 use Rattle.dcc_operator.specs.Ledgers.{page_of, unknown_line}
 use Rattle.dcc_operator.specs.Texts.{IsBegun}
 use Rattle.dcc_operator.specs.TopUps.{line_of}
@@ -31,8 +35,16 @@ pub record IsMade (plan : PlanView) (identity : Identity) (ask : TopUpAsk) (answ
 abbrev pub IsToppedUp : PlanView → Identity → TopUpAsk → ShardView → (old new : Option (List ℕ)) → Type 0
 IsToppedUp plan identity ask after old new = (answer : TopUpAnswer) × IsMade plan identity ask answer after × Appends old new (line_of answer)
 
-abbrev pub IsToppedUpBegun : PlanView → Identity → TopUpAsk → (old new : Option (List ℕ)) → Type 0
-IsToppedUpBegun plan identity ask old new = (answer : TopUpAnswer) × (after : ShardView) × IsMade plan identity ask answer after × IsBegun (line_of answer) old new
+abbrev pub IsToppedUpBegun : PlanView → Identity → TopUpAsk → ShardView → (old new : Option (List ℕ)) → Type 0
+IsToppedUpBegun plan identity ask after old new = (answer : TopUpAnswer) × IsMade plan identity ask answer after × IsBegun (line_of answer) old new
+
+-- a top-up isn't made, and its fault is told: the store wasn't opened, and opening refused it with this number; or no shard is made over its
+-- records, for the fault of this number, and a stop leaves of them what it left before
+abbrev pub IsRefused : {R : Type 0} → (ℕ → Type 0) → (R → Type 0) → (R → Content → Type 0) → (R → Bool) → ℕ → ℕ → OperatorFault → Option R → Type 0
+IsRefused refuses opens may_leave is_stopped index count fault None = (number : ℕ) × (fault ≡ Store number) × refuses number
+IsRefused {R} refuses opens may_leave is_stopped index count fault (Some records) =
+    (number : ℕ) × (fault ≡ Store number) × (given : R) × opens given × IsFaultOver may_leave is_stopped given index count number
+    × ((found : Content) → may_leave records found → may_leave given found)
 
 -- what is written of a subscriber: its ledger by the shard that was opened, or that its account is unknown where there was none
 abbrev pub shown_of : Option ShardView → Sub → List ℕ

@@ -1,6 +1,9 @@
--- A shard over the records of a store that was opened.
+-- A shard over the records of a store that was opened, and why there is none.
+use Rattle.std.specs.Prelude.{◌≡◌, ◌≢◌, ◌⊎◌, ℕ, Bool, true, false, []}
+use Rattle.dcc_act.specs.declared.sub.Sub.{Sub}
 use Rattle.dcc_records.specs.Contents.{Content}
 use Rattle.dcc_records.specs.Stops.{LeavesOnly}
+use Rattle.dcc_shard.specs.Routes.{shard_of}
 use Rattle.dcc_shard.specs.Shards.{held}
 use Rattle.dcc_shard.specs.Stored.{StoredView}
 
@@ -10,3 +13,19 @@ pub record IsOpenedOver {R : Type 0} (opens : R → Type 0) (may_leave : R → C
   pub opened : opens given
   pub same : (found : Content) → may_leave stored.records found → may_leave given found
   pub left : LeavesOnly stored.shard.terms (held stored.shard) (may_leave stored.records)
+
+-- the records have acts of a subscriber of another shard than that of this index, of so many
+abbrev pub HasOthers : {R : Type 0} → (R → Content → Type 0) → R → ℕ → ℕ → Type 0
+HasOthers {R} may_leave records index count =
+    (stored : StoredView R) × IsOpenedOver (λ given. given ≡ records) may_leave stored × (¬ ((sub : Sub) → held stored.shard sub ≢ [] → shard_of sub count ≡ index))
+
+-- The number of the fault of records over which no shard is made, with its cause: 50 want of memory and 51 a failure, each of records that
+-- weren't stopped, 52 records that were, 54 acts of another shard's subscriber.
+abbrev pub IsFaultOver : {R : Type 0} → (R → Content → Type 0) → (R → Bool) → R → ℕ → ℕ → ℕ → Type 0
+IsFaultOver may_leave is_stopped records index count number =
+    ((number ≡ 50) × (is_stopped records ≡ false)) ⊎ (((number ≡ 51) × (is_stopped records ≡ false)) ⊎ (((number ≡ 52) × (is_stopped records ≡ true)) ⊎ ((number ≡ 54) × HasOthers may_leave records index count)))
+
+-- a store can't be used, by the number of its fault: opening refused it so, or no shard is made over the records that it gave
+abbrev pub IsUnusable : {R : Type 0} → (ℕ → Type 0) → (R → Type 0) → (R → Content → Type 0) → (R → Bool) → ℕ → ℕ → ℕ → Type 0
+IsUnusable {R} refuses opens may_leave is_stopped index count number =
+    refuses number ⊎ ((given : R) × opens given × IsFaultOver may_leave is_stopped given index count number)

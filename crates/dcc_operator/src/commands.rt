@@ -1,19 +1,19 @@
 //! Commands over the stores in a folder.
 
-ghost use Rattle.std.specs.Prelude.{◌≡◌, ◌≢◌, Bool, false, IfOk, IfErr, IfSome, option_map};
+ghost use Rattle.std.specs.Prelude.{◌≡◌, ◌≢◌, ℕ, Bool, false, IfOk, IfErr, IfSome, IfNone, IsSomeAnd, option_map};
 ghost use Rattle.std.specs.Io.KnownBytes.{Keeps};
 ghost use Rattle.dcc_records.specs.Stops.{LeavesOnly};
 ghost use Rattle.dcc_shard.specs.Answers.{top_up_act};
 ghost use Rattle.dcc_shard.specs.Routes.{shard_of};
-ghost use Rattle.dcc_shard.specs.Shards.{held, IsStep};
+ghost use Rattle.dcc_shard.specs.Shards.{ShardView, held, IsStep};
 ghost use Rattle.dcc_shard.specs.Stored.{StoredView};
-ghost use Rattle.dcc_operator.specs.Commands.{IsToppedUp, IsToppedUpBegun, IsShown, IsShownBegun};
-ghost use Rattle.dcc_operator.specs.Openings.{IsOpenedOver};
-ghost use Rattle.dcc_operator.specs.declared.fault.OperatorFault.TheVariants.{Output};
+ghost use Rattle.dcc_operator.specs.Commands.{IsToppedUp, IsToppedUpBegun, IsRefused, IsShown, IsShownBegun};
+ghost use Rattle.dcc_operator.specs.Openings.{IsOpenedOver, IsUnusable};
+ghost use Rattle.dcc_operator.specs.declared.fault.OperatorFault.TheVariants.{Output, Store};
 
 use crate::fault::OperatorFault;
 use crate::ledger::{ledger_run, unknown_run};
-use crate::stores::{Stores, shard_over};
+use crate::stores::{Stores, shard_or_back, shard_over};
 use crate::top_up::top_up_run;
 use dcc_act::{Moment, Sub};
 use dcc_message::Identity;
@@ -35,10 +35,10 @@ pub struct TopUpAsk {
 }
 
 /// Opens the store of the subscriber's shard alone, or makes it where there is none, makes the top-up, and writes in one word and a
-/// line feed what it was told. It gives the shard.
+/// line feed what it was told. It gives the shard. Where it gives none, the records are handed back, and only a top-up that was told is in them.
 ///
-/// Errors: [`OperatorFault::Memory`] and [`OperatorFault::Store`], nothing is written, and the top-up isn't made; [`OperatorFault::Output`],
-/// a beginning is written, and the top-up stands.
+/// Errors: [`OperatorFault::Store`], nothing is written, and the top-up isn't made: without records the store wasn't opened, and those that
+/// are handed back are as opening gave them; [`OperatorFault::Output`], a beginning is written, and the top-up stands as it was told.
 pub fn top_up_in<S: Stores, W: Write>(
     alloc: Global,
     stores: &S,
@@ -48,7 +48,7 @@ pub fn top_up_in<S: Stores, W: Write>(
     ask: TopUpAsk,
     output: &mut W,
     hasher: RandomState,
-) -> Result<Shard<S::Records>, OperatorFault>
+) -> Result<Shard<S::Records>, (OperatorFault, Option<S::Records>)>
     ensures done { IfOk result (λ shard. IsToppedUp plan.now identity.now ask shard.shard (W.contents output.old) (W.contents output.new)) }
     // What was told is in the records, and a stop leaves it and nothing else.
     ensures left { IfOk result (λ shard. S.Records.is_stopped shard.records ≡ false
@@ -57,18 +57,31 @@ pub fn top_up_in<S: Stores, W: Write>(
     ensures opened { IfOk result (λ shard. (before : StoredView S.Records) × (judged : Bool)
         × IsOpenedOver (S.opens stores.now folder.now plan.now (shard_of ask.sub plan.now.shards)) S.Records.may_leave before
         × IsStep before.shard shard.shard judged ask.sub (top_up_act ask.moment ask.ticket ask.amount)) }
-    ensures silent { IfErr result (λ fault. fault ≢ Output → Keeps (W.contents output.old) (W.contents output.new)) }
-    ensures part { IfErr result (λ fault. fault ≡ Output → IsToppedUpBegun plan.now identity.now ask (W.contents output.old) (W.contents output.new)) }
+    // Where the output didn't fail, nothing was made, and the fault is the store's.
+    ensures refused { IfErr result (λ failed. failed.0 ≢ Output → IsRefused (S.refuses stores.now folder.now plan.now (shard_of ask.sub plan.now.shards))
+        (S.opens stores.now folder.now plan.now (shard_of ask.sub plan.now.shards)) S.Records.may_leave S.Records.is_stopped (shard_of ask.sub plan.now.shards) plan.now.shards failed.0 failed.1) }
+    // Where it failed, the records are handed back with what was told.
+    ensures stands { IfErr result (λ failed. failed.0 ≡ Output → IsSomeAnd failed.1 (λ records. (after : ShardView) × IsToppedUpBegun plan.now identity.now ask after
+        (W.contents output.old) (W.contents output.new) × (S.Records.is_stopped records ≡ false → LeavesOnly after.terms (held after) (S.Records.may_leave records)))) }
+    ensures silent { IfErr result (λ failed. failed.0 ≢ Output → Keeps (W.contents output.old) (W.contents output.new)) }
 {
     let count = usize::from(plan.shards());
     let index = shard_of(&ask.sub, count);
-    let records = stores.open_or_make(folder, plan, index, hasher)?;
-    let mut shard = shard_over(alloc, identity, records, index, count, hasher)?;
+    let records = match stores.open_or_make(folder, plan, index, hasher) {
+        Ok(records) => records,
+        Err(refusal) => return Err((OperatorFault::from(refusal), None)),
+    };
+    let mut shard = match shard_or_back(alloc, identity, records, index, count, hasher) {
+        Ok(shard) => shard,
+        Err((refusal, records)) => return Err((OperatorFault::from(refusal), Some(records))),
+    };
     let (_answer, written) = top_up_run(
         alloc, &mut shard, ask.sub, ask.moment, ask.ticket, ask.amount, output,
     );
-    written?;
-    Ok(shard)
+    match written {
+        Ok(()) => Ok(shard),
+        Err(fault) => Err((OperatorFault::from(fault), Some(shard.into_records()))),
+    }
 }
 
 /// Writes the ledger of a subscriber, from the store of its shard; or, where there is no such store, that its account is unknown. No
@@ -89,6 +102,11 @@ pub fn ledger_in<S: Stores, W: Write>(
     // The store is that of the subscriber's shard, and nothing was made in it.
     ensures opened { IfOk result (λ shard. IfSome shard
         (IsOpenedOver (S.opens stores.now folder.now plan.now (shard_of sub plan.now.shards)) S.Records.may_leave)) }
+    // None is given only where there is no such store.
+    ensures none { IfOk result (λ shard. IfNone shard (S.lacks stores.now folder.now plan.now (shard_of sub plan.now.shards))) }
+    ensures refused { IfErr result (λ fault. (number : ℕ) → fault ≡ Store number
+        → IsUnusable (S.refuses stores.now folder.now plan.now (shard_of sub plan.now.shards)) (S.opens stores.now folder.now plan.now (shard_of sub plan.now.shards))
+        S.Records.may_leave S.Records.is_stopped (shard_of sub plan.now.shards) plan.now.shards number) }
     ensures silent { IfErr result (λ fault. fault ≢ Output → Keeps (W.contents output.old) (W.contents output.new)) }
     ensures part { IfErr result (λ fault. fault ≡ Output → IsShownBegun plan.now identity.now sub (W.contents output.old) (W.contents output.new)) }
 {

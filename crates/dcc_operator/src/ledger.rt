@@ -1,11 +1,11 @@
 //! The ledger of a subscriber.
 
-ghost use Rattle.std.specs.Prelude.{◌≡◌, ◌≢◌, IfOk, IfErr, OnOk};
+ghost use Rattle.std.specs.Prelude.{◌≡◌, ◌≢◌, ◌⊎◌, IfOk, IfErr, OnOk};
 ghost use Rattle.std.specs.Io.KnownBytes.{Keeps, Appends};
 ghost use Rattle.dcc_shard.specs.Shards.{held};
 ghost use Rattle.dcc_operator.specs.Ledgers.{page_of, unknown_line};
 ghost use Rattle.dcc_operator.specs.Texts.{IsBegun};
-ghost use Rattle.dcc_operator.specs.declared.fault.OperatorFault.TheVariants.{Output};
+ghost use Rattle.dcc_operator.specs.declared.fault.OperatorFault.TheVariants.{Memory, Output};
 
 use crate::fault::OperatorFault;
 use dcc_act::Sub;
@@ -27,6 +27,7 @@ pub fn ledger_run<R: Records, W: Write>(
     output: &mut W,
 ) -> Result<(), OperatorFault>
     ensures whole { OnOk result (Appends (W.contents output.old) (W.contents output.new) (page_of shard.now.shard.terms sub (held shard.now.shard sub))) }
+    ensures faults { IfErr result (λ fault. (fault ≡ Memory) ⊎ (fault ≡ Output)) }
     ensures silent { IfErr result (λ fault. fault ≢ Output → Keeps (W.contents output.old) (W.contents output.new)) }
     ensures part { IfErr result (λ fault. fault ≡ Output
         → IsBegun (page_of shard.now.shard.terms sub (held shard.now.shard sub)) (W.contents output.old) (W.contents output.new)) }
@@ -41,6 +42,7 @@ pub fn ledger_run<R: Records, W: Write>(
 /// Errors: as of [`ledger_run`].
 pub fn unknown_run<W: Write>(alloc: Global, sub: Sub, output: &mut W) -> Result<(), OperatorFault>
     ensures whole { OnOk result (Appends (W.contents output.old) (W.contents output.new) (unknown_line sub)) }
+    ensures faults { IfErr result (λ fault. (fault ≡ Memory) ⊎ (fault ≡ Output)) }
     ensures silent { IfErr result (λ fault. fault ≢ Output → Keeps (W.contents output.old) (W.contents output.new)) }
     ensures part { IfErr result (λ fault. fault ≡ Output → IsBegun (unknown_line sub) (W.contents output.old) (W.contents output.new)) }
 {

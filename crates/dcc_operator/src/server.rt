@@ -1,12 +1,12 @@
 //! The shards of a server.
 
-ghost use Rattle.std.specs.Prelude.{◌≡◌, ◌≢◌, ◌<◌, ◌≤◌, ℕ, [], IfOk, length, slice_index_or};
+ghost use Rattle.std.specs.Prelude.{◌≡◌, ◌≢◌, ◌<◌, ◌≤◌, ◌⊎◌, ℕ, [], IfOk, IfErr, length, slice_index_or};
 ghost use Rattle.dcc_act.specs.declared.sub.Sub.{Sub};
 ghost use Rattle.dcc_records.specs.Stops.{LeavesOnly};
 ghost use Rattle.dcc_shard.specs.Shards.{held, AreOwn};
 ghost use Rattle.dcc_shard.specs.Routes.{shard_of};
 ghost use Rattle.dcc_shard.specs.Stored.{StoredView};
-ghost use Rattle.dcc_operator.specs.Openings.{IsOpenedOver};
+ghost use Rattle.dcc_operator.specs.Openings.{IsOpenedOver, IsUnusable};
 
 use crate::stores::{StoreRefusal, Stores, shard_over};
 use dcc_message::Identity;
@@ -47,6 +47,9 @@ pub fn shards_over<S: Stores>(
     // Each is over the store of its index, and nothing was made in it.
     ensures opened { IfOk result (λ shards. (i : ℕ) (none : StoredView S.Records) → i < length shards.items
         → IsOpenedOver (S.opens stores.now folder.now plan.now i) S.Records.may_leave (slice_index_or shards.items i none)) }
+    // The fault is that of one of the stores, or want of memory for the list.
+    ensures refused { IfErr result (λ refusal. (refusal.0 ≡ 50) ⊎ ((i : ℕ) × (i < plan.now.shards) × IsUnusable (S.refuses stores.now folder.now plan.now i)
+        (S.opens stores.now folder.now plan.now i) S.Records.may_leave S.Records.is_stopped i plan.now.shards refusal.0)) }
 {
     let count = usize::from(plan.shards());
     let mut shards = Vec::with_capacity(alloc, count)?;

@@ -1,14 +1,14 @@
 //! Where the records of shards are kept.
 
-ghost use Rattle.std.specs.Prelude.{◌≡◌, ◌↔◌, ◌≢◌, ◌<◌, ◌⊎◌, true, false, [], IfOk, IfErr, IfSome};
+ghost use Rattle.std.specs.Prelude.{◌≡◌, ◌≢◌, ◌<◌, [], IfOk, IfErr, IfSome, IfNone};
 ghost use Rattle.dcc_act.specs.declared.sub.Sub.{Sub};
 ghost use Rattle.dcc_records.specs.Faults.{fault_number};
 ghost use Rattle.dcc_records.specs.Contents.{Content};
 ghost use Rattle.dcc_records.specs.Stops.{LeavesOnly};
 ghost use Rattle.dcc_shard.specs.Shards.{held, AreOwn};
 ghost use Rattle.dcc_shard.specs.Routes.{shard_of};
-ghost use Rattle.dcc_shard.specs.Stored.{IsLeft, StoredView};
-ghost use Rattle.dcc_operator.specs.Openings.{IsOpenedOver};
+ghost use Rattle.dcc_shard.specs.Stored.{IsLeft};
+ghost use Rattle.dcc_operator.specs.Openings.{IsFaultOver};
 
 use dcc_message::Identity;
 use dcc_records::{Records, StoreFault};
@@ -41,7 +41,7 @@ impl From<StoreFault> for StoreRefusal {
 }
 
 /// Where the records of shards are kept: a store for each, in a folder. What opening does to files has no contract here, but that
-/// records are under the plan's terms.
+/// records are under the plan's terms, and which numbers its refusals have.
 pub trait Stores {
     ghost use Rattle.std.specs.Prelude.{ℕ, List};
     ghost use Rattle.dcc_tariff.specs.Plans.{PlanView};
@@ -50,6 +50,12 @@ pub trait Stores {
 
     /// The records that an opening may give: of a folder, under a plan, of the shard of an index.
     ghost opens: { Self → List ℕ → PlanView → ℕ → Self.Records → Type 0 };
+
+    /// The numbers of the faults for which an opening may refuse that store.
+    ghost refuses: { Self → List ℕ → PlanView → ℕ → ℕ → Type 0 } = { λ _ _ _ _ _. Unit {0} };
+
+    /// Where there is no such store.
+    ghost lacks: { Self → List ℕ → PlanView → ℕ → Type 0 } = { λ _ _ _ _. Unit {0} };
 
     /// The records of a shard, by its index, of a server under this plan, or none where there is no store yet. No store is made.
     fn open(
@@ -60,7 +66,9 @@ pub trait Stores {
         hasher: RandomState,
     ) -> Result<Option<Self::Records>, StoreRefusal>
         ensures terms { IfOk result (λ found. IfSome found (λ records. Self.Records.terms records ≡ plan.now.terms)) }
-        ensures given { IfOk result (λ found. IfSome found (opens self.now folder.now plan.now shard)) };
+        ensures given { IfOk result (λ found. IfSome found (opens self.now folder.now plan.now shard)) }
+        ensures none { IfOk result (λ found. IfNone found (lacks self.now folder.now plan.now shard)) }
+        ensures refused { IfErr result (λ refusal. refuses self.now folder.now plan.now shard refusal.0) };
 
     /// The same, and an empty store is made where there is none.
     fn open_or_make(
@@ -71,7 +79,8 @@ pub trait Stores {
         hasher: RandomState,
     ) -> Result<Self::Records, StoreRefusal>
         ensures terms { IfOk result (λ records. Self.Records.terms records ≡ plan.now.terms) }
-        ensures given { IfOk result (opens self.now folder.now plan.now shard) };
+        ensures given { IfOk result (opens self.now folder.now plan.now shard) }
+        ensures refused { IfErr result (λ refusal. refuses self.now folder.now plan.now shard refusal.0) };
 }
 
 /// The shard of these records, whose subscribers have to be those that `dcc_shard::shard_of` gives the shard of this index, of so many. The
@@ -97,20 +106,46 @@ pub fn shard_over<R: Records + Drop>(
     ensures same { IfOk result (λ shard. (found : Content) → R.may_leave shard.records found → R.may_leave records found) }
     ensures there { IfOk result (λ shard. R.is_honest shard.records → IsLeft shard.shard.terms (held shard.shard) (R.may_leave shard.records)) }
     ensures going { IfOk result (λ shard. R.is_stopped shard.records ≡ R.is_stopped records) }
-    // The number of a fault: those of the records, each only where they have it, and 54.
-    ensures device { IfErr result (λ refusal. refusal.0 ≡ 51 → R.is_stopped records ≡ false) }
-    ensures stopped { IfErr result (λ refusal. refusal.0 ≡ 52 → R.is_stopped records ≡ true) }
-    ensures others { IfErr result (λ refusal. refusal.0 ≡ 54 → (stored : StoredView R) × IsOpenedOver (λ given. given ≡ records) R.may_leave stored
-        × (¬ ((sub : Sub) → held stored.shard sub ≢ [] → shard_of sub count ≡ index))) }
-    ensures number { IfErr result (λ refusal. (refusal.0 ≡ 50) ⊎ (refusal.0 ≡ 51) ⊎ (refusal.0 ≡ 52) ⊎ (refusal.0 ≡ 54)) }
+    ensures refused { IfErr result (λ refusal. IsFaultOver R.may_leave R.is_stopped records index count refusal.0) }
+{
+    match shard_or_back(alloc, identity, records, index, count, hasher) {
+        Ok(shard) => Ok(shard),
+        Err((refusal, records)) => {
+            // By a call: records that are let go in place are proved part by part.
+            drop(records);
+            Err(refusal)
+        }
+    }
+}
+
+/// The same, with the records handed back where no shard is made over them: nothing was made in them either.
+pub(crate) fn shard_or_back<R: Records>(
+    alloc: Global,
+    identity: &Identity,
+    records: R,
+    index: usize,
+    count: usize,
+    hasher: RandomState,
+) -> Result<Shard<R>, (StoreRefusal, R)>
+    requires { 0 < count }
+    ensures terms { IfOk result (λ shard. shard.shard.terms ≡ R.terms records) }
+    ensures identity { IfOk result (λ shard. shard.shard.identity ≡ identity.now) }
+    ensures own { IfOk result (λ shard. AreOwn shard.shard) }
+    ensures found { IfOk result (λ shard. LeavesOnly shard.shard.terms (held shard.shard) (R.may_leave shard.records)) }
+    ensures placed { IfOk result (λ shard. (sub : Sub) → held shard.shard sub ≢ [] → shard_of sub count ≡ index) }
+    ensures same { IfOk result (λ shard. (found : Content) → R.may_leave shard.records found → R.may_leave records found) }
+    ensures there { IfOk result (λ shard. R.is_honest shard.records → IsLeft shard.shard.terms (held shard.shard) (R.may_leave shard.records)) }
+    ensures going { IfOk result (λ shard. R.is_stopped shard.records ≡ R.is_stopped records) }
+    ensures refused { IfErr result (λ back. IsFaultOver R.may_leave R.is_stopped records index count back.0.0) }
+    ensures left { IfErr result (λ back. (found : Content) → R.may_leave back.1 found → R.may_leave records found) }
 {
     match Shard::new(alloc, identity, records, hasher) {
         Ok(shard) => {
             if !shard.is_placed(index, count) {
-                return Err(StoreRefusal(54));
+                return Err((StoreRefusal(54), shard.into_records()));
             }
             Ok(shard)
         }
-        Err((fault, _)) => Err(StoreRefusal::from(fault)),
+        Err((fault, records)) => Err((StoreRefusal::from(fault), records)),
     }
 }

@@ -1,10 +1,15 @@
 -- What is known of a command over a store where the plan's file is one of which nothing is known.
-use Rattle.std.proofs.Common.{◌≡◌, ◌⊎◌, inl, inr, ℕ, List, Option, None, Result, Ok, Err, IfErr}
+use Rattle.std.proofs.Common.{◌≡◌, ◌⊎◌, inl, inr, ℕ, List, Option, None, Some, Result, Ok, Err, IfErr, refl}
+use Rattle.std.specs.Prelude.{IsSomeAnd}
 use Rattle.std.specs.Io.KnownBytes.{Keeps}
 use Rattle.dcc_tariff.specs.Plans.{PlanView}
 use Rattle.dcc_act.specs.declared.sub.Sub.{Sub}
 use Rattle.dcc_records.specs.Contents.{Content}
+use Rattle.dcc_shard.specs.Shards.{ShardView}
 use Rattle.dcc_operator.specs.declared.commands.TopUpAsk.{TopUpAsk}
+use Rattle.dcc_operator.specs.declared.fault.OperatorFault.{OperatorFault}
+use Rattle.dcc_operator.specs.declared.fault.OperatorFault.TheVariants as operator
+use Rattle.dcc_program.specs.Failures.{of_operator}
 use Rattle.dcc_program.specs.Stores.{IsTopUp, IsTopUpBegun, IsLedger, IsLedgerBegun, IsStoreFailure}
 use Rattle.dcc_program.specs.declared.failure.Failure.{Failure}
 use Rattle.dcc_program.specs.declared.failure.Failure.TheVariants.{Usage, Memory, Io, Plan, Store, Script, Close}
@@ -42,7 +47,7 @@ failed_of_any file (Err failure) it = failure_of_any file failure it
 begun_top_up : (file : Option (List ℕ)) (ask : TopUpAsk) (old new : Option (List ℕ)) → Keeps old new ⊎ IsTopUpBegun file ask old new
     → Keeps old new ⊎ IsTopUpBegun None ask old new
 begun_top_up file ask old new (inl kept) = inl kept
-begun_top_up file ask old new (inr begun) = inr (begun.0, tt, begun.2)
+begun_top_up file ask old new (inr begun) = inr (begun.0, tt, begun.2, begun.3)
 
 pub top_up_begun_of_any : {T : Type 0} (file : Option (List ℕ)) (ask : TopUpAsk) (old new : Option (List ℕ)) (r : Result T Failure)
     → IfErr r (λ failure. failure ≡ Io → Keeps old new ⊎ IsTopUpBegun file ask old new)
@@ -60,3 +65,15 @@ pub ledger_begun_of_any : {T : Type 0} (file : Option (List ℕ)) (sub : Sub) (o
     → IfErr r (λ failure. failure ≡ Io → Keeps old new ⊎ IsLedgerBegun None sub old new)
 ledger_begun_of_any file sub old new (Ok done) it = tt
 ledger_begun_of_any file sub old new (Err failure) it = λ is. begun_ledger file sub old new (it is)
+
+-- a command over a store that fails at output has a fault of the output
+pub of_output : (fault : OperatorFault) → of_operator fault ≡ Io → fault ≡ operator.Output
+of_output operator.Memory is = cc
+of_output operator.Output is = refl
+of_output (operator.Store number) is = cc
+
+-- what stands with the records that are handed back
+pub stood : {R : Type 0} (records : Option R) (P : ShardView → Type 0) (Q : ShardView → R → Type 0)
+    → IsSomeAnd records (λ given. (after : ShardView) × P after × Q after given) → (after : ShardView) × P after
+stood None P Q it = absurd it
+stood (Some given) P Q it = (it.0, it.1)

@@ -1,9 +1,16 @@
 -- `dcc serve`: what is written, and with which failures it ends.
-use Rattle.std.specs.Prelude.{⊤, ◌≡◌, ◌⊎◌, ℕ, List, ◌++◌, codes, take, Option, None}
+use Rattle.std.specs.Prelude.{⊤, ◌≡◌, ◌<◌, ◌⊎◌, ℕ, Bool, List, ◌++◌, codes, length, slice_index_or, take, Option, None}
 use Rattle.std.specs.Io.KnownBytes.{Appends, Keeps}
 use Rattle.std.specs.Net.Text.{socket_text}
 use Rattle.std.specs.declared.net.SocketAddr.{SocketAddr}
+use Rattle.dcc_records.specs.Contents.{Content}
+use Rattle.dcc_tariff.specs.Plans.{PlanView}
+use Rattle.dcc_shard.specs.Stored.{StoredView}
+use Rattle.dcc_operator.specs.Openings.{IsOpenedOver}
+use Rattle.dcc_replay.specs.Names.{identity_of}
 use Rattle.dcc_serve.specs.Lines.{AreTold, EndsWith}
+use Rattle.dcc_serve.specs.Rounds.{RoundsView}
+use Rattle.dcc_serve.specs.Served.{AreServed, IsRound}
 use Rattle.dcc_serve.specs.declared.fault.ServeFault.{ServeFault}
 use Rattle.dcc_program.specs.declared.failure.Failure.{Failure}
 use Rattle.dcc_program.specs.declared.failure.Failure.TheVariants.{Usage, Memory, Io, Plan, Store, Script, Close}
@@ -16,6 +23,27 @@ listening_line address = codes "listening " ++ socket_text address ++ codes "\n"
 -- a writer, before and after, has grown by where the server listens, and then by the lines of this many rounds
 abbrev pub IsServed : ℕ → (old new : Option (List ℕ)) → Type 0
 IsServed rounds old new = (address : SocketAddr) × (told : Option (List ℕ)) × Appends old told (listening_line address) × AreTold rounds told new
+
+-- the shards are those over the stores of a folder, as many as the plan has, each as opening gives it
+abbrev pub AreOverStores : {R : Type 0} → (opens : ℕ → R → Type 0) → (may_leave : R → Content → Type 0) → PlanView → List (StoredView R) → Type 0
+AreOverStores {R} opens may_leave plan shards =
+    (length shards ≡ plan.shards) × ((i : ℕ) (none : StoredView R) → i < length shards → IsOpenedOver (opens i) may_leave (slice_index_or shards i none))
+
+module _ {I O C : Type 0} (remaining : I → Option (List ℕ)) (contents : O → Option (List ℕ)) (tells : C → ℕ → C → Type 0) where
+  -- a writer has grown by where the server listens, and then by the lines of rounds over the stores of a folder under a plan, each round over the
+  -- shards that the one before it left
+  pub record IsServedOver {R : Type 0} (opens : PlanView → ℕ → R → Type 0) (is_stopped : R → Bool) (may_leave : R → Content → Type 0) (rounds : RoundsView)
+      (old new : Option (List ℕ)) : Type 0 where
+    pub plan : PlanView
+    pub clock : C
+    pub shards : List (StoredView R)
+    pub last : List (StoredView R)
+    pub address : SocketAddr
+    pub told : Option (List ℕ)
+    pub opened : AreOverStores (opens plan) may_leave plan shards
+    pub listening : Appends old told (listening_line address)
+    pub served : AreServed (IsRound remaining contents tells clock (record { plan = plan; identity = identity_of plan }) is_stopped may_leave rounds.gates rounds.every)
+        rounds.rounds shards last told new
 
 -- the failures that come before a gateway is waited for: the plan's, or under a good plan a store's or the address's
 abbrev pub IsBeforeServing : Failure → Type 0

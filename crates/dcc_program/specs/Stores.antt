@@ -30,7 +30,7 @@ pub record IsTopUp {R : Type 0} (opens : PlanView → ℕ → R → Type 0) (may
 
 -- or by the first octets of that
 abbrev pub IsTopUpBegun : (file : Option (List ℕ)) → TopUpAsk → (old new : Option (List ℕ)) → Type 0
-IsTopUpBegun file ask old new = (plan : PlanView) × IsPlanOf file plan × IsToppedUpBegun plan (identity_of plan) ask old new
+IsTopUpBegun file ask old new = (plan : PlanView) × IsPlanOf file plan × (after : ShardView) × IsToppedUpBegun plan (identity_of plan) ask after old new
 
 -- a writer has grown by the page of a subscriber under the plan of the file, from the store of its shard as opening gives it, where there is one
 pub record IsLedger {R : Type 0} (opens : PlanView → ℕ → R → Type 0) (may_leave : R → Content → Type 0) (file : Option (List ℕ)) (sub : Sub)

@@ -1,9 +1,12 @@
 //! `dcc serve PLAN DIR`, over the stores of a folder and the network of the system.
 
-ghost use Rattle.std.specs.Prelude.{IfErr, OnOk};
+ghost use Rattle.std.specs.Prelude.{IfErr, None, OnOk};
 ghost use Rattle.std.specs.Io.KnownBytes.{Appends};
 ghost use Rattle.std.specs.declared.net.SocketAddr.{SocketAddr};
-ghost use Rattle.dcc_program.specs.Servings.{listening_line, IsTellingBegun, IsServed, IsServedBegun};
+ghost use Rattle.dcc_program.specs.Servings.{listening_line, IsTellingBegun, IsServed, IsServedBegun, IsServedOver};
+ghost use Rattle.dcc_sockets.specs.declared.clock.SystemClock.{SystemClock};
+ghost use Rattle.dcc_sockets.specs.declared.gateway.Input.{Input};
+ghost use Rattle.dcc_sockets.specs.declared.gateway.Output.{Output};
 
 use crate::command_line::ServeAsk;
 use crate::failure::Failure;
@@ -41,6 +44,8 @@ pub fn serve<
     S: Stores,
     W: Write,
 >(rt: &R, stores: &S, ask: &ServeAsk<'_>, output: &mut W) -> Result<(), Failure>
+    ensures served { OnOk result (IsServedOver (λ (input : Input). None) (λ (output : Output). None) (λ (before : SystemClock R) moment after. Unit {0})
+        (S.opens stores.now ask.now.place.folder.now) S.Records.is_stopped S.Records.may_leave ask.now.rounds (W.contents output.old) (W.contents output.new)) }
     ensures whole { OnOk result (IsServed ask.now.rounds.rounds (W.contents output.old) (W.contents output.new)) }
     ensures part { IfErr result (IsServedBegun ask.now.rounds.rounds (W.contents output.old) (W.contents output.new)) }
 {
@@ -70,6 +75,8 @@ fn serve_under<
     ask: &ServeAsk<'_>,
     output: &mut W,
 ) -> Result<(), Failure>
+    ensures served { OnOk result (IsServedOver (λ (input : Input). None) (λ (output : Output). None) (λ (before : SystemClock R) moment after. Unit {0})
+        (S.opens stores.now ask.now.place.folder.now) S.Records.is_stopped S.Records.may_leave ask.now.rounds (W.contents output.old) (W.contents output.new)) }
     ensures whole { OnOk result (IsServed ask.now.rounds.rounds (W.contents output.old) (W.contents output.new)) }
     ensures part { IfErr result (IsServedBegun ask.now.rounds.rounds (W.contents output.old) (W.contents output.new)) }
 {

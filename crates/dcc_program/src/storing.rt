@@ -36,8 +36,14 @@ pub fn top_up<P: Read, S: Stores, W: Write>(
 {
     let plan = plan_from(alloc, file)?;
     let identity = identity_of(alloc, &plan)?;
-    let _shard = top_up_in(alloc, stores, folder, &plan, &identity, ask, output, hasher)?;
-    Ok(())
+    match top_up_in(alloc, stores, folder, &plan, &identity, ask, output, hasher) {
+        Ok(_shard) => Ok(()),
+        Err((fault, records)) => {
+            // By a call: records that are let go in place are proved part by part.
+            drop(records);
+            Err(Failure::from(fault))
+        }
+    }
 }
 
 /// Writes the ledger of a subscriber under the plan that the file gives, from the store of its shard, or that its account is unknown

@@ -1,8 +1,10 @@
 -- A script's events, run and printed.
-use Rattle.std.specs.Prelude.{◌≡◌, ℕ, List, [], length, take, Option, None, Ok, Err, IfSome, ⊤}
+use Rattle.std.specs.Prelude.{◌≡◌, ℕ, List, [], length, take, Option, None, Ok, Err, IfSome, All, ⊤}
+use Rattle.std.specs.List.Sorted.{IsStrictlySortedBy}
 use Rattle.std.specs.Io.KnownBytes.{Appends}
 use Rattle.dcc_tariff.specs.Plans.{PlanView}
 use Rattle.dcc_act.specs.declared.sub.Sub.{Sub}
+use Rattle.dcc_shard.specs.Routes.{route_order}
 use Rattle.dcc_engine.specs.declared.event.Event.{Event}
 use Rattle.dcc_engine.specs.declared.event.Out.{Out}
 use Rattle.dcc_engine.specs.Engines.{EngineView, peer_of, held_of}
@@ -13,11 +15,16 @@ use Rattle.dcc_replay.specs.Names.{identity_of}
 use Rattle.dcc_replay.specs.Scripts.{script_of}
 use Rattle.dcc_replay.specs.Printed.{printed}
 
--- an engine just opened: under the plan and the names that it gives, without peers and acts
+-- an engine just opened: under the plan and the names that it gives, over the plan's number of shards, without peers and acts
 pub record IsNew (plan : PlanView) (engine : EngineView) : Type 0 where
   pub setting : engine.setting ≡ record { plan = plan; identity = identity_of plan }
+  pub shards : engine.shards ≡ plan.shards
   pub peers : (id : ℕ) → peer_of engine id ≡ None
   pub accounts : (sub : Sub) → held_of engine sub ≡ []
+
+-- the subscribers whose expiries a sweep refused stand by shard, and then by type and data, each once
+abbrev pub AreInOrder : EngineView → List Out → Type 0
+AreInOrder engine outs = All (λ out. IsStrictlySortedBy (route_order engine.shards) out.refused) outs
 
 -- what is written is the printed form of the outs of a run over the script's events, one for each
 pub record IsReplayed (plan : PlanView) (text written : List ℕ) : Type 0 where
@@ -28,6 +35,7 @@ pub record IsReplayed (plan : PlanView) (text written : List ℕ) : Type 0 where
   pub opened : IsNew plan engine
   pub count : length outs ≡ length events
   pub run : IsRun engine (turns events outs)
+  pub order : AreInOrder engine outs
   pub shown : written ≡ printed outs
 
 -- this is what is printed of the script, where it is known

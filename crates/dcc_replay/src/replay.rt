@@ -4,7 +4,7 @@ ghost use Rattle.std.specs.Prelude.{◌≡◌, ◌≢◌, length, IfOk, IfErr, O
 ghost use Rattle.std.specs.Io.KnownBytes.{Keeps};
 ghost use Rattle.dcc_engine.specs.Engines.{EngineView};
 ghost use Rattle.dcc_engine.specs.Isolation.{turns, IsRun};
-ghost use Rattle.dcc_replay.specs.Replays.{IsNew, IsWritten, IsBegun, IsReplayFault};
+ghost use Rattle.dcc_replay.specs.Replays.{IsNew, AreInOrder, IsWritten, IsBegun, IsReplayFault};
 ghost use Rattle.dcc_replay.specs.declared.fault.ReplayFault.TheVariants.{Output};
 
 use crate::fault::ReplayFault;
@@ -19,7 +19,7 @@ use std::alloc::{AllocError, Global};
 use std::hash::RandomState;
 use std::io::{Read, Write};
 
-/// Reads a script, runs its events on an engine just opened under the plan, over shards in memory, and writes what is printed of the outs.
+/// Reads a script, runs its events on an engine just opened under the plan, over as many shards in memory as the plan has, and writes what is printed of the outs.
 ///
 /// The whole script is judged before anything is written: at a fault of the script, and where memory is short, nothing is; where the
 /// writer fails, a beginning is. A script that has not ended after 4,294,967,295 reads is a failure of input.
@@ -52,7 +52,8 @@ fn outs_of(
     hasher: RandomState,
 ) -> Result<Vec<Out>, AllocError>
     ensures { IfOk result (λ outs.
-        (engine : EngineView) × IsNew plan.now engine × (length outs.items ≡ length events.now) × IsRun engine (turns events.now outs.items)) }
+        (engine : EngineView) × IsNew plan.now engine × (length outs.items ≡ length events.now) × IsRun engine (turns events.now outs.items)
+        × AreInOrder engine outs.items) }
 {
     let identity = identity_of(alloc, plan)?;
     let own = plan.copy()?;

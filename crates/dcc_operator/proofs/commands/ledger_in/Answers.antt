@@ -1,11 +1,12 @@
-use Rattle.std.proofs.Common.{rules, ◌≡◌, ◌∙◌, Some, IfErr}
+use Rattle.std.proofs.Common.{rules, ◌≡◌, ◌⊎◌, inr, ℕ, ◌∙◌, Some, IfErr, ap, subst}
+use Rattle.dcc_shard.specs.Routes.{shard_of}
 use Rattle.dcc_shard.specs.Shards.{held}
-use Rattle.dcc_operator.specs.declared.fault.OperatorFault.TheVariants.{Output}
+use Rattle.dcc_operator.specs.declared.fault.OperatorFault.TheVariants.{Memory, Output, Store}
 use Rattle.dcc_operator.specs.Commands.{IsOpenedFor}
 use Rattle.dcc_operator.specs.Ledgers.{page_of}
 use Rattle.dcc_operator.specs.Texts.{IsBegun}
 use Rattle.dcc_operator.proofs.Begun.{weaker}
-use Rattle.dcc_operator.proofs.Opened.{of_found, opened_for}
+use Rattle.dcc_operator.proofs.Opened.{of_found, opened_for, moved, no_store, same_number}
 use Rattle.dcc_operator.proofs.commands.ledger_in.Goals as goal
 
 pub returns-in_err-ledger_run-clause-part : goal.returns-in_err-ledger_run-clause-part
@@ -27,3 +28,23 @@ returns-clause-done g c = (
       (c.from-count.ensures ∙ c.shards.ensures.value) c.shard_of-index.ensures.value c.in_ok-shard.ensures.placed,
   c.in_ok-ledger_run.ensures.whole,
 )
+
+pub returns-in_err-unknown_run-clause-refused : goal.returns-in_err-unknown_run-clause-refused
+returns-in_err-unknown_run-clause-refused g c =
+    let said : IfErr c.from_residual-in_err-unknown_run.result (λ fault. (fault ≡ Memory) ⊎ (fault ≡ Output)) = search rules in
+    weaker c.from_residual-in_err-unknown_run.result (λ fault either number is. absurd (no_store fault number either is)) said
+
+pub returns-in_err-ledger_run-clause-refused : goal.returns-in_err-ledger_run-clause-refused
+returns-in_err-ledger_run-clause-refused g c =
+    let said : IfErr c.from_residual-in_err-ledger_run.result (λ fault. (fault ≡ Memory) ⊎ (fault ≡ Output)) = search rules in
+    weaker c.from_residual-in_err-ledger_run.result (λ fault either number is. absurd (no_store fault number either is)) said
+
+pub returns-in_err-shard-clause-refused : goal.returns-in_err-shard-clause-refused
+returns-in_err-shard-clause-refused g c =
+    let counted : c.from-count.result ≡ c.args.plan.now.shards = c.from-count.ensures ∙ c.shards.ensures.value in
+    let at : c.shard_of-index.result ≡ shard_of c.args.sub c.args.plan.now.shards = c.shard_of-index.ensures.value ∙ ap (shard_of c.args.sub) counted in
+    let records = c.in-Some.records in
+    let given : g.S.Stores.opens c.args.stores.now c.args.folder.now c.args.plan.now (shard_of c.args.sub c.args.plan.now.shards) records =
+    subst (λ (n : ℕ). g.S.Stores.opens c.args.stores.now c.args.folder.now c.args.plan.now n records) at (of_found _ _ _ c.in-Some.is c.in_ok-records.ensures.given) in
+    let said : IfErr c.from_residual-in_err-shard.result (λ fault. fault ≡ Store c.in_err-shard.field-0.0.0) = search rules in
+    weaker c.from_residual-in_err-shard.result (λ fault told number is. inr (records, given, moved g.S.Records.Records.may_leave g.S.Records.Records.is_stopped records at counted (same_number fault _ number told is) c.in_err-shard.ensures.refused)) said

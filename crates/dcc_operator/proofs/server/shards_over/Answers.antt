@@ -1,4 +1,6 @@
-use Rattle.std.proofs.Common.{rules, ◌≡◌, ◌∙◌, ℕ, length, get_or, List, sym, subst}
+use Rattle.std.proofs.Common.{rules, ◌≡◌, ◌<◌, ◌∙◌, inr, ℕ, length, get_or, List, IfErr, refl, sym, subst}
+use Rattle.dcc_operator.proofs.Begun.{weaker}
+use Rattle.dcc_operator.proofs.Opened.{moved}
 use Rattle.dcc_shard.specs.Routes.{shard_of}
 use Rattle.dcc_shard.specs.Stored.{StoredView}
 use Rattle.dcc_operator.specs.Openings.{IsOpenedOver}
@@ -48,3 +50,12 @@ pub returns-clause-opened : goal.returns-clause-opened
 returns-clause-opened g c = λ i none below.
     subst (λ (n : ℕ). IsOpenedOver (g.S.Stores.opens c.args.stores.now c.args.folder.now c.args.plan.now n) g.S.Records.Records.may_leave (get_or c.loop-index.shards.items i none))
     (from_zero i) (c.loop-index.invariant.served i none below).opened
+
+pub returns-in_err-shard-clause-refused : goal.returns-in_err-shard-clause-refused
+returns-in_err-shard-clause-refused g c =
+    let counted : c.from-count.result ≡ c.args.plan.now.shards = c.from-count.ensures ∙ c.shards.ensures.value in
+    let index = c.loop-index.index in
+    let records = c.in_ok-records.records in
+    let below : index < c.args.plan.now.shards = subst (λ (n : ℕ). index < n) counted c.loop-index-test.true in
+    let said : IfErr c.from_residual-in_err-shard.result (λ refusal. c.in_err-shard.field-0.0.0 ≡ refusal.0) = search rules in
+    weaker c.from_residual-in_err-shard.result (λ refusal told. inr (index, below, inr (records, c.in_ok-records.ensures.given, moved g.S.Records.Records.may_leave g.S.Records.Records.is_stopped records refl counted told c.in_err-shard.ensures.refused))) said

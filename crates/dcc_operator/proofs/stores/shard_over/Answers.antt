@@ -1,9 +1,0 @@
-use Rattle.std.proofs.Common.{rules, ◌≡◌, ◌∙◌, false, refl, sym, true≢false}
-use Rattle.dcc_operator.proofs.stores.shard_over.Goals as goal
-
-pub returns-then-not-is_placed-clause-others : goal.returns-then-not-is_placed-clause-others
-returns-then-not-is_placed-clause-others g c = λ is. (
-  c.in-Ok.shard,
-  record { given = c.args.records; opened = refl; same = c.in-Ok.ensures.same; left = c.in-Ok.ensures.found },
-  λ placed. (let other : c.is_placed.result ≡ false = search rules in true≢false (sym (c.is_placed.ensures.1 placed) ∙ other)),
-)

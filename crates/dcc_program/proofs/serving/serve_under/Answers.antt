@@ -1,0 +1,17 @@
+use Rattle.dcc_program.proofs.serving.serve_under.Goals as goal
+
+pub returns-clause-served : goal.returns-clause-served
+returns-clause-served g c =
+    let door = c.in-Ok-open_door.ensures.whole in
+    let rounds = c.in_ok-served.ensures.served in
+    record {
+      plan = c.args.plan.now;
+      clock = c.new-clock.result;
+      shards = c.in-Ok.shards.items;
+      last = rounds.0;
+      address = door.0;
+      told = g.W.Write.contents c.open_door.new.output;
+      opened = (c.in-Ok.ensures.count, c.in-Ok.ensures.opened);
+      listening = door.1;
+      served = rw (← c.in_ok-identity.ensures) rounds.1;
+    }
