@@ -92,9 +92,9 @@ struct Stopped(Moment);
 impl Clock for Stopped {
     ghost use Rattle.std.specs.Prelude.{◌≡◌};
 
-    ghost tells = { λ clock moment. moment ≡ clock.0 };
+    ghost tells = { λ clock moment _. moment ≡ clock.0 };
 
-    fn moment(&self) -> Moment {
+    fn moment(&mut self) -> Moment {
         self.0
     }
 }
@@ -197,7 +197,7 @@ fn serve(
         answered: 0,
         last: 9,
     };
-    let told = serve_connection(alloc, input, output, &clock()?, &mut answerer, turns);
+    let told = serve_connection(alloc, input, output, &mut clock()?, &mut answerer, turns);
     assert_eq!(rt; told, end);
     assert_eq!(rt; output.taken.as_slice(), written);
     Ok(())
@@ -264,7 +264,7 @@ fn serve_one(alloc: Global, output: &mut Sink) -> Result<ConnectionEnd, Fail> {
         last: 1,
     };
     let mut input = giving(MESSAGES, 100, ENOUGH);
-    Ok(serve_connection(alloc, &mut input, output, &clock()?, &mut answerer, 9))
+    Ok(serve_connection(alloc, &mut input, output, &mut clock()?, &mut answerer, 9))
 }
 
 #[test]
@@ -336,7 +336,14 @@ fn check_handed<W: Wait + Abort + AllocGlobal>(
 ) -> Result<(), Fail> {
     let mut counter = Counter { handed: 0, last };
     let mut input = giving(octets, most, reads);
-    let told = read_side(rt, rt.alloc(), &mut input, &clock()?, &mut counter, turns);
+    let told = read_side(
+        rt,
+        rt.alloc(),
+        &mut input,
+        &mut clock()?,
+        &mut counter,
+        turns,
+    );
     assert_eq!(rt; told, end);
     assert_eq!(rt; counter.handed, handed);
     Ok(())
@@ -536,7 +543,7 @@ fn a_refusal_is_told(rt: HostRuntime) -> Result<(), Fail> {
     let alloc = rt.alloc();
     let mut counter = Counter { handed: 0, last: 9 };
     let mut input = giving(MESSAGES, 10, ENOUGH);
-    let end = read_side(&rt, alloc, &mut input, &clock()?, &mut counter, ENOUGH);
+    let end = read_side(&rt, alloc, &mut input, &mut clock()?, &mut counter, ENOUGH);
     if end == ConnectionEnd::Fault(ConnectFault::Memory) {
         assert!(&rt; counter.handed < 2);
         return Err(Fail::from("memory was refused"));

@@ -46,25 +46,48 @@ fn append_three<R: Records>(
     3
 }
 
-/// Two top-ups of the later subscriber, and one of the earlier between them, until one isn't appended: how many were.
+/// Two top-ups of the later subscriber, and one of the earlier between them, until one isn't appended: how many were. What it owns is let go of by calls.
 fn fill<R: Records>(records: &mut R, later: Sub, earlier: Sub) -> Result<u8, Fail>
     requires nothing { R.is_stopped records.old ≡ false → LeavesOnly (R.terms records.old) no_acts (R.may_leave records.old) }
     requires apart { same_sub later earlier ≡ false }
     requires apart_back { same_sub earlier later ≡ false }
 {
     let act = top_up(1, 1000)?;
+    let filled = fill_by(records, later, earlier, &act);
+    drop(act);
+    filled
+}
+
+/// The same by the first act.
+fn fill_by<R: Records>(records: &mut R, later: Sub, earlier: Sub, act: &Act) -> Result<u8, Fail>
+    requires nothing { R.is_stopped records.old ≡ false → LeavesOnly (R.terms records.old) no_acts (R.may_leave records.old) }
+    requires apart { same_sub later earlier ≡ false }
+    requires apart_back { same_sub earlier later ≡ false }
+    requires act { act.now ≡ top_up_act 1 1000 }
+{
     let next = top_up(2, 500)?;
-    let entry = posted(1, 1, 1000)?;
-    let next_entry = posted(2, 2, 500)?;
-    Ok(append_three(
-        records,
-        later,
-        earlier,
-        &act,
-        &[entry],
-        &next,
-        &[next_entry],
-    ))
+    let filled = fill_by_both(records, later, earlier, act, &next);
+    drop(next);
+    filled
+}
+
+/// The same by both acts.
+fn fill_by_both<R: Records>(
+    records: &mut R,
+    later: Sub,
+    earlier: Sub,
+    act: &Act,
+    next: &Act,
+) -> Result<u8, Fail>
+    requires nothing { R.is_stopped records.old ≡ false → LeavesOnly (R.terms records.old) no_acts (R.may_leave records.old) }
+    requires apart { same_sub later earlier ≡ false }
+    requires apart_back { same_sub earlier later ≡ false }
+    requires act { act.now ≡ top_up_act 1 1000 }
+    requires next { next.now ≡ top_up_act 2 500 }
+{
+    let entries = [posted(1, 1, 1000)?];
+    let next_entries = [posted(2, 2, 500)?];
+    Ok(append_three(records, later, earlier, act, &entries, next, &next_entries))
 }
 
 /// Two top-ups of the subscriber of the first name, and one of the second's between them, until one isn't appended: how many were.

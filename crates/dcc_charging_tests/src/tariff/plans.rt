@@ -83,14 +83,25 @@ const TARIFFS: [(u32, u64, (u32, u64)); 12] = [
     (99, u64::MAX, (0, 0)),
 ];
 
-/// The samples' plan is that of the worked examples, value by value.
+/// Asserts that the plan is that of the worked examples, value by value.
+fn assert_rows(rt: &impl Abort, plan: &Plan) {
+    assert_server(rt, plan);
+    assert_units(rt, plan, &UNITS);
+    assert_tariffs(rt, plan, &TARIFFS);
+    assert_priced(rt, plan);
+}
+
 #[test]
 fn the_plan_of_the_samples(rt: HostRuntime) -> Result<(), Fail> {
     let plan = Plan::read(rt.alloc(), PLAN)?;
-    assert_server(&rt, &plan);
-    assert_units(&rt, &plan, &UNITS);
-    assert_tariffs(&rt, &plan, &TARIFFS);
-    assert_priced(&rt, &plan);
+    assert_rows(&rt, &plan);
+    Ok(())
+}
+
+#[test]
+fn the_plan_of_the_rows(rt: HostRuntime) -> Result<(), Fail> {
+    let plan = Plan::rows(rt.alloc())?;
+    assert_rows(&rt, &plan);
     Ok(())
 }
 
