@@ -114,7 +114,32 @@ def exchange(_writer):
     return capabilities(vendors, number(INBAND_SECURITY_ID, 0))
 
 
+# Octets that other programs may be tried by: a direct debit of 1,001 octets, a service with a final grant, and an exchange of capabilities.
+PLAIN_DEBIT = """010000e4 c0000110 00000004 00000011 00000021 00000107 40000017 6777312e6578616d706c653b313b3100 00000108 40000013
+    6777312e6578616d706c6500 00000128 4000000f 6578616d706c6500 0000011b 4000000f 6578616d706c6500 00000102 4000000c 00000004 000001cd 40000014
+    64617461406578616d706c65 000001a0 4000000c 00000004 0000019f 4000000c 00000000 000001b4 4000000c 00000000 000001bb 40000028 000001c2 4000000c
+    00000000 000001bc 40000014 343931373030303030303031 000001b5 40000018 000001a5 40000010 00000000000003e9"""
+FINAL_GRANT = """000001c8 40000058 000001af 40000018 000001a5 40000010 00000000000186a0 000001b0 4000000c 0000000a 000001c0 4000000c 00000258 0000010c
+    4000000c 000007d1 000001ae 40000014 000001c1 4000000c 00000000"""
+PLAIN_EXCHANGE = """0100006c 80000101 00000000 00000003 00000004 00000108 40000013 6777312e6578616d706c6500 00000128 4000000f 6578616d706c6500 00000101
+    4000000e 00017f0000010000 0000010a 4000000c 00000000 0000010d 0000000a 67770000 00000102 4000000c 00000004"""
+
+
+def plain_debit(_writer):
+    return message_of(PLAIN_DEBIT)
+
+
+def final_grant(writer):
+    return credit_control(SUBSCRIBER, b"s", writer.fresh(), UPDATE, *trees_of(bytes.fromhex(FINAL_GRANT)))
+
+
+def plain_exchange(_writer):
+    return message_of(PLAIN_EXCHANGE)
+
+
+EXCHANGES = exchange, plain_exchange
 WHOLE = {"debit": debit, "refund": refund, "update": update, "exchange": exchange}
+WHOLE |= {"plain debit": plain_debit, "final grant": final_grant, "plain exchange": plain_exchange}
 
 
 def cut(make):
@@ -154,7 +179,7 @@ def prepared():
 
 
 def put_looked_at(writer, make, message):
-    if make is exchange:
+    if make in EXCHANGES:
         writer.put_first(message)
     else:
         writer.put(message)
@@ -175,7 +200,7 @@ def dictionary():
         for place in range(len(make(writer).trees)):
             message = make(writer)
             del message.trees[place]
-            writer.put_first(message) if make is exchange else writer.put(message)
+            writer.put_first(message) if make in EXCHANGES else writer.put(message)
     writer.look_at_free()
     return writer
 

@@ -84,6 +84,32 @@ class Message:
         return replace(self, trees=copied(self.trees))
 
 
+# Groups whose AVPs are trees of their own where octets are taken for trees.
+GROUPS = {SERVICES, REQUESTED, USED, SUBSCRIPTION_ID, GRANTED, FINAL_UNIT_INDICATION}
+
+
+def trees_of(octets):
+    """The trees of octets that spell AVPs without a vendor, with padding in zeros."""
+    trees = []
+    while octets:
+        code, word = struct.unpack(">II", octets[:8])
+        length = word & 0xFFFFFF
+        data = octets[8:length]
+        trees.append(Tree(code, trees_of(data) if code in GROUPS else data, word >> 24))
+        octets = octets[length + -length % 4 :]
+    return trees
+
+
+def message_of(text):
+    """The message of these octets, in hex."""
+    octets = bytes.fromhex(text)
+    _, word, application, hop_by_hop, end_to_end = struct.unpack(">IIIII", octets[:HEADER_OCTETS])
+    message = Message(word & 0xFFFFFF, trees_of(octets[HEADER_OCTETS:]), application, word >> 24, hop_by_hop, end_to_end)
+    if message.octets() != octets:
+        raise ValueError("octets that aren't those of their trees")
+    return message
+
+
 # Plain requests, with nothing that isn't wanted.
 
 
