@@ -1,4 +1,3 @@
-mod faults;
 mod moments;
 mod plans;
 mod prices;

@@ -10,7 +10,7 @@ use Rattle.dcc_operator.specs.Openings.{IsOpenedOver}
 use Rattle.dcc_replay.specs.Names.{identity_of}
 use Rattle.dcc_serve.specs.Lines.{AreTold, EndsWith}
 use Rattle.dcc_serve.specs.Rounds.{RoundsView}
-use Rattle.dcc_serve.specs.Served.{AreServed, IsRound}
+use Rattle.dcc_serve.specs.Served.{AreServed, EndsServing, IsGoodRound}
 use Rattle.dcc_serve.specs.declared.fault.ServeFault.{ServeFault}
 use Rattle.dcc_program.specs.declared.failure.Failure.{Failure}
 use Rattle.dcc_program.specs.declared.failure.Failure.TheVariants.{Usage, Memory, Io, Plan, Store, Script, Close}
@@ -42,7 +42,7 @@ module _ {I O C : Type 0} (remaining : I → Option (List ℕ)) (contents : O �
     pub told : Option (List ℕ)
     pub opened : AreOverStores (opens plan) may_leave plan shards
     pub listening : Appends old told (listening_line address)
-    pub served : AreServed (IsRound remaining contents tells clock (record { plan = plan; identity = identity_of plan }) is_stopped may_leave rounds.gates rounds.every)
+    pub served : AreServed (IsGoodRound remaining contents tells clock (record { plan = plan; identity = identity_of plan }) is_stopped may_leave rounds.gates rounds.every)
         rounds.rounds shards last told new
 
 -- the failures that come before a gateway is waited for: the plan's, or under a good plan a store's or the address's
@@ -61,11 +61,24 @@ abbrev pub IsTellingBegun : (old new : Option (List ℕ)) → Failure → Type 0
 IsTellingBegun old new failure = (IsBeforeServing failure × Keeps old new)
     ⊎ ((address : SocketAddr) × (n : ℕ) × (failure ≡ Io) × Appends old new (take n (listening_line address)))
 
--- where the server listens is written, and then what a fault of its rounds leaves
-abbrev pub IsServingEnded : ℕ → (old new : Option (List ℕ)) → Failure → Type 0
-IsServingEnded rounds old new failure = (address : SocketAddr) × (told : Option (List ℕ)) × (fault : ServeFault)
-    × (failure ≡ of_serve fault) × Appends old told (listening_line address) × EndsWith fault rounds told new
+module _ {I O C : Type 0} (remaining : I → Option (List ℕ)) (contents : O → Option (List ℕ)) (tells : C → ℕ → C → Type 0) where
+  -- where the server listens is written, and then what a fault of its rounds leaves, for the cause that this fault has
+  pub record IsServingEnded {R : Type 0} (opens : PlanView → ℕ → R → Type 0) (is_stopped : R → Bool) (may_leave : R → Content → Type 0) (rounds : RoundsView)
+      (old new : Option (List ℕ)) (failure : Failure) : Type 0 where
+    pub plan : PlanView
+    pub clock : C
+    pub shards : List (StoredView R)
+    pub address : SocketAddr
+    pub told : Option (List ℕ)
+    pub fault : ServeFault
+    pub opened : AreOverStores (opens plan) may_leave plan shards
+    pub listening : Appends old told (listening_line address)
+    pub failed : failure ≡ of_serve fault
+    pub lines : EndsWith fault rounds.rounds told new
+    pub cause : EndsServing remaining contents tells clock (record { plan = plan; identity = identity_of plan }) is_stopped may_leave rounds fault shards told new
 
--- by what a writer has grown where a server of this many rounds ends with a failure
-abbrev pub IsServedBegun : ℕ → (old new : Option (List ℕ)) → Failure → Type 0
-IsServedBegun rounds old new failure = IsTellingBegun old new failure ⊎ IsServingEnded rounds old new failure
+  -- by what a writer has grown where a server ends with a failure
+  abbrev pub IsServedBegun : {R : Type 0} → (opens : PlanView → ℕ → R → Type 0) (is_stopped : R → Bool) (may_leave : R → Content → Type 0) → RoundsView
+      → (old new : Option (List ℕ)) → Failure → Type 0
+  IsServedBegun opens is_stopped may_leave rounds old new failure =
+      IsTellingBegun old new failure ⊎ IsServingEnded opens is_stopped may_leave rounds old new failure

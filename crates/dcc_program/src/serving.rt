@@ -47,7 +47,8 @@ pub fn serve<
     ensures served { OnOk result (IsServedOver (λ (input : Input). None) (λ (output : Output). None) (λ (before : SystemClock R) moment after. Unit {0})
         (S.opens stores.now ask.now.place.folder.now) S.Records.is_stopped S.Records.may_leave ask.now.rounds (W.contents output.old) (W.contents output.new)) }
     ensures whole { OnOk result (IsServed ask.now.rounds.rounds (W.contents output.old) (W.contents output.new)) }
-    ensures part { IfErr result (IsServedBegun ask.now.rounds.rounds (W.contents output.old) (W.contents output.new)) }
+    ensures part { IfErr result (IsServedBegun (λ (input : Input). None) (λ (output : Output). None) (λ (before : SystemClock R) moment after. Unit {0})
+        (S.opens stores.now ask.now.place.folder.now) S.Records.is_stopped S.Records.may_leave ask.now.rounds (W.contents output.old) (W.contents output.new)) }
 {
     let alloc = rt.alloc();
     let hasher = RandomState::new(rt)?;
@@ -78,7 +79,8 @@ fn serve_under<
     ensures served { OnOk result (IsServedOver (λ (input : Input). None) (λ (output : Output). None) (λ (before : SystemClock R) moment after. Unit {0})
         (S.opens stores.now ask.now.place.folder.now) S.Records.is_stopped S.Records.may_leave ask.now.rounds (W.contents output.old) (W.contents output.new)) }
     ensures whole { OnOk result (IsServed ask.now.rounds.rounds (W.contents output.old) (W.contents output.new)) }
-    ensures part { IfErr result (IsServedBegun ask.now.rounds.rounds (W.contents output.old) (W.contents output.new)) }
+    ensures part { IfErr result (IsServedBegun (λ (input : Input). None) (λ (output : Output). None) (λ (before : SystemClock R) moment after. Unit {0})
+        (S.opens stores.now ask.now.place.folder.now) S.Records.is_stopped S.Records.may_leave ask.now.rounds (W.contents output.old) (W.contents output.new)) }
 {
     let alloc = rt.alloc();
     let identity = identity_of(alloc, plan)?;

@@ -1,5 +1,5 @@
 -- What a reader put comes of the messages that it read, and what a worker put of what it took.
-use Rattle.std.proofs.Common.{◌≡◌, ℕ, zero, suc, ◌+◌, ◌<◌, ◌≤◌, ◌⊎◌, inl, inr, Bool, true, false, if◌then◌else◌, List, [], ◌∷◌, ◌++◌, length, map, Option, Some, None, refl, sym, ap, ◌∙◌, subst, append_assoc, append-nil, arith, ◌==◌}
+use Rattle.std.proofs.Common.{◌≡◌, ℕ, zero, suc, ◌⊎◌, inl, inr, Bool, true, false, if◌then◌else◌, List, [], ◌∷◌, ◌++◌, length, Option, Some, None, refl, sym, ap, subst, append-nil, ◌==◌}
 use Rattle.std.proofs.lemmas.Fn.{chained_keeps}
 use Rattle.std.specs.List.{FoldsTo}
 use Rattle.dcc_base.specs.declared.peer.Peer.{Peer}

@@ -1,6 +1,5 @@
 -- What goes out of a round comes of what came in.
-use Rattle.std.proofs.Common.{◌≡◌, ℕ, zero, suc, ◌+◌, ◌<◌, ◌≤◌, ◌⊎◌, inl, inr, List, [], ◌∷◌, ◌++◌, length, take, drop, map, Option, Some, None, refl, sym, ap, ◌∙◌, subst, append_assoc, append-nil, arith, take-append-drop}
-use Rattle.std.proofs.Math.ListN.{length-map}
+use Rattle.std.proofs.Common.{◌≡◌, ℕ, suc, ◌+◌, ◌<◌, ◌≤◌, ◌⊎◌, inl, inr, List, [], ◌∷◌, ◌++◌, length, drop, Option, Some, None, refl, sym, ap, ◌∙◌, subst, append-nil, arith, take-append-drop}
 use Rattle.std.specs.Global.{Vec}
 use Rattle.std.specs.List.{AllByRecursion, concat, cons_option, filter_map}
 use mathlib.Core.List.{IsPrefix}
@@ -8,10 +7,10 @@ use Rattle.dcc_connect.specs.Writing.{GoesOut, items_of, octets_in as all_octets
 use Rattle.dcc_connect.specs.declared.fault.ConnectFault.{ConnectFault}
 use Rattle.dcc_connect.specs.declared.fault.ConnectFault.TheVariants as fault
 use Rattle.dcc_connect.specs.declared.writing.Item.{Item}
-use Rattle.dcc_connect.specs.declared.writing.Item.TheVariants.{Octets, End}
+use Rattle.dcc_connect.specs.declared.writing.Item.TheVariants.{Octets}
 use Rattle.dcc_dispatch.specs.Settings.{Setting}
 use Rattle.dcc_dispatch.specs.declared.decide.Dispatched.TheVariants.{Asked}
-use Rattle.dcc_lane.specs.Ends.{lane_of, lane_of_sender, put_of, taken_of}
+use Rattle.dcc_lane.specs.Ends.{put_of, taken_of}
 use Rattle.dcc_lane.specs.Rule.{IsIn}
 use Rattle.dcc_lane.specs.declared.receiver.Receiver.{Receiver}
 use Rattle.dcc_lane.specs.declared.rule.Tagged.{Tagged}
@@ -33,7 +32,7 @@ use Rattle.dcc_serve.specs.declared.work.Request.{Request}
 use Rattle.dcc_serve.specs.declared.work.Work as work
 use Rattle.dcc_serve.specs.declared.work.Work.TheVariants as works
 use Rattle.dcc_shard.specs.declared.answers.RequestAnswer.{RequestAnswer}
-use Rattle.dcc_serve.proofs.Coming.{Answered, AsksFor, Came, Comes, IsAmong, done_answers, ends_on, in_left, in_right, read_came}
+use Rattle.dcc_serve.proofs.Coming.{Answered, AsksFor, Came, Comes, IsAmong, done_answers, ends_on, in_left, read_came}
 
 module _ {T : Type 0} where
   tagged_in : (x : T) (ts : List (Tagged T)) → IsIn x (items_of ts) → (t : Tagged T) × IsIn t ts × (t.item ≡ x)

@@ -1,5 +1,5 @@
 -- How the lanes of a round are ended.
-use Rattle.std.proofs.Common.{◌≡◌, ℕ, zero, suc, ◌+◌, ◌<◌, ◌≤◌, List, [], ◌∷◌, ◌++◌, map, length, Option, Some, None, refl, sym, ap, ap₂, ◌∙◌, subst, append_assoc, append-nil, arith, inl, inr, slice_index_or}
+use Rattle.std.proofs.Common.{◌≡◌, ℕ, suc, ◌+◌, List, [], ◌∷◌, ◌++◌, map, length, Option, Some, None, refl, sym, ap, ap₂, ◌∙◌, subst, append_assoc, append-nil, arith, inl, inr}
 use Rattle.std.proofs.lemmas.Bool.{cases_lt}
 use Rattle.std.proofs.lemmas.List.{map-append}
 use Rattle.std.proofs.lemmas.List.Elements.{All-nil, All-cons, filter_map-append}
@@ -16,7 +16,7 @@ use Rattle.dcc_lane.specs.declared.sender.Sender.{Sender}
 use Rattle.dcc_serve.specs.Counting.{seat_in}
 use Rattle.dcc_serve.specs.Finishing.{AddsTask, AreFinished, ArePartsOf, AreTied, Ends, answers_of, asks_of, ends_in, items_in, reply_of, with, work_in}
 use Rattle.dcc_serve.specs.Gathering.{AreGathered, gates_from, workers_from}
-use Rattle.dcc_serve.specs.Lanes.{AreAllHeard, AreDealt, AreOfLanes, IsHeard, firsts, lanes_of, lists_of, rests}
+use Rattle.dcc_serve.specs.Lanes.{AreAllHeard, AreDealt, AreOfLanes, firsts, lanes_of, lists_of, rests}
 use Rattle.dcc_serve.specs.Tasks.{AllRun, Runs}
 use Rattle.dcc_serve.specs.declared.face.Connection.{Connection}
 use Rattle.dcc_serve.specs.declared.finishing.Parts.{Parts}

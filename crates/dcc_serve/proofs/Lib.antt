@@ -10,3 +10,4 @@ pub mod Gathers
 pub mod LaneEnds
 pub mod Coming
 pub mod Going
+pub mod Ends

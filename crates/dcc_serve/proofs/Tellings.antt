@@ -3,7 +3,7 @@ use Rattle.std.proofs.Common.{◌≡◌, ◌≢◌, true≢false, ℕ, ◌+◌, 
 use Rattle.std.proofs.KnownBytes.{Appends-nil, Appends-trans, Appends-kept}
 use Rattle.std.proofs.lemmas.Fn.{FoldsTo-push}
 use Rattle.std.specs.Io.KnownBytes.{Appends, Keeps}
-use Rattle.dcc_serve.specs.Lines.{round_line, round_lines, AreTold, EndsWith, is_store}
+use Rattle.dcc_serve.specs.Lines.{round_line, round_lines, AreTold, EndsWith, is_numbered}
 use Rattle.dcc_serve.specs.Served.{AreServed}
 use Rattle.dcc_serve.specs.declared.fault.ServeFault.{ServeFault}
 use Rattle.dcc_serve.specs.declared.fault.ServeFault.TheVariants.{Memory, Io, Close, Store}
@@ -35,28 +35,27 @@ one_told a b c rounds number one told is more =
       subst (Appends a c) (sym (lines_one 1 told.0 one)) (Appends-trans a b c (round_lines 1 told.0) (round_line (1 + length told.0) one) told.2 line),
     )
 
--- a fault came before a line
-pub ends_before : (fault : ServeFault) (a b : Option (List ℕ)) (ended rounds : ℕ) → is_store fault ≡ false → ended < rounds → AreTold ended a b → EndsWith fault rounds a b
-ends_before Memory a b ended rounds is few told = (ended, few, told)
-ends_before (Close number) a b ended rounds is few told = (ended, few, told)
-ends_before (Store number) a b ended rounds is few told = absurd (true≢false is)
-ends_before Io a b ended rounds is few told =
-    let next : Counts = record { requests = 0; answers = 0; acts = 0 } in
-    (told.0, next, 0, omega (arith, few, told.1), subst (Appends a b) (sym (append-nil (round_lines 1 told.0))) told.2)
-
 kept_told : (a b c : Option (List ℕ)) (ended : ℕ) → AreTold ended a b → Keeps b c → AreTold ended a c
 kept_told a b c ended told kept = (told.0, told.1, Appends-kept a b c (round_lines 1 told.0) told.2 kept)
 
+-- a fault came before a line, and none of records does
+pub ends_before : (Ends : ServeFault → Type 0) → ((number : ℕ) → Ends (Store number) → ⊥) → (fault : ServeFault) (a b : Option (List ℕ)) (ended rounds : ℕ)
+    → Ends fault → ended < rounds → AreTold ended a b → EndsWith fault rounds a b
+ends_before Ends none Memory a b ended rounds is few told = (ended, few, told)
+ends_before Ends none (Close number) a b ended rounds is few told = (ended, few, told)
+ends_before Ends none (Store number) a b ended rounds is few told = absurd (none number is)
+ends_before Ends none Io a b ended rounds is few told =
+    let next : Counts = record { requests = 0; answers = 0; acts = 0 } in
+    (told.0, next, 0, omega (arith, few, told.1), subst (Appends a b) (sym (append-nil (round_lines 1 told.0))) told.2)
+
 -- a fault came with a line
-pub ends_in_line : (fault : ServeFault) (a b c : Option (List ℕ)) (ended rounds number : ℕ) (one : Counts) → is_store fault ≡ false
+pub ends_in_line : (fault : ServeFault) (a b c : Option (List ℕ)) (ended rounds number : ℕ) (one : Counts) → is_numbered fault ≡ false
     → (fault ≢ Io → Keeps b c) → (fault ≡ Io → (n : ℕ) × Appends b c (take n (round_line number one)))
     → number ≡ ended + 1 → ended < rounds → AreTold ended a b → EndsWith fault rounds a c
 ends_in_line Memory a b c ended rounds number one is silent part next few told =
     let other : Memory ≢ Io = grind arith in
     (ended, few, kept_told a b c ended told (silent other))
-ends_in_line (Close fault) a b c ended rounds number one is silent part next few told =
-    let other : Close fault ≢ Io = grind arith in
-    (ended, few, kept_told a b c ended told (silent other))
+ends_in_line (Close fault) a b c ended rounds number one is silent part next few told = absurd (true≢false is)
 ends_in_line (Store fault) a b c ended rounds number one is silent part next few told = absurd (true≢false is)
 ends_in_line Io a b c ended rounds number one is silent part next few told =
     let begun = part refl in

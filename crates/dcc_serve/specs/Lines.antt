@@ -1,5 +1,5 @@
 -- The lines behind rounds.
-use Rattle.std.specs.Prelude.{◌≡◌, ℕ, ◌+◌, ◌≤◌, ◌<◌, Bool, true, false, List, [], ◌∷◌, ◌++◌, length, take, codes, Option, Some, None}
+use Rattle.std.specs.Prelude.{◌≡◌, ℕ, ◌+◌, ◌≤◌, ◌<◌, Bool, true, false, List, [], ◌∷◌, ◌++◌, length, take, codes, nat_eq, Option, Some, None}
 use Rattle.std.specs.Fmt.{decimal}
 use Rattle.std.specs.Io.KnownBytes.{Appends}
 use Rattle.dcc_serve.specs.declared.fault.ServeFault.{ServeFault}
@@ -30,12 +30,19 @@ EndsWith Io rounds old new =
     (ended : List Counts) × (next : Counts) × (n : ℕ) × (length ended < rounds)
     × Appends old new (round_lines 1 ended ++ take n (round_line (length ended + 1) next))
 
--- whether it is a fault of records, which comes behind the line of its round
-abbrev pub is_store : ServeFault → Bool
-is_store Memory = false
-is_store Io = false
-is_store (Close number) = false
-is_store (Store number) = true
+-- whether it has a number: a fault of the comparison, of a lane or of records
+abbrev pub is_numbered : ServeFault → Bool
+is_numbered Memory = false
+is_numbered Io = false
+is_numbered (Close number) = true
+is_numbered (Store number) = true
+
+-- whether it is want of memory, or that the sender of a lane is missing
+abbrev pub is_of_lanes : ServeFault → Bool
+is_of_lanes Memory = true
+is_of_lanes Io = false
+is_of_lanes (Close number) = nat_eq number 80
+is_of_lanes (Store number) = false
 
 -- what a fault of the comparison that has this number ends a server with; want of memory has none
 abbrev pub of_number : Option ℕ → ServeFault

@@ -1,9 +1,9 @@
 //! Why a server ends before its rounds are over.
 
-ghost use Rattle.std.specs.Prelude.{◌≡◌, false};
+ghost use Rattle.std.specs.Prelude.{◌≡◌, true};
 ghost use Rattle.dcc_lane.specs.Faults.{lane_fault_number};
 ghost use Rattle.dcc_receipts.specs.Faults.{fault_number};
-ghost use Rattle.dcc_serve.specs.Lines.{is_store, of_number};
+ghost use Rattle.dcc_serve.specs.Lines.{is_of_lanes, of_number};
 ghost use Rattle.dcc_serve.specs.declared.fault.ServeFault.TheVariants as fault;
 
 use dcc_lane::LaneFault;
@@ -56,7 +56,7 @@ impl From<WriteFault> for ServeFault {
 /// What a fault of a lane ends a server with.
 pub(crate) fn of_lane(fault: LaneFault) -> ServeFault
     ensures value { result ≡ of_number (lane_fault_number fault) }
-    ensures fault { is_store result ≡ false }
+    ensures lanes { is_of_lanes result ≡ true }
 {
     match fault {
         LaneFault::SenderMissing => ServeFault::Close(80),
@@ -67,7 +67,6 @@ pub(crate) fn of_lane(fault: LaneFault) -> ServeFault
 /// What a fault of the comparison ends a server with.
 pub(crate) fn of_close(fault: CloseFault) -> ServeFault
     ensures value { result ≡ of_number (fault_number fault) }
-    ensures fault { is_store result ≡ false }
 {
     match fault.number() {
         Some(number) => ServeFault::Close(number),

@@ -1,12 +1,12 @@
 //! How the lanes of a round end.
 
-ghost use Rattle.std.specs.Prelude.{◌≡◌, ◌∷◌, [], false, map, IfErr, IfOk, OnOk};
+ghost use Rattle.std.specs.Prelude.{◌≡◌, ◌∷◌, [], true, map, IfErr, IfOk, OnOk};
 ghost use Rattle.std.specs.List.{All, filter_map};
 ghost use Rattle.dcc_lane.specs.Ends.{IsOfLane, lane_of};
 ghost use Rattle.dcc_serve.specs.Counting.{seat_in};
 ghost use Rattle.dcc_serve.specs.Finishing.{AddsTask, AreFinished, ArePartsOf, AreTied, ends_in};
 ghost use Rattle.dcc_serve.specs.Lanes.{AreAllHeard, AreOfLanes, IsHeard, firsts, lanes_of, lists_of, rests};
-ghost use Rattle.dcc_serve.specs.Lines.{is_store};
+ghost use Rattle.dcc_serve.specs.Lines.{is_of_lanes};
 
 use crate::fault::{ServeFault, of_lane};
 use crate::lanes::first_of;
@@ -44,7 +44,7 @@ pub(crate) fn finished<I: Drop, O: Drop>(
     requires { AreTied (map ends_in tasks.items) }
     ensures seats { IfOk result (λ seats. seats.items ≡ filter_map seat_in tasks.items) }
     ensures finished { OnOk result (AreFinished tasks.items) }
-    ensures fault { IfErr result (λ fault. is_store fault ≡ false) }
+    ensures fault { IfErr result (λ fault. is_of_lanes fault ≡ true) }
 {
     let Parts {
         seats,
@@ -144,7 +144,7 @@ fn finish_all<T: Drop>(
 ) -> Result<(), ServeFault>
     requires { AreOfLanes (map lane_of receivers.items) (map lanes_of (lists_of senders.items)) }
     ensures heard { OnOk result (AreAllHeard receivers.items (lists_of senders.items)) }
-    ensures fault { IfErr result (λ fault. is_store fault ≡ false) }
+    ensures fault { IfErr result (λ fault. is_of_lanes fault ≡ true) }
 {
     let mut receivers = receivers;
     let mut senders = senders;
@@ -160,7 +160,7 @@ fn finish_all<T: Drop>(
 fn finish<T: Drop>(receiver: Receiver<T>, senders: Vec<Sender<T>>) -> Result<(), ServeFault>
     requires { All (IsOfLane (lane_of receiver)) senders.items }
     ensures heard { OnOk result (IsHeard receiver senders.items) }
-    ensures fault { IfErr result (λ fault. is_store fault ≡ false) }
+    ensures fault { IfErr result (λ fault. is_of_lanes fault ≡ true) }
 {
     match receiver.finish(senders) {
         Ok(_counts) => Ok(()),

@@ -2,7 +2,7 @@
 
 ghost use Rattle.std.specs.Prelude.{◌≡◌, ◌≢◌, ℕ, false, take, string_bytes, IfOk, IfErr, OnOk};
 ghost use Rattle.std.specs.Io.KnownBytes.{Appends, Keeps};
-ghost use Rattle.dcc_serve.specs.Lines.{is_store, round_line};
+ghost use Rattle.dcc_serve.specs.Lines.{is_numbered, round_line};
 ghost use Rattle.dcc_serve.specs.declared.fault.ServeFault.TheVariants.{Io};
 
 use crate::fault::ServeFault;
@@ -33,7 +33,7 @@ pub(crate) fn write_line<P: Write>(
     ensures silent { IfErr result (λ fault. fault ≢ Io → Keeps (P.contents output.old) (P.contents output.new)) }
     ensures part { IfErr result (λ fault. fault ≡ Io
         → (n : ℕ) × Appends (P.contents output.old) (P.contents output.new) (take n (round_line round counts))) }
-    ensures fault { IfErr result (λ fault. is_store fault ≡ false) }
+    ensures fault { IfErr result (λ fault. is_numbered fault ≡ false) }
 {
     let line = line_of(alloc, round, counts)?;
     write_all(output, line.as_bytes())?;

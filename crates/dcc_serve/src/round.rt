@@ -5,8 +5,8 @@ ghost use Rattle.dcc_act.specs.declared.sub.Sub.{Sub};
 ghost use Rattle.dcc_running.specs.Books.{AreShards};
 ghost use Rattle.dcc_serve.specs.Counting.{counts_in};
 ghost use Rattle.dcc_serve.specs.Gathering.{AddsGates, AreGathered, reader_of, workers_from, writer_of};
-ghost use Rattle.dcc_serve.specs.Lines.{is_store};
-ghost use Rattle.dcc_serve.specs.Served.{IsRound};
+ghost use Rattle.dcc_serve.specs.Lines.{is_numbered};
+ghost use Rattle.dcc_serve.specs.Served.{EndsRound, IsRound};
 ghost use Rattle.dcc_serve.specs.Tasks.{AllRun};
 
 use crate::face::{Connection, Listener, Notice, Notices, Shut};
@@ -57,7 +57,8 @@ pub(crate) fn serve_round<
     ensures shards { IfOk result (λ r. AreShards service.now.plan.now.terms service.now.identity.now r.1.items) }
     ensures some { IfOk result (λ r. 1 ≤ length r.1.items) }
     ensures most { IfOk result (λ r. length r.1.items ≤ 8) }
-    ensures fault { IfErr result (λ fault. is_store fault ≡ false) }
+    ensures ends { IfErr result (EndsRound I.remaining O.contents C.tells service.now.clock.now
+        (record { plan = service.now.plan.now; identity = service.now.identity.now }) rounds.now.gates rounds.now.every shards.items) }
 {
     let count = shards.len();
     let Ok(locked) = Shards::new(
@@ -100,7 +101,7 @@ fn gather<W: Wait, R: Records, I: Read + Drop, O: Shut + Drop, L: Listener<I, O>
     requires some { 1 ≤ count }
     requires most { count ≤ 8 }
     ensures tasks { IfOk result (λ tasks. AreGathered count rounds.now.gates rounds.now.every tasks.items) }
-    ensures fault { IfErr result (λ fault. is_store fault ≡ false) }
+    ensures fault { IfErr result (λ fault. is_numbered fault ≡ false) }
 {
     let gates = rounds.gates;
     let work = make_lanes::<Work>(alloc, count, gates)?;
@@ -167,7 +168,7 @@ fn add_gates<W: Wait, I: Read + Drop, O: Shut + Drop, L: Listener<I, O>, N: Noti
     tasks: Vec<Task<I, O>>,
 ) -> Result<Vec<Task<I, O>>, ServeFault>
     ensures gates { IfOk result (λ all. AddsGates rounds.now.every rounds.now.gates receivers.items senders.items replies.items tasks.items all.items) }
-    ensures fault { IfErr result (λ fault. is_store fault ≡ false) }
+    ensures fault { IfErr result (λ fault. is_numbered fault ≡ false) }
 {
     let mut receivers = receivers;
     let mut senders = senders;

@@ -1,10 +1,9 @@
 //! All rounds of a server.
 
 ghost use Rattle.std.specs.Prelude.{◌≡◌, ◌≤◌, List, length, IfErr, OnOk};
-ghost use Rattle.std.specs.List.{list_any};
 ghost use Rattle.dcc_running.specs.Books.{AreShards};
 ghost use Rattle.dcc_serve.specs.Lines.{AreTold, EndsWith};
-ghost use Rattle.dcc_serve.specs.Served.{AreServed, IsRound};
+ghost use Rattle.dcc_serve.specs.Served.{AreServed, EndsServing, IsGoodRound, is_any_stopped};
 ghost use Rattle.dcc_shard.specs.Stored.{StoredView};
 
 use crate::face::{Listener, Notice, Notices, Shut};
@@ -67,11 +66,14 @@ pub fn serve_run<
     requires shards { AreShards service.now.plan.now.terms service.now.identity.now shards.items }
     requires some { 1 ≤ length shards.items }
     requires most { length shards.items ≤ 8 }
-    ensures served { OnOk result ((last : List (StoredView R)) × AreServed (IsRound I.remaining O.contents C.tells service.now.clock.now
+    ensures served { OnOk result ((last : List (StoredView R)) × AreServed (IsGoodRound I.remaining O.contents C.tells service.now.clock.now
         (record { plan = service.now.plan.now; identity = service.now.identity.now }) R.is_stopped R.may_leave rounds.now.gates rounds.now.every)
         rounds.now.rounds shards.items last (P.contents output.old) (P.contents output.new)) }
     ensures whole { OnOk result (AreTold rounds.now.rounds (P.contents output.old) (P.contents output.new)) }
     ensures part { IfErr result (λ fault. EndsWith fault rounds.now.rounds (P.contents output.old) (P.contents output.new)) }
+    ensures cause { IfErr result (λ fault. EndsServing I.remaining O.contents C.tells service.now.clock.now
+        (record { plan = service.now.plan.now; identity = service.now.identity.now }) R.is_stopped R.may_leave rounds.now fault shards.items
+        (P.contents output.old) (P.contents output.new)) }
 {
     let mut shards = shards;
     for round in 0..rounds.rounds {
@@ -89,7 +91,7 @@ pub fn serve_run<
 
 /// Tells each shard that is stopped, and whether one is.
 fn tell_stopped<W: Wait, R: Records, N: Notices>(rt: &W, notices: &N, shards: &[Shard<R>]) -> bool
-    ensures { result ≡ list_any (λ part. R.is_stopped part.records) shards.now }
+    ensures { result ≡ is_any_stopped R.is_stopped shards.now }
 {
     let mut stopped = false;
     for shard in 0..shards.len() {

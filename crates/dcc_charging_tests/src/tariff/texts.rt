@@ -1,6 +1,5 @@
-//! Plan texts, and what reading an edited one answers.
+//! Plan texts, and edits of them.
 
-use dcc_tariff::Plan;
 use std::alloc::Global;
 use std::test::Fail;
 
@@ -48,14 +47,6 @@ from = \"2026-01-01T00:00:00Z\"
 price = 1
 block = 1
 ";
-
-/// The number of the fault in a text: 0 for none, and 1 where memory ran out.
-pub(crate) fn fault_in(alloc: Global, text: &str) -> u8 {
-    match Plan::read(alloc, text) {
-        Ok(_) => 0,
-        Err(fault) => fault.number().unwrap_or(1),
-    }
-}
 
 /// The text with its first `old` replaced.
 pub(crate) fn edited(alloc: Global, text: &str, old: &str, new: &str) -> Result<String, Fail> {

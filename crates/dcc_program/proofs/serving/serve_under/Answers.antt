@@ -15,3 +15,8 @@ returns-clause-served g c =
       listening = door.1;
       served = rw (← c.in_ok-identity.ensures) rounds.1;
     }
+
+pub returns-in_err-served-clause-part : goal.returns-in_err-served-clause-part
+returns-in_err-served-clause-part g c =
+    let door = c.in-Ok-open_door.ensures.whole in
+    ?

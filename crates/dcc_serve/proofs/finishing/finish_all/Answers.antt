@@ -1,9 +1,9 @@
-use Rattle.std.proofs.Common.{◌≡◌, [], ◌∷◌, List, map, ap, sym, subst, ◌∙◌}
+use Rattle.std.proofs.Common.{List, map, sym, subst}
 use Rattle.std.specs.List.{All}
 use Rattle.dcc_lane.specs.Ends.{IsOfLane, lane_of}
 use Rattle.dcc_lane.specs.declared.receiver.Receiver.{Receiver}
 use Rattle.dcc_lane.specs.declared.sender.Sender.{Sender}
-use Rattle.dcc_serve.specs.Lanes.{AreAllHeard, AreOfLanes, IsHeard, firsts, lanes_of, lists_of, rests}
+use Rattle.dcc_serve.specs.Lanes.{AreAllHeard, AreOfLanes, IsHeard, firsts, lanes_of, lists_of}
 use Rattle.dcc_serve.proofs.LaneEnds.{of_first}
 use Rattle.dcc_serve.proofs.finishing.finish_all.Goals as goal
 

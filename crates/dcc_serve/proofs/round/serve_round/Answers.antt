@@ -1,14 +1,18 @@
-use Rattle.std.proofs.Common.{◌≡◌, ℕ, List, length, map, refl, ◌++◌, take, ◌∙◌, sym, ap, subst, arith}
+use Rattle.std.proofs.Common.{◌≡◌, ℕ, List, length, map, refl, inl, inr, ◌++◌, take, ◌∙◌, sym, ap, subst, arith}
 use Rattle.std.proofs.Math.Seq.{take-append_seam}
 use Rattle.std.specs.List.{filter_map}
 use Rattle.dcc_receipts.specs.declared.receipt.Receipt.{Receipt}
-use Rattle.dcc_running.specs.Audited.{AreCovered, AreOrdered, AreTrue}
+use Rattle.std.proofs.lemmas.Result.{err_from_is_err_and}
+use Rattle.dcc_receipts.specs.Faults.{fault_number}
+use Rattle.dcc_running.specs.Audited.{AreCovered, AreOrdered, AreTrue, IsFault}
 use Rattle.dcc_running.specs.Books.{Opening, at_opening}
 use Rattle.dcc_serve.specs.Counting.{seat_in}
 use Rattle.dcc_dispatch.specs.Settings.{Setting}
 use Rattle.dcc_serve.specs.Finishing.{AreFinished, AreTied, ends_in}
 use Rattle.dcc_serve.specs.Gathering.{AreGathered}
+use Rattle.dcc_serve.proofs.Ends.{of_compared, of_lanes}
 use Rattle.dcc_serve.proofs.LaneEnds.{ended_tied}
+use Rattle.dcc_serve.specs.Served.{EndsRound}
 use Rattle.dcc_serve.specs.Tasks.{AllRun}
 use Rattle.dcc_serve.specs.declared.tasks.Task.{Task}
 use Rattle.dcc_serve.proofs.round.serve_round.Goals as goal
@@ -69,3 +73,42 @@ finished-requires g c =
     (said_of (AllRun g.I.Read.remaining g.O.Write.contents g.C.Clock.tells c.args.service.now.clock.now setting) c.len-count.result c.len-count.result c.as_mut_slice.result.now begun
     c.serve_all.new.tasks ended refl first last c.serve_all.ensures)
     (sym (ap length last) ∙ same))
+
+pub returns-in_err-seats-clause-ends : goal.returns-in_err-seats-clause-ends
+returns-in_err-seats-clause-ends g c =
+    let setting : Setting = record { plan = c.args.service.now.plan.now; identity = c.args.service.now.identity.now } in
+    let p = err_from_is_err_and c.from_residual-in_err-seats.result c.from_residual-in_err-seats.ensures.1 in
+    rw (p.1, p.2)
+    (of_lanes (EndsRound g.I.Read.remaining g.O.Write.contents g.C.Clock.tells c.args.service.now.clock.now setting c.args.rounds.now.gates c.args.rounds.now.every c.args.shards.items)
+    tt (inr refl) c.in_err-seats.field-0.0 c.in_err-seats.ensures.fault)
+
+pub returns-in-Err-clause-ends : goal.returns-in-Err-clause-ends
+returns-in-Err-clause-ends g c =
+    let gates = c.args.rounds.now.gates in
+    let every = c.args.rounds.now.every in
+    let begun = c.in_ok-tasks.tasks.items in
+    let ended = c.as_slice.result.now in
+    let setting : Setting = record { plan = c.args.service.now.plan.now; identity = c.args.service.now.identity.now } in
+    let count : c.len-count.result ≡ length c.args.shards.items = omega arith in
+    let first : c.as_mut_slice.result.now ≡ begun = c.as_mut_slice.ensures.value in
+    let same : length c.serve_all.new.tasks ≡ length begun = omega (arith, ap length first, c.serve_all.auto.tasks) in
+    let long : c.in_ok-tasks.tasks.len ≡ length c.serve_all.new.tasks = omega (arith, same) in
+    let last : c.serve_all.new.tasks ≡ ended = sym (c.as_slice.ensures.value ∙ front_is c.in_ok-tasks.tasks.len c.serve_all.new.tasks _ long) in
+    let seats : c.in_ok-seats.seats.items ≡ filter_map seat_in ended =
+    c.in_ok-seats.ensures.seats ∙ ap (λ (ts : List (Task g.row.I.Denot g.row.O.Denot)). filter_map seat_in ts) (sym c.as_slice.ensures.value) in
+    rw c.of_close.ensures.value
+    (of_compared (EndsRound g.I.Read.remaining g.O.Write.contents g.C.Clock.tells c.args.service.now.clock.now setting gates every c.args.shards.items) tt
+    (fault_number c.in-Err.unclosed.fault) (λ number told. inl (record {
+      begun = begun;
+      ended = ended;
+      books = c.in-Err.unclosed.books;
+      fault = c.in-Err.unclosed.fault;
+      gathered = subst (λ (n : ℕ). AreGathered n gates every begun) count c.in_ok-tasks.ensures.tasks;
+      ran = said_of (AllRun g.I.Read.remaining g.O.Write.contents g.C.Clock.tells c.args.service.now.clock.now setting) c.len-count.result (length c.args.shards.items)
+          c.as_mut_slice.result.now begun c.serve_all.new.tasks ended count first last c.serve_all.ensures;
+      all = sym (ap length last) ∙ same;
+      finished = subst (λ (ts : List (Task g.row.I.Denot g.row.O.Denot)). AreFinished ts) (sym c.as_slice.ensures.value) c.in_ok-seats.ensures.finished;
+      opened = λ sub. ap (λ (opening : Opening). at_opening opening sub) c.in-Err.ensures.back.2 ∙ c.in-Ok.ensures.opening sub;
+      fails = subst (λ (all : List (List Receipt)). IsFault c.in-Err.unclosed.fault c.in-Err.unclosed.books all) seats c.in-Err.ensures.fault;
+      numbered = told;
+    })))

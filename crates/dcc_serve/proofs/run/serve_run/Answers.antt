@@ -1,5 +1,9 @@
-use Rattle.std.proofs.Common.{rules, ◌≡◌, ◌+◌, ◌<◌, refl, arith}
+use Rattle.std.proofs.Common.{rules, ◌≡◌, ◌+◌, ◌<◌, refl, sym, ap, ◌∙◌, arith}
 use Rattle.std.proofs.lemmas.Result.{err_from_is_err_and}
+use Rattle.dcc_dispatch.specs.Settings.{Setting}
+use Rattle.dcc_serve.specs.Served.{EndsRound, EndsRounds, IsGoodRound, IsRound, is_any_stopped}
+use Rattle.dcc_serve.specs.declared.fault.ServeFault.{ServeFault}
+use Rattle.dcc_serve.proofs.Ends.{ends_behind, ends_stopped, of_unnumbered}
 use Rattle.dcc_serve.proofs.Tellings.{ends_before, ends_in_line, last_of, none_served, one_served, one_told, told_of}
 use Rattle.dcc_serve.proofs.run.serve_run.Goals as goal
 
@@ -8,7 +12,9 @@ returns-in_err-counts-clause-part g c =
     let few : c.loop-round.round < c.args.rounds.now.rounds = search rules in
     let p = err_from_is_err_and c.from_residual.result c.from_residual.ensures.1 in
     rw (p.1, p.2)
-    (ends_before c.in_err-counts.field-0.0 _ _ c.loop-round.round c.args.rounds.now.rounds c.in_err-counts.ensures.fault few (told_of _ _ _ _ _ _ (last_of c.loop-round.invariant)))
+    (ends_before (EndsRound g.I.Read.remaining g.O.Write.contents g.C.Clock.tells c.args.service.now.clock.now (record { plan = c.args.service.now.plan.now; identity = c.args.service.now.identity.now })
+    c.args.rounds.now.gates c.args.rounds.now.every c.loop-round.shards.items) (λ number it. it) c.in_err-counts.field-0.0 _ _ c.loop-round.round c.args.rounds.now.rounds c.in_err-counts.ensures.ends few
+    (told_of _ _ _ _ _ _ (last_of c.loop-round.invariant)))
 
 pub returns-in_err-write_line-clause-part : goal.returns-in_err-write_line-clause-part
 returns-in_err-write_line-clause-part g c =
@@ -33,6 +39,52 @@ returns-then-tell_stopped-clause-part g c =
       ),
     )
 
+pub returns-in_err-counts-clause-cause : goal.returns-in_err-counts-clause-cause
+returns-in_err-counts-clause-cause g c =
+    let setting : Setting = record { plan = c.args.service.now.plan.now; identity = c.args.service.now.identity.now } in
+    let clock = c.args.service.now.clock.now in
+    let gates = c.args.rounds.now.gates in
+    let every = c.args.rounds.now.every in
+    let good = IsGoodRound g.I.Read.remaining g.O.Write.contents g.C.Clock.tells clock setting g.R.Records.is_stopped g.R.Records.may_leave gates every in
+    let round = IsRound {I = g.row.I.Denot} {O = g.row.O.Denot} g.I.Read.remaining g.O.Write.contents g.C.Clock.tells clock setting g.R.Records.is_stopped g.R.Records.may_leave gates every in
+    let ends = EndsRound g.I.Read.remaining g.O.Write.contents g.C.Clock.tells clock setting {R = g.row.R.Denot} gates every in
+    let few : c.loop-round.round < c.args.rounds.now.rounds = search rules in
+    let p = err_from_is_err_and c.from_residual.result c.from_residual.ensures.1 in
+    rw (p.1, p.2)
+    (ends_behind good round ends (is_any_stopped g.R.Records.is_stopped) (λ last number it. it) c.in_err-counts.field-0.0 c.loop-round.round c.args.rounds.now.rounds
+    c.args.shards.items c.loop-round.shards.items (g.P.Write.contents c.args.output.now) (g.P.Write.contents c.loop-round.output) few (last_of c.loop-round.invariant)
+    c.in_err-counts.ensures.ends)
+
+pub returns-in_err-write_line-clause-cause : goal.returns-in_err-write_line-clause-cause
+returns-in_err-write_line-clause-cause g c =
+    let setting : Setting = record { plan = c.args.service.now.plan.now; identity = c.args.service.now.identity.now } in
+    let clock = c.args.service.now.clock.now in
+    let gates = c.args.rounds.now.gates in
+    let every = c.args.rounds.now.every in
+    let good = IsGoodRound g.I.Read.remaining g.O.Write.contents g.C.Clock.tells clock setting g.R.Records.is_stopped g.R.Records.may_leave gates every in
+    let round = IsRound {I = g.row.I.Denot} {O = g.row.O.Denot} g.I.Read.remaining g.O.Write.contents g.C.Clock.tells clock setting g.R.Records.is_stopped g.R.Records.may_leave gates every in
+    let ends = EndsRound g.I.Read.remaining g.O.Write.contents g.C.Clock.tells clock setting {R = g.row.R.Denot} gates every in
+    let p = err_from_is_err_and c.from_residual-in_err-write_line.result c.from_residual-in_err-write_line.ensures.1 in
+    rw (p.1, p.2)
+    (of_unnumbered (λ (fault : ServeFault). EndsRounds good round ends (is_any_stopped g.R.Records.is_stopped) fault c.args.rounds.now.rounds c.args.shards.items
+    (g.P.Write.contents c.args.output.now) (g.P.Write.contents c.write_line.new.output)) tt tt c.in_err-write_line.field-0.0 c.in_err-write_line.ensures.fault)
+
+pub returns-then-tell_stopped-clause-cause : goal.returns-then-tell_stopped-clause-cause
+returns-then-tell_stopped-clause-cause g c =
+    let setting : Setting = record { plan = c.args.service.now.plan.now; identity = c.args.service.now.identity.now } in
+    let clock = c.args.service.now.clock.now in
+    let gates = c.args.rounds.now.gates in
+    let every = c.args.rounds.now.every in
+    let good = IsGoodRound g.I.Read.remaining g.O.Write.contents g.C.Clock.tells clock setting g.R.Records.is_stopped g.R.Records.may_leave gates every in
+    let round = IsRound {I = g.row.I.Denot} {O = g.row.O.Denot} g.I.Read.remaining g.O.Write.contents g.C.Clock.tells clock setting g.R.Records.is_stopped g.R.Records.may_leave gates every in
+    let ends = EndsRound g.I.Read.remaining g.O.Write.contents g.C.Clock.tells clock setting {R = g.row.R.Denot} gates every in
+    let few : c.loop-round.round < c.args.rounds.now.rounds = search rules in
+    let next : c.saturating_add.result ≡ c.loop-round.round + 1 = search rules in
+    ends_stopped good round ends (is_any_stopped g.R.Records.is_stopped) c.loop-round.round c.args.rounds.now.rounds c.saturating_add.result c.args.shards.items
+    c.loop-round.shards.items c.in_ok-counts.next.items c.in_ok-counts.counts (g.P.Write.contents c.args.output.now) (g.P.Write.contents c.loop-round.output)
+    (g.P.Write.contents c.write_line.new.output) few (last_of c.loop-round.invariant) c.in_ok-counts.ensures.round
+    (sym (c.if-tell_stopped.ensures ∙ ap (is_any_stopped g.R.Records.is_stopped) c.as_slice.ensures.value)) next c.in_ok-write_line.ensures.whole
+
 pub loop-round-init : goal.loop-round-init
 loop-round-init g c = (c.requires.shards, c.requires.some, c.requires.most, none_served _ _ _)
 
@@ -42,6 +94,6 @@ loop-round-preserved g c =
       c.in_ok-counts.ensures.shards,
       c.in_ok-counts.ensures.some,
       c.in_ok-counts.ensures.most,
-      one_served _ c.loop-round.round c.saturating_add.result _ _ _ c.in_ok-counts.counts _ _ _ (last_of c.loop-round.invariant) c.in_ok-counts.ensures.round next
+      one_served _ c.loop-round.round c.saturating_add.result _ _ _ c.in_ok-counts.counts _ _ _ (last_of c.loop-round.invariant) (c.in_ok-counts.ensures.round, sym (c.if-tell_stopped.ensures ∙ ap (is_any_stopped g.R.Records.is_stopped) c.as_slice.ensures.value)) next
           c.in_ok-write_line.ensures.whole,
     )
