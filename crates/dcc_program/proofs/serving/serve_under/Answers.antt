@@ -1,3 +1,5 @@
+use Rattle.std.proofs.Common.{inr}
+use Rattle.std.proofs.lemmas.Result.{err_from_is_err_and}
 use Rattle.dcc_program.proofs.serving.serve_under.Goals as goal
 
 pub returns-clause-served : goal.returns-clause-served
@@ -19,4 +21,18 @@ returns-clause-served g c =
 pub returns-in_err-served-clause-part : goal.returns-in_err-served-clause-part
 returns-in_err-served-clause-part g c =
     let door = c.in-Ok-open_door.ensures.whole in
-    ?
+    let p = err_from_is_err_and c.from_residual-in_err-served.result c.from_residual-in_err-served.ensures.1 in
+    rw (p.1)
+    (inr (record {
+      plan = c.args.plan.now;
+      clock = c.new-clock.result;
+      shards = c.in-Ok.shards.items;
+      address = door.0;
+      told = g.W.Write.contents c.open_door.new.output;
+      fault = c.in_err-served.field-0.0;
+      opened = (c.in-Ok.ensures.count, c.in-Ok.ensures.opened);
+      listening = door.1;
+      failed = p.2;
+      lines = c.in_err-served.ensures.part;
+      cause = rw (← c.in_ok-identity.ensures) c.in_err-served.ensures.cause;
+    }))
