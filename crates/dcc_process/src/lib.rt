@@ -6,9 +6,30 @@
 
 use dcc_files::FileStores;
 use dcc_program::execute;
+use std::io::Eprint;
+use std::net::{Net, TcpListener, TcpStream};
 use std::process::ExitCode;
+use std::random::RandomSource;
+use std::rt::{Env, Files};
+use std::sync::Wait;
+use std::thread::Threads;
+use std::time::Clock;
 
 /// Does what the process was asked for, over the stores in its files, and reports a failure by a line on standard error and by the exit status.
-pub fn run_process(rt: &HostRuntime) -> ExitCode {
-    execute(rt, &FileStores::new(rt), &mut rt.stderr())
+/// Both handles are the process's own: threads are started by the first, files of stores opened by the second.
+pub fn run_process<
+    R: Env
+        + Files
+        + RandomSource
+        + Input
+        + Print
+        + Eprint
+        + Net<Listener = TcpListener, Stream = TcpStream>
+        + Threads
+        + Wait
+        + Clock
+        + Sync
+        + AllocGlobal,
+>(rt: &R, files: &HostRuntime) -> ExitCode {
+    execute(rt, &FileStores::new(files), &mut files.stderr())
 }

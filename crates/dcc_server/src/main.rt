@@ -7,5 +7,5 @@ use dcc_process::run_process;
 use std::process::ExitCode;
 
 fn main(rt: HostRuntime) -> ExitCode {
-    run_process(&rt)
+    run_process(&rt, &rt)
 }
