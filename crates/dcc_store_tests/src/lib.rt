@@ -10,8 +10,6 @@ mod known;
 #[cfg(test)]
 mod play;
 #[cfg(test)]
-mod refusals;
-#[cfg(test)]
 mod script;
 #[cfg(test)]
 mod server;
