@@ -1,16 +1,13 @@
 //! The stores of shards as files in a folder: of each shard `shard-N.db`, where N is its index, and beside it the log that `sqlite` keeps.
 //!
-//! Stands on `dcc_sqlrec` for records over a database, on `dcc_shard` for what stands on records, on `dcc_operator` for what a command asks
-//! of stores, and on the kit's `sqlite` for files. The contract that it gives is that of `dcc_operator::Stores`: records are under the plan's
-//! terms, and where the disk has returned what was written, their tables were made for the shard that was asked for, under that plan. Which
-//! file that is, and what else is in it, is the system's, and has no contract here; of any disk that returns what was written,
-//! [`stop_and_reopen_shard`] says what a shard holds that was stopped and opened again.
+//! Stands on `dcc_sqlrec` for records over a database, on `dcc_operator` for what a command asks of stores, and on the kit's `sqlite` for files. The
+//! contract that it gives is that of `dcc_operator::Stores`: records are under the plan's terms, and where the disk has returned what was written,
+//! their tables were made for the shard that was asked for, under that plan. Which file that is, and what else is in it, is the system's, and has no
+//! contract here.
 #![tactic(auto)]
 
 mod file_records;
-mod stops;
 mod stores;
 
 pub use file_records::FileRecords;
-pub use stops::stop_and_reopen_shard;
 pub use stores::FileStores;

@@ -13,7 +13,7 @@ use Rattle.dcc_records.specs.Contents.{Content, Kept, IsContentOf}
 use Rattle.dcc_records.specs.Stops.{LeavesOnly}
 use Rattle.dcc_shard.specs.Shards.{held_then}
 use Rattle.dcc_shard.specs.Stored.{IsLeft, GoesOnFrom, LeavesHeld, LeavesOneMore}
-use Rattle.dcc_files.specs.Stops.{AreAlike, HoldsAgain}
+use Rattle.dcc_stops.specs.Stops.{AreAlike, HoldsAgain}
 
 -- it holds what was held, and at most one act more of each subscriber
 pub goes_on : (terms : TermsView) (one other : Held) (leaves again : Content → Type 0) → LeavesHeld one leaves → IsLeft terms other again

@@ -4,7 +4,7 @@ ghost use Rattle.std.specs.Prelude.{◌≡◌, false, IfSome};
 ghost use Rattle.sqlite.specs.Files.{file_state};
 ghost use Rattle.sqlite.specs.State.{HasCleanDisk};
 ghost use Rattle.dcc_shard.specs.Shards.{held, AreOwn};
-ghost use Rattle.dcc_files.specs.Stops.{HoldsAgain};
+ghost use Rattle.dcc_stops.specs.Stops.{HoldsAgain};
 
 use dcc_message::Identity;
 use dcc_model::acts_come_to_their_own;

@@ -2,8 +2,8 @@ use Rattle.std.proofs.Common.{◌≡◌, sym, ◌∙◌}
 use Rattle.sqlite.specs.Files.{file_state}
 use Rattle.sqlite.specs.State.{HasCleanDisk}
 use Rattle.dcc_shard.specs.Shards.{held}
-use Rattle.dcc_files.proofs.Stopped.{holds_again}
-use Rattle.dcc_files.proofs.stops.stop_and_reopen_shard.Goals as goal
+use Rattle.dcc_stops.proofs.Stopped.{holds_again}
+use Rattle.dcc_stops.proofs.stops.stop_and_reopen_shard.Goals as goal
 
 pub returns-in-Ok-new-clause-again : goal.returns-in-Ok-new-clause-again
 returns-in-Ok-new-clause-again g c = λ was same clean.
