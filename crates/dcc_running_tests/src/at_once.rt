@@ -1,7 +1,8 @@
 //! Two gateways at once, and their requests again.
 
 use crate::callers::{Caller, DEBITS};
-use crate::locks::{in_memory, one};
+use crate::locks::one;
+use crate::shards::in_memory;
 use dcc_act::Sub;
 use dcc_records::{MemoryRecords, Records};
 use dcc_running::{Books, Seat, Shards};
@@ -105,10 +106,22 @@ fn close_twice<S: Wait + Abort + RandomSource + AllocGlobal, R: Records + Drop>(
     first: &mut Caller,
     second: &mut Caller,
 ) -> Result<(), Fail> {
+    let again = close_and_repeat(rt, shards, first, second)?;
+    let third = reopened(rt, again, first, second)?;
+    drop(third);
+    Ok(())
+}
+
+/// Closes the shards, and asks what is opened again for the debits of both.
+fn close_and_repeat<S: Wait + Abort + RandomSource + AllocGlobal, R: Records + Drop>(
+    rt: &S,
+    shards: Shards<R>,
+    first: &mut Caller,
+    second: &mut Caller,
+) -> Result<Shards<R>, Fail> {
     let again = reopened(rt, shards, first, second)?;
     repeat_both(rt, &again, first, second);
-    let _third = reopened(rt, again, first, second)?;
-    Ok(())
+    Ok(again)
 }
 
 #[test]

@@ -1,7 +1,7 @@
 //! Callers, each with its seat.
 
-use crate::jobs::{after, debit, opening};
-use dcc_act::{Kind, Sub};
+use crate::jobs::{after, event_job, opening};
+use dcc_act::{Action, Kind, Sub};
 use dcc_octets::OctetString;
 use dcc_records::Records;
 use dcc_running::{Job, Seat, Shards};
@@ -70,8 +70,21 @@ impl Caller {
         shards: &Shards<R>,
         number: u32,
     ) -> Option<(OctetString, bool)> {
-        let job = debit(alloc, self.sub, self.name, number)?;
+        let job = event_job(alloc, self.sub, Action::DirectDebiting, self.name, number)?;
         done(self.submit(rt, alloc, shards, job))
+    }
+
+    /// The Result-Code that a refund is answered, where its act is made. A session's name has 15 octets.
+    pub fn refund<W: Wait, R: Records>(
+        &mut self,
+        rt: &W,
+        alloc: Global,
+        shards: &Shards<R>,
+        number: u32,
+    ) -> Option<[u8; 4]> {
+        let job = event_job(alloc, self.sub, Action::RefundAccount, self.name, number)?;
+        let (octets, _fresh) = done(self.submit(rt, alloc, shards, job))?;
+        octets.as_slice().get(52..56)?.try_into().ok()
     }
 
     /// Whether a session is opened.

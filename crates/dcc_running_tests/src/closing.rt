@@ -3,10 +3,12 @@
 ghost use Rattle.std.specs.Prelude.{◌<◌};
 
 use crate::callers::Caller;
-use crate::jobs::after;
-use crate::locks::{in_memory, one};
-use dcc_act::{Act, Kind, TopUp};
-use dcc_receipts::{Receipt, check_receipts};
+use crate::jobs::{after, event};
+use crate::locks::one;
+use crate::shards::in_memory;
+use dcc_act::{Act, Action, Kind, MAX_AMOUNT, TopUp};
+use dcc_answer::Proxies;
+use dcc_receipts::{Receipt, Told, check_receipts};
 use dcc_records::{MemoryRecords, Records};
 use dcc_running::{Seat, Shards};
 use dcc_shard::{ExpiryAnswer, TopUpAnswer};
@@ -36,33 +38,36 @@ fn close<R: Records + Drop>(alloc: Global, shards: Shards<R>, seats: Vec<Seat>) 
     }
 }
 
-/// Tops up, and again by the same ticket, and with nothing.
-fn top_up_thrice<W: Wait + Abort + AllocGlobal, R: Records>(
+/// A top-up's ticket and amount, and what it is told.
+type ToldTopUp = (u64, u64, TopUpAnswer);
+
+const ADDED: TopUpAnswer = TopUpAnswer::Done {
+    place: 1,
+    fresh: true,
+};
+
+const ADDED_BEFORE: TopUpAnswer = TopUpAnswer::Done {
+    place: 1,
+    fresh: false,
+};
+
+/// A top-up, again by the same ticket, and one of nothing.
+const THREE_TOP_UPS: &[ToldTopUp] = &[
+    (1, 1000, ADDED),
+    (1, 5, ADDED_BEFORE),
+    (2, 0, TopUpAnswer::BadAmount),
+];
+
+/// Tops up, and asserts what each top-up is told.
+fn top_up_each<W: Wait + Abort + AllocGlobal, R: Records>(
     rt: &W,
     shards: &Shards<R>,
     caller: &mut Caller,
+    top_ups: &[ToldTopUp],
 ) {
-    for (ticket, amount, wanted) in [
-        (
-            1,
-            1000,
-            TopUpAnswer::Done {
-                place: 1,
-                fresh: true,
-            },
-        ),
-        (
-            1,
-            5,
-            TopUpAnswer::Done {
-                place: 1,
-                fresh: false,
-            },
-        ),
-        (2, 0, TopUpAnswer::BadAmount),
-    ] {
-        let told = caller.top_up(rt, rt.alloc(), shards, ticket, amount);
-        assert_eq!(rt; told, Some(wanted));
+    for (ticket, amount, wanted) in top_ups {
+        let told = caller.top_up(rt, rt.alloc(), shards, *ticket, *amount);
+        assert_eq!(rt; told, Some(*wanted));
     }
 }
 
@@ -98,7 +103,7 @@ fn make_each<W: Wait + Abort + AllocGlobal, R: Records>(
 ) -> Result<(), Fail>
     requires { 0 < shards.now.count }
 {
-    top_up_thrice(rt, shards, caller);
+    top_up_each(rt, shards, caller, THREE_TOP_UPS);
     end_session(rt, shards, caller);
     assert_eq!(rt; count(rt, rt.alloc(), shards)?, 1);
     assert_eq!(rt; caller.seat.receipts().len(), 4);
@@ -117,31 +122,6 @@ fn seat_of_each<W: Wait + Abort + AllocGlobal, R: Records>(
     caller.stand_up(rt.alloc(), shards)
 }
 
-#[test]
-fn each_call_gives_its_receipt(rt: HostRuntime) -> Result<(), Fail> {
-    let shards = one(&rt, in_memory(&rt)?)?;
-    let seat = seat_of_each(&rt, &shards)?;
-    let seats = alone(rt.alloc(), seat)?;
-    assert_eq!(rt; close(rt.alloc(), shards, seats), 0);
-    Ok(())
-}
-
-/// What comes of a close without any seat, and of another with this one over what that handed back.
-fn close_twice<R: Records + Drop>(
-    alloc: Global,
-    shards: Shards<R>,
-    seat: Seat,
-) -> Result<(u8, u8), Fail> {
-    let seats = alone(alloc, seat)?;
-    match shards.close(alloc, Vec::new(alloc)) {
-        Ok(_) => Ok((0, 0)),
-        Err(unclosed) => {
-            let number = unclosed.fault.number().unwrap_or(1);
-            Ok((number, close(alloc, unclosed.books.into_locks(), seats)))
-        }
-    }
-}
-
 /// A seat of some shards, at which money was topped up in these, the same or others.
 fn seat_of_top_ups<W: Wait + Abort + AllocGlobal, R: Records>(
     rt: &W,
@@ -149,16 +129,8 @@ fn seat_of_top_ups<W: Wait + Abort + AllocGlobal, R: Records>(
     others: &Shards<R>,
 ) -> Result<Seat, Fail> {
     let mut caller = caller(rt.alloc(), shards)?;
-    top_up_thrice(rt, others, &mut caller);
+    top_up_each(rt, others, &mut caller, THREE_TOP_UPS);
     caller.stand_up(rt.alloc(), shards)
-}
-
-#[test]
-fn a_seat_is_missing(rt: HostRuntime) -> Result<(), Fail> {
-    let shards = one(&rt, in_memory(&rt)?)?;
-    let seat = seat_of_top_ups(&rt, &shards, &shards)?;
-    assert_eq!(rt; close_twice(rt.alloc(), shards, seat)?, (61, 0));
-    Ok(())
 }
 
 /// What the subscriber is told after a top-up, that it is unknown, comes of other shards.
@@ -183,32 +155,108 @@ fn seat_of_others<W: Wait + Abort + AllocGlobal + RandomSource>(
     seat
 }
 
-#[test]
-fn a_receipt_is_stray(rt: HostRuntime) -> Result<(), Fail> {
-    let shards = one(&rt, in_memory(&rt)?)?;
-    let seat = seat_of_others(&rt, &shards)?;
-    let seats = alone(rt.alloc(), seat)?;
-    assert_eq!(rt; close(rt.alloc(), shards, seats), 60);
-    Ok(())
-}
-
 /// A seat whose last receipt is of an act before one that was told as unknown.
 fn seat_out_of_order<W: Wait + Abort + AllocGlobal + RandomSource, R: Records>(
     rt: &W,
     shards: &Shards<R>,
 ) -> Result<Seat, Fail> {
     let mut caller = caller(rt.alloc(), shards)?;
-    top_up_thrice(rt, shards, &mut caller);
+    top_up_each(rt, shards, &mut caller, THREE_TOP_UPS);
     ask_others(rt, &mut caller)?;
     caller.stand_up(rt.alloc(), shards)
 }
 
+/// What was done at the seat with which shards are closed.
+#[derive(Clone, Copy)]
+enum Seated {
+    EachCall,
+    TopUps,
+    TopUpsInOthers,
+    UnknownBetween,
+    AtTheCeiling,
+}
+
+/// That seat.
+fn seats_of<W: Wait + Abort + AllocGlobal + RandomSource>(
+    rt: &W,
+    shards: &Shards<MemoryRecords>,
+    seated: Seated,
+) -> Result<Vec<Seat>, Fail>
+    requires { 0 < shards.now.count }
+{
+    let seat = match seated {
+        Seated::EachCall => seat_of_each(rt, shards)?,
+        Seated::TopUps => seat_of_top_ups(rt, shards, shards)?,
+        Seated::TopUpsInOthers => seat_of_others(rt, shards)?,
+        Seated::UnknownBetween => seat_out_of_order(rt, shards)?,
+        Seated::AtTheCeiling => seat_at_the_ceiling(rt, shards)?,
+    };
+    alone(rt.alloc(), seat)
+}
+
+/// What comes of a close without any seat, and of another with these over what that left.
+fn close_twice<R: Records + Drop>(alloc: Global, shards: Shards<R>, seats: Vec<Seat>) -> (u8, u8) {
+    match shards.close(alloc, Vec::new(alloc)) {
+        Ok(books) => (0, close(alloc, books.into_locks(), seats)),
+        Err(unclosed) => {
+            let number = unclosed.fault.number().unwrap_or(1);
+            (number, close(alloc, unclosed.books.into_locks(), seats))
+        }
+    }
+}
+
+/// The same where there are seats.
+fn close_with<R: Records + Drop>(
+    alloc: Global,
+    shards: Shards<R>,
+    seats: Result<Vec<Seat>, Fail>,
+) -> Result<(u8, u8), Fail> {
+    match seats {
+        Ok(seats) => Ok(close_twice(alloc, shards, seats)),
+        Err(fail) => {
+            drop(shards);
+            Err(fail)
+        }
+    }
+}
+
+/// The faults with which shards close, 0 for none, without any seat and with the one at which this was done.
+fn faults<W: Wait + Abort + AllocGlobal + RandomSource>(
+    rt: &W,
+    seated: Seated,
+) -> Result<(u8, u8), Fail> {
+    let shards = one(rt, in_memory(rt)?)?;
+    let seats = seats_of(rt, &shards, seated);
+    close_with(rt.alloc(), shards, seats)
+}
+
+#[test]
+fn each_call_gives_its_receipt(rt: HostRuntime) -> Result<(), Fail> {
+    assert_eq!(&rt; faults(&rt, Seated::EachCall)?, (61, 0));
+    Ok(())
+}
+
+#[test]
+fn a_seat_is_missing(rt: HostRuntime) -> Result<(), Fail> {
+    assert_eq!(&rt; faults(&rt, Seated::TopUps)?, (61, 0));
+    Ok(())
+}
+
+#[test]
+fn a_receipt_is_stray(rt: HostRuntime) -> Result<(), Fail> {
+    assert_eq!(&rt; faults(&rt, Seated::TopUpsInOthers)?, (0, 60));
+    Ok(())
+}
+
 #[test]
 fn receipts_are_out_of_order(rt: HostRuntime) -> Result<(), Fail> {
-    let shards = one(&rt, in_memory(&rt)?)?;
-    let seat = seat_out_of_order(&rt, &shards)?;
-    let seats = alone(rt.alloc(), seat)?;
-    assert_eq!(rt; close(rt.alloc(), shards, seats), 62);
+    assert_eq!(&rt; faults(&rt, Seated::UnknownBetween)?, (61, 62));
+    Ok(())
+}
+
+#[test]
+fn nothing_is_added_at_the_ceiling(rt: HostRuntime) -> Result<(), Fail> {
+    assert_eq!(&rt; faults(&rt, Seated::AtTheCeiling)?, (61, 0));
     Ok(())
 }
 
@@ -220,33 +268,158 @@ fn check(acts: &[Act], receipts: &[Receipt]) -> u8 {
     }
 }
 
-/// The act that a top-up of this amount makes.
-fn topped(amount: u64) -> Option<Act> {
-    Some(Act {
-        moment: after(0)?,
-        kind: Kind::TopUp(TopUp::new(1, amount)?),
+/// Puts the acts of a top-up of 1,000 and of the first two debits.
+fn put_acts(alloc: Global, acts: &mut Vec<Act>) -> Result<(), Fail> {
+    let kind = Kind::TopUp(TopUp::new(1, 1000).ok_or("a top-up")?);
+    let moment = after(0).ok_or("a moment")?;
+    acts.push(Act { moment, kind })?;
+    put_debit(alloc, acts, b"gw1.example;1;1", 0)?;
+    put_debit(alloc, acts, b"gw1.example;1;1", 1)
+}
+
+/// Puts the act of the debit of this number.
+fn put_debit(alloc: Global, acts: &mut Vec<Act>, name: &[u8], number: u32) -> Result<(), Fail> {
+    acts.push(event(alloc, Action::DirectDebiting, name, number).ok_or("a debit")?)?;
+    Ok(())
+}
+
+/// A copy of a receipt whose call had no proxies.
+fn copied(alloc: Global, receipt: &Receipt) -> Option<Receipt> {
+    let answer = copied_answer(&receipt.answer)?;
+    let act = receipt.act.copy().ok()?;
+    Some(Receipt {
+        sub: receipt.sub,
+        place: receipt.place,
+        act,
+        header: receipt.header,
+        proxies: Proxies::none(alloc),
+        answer,
+        fresh: receipt.fresh,
     })
 }
 
-/// Asserts that the receipts of top-ups are those of their acts, of no others, and not before that of an unknown subscriber.
-fn check_each<S: Wait + Abort + RandomSource + AllocGlobal>(
-    rt: &S,
-    acts: &[Act],
-    caller: &mut Caller,
-) -> Result<(), Fail> {
-    assert_eq!(rt; check(acts, caller.seat.receipts()), 0);
-    assert_eq!(rt; check(&[], caller.seat.receipts()), 60);
-    assert_eq!(rt; check(acts, &[]), 61);
-    ask_others(rt, caller)?;
-    assert_eq!(rt; check(acts, caller.seat.receipts()), 62);
+fn copied_answer(told: &Told) -> Option<Told> {
+    match told {
+        Told::Octets(octets) => Some(Told::Octets(octets.copy().ok()?)),
+        Told::Added => Some(Told::Added),
+        Told::Ceiling => Some(Told::Ceiling),
+        Told::Closed { sessions } => Some(Told::Closed {
+            sessions: *sessions,
+        }),
+    }
+}
+
+/// Copies receipts.
+fn copy_each(alloc: Global, receipts: &[Receipt], copies: &mut Vec<Receipt>) -> Result<(), Fail> {
+    for receipt in receipts {
+        copies.push(copied(alloc, receipt).ok_or("a receipt")?)?;
+    }
     Ok(())
+}
+
+/// Asserts that these receipts are those of these acts, of no others, and out of order once the second and the third are exchanged.
+fn check_each(rt: &impl Abort, acts: &[Act], receipts: &mut [Receipt]) {
+    assert_eq!(rt; receipts.len(), 3);
+    assert_eq!(rt; check(acts, receipts), 0);
+    assert_eq!(rt; check(&[], receipts), 60);
+    assert_eq!(rt; check(acts, &[]), 61);
+    receipts.swap(1, 2);
+    assert_eq!(rt; check(acts, receipts), 62);
+}
+
+/// The same of copies of these.
+fn check_copies(
+    rt: &(impl Abort + AllocGlobal),
+    acts: &[Act],
+    receipts: &[Receipt],
+) -> Result<(), Fail> {
+    let mut copies = Vec::new(rt.alloc());
+    copy_each(rt.alloc(), receipts, &mut copies)?;
+    check_each(rt, acts, &mut copies);
+    Ok(())
+}
+
+/// Tops up and makes two debits at the caller's seat.
+fn debit_twice<W: Wait + Abort + AllocGlobal, R: Records>(
+    rt: &W,
+    shards: &Shards<R>,
+    caller: &mut Caller,
+) {
+    top_up_each(rt, shards, caller, &[(1, 1000, ADDED)]);
+    assert!(rt; is_made(rt, shards, caller, 0));
+    assert!(rt; is_made(rt, shards, caller, 1));
+}
+
+/// Whether the debit of this number is made.
+fn is_made<W: Wait + AllocGlobal, R: Records>(
+    rt: &W,
+    shards: &Shards<R>,
+    caller: &mut Caller,
+    number: u32,
+) -> bool {
+    match caller.debit(rt, rt.alloc(), shards, number) {
+        Some((_octets, is_fresh)) => is_fresh,
+        None => false,
+    }
+}
+
+/// Makes them at a seat, and checks its receipts against the acts of these.
+fn debit_and_check<W: Wait + Abort + AllocGlobal, R: Records>(
+    rt: &W,
+    shards: &Shards<R>,
+) -> Result<(), Fail> {
+    let mut caller = caller(rt.alloc(), shards)?;
+    debit_twice(rt, shards, &mut caller);
+    check_receipts_of(rt, caller.seat.receipts())
+}
+
+/// Checks the receipts of a top-up and two debits.
+fn check_receipts_of(rt: &(impl Abort + AllocGlobal), receipts: &[Receipt]) -> Result<(), Fail> {
+    let mut acts = Vec::new(rt.alloc());
+    put_acts(rt.alloc(), &mut acts)?;
+    check_copies(rt, &acts, receipts)
 }
 
 #[test]
 fn receipts_of_one_seat(rt: HostRuntime) -> Result<(), Fail> {
     let shards = one(&rt, in_memory(&rt)?)?;
-    let mut caller = caller(rt.alloc(), &shards)?;
-    top_up_thrice(&rt, &shards, &mut caller);
-    let acts = [topped(1000).ok_or("an act")?];
-    check_each(&rt, &acts, &mut caller)
+    let checked = debit_and_check(&rt, &shards);
+    drop(shards);
+    checked
+}
+
+/// All of 10^18 minor units, for which a refund and a top-up are refused, and are so again.
+const CEILING: &[ToldTopUp] = &[
+    (
+        2,
+        1,
+        TopUpAnswer::Ceiling {
+            place: 3,
+            fresh: true,
+        },
+    ),
+    (
+        2,
+        1,
+        TopUpAnswer::Ceiling {
+            place: 3,
+            fresh: false,
+        },
+    ),
+    (3, 0, TopUpAnswer::BadAmount),
+    (1, 7, ADDED_BEFORE),
+];
+
+/// The seat at which money was topped up to the ceiling, and a refund was told DIAMETER_UNABLE_TO_COMPLY, 5012.
+fn seat_at_the_ceiling<W: Wait + Abort + AllocGlobal, R: Records>(
+    rt: &W,
+    shards: &Shards<R>,
+) -> Result<Seat, Fail> {
+    let mut caller = caller(rt.alloc(), shards)?;
+    top_up_each(rt, shards, &mut caller, &[(1, MAX_AMOUNT, ADDED)]);
+    let refused = caller.refund(rt, rt.alloc(), shards, 0);
+    assert_eq!(rt; refused, Some([0, 0, 0x13, 0x94]));
+    top_up_each(rt, shards, &mut caller, CEILING);
+    assert_eq!(rt; caller.seat.receipts().len(), 5);
+    caller.stand_up(rt.alloc(), shards)
 }

@@ -3,8 +3,8 @@
 ghost use Rattle.std.specs.Prelude.{◌≡◌, IfOk};
 
 use crate::history::{ACTS, FUNDS, History, busy, subscribers};
-use crate::locks::{in_memory, pair};
 use crate::placed::are_shards;
+use crate::shards::{in_memory, pair};
 use dcc_act::Sub;
 use dcc_engine::{Engine, Event, Out};
 use dcc_message::Identity;
@@ -31,9 +31,19 @@ fn engine_over<S: RandomSource + AllocGlobal, R: Records + Drop>(
     first: R,
     second: R,
 ) -> Result<Engine<R>, Fail> {
-    let plan = Plan::read(rt.alloc(), PLAN)?;
-    let shards = shards_over(rt, plan.terms(), first, second)?;
-    Ok(Engine::open(rt.alloc(), plan, shards)?)
+    let plan = plan_of(rt.alloc(), PLAN)?;
+    match shards_over(rt, plan.terms(), first, second) {
+        Ok(shards) => Ok(Engine::open(rt.alloc(), plan, shards)?),
+        Err(fail) => {
+            drop(plan);
+            Err(fail)
+        }
+    }
+}
+
+/// The plan of this text.
+fn plan_of(alloc: Global, text: &str) -> Result<Plan, Fail> {
+    Ok(Plan::read(alloc, text)?)
 }
 
 /// Two shards over these records, as one.
@@ -70,6 +80,13 @@ fn as_one<R: Records + Drop>(
     Ok(Shards::new(terms, identity, shards))
 }
 
+/// An engine of which no append fails.
+fn engine_in_memory(
+    rt: &(impl RandomSource + AllocGlobal),
+) -> Result<Engine<MemoryRecords>, Fail> {
+    engine_over(rt, in_memory(rt)?, in_memory(rt)?)
+}
+
 /// What the events come to where no append fails.
 fn turns(
     rt: &(impl RandomSource + AllocGlobal),
@@ -77,8 +94,10 @@ fn turns(
     sub: Sub,
 ) -> Result<Vec<Turn>, Fail> {
     let alloc = rt.alloc();
-    let mut engine = engine_over(rt, in_memory(rt)?, in_memory(rt)?)?;
-    turns_of(alloc, &mut engine, history, sub)
+    let mut engine = engine_in_memory(rt)?;
+    let turns = turns_of(alloc, &mut engine, history, sub);
+    drop(engine);
+    turns
 }
 
 /// What an event comes to.
@@ -122,12 +141,11 @@ fn failing_engine(
     index: usize,
     n: u64,
 ) -> Result<Engine<OnceRecords>, Fail> {
-    let alloc = rt.alloc();
-    let (first, second) = if index == 0 { (n, 0) } else { (0, n) };
+    let (one, other) = if index == 0 { (n, 0) } else { (0, n) };
     engine_over(
         rt,
-        OnceRecords::new(in_memory(rt)?, first),
-        OnceRecords::new(in_memory(rt)?, second),
+        OnceRecords::new(in_memory(rt)?, one),
+        OnceRecords::new(in_memory(rt)?, other),
     )
 }
 
@@ -137,13 +155,19 @@ fn reopened(
     engine: Engine<OnceRecords>,
 ) -> Result<Engine<MemoryRecords>, Fail> {
     let mut shards = engine.into_shards().into_vec();
-    let second = shards.pop().ok_or("a shard")?;
-    let first = shards.pop().ok_or("a shard")?;
-    engine_over(
-        rt,
-        first.into_records().healed(),
-        second.into_records().healed(),
-    )
+    let second = healed(&mut shards).ok_or("a shard")?;
+    match healed(&mut shards) {
+        Some(first) => engine_over(rt, first, second),
+        None => {
+            drop(second);
+            Err("a shard".into())
+        }
+    }
+}
+
+/// The last shard's records as a restart finds them.
+fn healed(shards: &mut Vec<Shard<OnceRecords>>) -> Option<MemoryRecords> {
+    Some(shards.pop()?.into_records().healed())
 }
 
 /// Whether two outs are alike, but that a top-up which was made before isn't fresh.
@@ -191,16 +215,28 @@ fn assert_stopped(
     n: usize,
 ) -> Result<(), Fail> {
     assert_eq!(rt; outs.len(), turns.len());
-    for (i, (event, (turn, out))) in history
-        .events
-        .iter()
-        .zip(turns.iter().zip(outs))
-        .enumerate()
-    {
-        let is_right = is_right(rt.alloc(), event, turn, out, sub, n)?;
+    for i in 0..outs.len() {
+        let is_right = is_right_at(rt.alloc(), history, turns, outs, i, sub, n)?;
         assert!(rt; is_right, "event {i} where append {n} fails");
     }
     Ok(())
+}
+
+/// Whether the event at this index is answered as it is to be where the subscriber's `n`-th act isn't appended.
+fn is_right_at(
+    alloc: Global,
+    history: &History,
+    turns: &[Turn],
+    outs: &[Out],
+    i: usize,
+    sub: Sub,
+    n: usize,
+) -> Result<bool, Fail> {
+    let (Some(event), Some(turn), Some(out)) = (history.events.get(i), turns.get(i), outs.get(i))
+    else {
+        return Ok(false);
+    };
+    is_right(alloc, event, turn, out, sub, n)
 }
 
 /// Whether an event is answered as it is to be where the subscriber's `n`-th act isn't appended.
@@ -252,8 +288,16 @@ fn assert_made_once(
 /// Asserts that all events are answered as ever.
 fn assert_alike(rt: &impl Abort, turns: &[Turn], outs: &[Out]) {
     assert_eq!(rt; outs.len(), turns.len());
-    for (i, (turn, out)) in turns.iter().zip(outs).enumerate() {
-        assert!(rt; are_alike(out, &turn.out), "event {i} again");
+    for i in 0..outs.len() {
+        assert!(rt; is_alike(turns, outs, i), "event {i} again");
+    }
+}
+
+/// Whether the event at this index is answered as ever.
+fn is_alike(turns: &[Turn], outs: &[Out], i: usize) -> bool {
+    match (turns.get(i), outs.get(i)) {
+        (Some(turn), Some(out)) => are_alike(out, &turn.out),
+        _ => false,
     }
 }
 

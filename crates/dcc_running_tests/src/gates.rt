@@ -1,7 +1,8 @@
 //! One shard answers while another's append is held at its gate.
 
 use crate::callers::Caller;
-use crate::locks::{in_memory, two};
+use crate::locks::two;
+use crate::shards::in_memory;
 use dcc_gate_records::{Gate, GateRecords};
 use dcc_records::Records;
 use dcc_running::Shards;
@@ -9,6 +10,7 @@ use dcc_shard::{ExpiryAnswer, TopUpAnswer};
 use std::alloc::Global;
 use std::hint::spin_loop;
 use std::process::Abort;
+use std::random::RandomSource;
 use std::sync::Wait;
 use std::test::Fail;
 use std::thread::{Threads, join};
@@ -41,14 +43,14 @@ fn call_at_once<W: Wait + Threads + Abort + Sync + AllocGlobal>(
     rt: &W,
     shards: &Shards<GateRecords>,
     shut: &Gate,
-) -> Result<(), Fail> {
+    held: &mut Caller,
+    beside: &mut Caller,
+) {
     let alloc = rt.alloc();
-    let mut held = Caller::new(alloc, shards, b"491700000001", b"gw1.example;1;1")?;
-    let mut beside = Caller::new(alloc, shards, b"491700000002", b"gw2.example;1;1")?;
     let (topped, is_answered) = join(
         rt,
         || held.top_up(rt, alloc, shards, 1, 1000),
-        || call_beside(rt, alloc, shards, &mut beside, shut),
+        || call_beside(rt, alloc, shards, beside, shut),
     );
     assert!(rt; is_answered);
     assert!(rt;
@@ -60,7 +62,30 @@ fn call_at_once<W: Wait + Threads + Abort + Sync + AllocGlobal>(
             })
         )
     );
+}
+
+/// The same of two callers.
+fn call_both<W: Wait + Threads + Abort + Sync + AllocGlobal>(
+    rt: &W,
+    shards: &Shards<GateRecords>,
+    shut: &Gate,
+) -> Result<(), Fail> {
+    let alloc = rt.alloc();
+    let mut held = Caller::new(alloc, shards, b"491700000001", b"gw1.example;1;1")?;
+    let mut beside = Caller::new(alloc, shards, b"491700000002", b"gw2.example;1;1")?;
+    call_at_once(rt, shards, shut, &mut held, &mut beside);
     Ok(())
+}
+
+/// Two shards, each behind its gate.
+fn gated<'a, S: RandomSource + AllocGlobal>(
+    rt: &S,
+    shut: &'a Gate,
+    open: &'a Gate,
+) -> Result<Shards<GateRecords<'a>>, Fail> {
+    let first = GateRecords::new(in_memory(rt)?, shut);
+    let second = GateRecords::new(in_memory(rt)?, open);
+    two(rt, first, second)
 }
 
 /// With one lock round both shards the append waits until it fails: its caller is told so.
@@ -68,8 +93,8 @@ fn call_at_once<W: Wait + Threads + Abort + Sync + AllocGlobal>(
 fn a_shard_answers_beside_an_append(rt: HostRuntime) -> Result<(), Fail> {
     let (shut, open) = (Gate::new(), Gate::new());
     open.open();
-    let first = GateRecords::new(in_memory(&rt)?, &shut);
-    let second = GateRecords::new(in_memory(&rt)?, &open);
-    let shards = two(&rt, first, second)?;
-    call_at_once(&rt, &shards, &shut)
+    let shards = gated(&rt, &shut, &open)?;
+    let called = call_both(&rt, &shards, &shut);
+    drop(shards);
+    called
 }

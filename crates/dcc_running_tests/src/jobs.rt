@@ -41,12 +41,8 @@ fn key(alloc: Global, name: &[u8], number: u32) -> Option<RequestKey> {
     Some(RequestKey { sid, number })
 }
 
-/// A job of this kind, under a header that has its number.
-fn job(alloc: Global, sub: Sub, kind: Kind, number: u32) -> Option<Job> {
-    let act = Act {
-        moment: after(0)?,
-        kind,
-    };
+/// A job of this act, under a header that has its number.
+fn job(alloc: Global, sub: Sub, act: Act, number: u32) -> Job {
     let header = Header {
         length: 20,
         flags: 192,
@@ -55,31 +51,50 @@ fn job(alloc: Global, sub: Sub, kind: Kind, number: u32) -> Option<Job> {
         hop: number,
         end_to_end: number,
     };
-    Some(Job {
+    Job {
         sub,
         act,
         header,
         proxies: Proxies::none(alloc),
-    })
+    }
 }
 
-/// A debit.
-pub(crate) fn debit(alloc: Global, sub: Sub, name: &[u8], number: u32) -> Option<Job> {
-    let event = OneTimeEvent {
-        key: key(alloc, name, number)?,
-        action: Action::DirectDebiting,
+/// The act of an event in a session.
+pub(crate) fn event(alloc: Global, action: Action, name: &[u8], number: u32) -> Option<Act> {
+    let moment = after(0)?;
+    let key = key(alloc, name, number)?;
+    let kind = Kind::Event(OneTimeEvent {
+        key,
+        action,
         service: service(alloc),
-    };
-    job(alloc, sub, Kind::Event(event), number)
+    });
+    Some(Act { moment, kind })
+}
+
+/// What asks for it.
+pub(crate) fn event_job(
+    alloc: Global,
+    sub: Sub,
+    action: Action,
+    name: &[u8],
+    number: u32,
+) -> Option<Job> {
+    let act = event(alloc, action, name, number)?;
+    Some(job(alloc, sub, act, number))
+}
+
+/// The services of what opens a session.
+fn services(alloc: Global) -> Option<Services> {
+    let mut services = Vec::new(alloc);
+    services.push(service(alloc)).ok()?;
+    Services::from_vec(services)
 }
 
 /// What opens a session.
 pub(crate) fn opening(alloc: Global, sub: Sub, name: &[u8]) -> Option<Job> {
-    let mut services = Vec::new(alloc);
-    services.push(service(alloc)).ok()?;
-    let request = SessionRequest {
-        key: key(alloc, name, 0)?,
-        services: Services::from_vec(services)?,
-    };
-    job(alloc, sub, Kind::Initial(request), 0)
+    let moment = after(0)?;
+    let key = key(alloc, name, 0)?;
+    let services = services(alloc)?;
+    let kind = Kind::Initial(SessionRequest { key, services });
+    Some(job(alloc, sub, Act { moment, kind }, 0))
 }

@@ -12,11 +12,7 @@ use dcc_shard::Shard;
 use dcc_tariff::Terms;
 
 /// Whether these shards are under these terms, answer as this server, and hold only subscribers that they keep.
-pub(crate) fn are_shards<R: Records>(
-    terms: &Terms,
-    identity: &Identity,
-    shards: &[Shard<R>],
-) -> bool
+pub fn are_shards<R: Records>(terms: &Terms, identity: &Identity, shards: &[Shard<R>]) -> bool
     ensures { result ≡ true → AreShards terms.now identity.now shards.now }
 {
     let count = shards.len();
