@@ -1,0 +1,117 @@
+//! Two workers, of which one answers while the other's append is held at its gate.
+
+use crate::gateways::{Stage, Talk};
+use crate::messages::{Change, DEBIT_SUBSCRIBER, SESSION, debit, debited};
+use crate::rounds::{Watch, serve};
+use crate::rows::{self, Row};
+use crate::server::{Server, after, topped_up};
+use dcc_gate_records::{Gate, GateRecords};
+use dcc_running_tests::pair;
+use dcc_serve::Rounds;
+use dcc_shard::Shard;
+use std::alloc::Global;
+use std::process::Abort;
+use std::random::RandomSource;
+use std::sync::Wait;
+use std::test::Fail;
+use std::thread::Threads;
+
+/// Another subscriber than the sample's, whom the second shard keeps, in another session.
+const OTHER: &[Change] = &[(SESSION, b'2'), (DEBIT_SUBSCRIBER, b'2')];
+
+const OTHER_ANSWER: &[Change] = &[(SESSION, b'2')];
+
+/// A gateway that exchanges capabilities, and then sends a debit.
+fn talk(alloc: Global, asked: &[Change], answered: &[Change]) -> Result<Talk, Fail> {
+    let (message, answer) = (debit(alloc, 1001, asked)?, debited(alloc, 1001, answered)?);
+    let mut talk = Talk::new(alloc)?;
+    talk.send_then(&message, &answer)?;
+    Ok(talk)
+}
+
+/// Two gateways: the debit of the one is held at the gate, and the other's comes behind that and opens the gate once it is answered.
+fn stage(alloc: Global) -> Result<Stage, Fail> {
+    let first = talk(alloc, &[], &[])?;
+    let mut second = talk(alloc, OTHER, OTHER_ANSWER)?;
+    second.wait_for_the_gate();
+    Ok(Stage {
+        first,
+        second,
+        gate: Gate::new(),
+    })
+}
+
+/// Shards of one subscriber each, the first one's appends behind a gate that is shut.
+fn gated<'a, S: RandomSource + AllocGlobal>(
+    rt: &S,
+    shut: &'a Gate,
+    open: &'a Gate,
+) -> Result<Vec<Shard<GateRecords<'a>>>, Fail> {
+    let first = GateRecords::new(topped_up(rt, &[b"491700000001"])?, shut);
+    let second = GateRecords::new(topped_up(rt, &[b"491700000002"])?, open);
+    pair(rt, first, second)
+}
+
+/// Serves rounds over such shards, and writes their lines; whether all were served.
+fn serve_gated<S: Threads + Wait + Sync + RandomSource + AllocGlobal>(
+    rt: &S,
+    server: Server<'_>,
+    rounds: &Rounds,
+    watch: &Watch,
+    stage: &Stage,
+    lines: &mut Vec<u8>,
+) -> Result<bool, Fail> {
+    let open = Gate::new();
+    open.open();
+    let shards = gated(rt, &stage.gate, &open)?;
+    let served = serve(
+        rt,
+        rt.alloc(),
+        server,
+        (rounds, watch),
+        stage,
+        shards,
+        lines,
+    );
+    Ok(matches!(served, Some(Ok(()))))
+}
+
+/// Serves both, and asserts that each is answered, and the line.
+fn serve_both<S: Threads + Wait + Sync + Abort + RandomSource + AllocGlobal>(
+    rt: &S,
+    server: Server<'_>,
+    rounds: &Rounds,
+    watch: &Watch,
+    stage: &Stage,
+) -> Result<(), Fail> {
+    let mut lines = Vec::new(rt.alloc());
+    assert!(rt; serve_gated(rt, server, rounds, watch, stage, &mut lines)?);
+    assert!(rt; stage.second.is_answered());
+    assert!(rt; stage.first.is_answered());
+    assert_eq!(rt;
+        lines.as_slice(),
+        b"round 1 requests 2 answers 4 acts 2\n".as_slice()
+    );
+    Ok(())
+}
+
+/// Serves one round of two gateways.
+pub(crate) fn run<S: Threads + Wait + Sync + Abort + RandomSource + AllocGlobal>(
+    rt: &S,
+    server: Server<'_>,
+) -> Result<(), Fail> {
+    let watch = Watch {
+        first: after(0)?,
+        readings: 0,
+        then: after(0)?,
+    };
+    let rounds = Rounds::new(2, 1, 0).ok_or("rounds")?;
+    let stage = stage(rt.alloc())?;
+    serve_both(rt, server, &rounds, &watch, &stage)
+}
+
+/// With one lock round both shards, or one worker for both, the append waits until it fails.
+#[test]
+fn a_worker_answers_beside_an_append(rt: HostRuntime) -> Result<(), Fail> {
+    rows::run(&rt, Row::Workers)
+}
