@@ -4,7 +4,7 @@ ghost use Rattle.std.specs.Prelude.{◌≡◌, IfOk};
 
 use crate::history::{ACTS, FUNDS, History, busy, subscribers};
 use crate::placed::are_shards;
-use crate::shards::{in_memory, pair};
+use crate::shards::{TERMS, pair};
 use dcc_act::Sub;
 use dcc_engine::{Engine, Event, Out};
 use dcc_message::Identity;
@@ -13,6 +13,7 @@ use dcc_samples::PLAN;
 use dcc_shard::{Shard, Shards, TopUpAnswer};
 use dcc_tariff::{Plan, Terms};
 use std::alloc::Global;
+use std::hash::RandomState;
 use std::process::Abort;
 use std::random::RandomSource;
 use std::test::Fail;
@@ -81,10 +82,11 @@ fn as_one<R: Records + Drop>(
 }
 
 /// An engine of which no append fails.
-fn engine_in_memory(
-    rt: &(impl RandomSource + AllocGlobal),
-) -> Result<Engine<MemoryRecords>, Fail> {
-    engine_over(rt, in_memory(rt)?, in_memory(rt)?)
+fn engine_in_memory(rt: &(impl RandomSource + AllocGlobal)) -> Result<Engine<MemoryRecords>, Fail> {
+    let hasher = RandomState::new(rt)?;
+    let first = MemoryRecords::new(rt.alloc(), &TERMS, hasher);
+    let second = MemoryRecords::new(rt.alloc(), &TERMS, hasher);
+    engine_over(rt, first, second)
 }
 
 /// What the events come to where no append fails.
@@ -142,10 +144,13 @@ fn failing_engine(
     n: u64,
 ) -> Result<Engine<OnceRecords>, Fail> {
     let (one, other) = if index == 0 { (n, 0) } else { (0, n) };
+    let hasher = RandomState::new(rt)?;
+    let first = MemoryRecords::new(rt.alloc(), &TERMS, hasher);
+    let second = MemoryRecords::new(rt.alloc(), &TERMS, hasher);
     engine_over(
         rt,
-        OnceRecords::new(in_memory(rt)?, one),
-        OnceRecords::new(in_memory(rt)?, other),
+        OnceRecords::new(first, one),
+        OnceRecords::new(second, other),
     )
 }
 

@@ -2,12 +2,13 @@
 
 use crate::callers::Caller;
 use crate::locks::two;
-use crate::shards::in_memory;
+use crate::shards::TERMS;
 use dcc_gate_records::{Gate, GateRecords};
-use dcc_records::Records;
+use dcc_records::{MemoryRecords, Records};
 use dcc_running::Shards;
 use dcc_shard::{ExpiryAnswer, TopUpAnswer};
 use std::alloc::Global;
+use std::hash::RandomState;
 use std::hint::spin_loop;
 use std::process::Abort;
 use std::random::RandomSource;
@@ -83,9 +84,14 @@ fn gated<'a, S: RandomSource + AllocGlobal>(
     shut: &'a Gate,
     open: &'a Gate,
 ) -> Result<Shards<GateRecords<'a>>, Fail> {
-    let first = GateRecords::new(in_memory(rt)?, shut);
-    let second = GateRecords::new(in_memory(rt)?, open);
-    two(rt, first, second)
+    let hasher = RandomState::new(rt)?;
+    let first = MemoryRecords::new(rt.alloc(), &TERMS, hasher);
+    let second = MemoryRecords::new(rt.alloc(), &TERMS, hasher);
+    two(
+        rt,
+        GateRecords::new(first, shut),
+        GateRecords::new(second, open),
+    )
 }
 
 /// With one lock round both shards the append waits until it fails: its caller is told so.
