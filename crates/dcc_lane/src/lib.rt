@@ -15,6 +15,7 @@
 mod bell;
 mod laws;
 mod making;
+mod patience;
 mod receiver;
 mod rule;
 mod search;

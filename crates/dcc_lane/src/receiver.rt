@@ -5,7 +5,7 @@ ghost use Rattle.crossbeam_queue.specs.Passes.{view, IsPassOf};
 ghost use Rattle.dcc_lane.specs.Rule.{receiver, of, IsIn};
 ghost use Rattle.dcc_lane.specs.declared.rule.Tagged.{Tagged};
 
-use crate::bell::Patience;
+use crate::patience::Patience;
 use crate::rule::{Compares, End, Joins, Shared, Tagged, Takes};
 use crate::search::put_by;
 use crate::sender::{Sender, never};

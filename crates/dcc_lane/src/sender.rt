@@ -4,7 +4,7 @@ ghost use Rattle.std.specs.Arc.{arc_value};
 ghost use Rattle.crossbeam_queue.specs.Passes.{view, IsPassOf};
 ghost use Rattle.dcc_lane.specs.Rule.{sender};
 
-use crate::bell::Patience;
+use crate::patience::Patience;
 use crate::rule::{End, Puts, Shared, Tagged};
 use std::alloc::Global;
 use std::sync::atomic::{AtomicBool, Ordering};
