@@ -1,5 +1,5 @@
 -- How what a worker has done goes on.
-use Rattle.std.proofs.Common.{◌≡◌, ℕ, ◌+◌, Bool, List, [], ◌∷◌, ◌++◌, refl, sym, ap, ◌∙◌, append_assoc, if◌then◌else◌, arith}
+use Rattle.std.proofs.Common.{◌≡◌, ℕ, ◌+◌, Bool, List, [], ◌∷◌, ◌++◌, refl, sym, ap, subst, ◌∙◌, append_assoc, if◌then◌else◌, arith}
 use Rattle.std.proofs.lemmas.Fn.{FoldsTo-push}
 use Rattle.std.proofs.lemmas.Grind.{common_steps}
 use Rattle.std.specs.Prelude.{count_by}
@@ -7,7 +7,7 @@ use Rattle.dcc_connect.specs.Writing.{items_of}
 use Rattle.dcc_lane.specs.Ends.{taken_of, TakesOne}
 use Rattle.dcc_lane.specs.declared.receiver.Receiver.{Receiver}
 use Rattle.dcc_lane.specs.declared.rule.Tagged.{Tagged}
-use Rattle.dcc_serve.specs.Working.{Does, DoesOne, HasDone, doing_of, is_end}
+use Rattle.dcc_serve.specs.Working.{CountsFor, Does, DoesOne, HasDone, doing_of, is_end}
 use Rattle.dcc_serve.specs.declared.work.Work.{Work}
 use Rattle.dcc_serve.specs.declared.worker.Worker.{Worker}
 
@@ -19,7 +19,7 @@ pub taken_one : {T : Type 0} (old new : Receiver T) (item : T) → TakesOne old 
 taken_one old new item t = ap items_of t.2 ∙ one_item (taken_of old) t.0 item
 
 pub nothing_done : (w : Worker) → HasDone w w 0
-nothing_done w = record { works = []; taken = grind (arith, common_steps); done = refl; ended_are = refl; same = (refl, refl); lanes = refl; shard = refl }
+nothing_done w = record { works = []; taken = grind (arith, common_steps); done = refl; counted = refl; ended_are = refl; same = (refl, refl); lanes = refl; shard = refl }
 
 pub one_end : (works : List Work) (one : Work) → count_by is_end (works ++ one ∷ []) ≡ count_by is_end works + (if is_end one then 1 else 0)
 one_end works one = grind (arith, common_steps)
@@ -29,6 +29,7 @@ done_on a b c n m ended h d is = record {
   works = h.works ++ d.one ∷ [];
   taken = d.taken ∙ ap (λ items. items ++ d.one ∷ []) h.taken ∙ append_assoc (items_of (taken_of a.from)) h.works (d.one ∷ []);
   done = FoldsTo-push Does (doing_of a) h.works (doing_of b) d.one (doing_of c) h.done d.done;
+  counted = FoldsTo-push (CountsFor a.shard) a.counter h.works b.counter d.one c.counter h.counted (subst (λ shard. CountsFor shard b.counter d.one c.counter) h.shard d.counted);
   ended_are = one_end h.works d.one ∙ ap (λ k. k + (if is_end d.one then 1 else 0)) h.ended_are ∙ sym (is ∙ ap (λ e. n + (if e then 1 else 0)) d.ended_is);
   same = (d.same.0 ∙ h.same.0, d.same.1 ∙ h.same.1);
   lanes = d.lanes ∙ h.lanes;

@@ -13,12 +13,12 @@ use Rattle.dcc_serve.specs.declared.tasks.Task.TheVariants as task
 use Rattle.dcc_serve.specs.declared.work.Work.{Work}
 
 module _ {I O : Type 0} where
-  -- the workers of shards from this one on: each takes of its own lane, has its own senders to the writers, and was told nothing
+  -- the workers of shards from this one on: each takes of its own lane, has its own senders to the writers, was told nothing, and has swept nothing
   abbrev pub workers_from : ℕ → List (Receiver Work) → List (Vec (Sender Item)) → List (Task I O)
   workers_from shard [] senders = []
   workers_from shard (from ∷ receivers) [] = []
   workers_from shard (from ∷ receivers) (writers ∷ senders) =
-      task.Work (record { shard = shard; seat = []; from = from; writers = writers }) ∷ workers_from (shard + 1) receivers senders
+      task.Work (record { shard = shard; seat = []; counter = record { lists = 0; shard = shard; left = 0 }; from = from; writers = writers }) ∷ workers_from (shard + 1) receivers senders
 
   -- a gateway's reader has its own senders to the workers and one to the gateway's own writer; it and the writer have done nothing
   abbrev pub reader_of : ℕ → ℕ → Connection I O → Vec (Sender Work) → Sender Item → Task I O

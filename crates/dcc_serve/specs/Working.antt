@@ -14,7 +14,9 @@ use Rattle.dcc_shard.specs.Answers.{IsToldApart}
 use Rattle.dcc_shard.specs.declared.answers.ExpiryAnswer.{ExpiryAnswer}
 use Rattle.dcc_shard.specs.declared.answers.RequestAnswer.{RequestAnswer}
 use Rattle.dcc_shard.specs.declared.answers.RequestAnswer.TheVariants as answers
+use Rattle.dcc_serve.specs.Handing.{one_more}
 use Rattle.dcc_serve.specs.Lanes.{all_put, lanes_of, put_into}
+use Rattle.dcc_serve.specs.declared.counter.SweepCounter.{SweepCounter}
 use Rattle.dcc_serve.specs.declared.work.Request.{Request}
 use Rattle.dcc_serve.specs.declared.work.Work.{Work}
 use Rattle.dcc_serve.specs.declared.work.Work.TheVariants as work
@@ -63,6 +65,12 @@ Does old (work.Request request) new = Answers request old new
 Does old (work.Sweep moment) new = Sweeps moment old.told new.told × (new.put ≡ old.put)
 Does old (work.End gate) new = (new.told ≡ old.told) × (new.put ≡ put_into gate End old.put)
 
+-- What a worker's counter shows behind an item: for a sweep the subscribers of the worker's shard were listed once more, and none of them is left to be asked.
+abbrev pub CountsFor : ℕ → SweepCounter → Work → SweepCounter → Type 0
+CountsFor shard old (work.Request request) new = new ≡ old
+CountsFor shard old (work.Sweep moment) new = new ≡ record { lists = one_more old.lists; shard = shard; left = 0 }
+CountsFor shard old (work.End gate) new = new ≡ old
+
 abbrev pub is_end : Work → Bool
 is_end (work.Request request) = false
 is_end (work.Sweep moment) = false
@@ -73,16 +81,18 @@ pub record DoesOne (old new : Worker) (ended : Bool) : Type 0 where
   pub one : Work
   pub taken : items_of (taken_of new.from) ≡ items_of (taken_of old.from) ++ one ∷ []
   pub done : Does (doing_of old) one (doing_of new)
+  pub counted : CountsFor old.shard old.counter one new.counter
   pub ended_is : ended ≡ is_end one
   pub same : IsSameReceiver old.from new.from
   pub lanes : lanes_of new.writers.items ≡ lanes_of old.writers.items
   pub shard : new.shard ≡ old.shard
 
--- a worker took items, with so many ends, and did each in its turn
+-- A worker took items, with so many ends, and did each in its turn. Each of its sweeps asked every subscriber that was listed of its shard.
 pub record HasDone (old new : Worker) (ended : ℕ) : Type 0 where
   pub works : List Work
   pub taken : items_of (taken_of new.from) ≡ items_of (taken_of old.from) ++ works
   pub done : FoldsTo Does (doing_of old) works (doing_of new)
+  pub counted : FoldsTo (CountsFor old.shard) old.counter works new.counter
   pub ended_are : count_by is_end works ≡ ended
   pub same : IsSameReceiver old.from new.from
   pub lanes : lanes_of new.writers.items ≡ lanes_of old.writers.items

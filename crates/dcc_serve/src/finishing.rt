@@ -125,6 +125,7 @@ fn with_task<I: Drop, O: Drop>(parts: Parts, task: Task<I, O>) -> Result<Parts, 
             let Worker {
                 shard: _,
                 seat,
+                counter: _,
                 from,
                 writers,
             } = worker;

@@ -10,6 +10,7 @@
 //! of it is a beginning of what each of them put. So what goes out of a round answers what came in ([`answers_are_to_what_came`]).
 #![tactic(auto)]
 
+mod counter;
 mod face;
 mod fault;
 mod finishing;

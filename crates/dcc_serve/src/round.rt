@@ -9,6 +9,7 @@ ghost use Rattle.dcc_serve.specs.Lines.{is_numbered};
 ghost use Rattle.dcc_serve.specs.Served.{EndsRound, IsRound};
 ghost use Rattle.dcc_serve.specs.Tasks.{AllRun};
 
+use crate::counter::SweepCounter;
 use crate::face::{Connection, Listener, Notice, Notices, Shut};
 use crate::fault::{ServeFault, of_close};
 use crate::finishing::finished;
@@ -149,6 +150,7 @@ fn add_workers<R: Records, I: Drop, O: Drop>(
         tasks.push(Task::Work(Worker {
             shard,
             seat,
+            counter: SweepCounter::new(shard),
             from,
             writers,
         }))?;

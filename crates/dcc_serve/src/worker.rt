@@ -1,11 +1,13 @@
 //! The worker of a shard.
 
-ghost use Rattle.std.specs.Prelude.{◌≡◌, ◌<◌};
+ghost use Rattle.std.specs.Prelude.{◌≡◌, ◌<◌, length};
 ghost use Rattle.dcc_lane.specs.Ends.{IsSameReceiver, TakesOne, senders_of};
 ghost use Rattle.dcc_serve.specs.Counting.{acts_of};
+ghost use Rattle.dcc_serve.specs.Handing.{one_more};
 ghost use Rattle.dcc_serve.specs.Lanes.{all_put, lanes_of};
 ghost use Rattle.dcc_serve.specs.Working.{Answers, DoesOne, ExpiresEach, HasDone, Sweeps, octets_in};
 
+use crate::counter::SweepCounter;
 use crate::lanes::{leave_in, put_into, ring_all};
 use crate::work::{Request, Work};
 use dcc_act::{Moment, Sub};
@@ -28,6 +30,8 @@ pub(crate) struct Worker {
     /// The index of its shard.
     pub shard: usize,
     pub seat: Seat,
+    /// Counts the calls of its sweeps.
+    pub counter: SweepCounter,
     pub from: Receiver<Work>,
     /// One for each gateway's writer, by its index.
     pub writers: Vec<Sender<Item>>,
@@ -78,7 +82,15 @@ impl Worker {
                 false
             }
             Work::Sweep(moment) => {
-                sweep(rt, alloc, shards, self.shard, &mut self.seat, moment);
+                sweep(
+                    rt,
+                    alloc,
+                    shards,
+                    self.shard,
+                    &mut self.seat,
+                    &mut self.counter,
+                    moment,
+                );
                 false
             }
             Work::End(gate) => {
@@ -166,15 +178,17 @@ fn sweep<W: Wait, R: Records>(
     shards: &Shards<R>,
     shard: usize,
     seat: &mut Seat,
+    counter: &mut SweepCounter,
     moment: Moment,
 )
     requires { shard < shards.now.count }
-    ensures { Sweeps moment seat.old seat.new }
+    ensures swept { Sweeps moment seat.old seat.new }
+    ensures asked { counter.new ≡ record { lists = one_more counter.old.lists; shard = shard; left = 0 } }
 {
-    let Ok(subs) = shards.subs(rt, alloc, shard) else {
+    let Some(subs) = counter.list(rt, alloc, shards, shard) else {
         return;
     };
-    expire_each(rt, alloc, shards, seat, &subs, moment);
+    expire_each(rt, alloc, shards, seat, counter, &subs, moment);
 }
 
 /// Ends what is due of each of these subscribers, in order; one that is refused leaves the others.
@@ -183,13 +197,16 @@ fn expire_each<W: Wait, R: Records>(
     alloc: Global,
     shards: &Shards<R>,
     seat: &mut Seat,
+    counter: &mut SweepCounter,
     subs: &[Sub],
     moment: Moment,
 )
-    ensures { ExpiresEach moment subs.now seat.old seat.new }
+    requires { length subs.now ≡ counter.old.left }
+    ensures expired { ExpiresEach moment subs.now seat.old seat.new }
+    ensures asked { counter.new ≡ record { lists = counter.old.lists; shard = counter.old.shard; left = 0 } }
 {
     for sub in subs {
-        let _answer = shards.expire(rt, alloc, seat, *sub, moment);
+        let _answer = counter.ask(rt, alloc, shards, seat, *sub, moment);
     }
 }
 
