@@ -1,6 +1,6 @@
 //! Where the records of shards are kept.
 
-ghost use Rattle.std.specs.Prelude.{◌≡◌, ◌≢◌, ◌<◌, [], IfOk, IfErr, IfSome, IfNone};
+ghost use Rattle.std.specs.Prelude.{◌≡◌, ◌≢◌, ◌<◌, [], true, IfOk, IfErr, IfSome, IfNone};
 ghost use Rattle.dcc_act.specs.declared.sub.Sub.{Sub};
 ghost use Rattle.dcc_records.specs.Faults.{fault_number};
 ghost use Rattle.dcc_records.specs.Contents.{Content};
@@ -138,6 +138,9 @@ pub(crate) fn shard_or_back<R: Records>(
     ensures going { IfOk result (λ shard. R.is_stopped shard.records ≡ R.is_stopped records) }
     ensures refused { IfErr result (λ back. IsFaultOver R.may_leave R.is_stopped records index count back.0.0) }
     ensures left { IfErr result (λ back. (found : Content) → R.may_leave back.1 found → R.may_leave records found) }
+    // 51 is the number of records that have stopped in this call, and of no others.
+    ensures device { IfErr result (λ back. back.0.0 ≡ 51 → R.is_stopped back.1 ≡ true) }
+    ensures usable { IfErr result (λ back. back.0.0 ≢ 51 → R.is_stopped back.1 ≡ R.is_stopped records) }
 {
     match Shard::new(alloc, identity, records, hasher) {
         Ok(shard) => {
