@@ -1,0 +1,56 @@
+//! How long a gateway may be silent.
+
+ghost use Rattle.std.specs.Prelude.{◌≡◌, ◌≤◌, ◌↔◌, IsSome, IfSome};
+ghost use Rattle.dcc_sockets.specs.Waits.{read_wait};
+
+use std::marker::Model;
+
+/// A gateway may be silent for so many seconds at most, where that has an end: a day.
+pub const MOST_SILENT_SECONDS: u64 = 86_400;
+
+/// So many seconds a gateway has for its first octets, where silence has an end.
+pub const FIRST_SECONDS: u64 = 10;
+
+/// For how many seconds a gateway may send nothing: 1 to 86,400, or 0, which is for ever.
+#[derive(Clone, Copy, Debug, PartialEq, Eq)]
+pub struct Silence {
+    seconds: u64,
+}
+
+impl Model for Silence {
+    ghost use Rattle.std.specs.Prelude.{ℕ, ◌≤◌};
+
+    ghost Value = { ℕ };
+
+    ghost view = { λ silence. silence.seconds };
+
+    ghost invariant = { λ silence. silence.seconds ≤ 86_400 };
+
+    ghost inverse = { λ n. record { seconds = n } };
+}
+
+impl Silence {
+    /// Silence for so many seconds, or none above 86,400.
+    pub fn new(seconds: u64) -> Option<Silence>
+        ensures limit { IsSome result ↔ (seconds ≤ 86_400) }
+        ensures value { IfSome result (λ silence. silence ≡ seconds) }
+    {
+        if seconds > MOST_SILENT_SECONDS {
+            return None;
+        }
+        Some(Silence { seconds })
+    }
+
+    /// For how many seconds a read waits for octets of a gateway that has sent some before, or hasn't; none where it waits without an end.
+    pub fn read_wait(&self, has_sent: bool) -> Option<u64>
+        ensures { result ≡ read_wait self.now has_sent }
+    {
+        if self.seconds == 0 {
+            return None;
+        }
+        if has_sent || self.seconds <= FIRST_SECONDS {
+            return Some(self.seconds);
+        }
+        Some(FIRST_SECONDS)
+    }
+}

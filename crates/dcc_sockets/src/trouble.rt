@@ -1,0 +1,54 @@
+//! What a socket alone knows of a connection's trouble, as lines on standard error.
+
+use crate::waiting::WRITE_SECONDS;
+use std::io::Eprint;
+use std::net::SocketAddr;
+use std::{fmt, io};
+
+/// What happened to a connection, which has no number of a gateway here: it is named by the address that it came from.
+#[derive(Clone, Copy)]
+pub(crate) enum Trouble {
+    /// It sent nothing for so many seconds, and is dropped.
+    Silent { from: SocketAddr, seconds: u64 },
+    /// It sent nothing at all within so many seconds, and is dropped.
+    Unbegun { from: SocketAddr, seconds: u64 },
+    /// Octets waited for it as long as they may, and it is dropped.
+    Slow { from: SocketAddr },
+    /// It was accepted, and couldn't be set up.
+    Unready { from: SocketAddr, error: io::Error },
+    /// It was lost before it was accepted.
+    Lost { error: io::Error },
+    /// There is nothing to take connections in with.
+    Short { error: io::Error },
+}
+
+impl fmt::Display for Trouble {
+    fn fmt<W: fmt::Write>(&self, f: &mut fmt::Formatter<W>) -> fmt::Result {
+        match self {
+            Trouble::Silent { from, seconds } => {
+                write!(f, "dcc: {from} was silent for {seconds} seconds")
+            }
+            Trouble::Unbegun { from, seconds } => {
+                write!(f, "dcc: {from} sent nothing within {seconds} seconds")
+            }
+            Trouble::Slow { from } => {
+                write!(
+                    f,
+                    "dcc: {from} was slow: octets waited {WRITE_SECONDS} seconds"
+                )
+            }
+            Trouble::Unready { from, error } => {
+                write!(f, "dcc: a connection from {from} was lost: {error}")
+            }
+            Trouble::Lost { error } => write!(f, "dcc: a connection was lost: {error}"),
+            Trouble::Short { error } => {
+                write!(f, "dcc: no connection can be taken in for now: {error}")
+            }
+        }
+    }
+}
+
+/// Tells it. A line that can't be written is left out.
+pub(crate) fn tell<P: Eprint>(print: &P, trouble: Trouble) {
+    let _lost = print.eprintln(trouble);
+}
