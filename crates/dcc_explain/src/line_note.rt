@@ -1,0 +1,176 @@
+//! The explanation of a script's line.
+
+ghost use Rattle.std.specs.Prelude.{◌≡◌, false, IfOk, IfSome, slice_get};
+ghost use Rattle.dcc_explain.specs.Words.{is_read, IsMisfit};
+
+use crate::kind::Kind;
+use crate::text::quoted;
+use dcc_words::parts;
+use std::alloc::{AllocError, Global};
+
+/// A word of a line that doesn't fit.
+#[derive(Clone, Copy, Debug, PartialEq, Eq)]
+pub struct Misfit {
+    /// Its place among the words of the line; the first has place 0.
+    pub at: usize,
+    /// What it has to be read as.
+    pub kind: Kind,
+}
+
+/// A line of a script that has none of the forms, explained.
+#[derive(Debug, Drop)]
+pub struct LineNote {
+    /// The first word that isn't read as what its place asks for, if the line has a form's verb and its number of words.
+    pub misfit: Option<Misfit>,
+    pub words: String,
+}
+
+/// The forms of a script's lines.
+#[derive(Clone, Copy)]
+enum Form {
+    Connect,
+    Open,
+    Disconnect,
+    Message,
+    TopUp,
+    Sweep,
+}
+
+impl Form {
+    /// The form with this verb.
+    fn of(verb: &[u8]) -> Option<Form> {
+        if verb == b"connect".as_slice() {
+            Some(Form::Connect)
+        } else if verb == b"open".as_slice() {
+            Some(Form::Open)
+        } else if verb == b"disconnect".as_slice() {
+            Some(Form::Disconnect)
+        } else if verb == b"message".as_slice() {
+            Some(Form::Message)
+        } else if verb == b"topup".as_slice() {
+            Some(Form::TopUp)
+        } else if verb == b"sweep".as_slice() {
+            Some(Form::Sweep)
+        } else {
+            None
+        }
+    }
+
+    /// So many words has a line of it.
+    fn count(self) -> usize {
+        match self {
+            Form::Connect | Form::Disconnect | Form::Sweep => 2,
+            Form::Open => 3,
+            Form::Message => 4,
+            Form::TopUp => 5,
+        }
+    }
+
+    /// What a word at a place is read as.
+    fn kind(self, at: usize) -> Option<Kind> {
+        match (self, at) {
+            (Form::Connect, 1) => Some(Kind::Peer),
+            (Form::Open, 1) => Some(Kind::Peer),
+            (Form::Open, 2) => Some(Kind::Host),
+            (Form::Disconnect, 1) => Some(Kind::Peer),
+            (Form::Message, 1) => Some(Kind::Peer),
+            (Form::Message, 2) => Some(Kind::Moment),
+            (Form::Message, 3) => Some(Kind::Message),
+            (Form::TopUp, 1) => Some(Kind::Moment),
+            (Form::TopUp, 2) => Some(Kind::Sub),
+            (Form::TopUp, 3) => Some(Kind::Number),
+            (Form::TopUp, 4) => Some(Kind::Number),
+            (Form::Sweep, 1) => Some(Kind::Moment),
+            _ => None,
+        }
+    }
+
+    /// How it is written.
+    fn text(self) -> &'static str {
+        match self {
+            Form::Connect => "connect P",
+            Form::Open => "open P HOST",
+            Form::Disconnect => "disconnect P",
+            Form::Message => "message P MOMENT HEX",
+            Form::TopUp => "topup MOMENT SUB TICKET AMOUNT",
+            Form::Sweep => "sweep MOMENT",
+        }
+    }
+}
+
+/// The explanation of a line of a script that has none of the forms.
+pub fn explain_line(alloc: Global, line: &[u8]) -> Result<LineNote, AllocError>
+    ensures { IfOk result (λ note. IfSome note.misfit (IsMisfit line.now)) }
+{
+    let words = parts(alloc, line, b' ')?;
+    let verb = match words.first() {
+        Some(verb) => *verb,
+        None => line,
+    };
+    let Some(form) = Form::of(verb) else {
+        let words = words_of_verb(alloc, verb)?;
+        return Ok(LineNote {
+            misfit: None,
+            words,
+        });
+    };
+    if words.len() != form.count() {
+        let words = words_of_count(alloc, form, words.len())?;
+        return Ok(LineNote {
+            misfit: None,
+            words,
+        });
+    }
+    let misfit = misfit_in(alloc, form, words.as_slice())?;
+    let words = words_of_misfit(alloc, form, words.as_slice(), misfit)?;
+    Ok(LineNote { misfit, words })
+}
+
+/// The first word of a line that isn't read as what its place asks for.
+fn misfit_in(alloc: Global, form: Form, words: &[&[u8]]) -> Result<Option<Misfit>, AllocError>
+    ensures { IfOk result (λ misfit. IfSome misfit (λ m. IfSome (slice_get words.now m.at) (λ word. is_read m.kind word.now ≡ false))) }
+{
+    for (at, word) in words.iter().enumerate() {
+        if let Some(kind) = form.kind(at) {
+            if !kind.reads(alloc, word)? {
+                return Ok(Some(Misfit { at, kind }));
+            }
+        }
+    }
+    Ok(None)
+}
+
+/// A word that begins no form.
+fn words_of_verb(alloc: Global, verb: &[u8]) -> Result<String, AllocError> {
+    let verb = quoted(alloc, verb)?;
+    format!(in alloc;
+        "{verb} begins no form; the forms are: connect P, open P HOST, disconnect P, message P MOMENT HEX, topup MOMENT SUB TICKET AMOUNT, sweep MOMENT"
+    )
+}
+
+/// Another number of words than the form has.
+fn words_of_count(alloc: Global, form: Form, count: usize) -> Result<String, AllocError> {
+    let (wanted, text) = (form.count(), form.text());
+    format!(in alloc;
+        "it has {count} words, with one space between them, in place of {wanted}; its form is: {text}"
+    )
+}
+
+/// The word that doesn't fit.
+fn words_of_misfit(
+    alloc: Global,
+    form: Form,
+    words: &[&[u8]],
+    misfit: Option<Misfit>,
+) -> Result<String, AllocError> {
+    let text = form.text();
+    let Some(misfit) = misfit else {
+        return format!(in alloc; "its form is: {text}");
+    };
+    let word = match words.get(misfit.at) {
+        Some(word) => quoted(alloc, word)?,
+        None => String::new(alloc),
+    };
+    let wanted = misfit.kind.wanted();
+    format!(in alloc; "{word} has to be {wanted}; its form is: {text}")
+}

@@ -1,0 +1,198 @@
+//! The words of a plan's explanation.
+
+use crate::key::Key;
+use crate::lines::{Sought, line_of};
+use crate::place::Place;
+use crate::tariffs::{Spot, tables_of};
+use crate::text::shortened;
+use dcc_tariff::PlanFault;
+use std::alloc::{AllocError, Global};
+use toml::{Table, Value};
+
+/// Octets that are no text from one on.
+pub(crate) fn words_of_octets(
+    alloc: Global,
+    octets: &[u8],
+    from: usize,
+) -> Result<String, AllocError> {
+    let (line, column) = place_at(octets, from);
+    format!(in alloc; "the plan is no text in UTF-8 (line {line}, octet {column})")
+}
+
+/// A text that is no TOML document.
+pub(crate) fn words_of_text(
+    alloc: Global,
+    text: &[u8],
+    error: &toml::de::Error,
+) -> Result<String, AllocError> {
+    let from = match error.span() {
+        Some(span) => span.start,
+        None => 0,
+    };
+    let (line, column) = place_at(text, from);
+    let reason = error.message();
+    format!(in alloc; "the plan is no TOML document: {reason} (line {line}, octet {column})")
+}
+
+/// The line of an octet, and its number in that line, both from 1.
+fn place_at(text: &[u8], at: usize) -> (usize, usize) {
+    let mut line = 1usize;
+    let mut column = 1usize;
+    for octet in text.iter().take(at) {
+        if *octet == b'\n' {
+            line = line.saturating_add(1);
+            column = 1;
+        } else {
+            column = column.saturating_add(1);
+        }
+    }
+    (line, column)
+}
+
+/// What is wrong at a place of a plan's tables.
+pub(crate) fn words_of(
+    alloc: Global,
+    text: &[u8],
+    table: &Table,
+    place: Place,
+    fault: PlanFault,
+) -> Result<String, AllocError> {
+    match place {
+        Place::Text => format!(in alloc; "the plan is no TOML document"),
+        Place::Key(key) => {
+            let line = line_of(text, Sought::Key(key.name()));
+            words_of_key(alloc, table.get(key.name()), key, line, fault)
+        }
+        Place::NoAddress => {
+            let line = line_of(text, Sought::Key(Key::Address.name()));
+            words_of_key(alloc, table.get("address"), Key::Address, line, fault)
+        }
+        Place::Tariffs(spot) => words_of_spot(alloc, text, table, spot, fault),
+    }
+}
+
+/// What is wrong with a key that has this value.
+fn words_of_key(
+    alloc: Global,
+    value: Option<&Value>,
+    key: Key,
+    line: Option<usize>,
+    fault: PlanFault,
+) -> Result<String, AllocError> {
+    let (name, kind, wanted) = (key.name(), key.kind(), key.wanted());
+    let Some(value) = value else {
+        return format!(in alloc; "{name} is missing; it has to be {kind}, {wanted}");
+    };
+    let found = found(alloc, value)?;
+    let mut words = if fault == PlanFault::MissingKey {
+        format!(in alloc; "{name} is {found}; it has to be {kind}, {wanted}")?
+    } else {
+        format!(in alloc; "{name} is {found}; it has to be {wanted}")?
+    };
+    push_line(&mut words, line)?;
+    Ok(words)
+}
+
+/// What is wrong at a place of the list of tariffs.
+fn words_of_spot(
+    alloc: Global,
+    text: &[u8],
+    table: &Table,
+    spot: Spot,
+    fault: PlanFault,
+) -> Result<String, AllocError> {
+    match spot {
+        Spot::Key(number, key) => words_in_table(alloc, text, table, number, key, fault),
+        Spot::NoMoment(number) => words_in_table(alloc, text, table, number, Key::Begin, fault),
+        Spot::Element(number) => {
+            let line = line_of(text, Sought::Key("tariff"));
+            let head = format!(in alloc;
+                "tariff {number} is no table; tariff has to be a list of 1 to 1000 tables"
+            )?;
+            with_line(head, line)
+        }
+        Spot::Count(count) => {
+            let line = line_of(text, Sought::Key("tariff"));
+            let head = format!(in alloc; "tariff has {count} tables; it has to have 1 to 1000")?;
+            with_line(head, line)
+        }
+        Spot::Units(one, other) => {
+            let line = line_of(text, Sought::KeyOf(other, "unit"));
+            let head = format!(in alloc;
+                "tariff {other}: its unit is not that of tariff {one}, which has the same group; a group has one unit"
+            )?;
+            with_line(head, line)
+        }
+        Spot::Moments(one, other) => {
+            let line = line_of(text, Sought::KeyOf(other, "from"));
+            let head = format!(in alloc;
+                "tariff {other}: its from is that of tariff {one}, which has the same group; each table of a group has a moment of its own"
+            )?;
+            with_line(head, line)
+        }
+        Spot::Default => words_of_default(alloc, text, table),
+    }
+}
+
+/// A default group without a table.
+fn words_of_default(alloc: Global, text: &[u8], table: &Table) -> Result<String, AllocError> {
+    let line = line_of(text, Sought::Key("default_group"));
+    let found = match table.get("default_group") {
+        Some(value) => found(alloc, value)?,
+        None => String::new(alloc),
+    };
+    let head = format!(in alloc; "default_group is {found}; it has to be the group of a tariff")?;
+    with_line(head, line)
+}
+
+/// What is wrong with a key of a table of tariffs.
+fn words_in_table(
+    alloc: Global,
+    text: &[u8],
+    table: &Table,
+    number: usize,
+    key: Key,
+    fault: PlanFault,
+) -> Result<String, AllocError> {
+    let value = value_in(table, number, key);
+    let line = line_of(text, Sought::KeyOf(number, key.name()));
+    let words = words_of_key(alloc, value, key, line, fault)?;
+    let mut all = format!(in alloc; "tariff {number}: ")?;
+    all.push_str(words.as_str())?;
+    if value.is_none() {
+        push_line(&mut all, line_of(text, Sought::Table(number)))?;
+    }
+    Ok(all)
+}
+
+/// The value of a key of a table of tariffs.
+fn value_in(table: &Table, number: usize, key: Key) -> Option<&Value> {
+    let at = number.checked_sub(1)?;
+    tables_of(table).get(at)?.get(key.name())
+}
+
+/// A value as it stands in a plan, shortened, or what it is where it is no single value.
+fn found(alloc: Global, value: &Value) -> Result<String, AllocError> {
+    if value.is_table() {
+        return String::from_str(alloc, "a table");
+    }
+    if value.is_array() {
+        return String::from_str(alloc, "a list");
+    }
+    let text = format!(in alloc; "{value}")?;
+    shortened(alloc, text.as_str())
+}
+
+/// The words, and behind them the line, if it is known.
+fn with_line(words: String, line: Option<usize>) -> Result<String, AllocError> {
+    let mut words = words;
+    push_line(&mut words, line)?;
+    Ok(words)
+}
+
+fn push_line(words: &mut String, line: Option<usize>) -> Result<(), AllocError> {
+    match line {
+        Some(line) => write!(words, " (line {line})"),
+        None => Ok(()),
+    }
+}

@@ -1,0 +1,253 @@
+//! The explanation of a command line.
+
+use crate::kind::Kind;
+use crate::text::quoted;
+use dcc_words::any_u64;
+use std::alloc::{AllocError, Global};
+use std::net::SocketAddrV4;
+
+/// The commands of the program.
+#[derive(Clone, Copy, PartialEq, Eq)]
+enum Command {
+    Check,
+    Decode,
+    Help,
+    Ledger,
+    Replay,
+    Serve,
+    TopUp,
+}
+
+/// The options of a server.
+#[derive(Clone, Copy, PartialEq, Eq)]
+enum Switch {
+    Listen,
+    Gates,
+    Rounds,
+    Every,
+    Silent,
+}
+
+impl Command {
+    fn named(name: &str) -> Option<Command> {
+        match name {
+            "check" => Some(Command::Check),
+            "decode" => Some(Command::Decode),
+            "help" => Some(Command::Help),
+            "ledger" => Some(Command::Ledger),
+            "replay" => Some(Command::Replay),
+            "serve" => Some(Command::Serve),
+            "topup" => Some(Command::TopUp),
+            _ => None,
+        }
+    }
+
+    /// So many arguments have to be there.
+    fn needs(self) -> usize {
+        match self {
+            Command::Decode | Command::Help => 0,
+            Command::Check | Command::Replay => 1,
+            Command::Serve => 2,
+            Command::Ledger => 3,
+            Command::TopUp => 5,
+        }
+    }
+
+    /// The name of the argument at a place, from 0.
+    fn argument(self, at: usize) -> Option<&'static str> {
+        match (self, at) {
+            (Command::Decode | Command::Help, _) => None,
+            (_, 0) => Some("PLAN"),
+            (Command::Replay, _) => None,
+            (_, 1) => Some("DIR"),
+            (Command::Ledger | Command::TopUp, 2) => Some("SUB"),
+            (Command::TopUp, 3) => Some("TICKET"),
+            (Command::TopUp, 4) => Some("AMOUNT"),
+            (Command::TopUp, 5) => Some("MOMENT"),
+            _ => None,
+        }
+    }
+
+    /// What it is read as, if not any word is.
+    fn kind(self, at: usize) -> Option<Kind> {
+        match (self, at) {
+            (Command::Ledger | Command::TopUp, 2) => Some(Kind::Sub),
+            (Command::TopUp, 3) => Some(Kind::Number),
+            (Command::TopUp, 4) => Some(Kind::Number),
+            (Command::TopUp, 5) => Some(Kind::Moment),
+            _ => None,
+        }
+    }
+}
+
+impl Switch {
+    fn named(name: &str) -> Option<Switch> {
+        match name {
+            "--listen" => Some(Switch::Listen),
+            "--gates" => Some(Switch::Gates),
+            "--rounds" => Some(Switch::Rounds),
+            "--every" => Some(Switch::Every),
+            "--silent" => Some(Switch::Silent),
+            _ => None,
+        }
+    }
+
+    fn name(self) -> &'static str {
+        match self {
+            Switch::Listen => "--listen",
+            Switch::Gates => "--gates",
+            Switch::Rounds => "--rounds",
+            Switch::Every => "--every",
+            Switch::Silent => "--silent",
+        }
+    }
+
+    fn fits(self, value: &str) -> bool {
+        let number = any_u64(value.as_bytes());
+        match self {
+            Switch::Listen => SocketAddrV4::parse_ascii(value.as_bytes()).is_ok(),
+            Switch::Gates => number.is_some_and(|n| 1 <= n && n <= 16),
+            Switch::Rounds => number.is_some_and(|n| 1 <= n && n <= 1_000_000),
+            Switch::Every => number.is_some_and(|n| n <= 1_000_000),
+            Switch::Silent => number.is_some_and(|n| n <= 86_400),
+        }
+    }
+
+    fn wanted(self) -> &'static str {
+        match self {
+            Switch::Listen => "an IPv4 address and a port, such as 127.0.0.1:3868",
+            Switch::Gates => "1 to 16",
+            Switch::Rounds => "1 to 1000000",
+            Switch::Every => "0 to 1000000",
+            Switch::Silent => "0 to 86400",
+        }
+    }
+}
+
+/// The words of a command line, as far as they were read.
+#[derive(Drop)]
+struct Reading {
+    command: Command,
+    /// So many arguments were there.
+    count: usize,
+    /// Whether `--` was there, behind which each word is an argument.
+    is_rest: bool,
+    /// The option whose value comes next.
+    awaited: Option<Switch>,
+}
+
+/// What doesn't fit in the words of a command line, of which the first is the program's name: in one line the first word that is at fault or the
+/// argument that is missing.
+pub fn explain_words(alloc: Global, words: &[String]) -> Result<String, AllocError> {
+    let Some(name) = words.get(1) else {
+        return format!(in alloc;
+            "no command is named; the commands are check, decode, help, ledger, replay, serve and topup"
+        );
+    };
+    let Some(command) = Command::named(name.as_str()) else {
+        let name = quoted(alloc, name.as_bytes())?;
+        return format!(in alloc;
+            "{name} is no command; the commands are check, decode, help, ledger, replay, serve and topup"
+        );
+    };
+    let mut reading = Reading {
+        command,
+        count: 0,
+        is_rest: false,
+        awaited: None,
+    };
+    for word in words.iter().skip(2) {
+        if let Some(slip) = reading.slip(alloc, word.as_str())? {
+            return Ok(slip);
+        }
+    }
+    reading.lack(alloc)
+}
+
+impl Reading {
+    /// What is wrong with the next word, if something is.
+    fn slip(&mut self, alloc: Global, word: &str) -> Result<Option<String>, AllocError> {
+        if let Some(switch) = self.awaited {
+            self.awaited = None;
+            return value_slip(alloc, switch, word);
+        }
+        if self.is_rest || !is_switch(word) {
+            return self.argument_slip(alloc, word);
+        }
+        if word == "--" {
+            self.is_rest = true;
+            return Ok(None);
+        }
+        self.switch_slip(alloc, word)
+    }
+
+    /// The next argument.
+    fn argument_slip(&mut self, alloc: Global, word: &str) -> Result<Option<String>, AllocError> {
+        let at = self.count;
+        self.count = at.saturating_add(1);
+        let shown = quoted(alloc, word.as_bytes())?;
+        let Some(name) = self.command.argument(at) else {
+            return Ok(Some(format!(in alloc; "{shown} is one word too many")?));
+        };
+        let Some(kind) = self.command.kind(at) else {
+            return Ok(None);
+        };
+        if kind.reads(alloc, word.as_bytes())? {
+            return Ok(None);
+        }
+        let wanted = kind.wanted();
+        Ok(Some(format!(in alloc; "{name} is {shown}; it has to be {wanted}")?))
+    }
+
+    /// An option.
+    fn switch_slip(&mut self, alloc: Global, word: &str) -> Result<Option<String>, AllocError> {
+        let (name, value) = match word.split_once('=') {
+            Some((name, value)) => (name, Some(value)),
+            None => (word, None),
+        };
+        match Switch::named(name) {
+            Some(switch) if self.command == Command::Serve => match value {
+                Some(value) => value_slip(alloc, switch, value),
+                None => {
+                    self.awaited = Some(switch);
+                    Ok(None)
+                }
+            },
+            _ => {
+                let shown = quoted(alloc, name.as_bytes())?;
+                Ok(Some(format!(in alloc; "{shown} is no option of this command")?))
+            }
+        }
+    }
+
+    /// What is missing behind the last word, if something is.
+    fn lack(&self, alloc: Global) -> Result<String, AllocError> {
+        if let Some(switch) = self.awaited {
+            let (name, wanted) = (switch.name(), switch.wanted());
+            return format!(in alloc; "{name} has no value; it has to be {wanted}");
+        }
+        match self.command.argument(self.count) {
+            Some(name) if self.count < self.command.needs() => format!(in alloc;
+                "{name} is missing"
+            ),
+            _ => format!(in alloc;
+                "an option stands twice, or a word in a place where the command has none"
+            ),
+        }
+    }
+}
+
+/// The value of an option.
+fn value_slip(alloc: Global, switch: Switch, value: &str) -> Result<Option<String>, AllocError> {
+    if switch.fits(value) {
+        return Ok(None);
+    }
+    let (name, wanted) = (switch.name(), switch.wanted());
+    let shown = quoted(alloc, value.as_bytes())?;
+    Ok(Some(format!(in alloc; "{name} is {shown}; it has to be {wanted}")?))
+}
+
+/// Whether a word is an option, or the two hyphens behind which there is none.
+fn is_switch(word: &str) -> bool {
+    word.len() > 1 && word.starts_with('-')
+}
