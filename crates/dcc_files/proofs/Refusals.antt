@@ -1,5 +1,6 @@
 -- Why a store is refused, by its number.
-use Rattle.std.proofs.Common.{◌≡◌, ◌≢◌, ◌⊎◌, inl, inr, ℕ, ◌∙◌, [], ◌∷◌, refl, sym, subst}
+use Rattle.std.proofs.Common.{◌≡◌, ◌≢◌, ◌⊎◌, inl, inr, ℕ, ◌∙◌, [], ◌∷◌, Result, Ok, Err, refl, sym, subst}
+use Rattle.std.specs.Result.{IfErr, IsErrAnd}
 use Rattle.sqlite.specs.Held.{Held, state}
 use Rattle.sqlite.specs.State.{HasCleanDisk}
 use Rattle.sqlite_trees.specs.declared.store.Store.{Ghosts}
@@ -13,7 +14,11 @@ use Rattle.dcc_sqlrec.specs.declared.fault.OpenFault.{OpenFault}
 use Rattle.dcc_sqlrec.specs.declared.fault.OpenFault.TheVariants as f
 use Rattle.dcc_sqlrec.specs.declared.fault.CreateFault.{CreateFault}
 use Rattle.dcc_sqlrec.specs.declared.fault.CreateFault.TheVariants as create
-use Rattle.dcc_files.specs.Stores.{IsSettingOf, HasNoSetting, IsOpenFault, IsFileFault}
+use Rattle.dcc_files.specs.Stores.{IsSettingOf, HasNoSetting, IsOpenFault}
+
+pub handed_on : {A E : Type 0} (P : E → Type 0) (result : Result A E) (error : E) → IsErrAnd result (λ other. other ≡ error) → P error → IfErr result P
+handed_on P (Ok value) error is it = tt
+handed_on P (Err other) error is it = subst P (sym is) it
 
 module _ {S : Type 0} (g : Ghosts S) (plan : PlanView) (shard : ℕ) (conn : Held S) where
   pub no_setting : (number : ℕ) → number ≡ 53 → HasNoSetting plan shard → IsOpenFault g plan shard conn number
@@ -38,10 +43,3 @@ module _ {S : Type 0} (g : Ghosts S) (plan : PlanView) (shard : ℕ) (conn : Hel
   create_fault_is number create.Memory is none = inl (inl is)
   create_fault_is number create.Device is none = inl (inr is)
   create_fault_is number create.Layout is none = absurd (none refl)
-
-  pub file_fault : (number : ℕ) → IsOpenFault g plan shard conn number → IsFileFault number
-  file_fault number (inl (inl is)) = inl is
-  file_fault number (inl (inr is)) = inr (inl is)
-  file_fault number (inr (inl it)) = inr (inr (inl it.0))
-  file_fault number (inr (inr (inl it))) = inr (inr (inr (inl it.0)))
-  file_fault number (inr (inr (inr it))) = inr (inr (inr (inr it.0)))

@@ -46,6 +46,10 @@ abbrev pub connect_number : Error → ℕ
 connect_number (SqliteFailure OutOfMemory) = 50
 connect_number _ = 51
 
--- the numbers for which a file is refused
-abbrev pub IsFileFault : ℕ → Type 0
-IsFileFault number = (number ≡ 50) ⊎ ((number ≡ 51) ⊎ ((number ≡ 53) ⊎ ((number ≡ 54) ⊎ (number ≡ 55))))
+-- the numbers for which a file isn't opened
+abbrev pub IsConnectFault : ℕ → Type 0
+IsConnectFault number = (number ≡ 50) ⊎ (number ≡ 51)
+
+-- the number of the fault for which a file is refused: it isn't opened, or the database in it isn't opened as the store of the shard
+abbrev pub IsFileFault : {S : Type 0} → Ghosts S → PlanView → ℕ → ℕ → Type 0
+IsFileFault {S} g plan shard number = IsConnectFault number ⊎ ((conn : Held S) × IsOpenFault g plan shard conn number)

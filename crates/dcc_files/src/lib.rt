@@ -10,4 +10,4 @@ mod file_records;
 mod stores;
 
 pub use file_records::FileRecords;
-pub use stores::FileStores;
+pub use stores::{FileStores, path_of, setting_of};

@@ -4,7 +4,7 @@ ghost use Rattle.std.specs.Prelude.{◌≡◌, ◌≢◌, IfOk, IfErr, IfSome, I
 ghost use Rattle.sqlite.specs.Files.{file_state};
 ghost use Rattle.sqlite.specs.Held.{state};
 ghost use Rattle.sqlite.specs.State.{HasCleanDisk};
-ghost use Rattle.dcc_files.specs.Stores.{IsSettingOf, AreOfShard, HasNoSetting, IsOpenFault, IsFileFault, connect_number};
+ghost use Rattle.dcc_files.specs.Stores.{IsSettingOf, AreOfShard, HasNoSetting, IsConnectFault, IsOpenFault, IsFileFault, connect_number};
 ghost use Rattle.dcc_sqlrec.specs.Faults.{open_number, create_number};
 ghost use Rattle.dcc_sqlrec.specs.Tables.{no_schema};
 ghost use Rattle.dcc_sqlrec.specs.Trees.{IsUndone};
@@ -15,6 +15,7 @@ use dcc_sqlrec::{CreateFault, OpenFault, Setting, SqlRecords};
 use dcc_tariff::Plan;
 use sqlite::{Alter, Connection, Error, ErrorCode, FileStore};
 use sqlite_std_file::File;
+use sqlite_trees::store::Store;
 use std::alloc::{AllocError, Global};
 use std::fs;
 use std::hash::RandomState;
@@ -41,7 +42,7 @@ impl<'r> FileStores<'r> {
 
     /// A connection to the database at a path, which is made where there is none.
     fn connect(&self, path: &str) -> Result<Connection<FileStore<File>>, StoreRefusal>
-        ensures { IfErr result (λ refusal. IsFileFault refusal.0) }
+        ensures { IfErr result (λ refusal. IsConnectFault refusal.0) }
     {
         match Connection::open(self.rt, path) {
             Ok(conn) => Ok(conn),
@@ -54,7 +55,7 @@ impl Stores for FileStores<'_> {
     type Records = FileRecords;
 
     // Which files there are is the system's word, and has no clause.
-    ghost refuses = { λ _ _ _ _ number. IsFileFault number };
+    ghost refuses = { λ _ _ plan shard number. IsFileFault ⟦<FileStore<File> as Store>⟧ plan shard number };
 
     // Where the disk has returned what was written, the setting in the tables is that of the shard under the plan. What else files hold, and in
     // which folder they are, no clause says.
@@ -190,12 +191,12 @@ fn unmade(fault: CreateFault) -> StoreRefusal
 }
 
 /// The path of a shard's store.
-fn path_of(alloc: Global, folder: &str, shard: usize) -> Result<String, AllocError> {
+pub fn path_of(alloc: Global, folder: &str, shard: usize) -> Result<String, AllocError> {
     format!(in alloc; "{folder}/shard-{shard}.db")
 }
 
 /// What the store of a shard is of, under a plan: names of visible ASCII are text, and shards are few, so that it is there.
-fn setting_of(plan: &Plan, shard: usize) -> Option<Setting<'_>>
+pub fn setting_of(plan: &Plan, shard: usize) -> Option<Setting<'_>>
     ensures some { IfSome result (IsSettingOf plan.now shard) }
     ensures none { IfNone result (HasNoSetting plan.now shard) }
 {

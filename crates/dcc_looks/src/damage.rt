@@ -1,0 +1,116 @@
+//! Where the rows of a store are not those of a book.
+
+use crate::subs::{shown, sub_of};
+use dcc_record::{RecordFault, read_act};
+use sqlite::types::ValueRef;
+use sqlite::{Alter, Connection, Row, params};
+use std::alloc::{AllocError, Global};
+
+/// The first act of a store that is damaged.
+pub(crate) fn damage_words<S: Alter>(
+    alloc: Global,
+    conn: &mut Connection<S>,
+) -> Result<String, AllocError> {
+    let Ok(rows) = conn.query_all("SELECT sub, place, body FROM act ORDER BY sub, place", &[])
+    else {
+        return String::from_str(alloc, "its acts can't be read");
+    };
+    for row in &rows {
+        if let Some(words) = act_slip(alloc, row)? {
+            return Ok(words);
+        }
+    }
+    String::from_str(alloc, "a row of its entries or accounts is of nobody")
+}
+
+/// What is wrong with the row of an act.
+fn act_slip(alloc: Global, row: &Row) -> Result<Option<String>, AllocError> {
+    let place = number(row, 1);
+    let Some(sub) = sub_of(row) else {
+        return Ok(Some(format!(in alloc; "a row of its acts, with place {place}, is of nobody")?));
+    };
+    let body = match row.get_ref(2) {
+        Ok(ValueRef::Blob(octets)) => octets,
+        _ => b"".as_slice(),
+    };
+    match read_act(alloc, body) {
+        Ok(_) => Ok(None),
+        Err(RecordFault::Memory) => Err(AllocError),
+        Err(_) => {
+            let sub = shown(alloc, &sub)?;
+            Ok(Some(format!(in alloc;
+                "the record of act {place} of subscriber {sub} can't be read"
+            )?))
+        }
+    }
+}
+
+/// The first account of a store that its acts or entries don't add up to.
+pub(crate) fn disagreement_words<S: Alter>(
+    alloc: Global,
+    conn: &mut Connection<S>,
+) -> Result<String, AllocError> {
+    let Ok(rows) = conn.query_all("SELECT sub, acts, funds FROM account ORDER BY sub", &[]) else {
+        return String::from_str(alloc, "its accounts can't be read");
+    };
+    for row in &rows {
+        if let Some(words) = account_slip(alloc, conn, row)? {
+            return Ok(words);
+        }
+    }
+    String::from_str(
+        alloc,
+        "an account is missing, or entries are not those of the acts",
+    )
+}
+
+/// What is wrong with an account.
+fn account_slip<S: Alter>(
+    alloc: Global,
+    conn: &mut Connection<S>,
+    row: &Row,
+) -> Result<Option<String>, AllocError> {
+    let Some(sub) = sub_of(row) else {
+        return Ok(None);
+    };
+    let octets = match row.get_ref(0) {
+        Ok(ValueRef::Blob(octets)) => octets,
+        _ => b"".as_slice(),
+    };
+    let (acts, funds) = (number(row, 1), number(row, 2));
+    let found = one(conn, "SELECT COUNT(*) FROM act WHERE sub = ?1", octets);
+    if found != acts {
+        let sub = shown(alloc, &sub)?;
+        return Ok(Some(format!(in alloc;
+            "the account of subscriber {sub} has {acts} acts, and the store {found}"
+        )?));
+    }
+    let found = one(
+        conn,
+        "SELECT COALESCE(SUM(amount), 0) FROM entry WHERE sub = ?1",
+        octets,
+    );
+    if found != funds {
+        let sub = shown(alloc, &sub)?;
+        return Ok(Some(format!(in alloc;
+            "the funds of subscriber {sub} are {funds}, and its entries add up to {found}"
+        )?));
+    }
+    Ok(None)
+}
+
+/// The number that a query of one subscriber gives, or 0.
+fn one<S: Alter>(conn: &mut Connection<S>, query: &str, sub: &[u8]) -> i64 {
+    match conn.query_row(query, params![sub]) {
+        Ok(row) => number(&row, 0),
+        Err(_) => 0,
+    }
+}
+
+/// The number of a column, or 0.
+fn number(row: &Row, at: usize) -> i64 {
+    match row.get_ref(at) {
+        Ok(ValueRef::Int(number)) => number,
+        _ => 0,
+    }
+}
