@@ -1,11 +1,12 @@
 //! The program `dcc` over the files of its system: one call for a `main` of one line.
 //!
-//! Stands on `dcc_program` for what the program does, with its contracts, and on `dcc_files` for the stores. It stands apart from `main` since a
+//! Stands on `dcc_console` for what the program does, with its contracts, on `dcc_files` for the stores, and on `dcc_looks` for looks at them. It stands apart from `main` since a
 //! program's check also links all that the program reaches.
 #![tactic(auto)]
 
+use dcc_console::execute;
 use dcc_files::FileStores;
-use dcc_program::execute;
+use dcc_looks::FileLooks;
 use std::io::Eprint;
 use std::net::{Net, TcpListener, TcpStream};
 use std::process::ExitCode;
@@ -31,5 +32,10 @@ pub fn run_process<
         + Sync
         + AllocGlobal,
 >(rt: &R, files: &HostRuntime) -> ExitCode {
-    execute(rt, &FileStores::new(files), &mut files.stderr())
+    execute(
+        rt,
+        &FileStores::new(files),
+        &FileLooks::new(files),
+        &mut files.stderr(),
+    )
 }

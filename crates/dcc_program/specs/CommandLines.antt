@@ -36,8 +36,8 @@ abbrev pub option : Text → Rule
 option name = record (new_rule name) { long = Some name; action = Some Set }
 
 abbrev pub serve_command : App
-serve_command = with_rule (with_rule (with_rule (with_rule (with_rule (with_rule (new_app (codes "serve")) (argument (codes "PLAN"))) (argument (codes "DIR")))
-    (option (codes "listen"))) (option (codes "gates"))) (option (codes "rounds"))) (option (codes "every"))
+serve_command = with_rule (with_rule (with_rule (with_rule (with_rule (with_rule (with_rule (new_app (codes "serve")) (argument (codes "PLAN"))) (argument (codes "DIR")))
+    (option (codes "listen"))) (option (codes "gates"))) (option (codes "rounds"))) (option (codes "every"))) (option (codes "silent"))
 
 abbrev pub decode_command : App
 decode_command = new_app (codes "decode")

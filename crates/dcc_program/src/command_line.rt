@@ -13,6 +13,7 @@ use clap::{Arg, ArgAction, ArgMatches, Command};
 use dcc_act::{Moment, Sub};
 use dcc_operator::TopUpAsk;
 use dcc_serve::Rounds;
+use dcc_sockets::Silence;
 use dcc_words::{any_u64, moment};
 use std::alloc::{AllocError, Global};
 use std::net::{Ipv4Addr, SocketAddrV4};
@@ -50,6 +51,8 @@ pub struct ServeAsk<'a> {
     /// Where it listens.
     pub address: SocketAddrV4,
     pub rounds: Rounds,
+    /// How long a gateway may be silent.
+    pub silence: Silence,
 }
 
 /// The words of the command line; one that is no text is none of the program's.
@@ -106,10 +109,12 @@ fn serve_ask_of<'a>(found: &ArgMatches<'a>) -> Option<ServeAsk<'a>> {
     let gates = usize::try_from(option_of(found, "gates", 1)?).ok()?;
     let rounds = u32::try_from(option_of(found, "rounds", 1)?).ok()?;
     let every = u32::try_from(option_of(found, "every", 0)?).ok()?;
+    let silence = Silence::new(option_of(found, "silent", 0)?)?;
     Some(ServeAsk {
         place: place_of(found)?,
         address: address_of(found)?,
         rounds: Rounds::new(gates, rounds, every)?,
+        silence,
     })
 }
 
@@ -259,7 +264,8 @@ fn serve_command<'a>(alloc: Global) -> Result<Command<'a>, AllocError>
     let with_listen = with_option(alloc, with_folder, "listen")?;
     let with_gates = with_option(alloc, with_listen, "gates")?;
     let with_rounds = with_option(alloc, with_gates, "rounds")?;
-    with_option(alloc, with_rounds, "every")
+    let with_every = with_option(alloc, with_rounds, "every")?;
+    with_option(alloc, with_every, "silent")
 }
 
 /// A command with the arguments of a top-up behind those by which its subscriber's store is found.

@@ -5,9 +5,10 @@ pub const HELP: &str = "\
 dcc is a Diameter credit-control server (RFC 8506) on prepaid balances.
 
 usage: dcc replay PLAN
-       dcc topup PLAN DIR SUB TICKET AMOUNT MOMENT
+       dcc topup PLAN DIR SUB TICKET AMOUNT [MOMENT]
        dcc ledger PLAN DIR SUB
-       dcc serve PLAN DIR [--listen ADDR] [--gates N] [--rounds N] [--every N]
+       dcc serve PLAN DIR [--listen ADDR] [--gates N] [--rounds N] [--every N] [--silent S]
+       dcc check PLAN [DIR]
        dcc decode
        dcc help
 
@@ -16,21 +17,28 @@ dcc replay PLAN   reads a script of events from standard input, and prints what 
 dcc topup         makes one top-up under the plan of the file PLAN, in the store of the subscriber's shard in the
                   folder DIR, and prints done, ceiling, refused or bad. A store that is missing is made, a folder isn't.
                   SUB is a type and data, as 0:491700000001, TICKET tells the top-up from the others, AMOUNT is in
-                  minor units, MOMENT in seconds since 1970
+                  minor units, MOMENT in seconds since 1970, the clock's where it is missing
 dcc ledger        prints the ledger of the subscriber SUB from the store of its shard in the folder DIR. Without such a
                   store or folder the account is unknown, and nothing is made
 dcc serve         serves gateways over TCP from the stores in the folder DIR, and prints where it listens, and a line
                   for each round. ADDR is an IPv4 address and a port, 127.0.0.1:3868 where it is missing; a round
                   has --gates gateways, 1 to 16; --rounds are 1 to 1000000; after each --every messages of a
-                  gateway, 0 to 1000000, sessions whose time is over are ended, with 0 never. Missing, they are 1, 1, 0
+                  gateway, 0 to 1000000, sessions whose time is over are ended, with 0 never. Missing, they are 1, 1, 0.
+                  A gateway that sends nothing for --silent seconds, 1 to 86400, is dropped; with 0, or missing, never
+dcc check         judges the plan of the file PLAN and the store of each of its shards in the folder DIR, and prints
+                  what is good. It changes and makes nothing, explains each failure, and ends as dcc serve would before
+                  it listens
 dcc decode        reads what a replay printed, a script, or messages in hex from standard input, and prints each
                   message as a tree of names and values, and each line without one as it is
-dcc help          prints this text, as dcc --help and dcc -h do
+dcc help          prints this text, as dcc --help and dcc -h do; dcc COMMAND --help prints the part of one command
 dcc --version     prints the version, as dcc -V does
+
+Each command takes --explain, before a -- if there is one: behind the line of a failure, further lines on standard
+error say what is wrong and where.
 
 exit status: 0; 1 where memory, input or output failed; 2 at another command line; 3 at a faulty plan; 4 at a faulty
 store; 5 at a faulty script; 6 where a server's answers and accounts disagree.
-A failure has one line on standard error.
+A failure has one line on standard error, and the lines of --explain.
 ";
 
 /// What `dcc --version` prints.

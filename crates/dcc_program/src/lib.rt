@@ -5,7 +5,7 @@
 //! over readers of plan and script and a writer, [`top_up`] and [`ledger`] are `dcc topup` and `dcc ledger` over the plan's reader, a
 //! folder's stores and a writer, [`decode`] is `dcc decode`; [`task_of`] is what words ask for, [`run`] judges them and does that, or
 //! prints a text; [`end`] is the line on standard error and the status. [`serve`] is `dcc serve`: clauses say what it writes, none which
-//! words ask for it ([`serve_of`]). [`execute`] is all of it, for a `main` of one line.
+//! words ask for it ([`serve_of`]).
 #![tactic(auto)]
 
 mod command_line;
@@ -14,7 +14,6 @@ mod ending;
 mod failure;
 mod help;
 mod plan_file;
-mod process;
 mod program;
 mod replaying;
 mod serving;
@@ -26,7 +25,6 @@ pub use ending::{Ending, end};
 pub use failure::Failure;
 pub use help::{HELP, VERSION};
 pub use plan_file::{plan_from, plan_of};
-pub use process::execute;
 pub use program::run;
 pub use replaying::replay;
 pub use serving::serve;

@@ -21,7 +21,7 @@ use std::alloc::Global;
 use std::fs;
 use std::hash::RandomState;
 use std::io::{Eprint, Write};
-use std::net::{Net, SocketAddr, SocketAddrV4, TcpListener, TcpStream};
+use std::net::{Net, SocketAddr, TcpListener, TcpStream};
 use std::random::RandomSource;
 use std::rt::Files;
 use std::sync::Wait;
@@ -44,10 +44,10 @@ pub fn serve<
     S: Stores,
     W: Write,
 >(rt: &R, stores: &S, ask: &ServeAsk<'_>, output: &mut W) -> Result<(), Failure>
-    ensures served { OnOk result (IsServedOver (λ (input : Input). None) (λ (output : Output). None) (λ (before : SystemClock R) moment after. Unit {0})
+    ensures served { OnOk result (IsServedOver (λ (input : Input R). None) (λ (output : Output R). None) (λ (before : SystemClock R) moment after. Unit {0})
         (S.opens stores.now ask.now.place.folder.now) S.Records.is_stopped S.Records.may_leave ask.now.rounds (W.contents output.old) (W.contents output.new)) }
     ensures whole { OnOk result (IsServed ask.now.rounds.rounds (W.contents output.old) (W.contents output.new)) }
-    ensures part { IfErr result (IsServedBegun (λ (input : Input). None) (λ (output : Output). None) (λ (before : SystemClock R) moment after. Unit {0})
+    ensures part { IfErr result (IsServedBegun (λ (input : Input R). None) (λ (output : Output R). None) (λ (before : SystemClock R) moment after. Unit {0})
         (S.opens stores.now ask.now.place.folder.now) S.Records.is_stopped S.Records.may_leave ask.now.rounds (W.contents output.old) (W.contents output.new)) }
 {
     let alloc = rt.alloc();
@@ -76,10 +76,10 @@ fn serve_under<
     ask: &ServeAsk<'_>,
     output: &mut W,
 ) -> Result<(), Failure>
-    ensures served { OnOk result (IsServedOver (λ (input : Input). None) (λ (output : Output). None) (λ (before : SystemClock R) moment after. Unit {0})
+    ensures served { OnOk result (IsServedOver (λ (input : Input R). None) (λ (output : Output R). None) (λ (before : SystemClock R) moment after. Unit {0})
         (S.opens stores.now ask.now.place.folder.now) S.Records.is_stopped S.Records.may_leave ask.now.rounds (W.contents output.old) (W.contents output.new)) }
     ensures whole { OnOk result (IsServed ask.now.rounds.rounds (W.contents output.old) (W.contents output.new)) }
-    ensures part { IfErr result (IsServedBegun (λ (input : Input). None) (λ (output : Output). None) (λ (before : SystemClock R) moment after. Unit {0})
+    ensures part { IfErr result (IsServedBegun (λ (input : Input R). None) (λ (output : Output R). None) (λ (before : SystemClock R) moment after. Unit {0})
         (S.opens stores.now ask.now.place.folder.now) S.Records.is_stopped S.Records.may_leave ask.now.rounds (W.contents output.old) (W.contents output.new)) }
 {
     let alloc = rt.alloc();
@@ -89,7 +89,7 @@ fn serve_under<
         Ok(shards) => shards,
         Err(refusal) => return Err(Failure::from(OperatorFault::from(refusal))),
     };
-    let mut door = match open_door(rt, alloc, ask.address, output) {
+    let mut door = match open_door(rt, alloc, ask, output) {
         Ok(door) => door,
         Err(failure) => {
             // By a call: shards that are let go in place are proved part by part.
@@ -109,9 +109,9 @@ fn serve_under<
     let served = serve_run::<
         R,
         S::Records,
-        Input,
-        Output,
-        Door,
+        Input<'_, R>,
+        Output<'_, R>,
+        Door<'_, R>,
         SystemClock<'_, R>,
         NoticeLines<'_, R>,
         W,
@@ -120,16 +120,20 @@ fn serve_under<
 }
 
 /// Listens at an address, and writes where that is.
-fn open_door<N: Net<Listener = TcpListener, Stream = TcpStream>, W: Write>(
-    rt: &N,
+fn open_door<'r, N: Net<Listener = TcpListener, Stream = TcpStream>, W: Write>(
+    rt: &'r N,
     alloc: Global,
-    address: SocketAddrV4,
+    ask: &ServeAsk<'_>,
     output: &mut W,
-) -> Result<Door, Failure>
+) -> Result<Door<'r, N>, Failure>
     ensures whole { OnOk result ((address : SocketAddr) × Appends (W.contents output.old) (W.contents output.new) (listening_line address)) }
     ensures part { IfErr result (IsTellingBegun (W.contents output.old) (W.contents output.new)) }
 {
-    let door = Door::bind(rt, alloc, address)?;
+    // No `?`, which is not proved where a value holds a reference beside a struct with a model.
+    let door = match Door::bind(rt, alloc, ask.address, ask.silence) {
+        Ok(door) => door,
+        Err(error) => return Err(Failure::from(error)),
+    };
     let found = door.address()?;
     tell_address(alloc, found, output)?;
     Ok(door)

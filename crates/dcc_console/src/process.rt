@@ -1,0 +1,158 @@
+//! The program, for `main`.
+
+use crate::checking::{check, check_ask, is_check, is_check_help};
+use crate::doing::done;
+use crate::ending::end_with;
+use crate::explain_word::without_explain;
+use crate::reasons::{Seen, lines_of};
+use crate::top_up::{used_before, with_moment};
+use crate::watched::{WatchedInput, WatchedOutput};
+use dcc_explain::{Looks, help_of};
+use dcc_operator::Stores;
+use dcc_program::{Failure, HELP, end, given_words};
+use dcc_streams::write_all;
+use std::io::{self, Eprint, Write};
+use std::net::{Net, TcpListener, TcpStream};
+use std::process::ExitCode;
+use std::random::RandomSource;
+use std::rt::{Env, Files};
+use std::sync::Wait;
+use std::thread::Threads;
+use std::time::Clock;
+
+/// Does what the process was asked for, over these stores, and reports a failure by its line on standard error and by the exit status. Where the words
+/// have `--explain`, and of `dcc check` always, lines that explain the failure follow.
+pub fn execute<
+    R: Env
+        + Files
+        + RandomSource
+        + Input
+        + Print
+        + Eprint
+        + Net<Listener = TcpListener, Stream = TcpStream>
+        + Threads
+        + Wait
+        + Clock
+        + Sync
+        + AllocGlobal,
+    S: Stores,
+    L: Looks,
+    W: Write,
+>(rt: &R, stores: &S, looks: &L, errors: &mut W) -> ExitCode {
+    let words = match given_words(rt) {
+        Ok(words) => words,
+        Err(failure) => return ExitCode::from(end(Err(failure), errors).status),
+    };
+    let (words, is_explained) = without_explain(words);
+    if is_check(words.as_slice()) {
+        return ExitCode::from(checked(rt, words.as_slice(), looks, errors));
+    }
+    let words = match with_moment(rt, words) {
+        Ok(words) => words,
+        Err(failure) => return ExitCode::from(end(Err(failure), errors).status),
+    };
+    if is_explained {
+        return ExitCode::from(explained(rt, words.as_slice(), stores, looks, errors));
+    }
+    let ended = done(
+        rt,
+        words.as_slice(),
+        stores,
+        &mut rt.reader(),
+        &mut io::writer(rt),
+    );
+    ExitCode::from(end(ended, errors).status)
+}
+
+/// The same with an explanation.
+fn explained<
+    R: Files
+        + RandomSource
+        + Input
+        + Print
+        + Eprint
+        + Net<Listener = TcpListener, Stream = TcpStream>
+        + Threads
+        + Wait
+        + Clock
+        + Sync
+        + AllocGlobal,
+    S: Stores,
+    L: Looks,
+    W: Write,
+>(rt: &R, words: &[String], stores: &S, looks: &L, errors: &mut W) -> u8 {
+    let used = used_before(rt, words, stores);
+    let mut input = WatchedInput::new(rt.alloc(), rt.reader());
+    let mut output = WatchedOutput::new(io::writer(rt));
+    let ended = done(rt, words, stores, &mut input, &mut output);
+    let WatchedInput {
+        input: reader,
+        failed,
+        text,
+        is_cut: _,
+    } = input;
+    drop(reader);
+    let seen = Seen {
+        input: failed,
+        output: output.failed,
+        script: text,
+    };
+    match ended {
+        Ok(()) => told(ended, used, errors),
+        Err(failure) => {
+            drop(used);
+            told(
+                ended,
+                lines_of(rt, words, looks, failure, &seen).ok(),
+                errors,
+            )
+        }
+    }
+}
+
+/// Writes the end with the lines that there are, and gives the exit status.
+fn told<W: Write>(ended: Result<(), Failure>, lines: Option<String>, errors: &mut W) -> u8 {
+    match lines {
+        Some(lines) => end_with(ended, lines.as_str(), errors).status,
+        None => end(ended, errors).status,
+    }
+}
+
+/// `dcc check`, which explains always.
+fn checked<
+    R: Files + RandomSource + Print + Net<Listener = TcpListener, Stream = TcpStream> + AllocGlobal,
+    L: Looks,
+    W: Write,
+>(rt: &R, words: &[String], looks: &L, errors: &mut W) -> u8 {
+    let alloc = rt.alloc();
+    let mut output = WatchedOutput::new(io::writer(rt));
+    let mut lines = String::new(alloc);
+    let ended = match check_ask(words) {
+        Some(ask) => check(rt, looks, ask, &mut output, &mut lines),
+        None if is_check_help(words) => check_help(rt, &mut output),
+        None => Err(Failure::Usage),
+    };
+    if let Err(failure) = ended {
+        if lines.is_empty() {
+            let seen = Seen {
+                input: None,
+                output: output.failed,
+                script: Vec::new(alloc),
+            };
+            return told(
+                ended,
+                lines_of(rt, words, looks, failure, &seen).ok(),
+                errors,
+            );
+        }
+    }
+    end_with(ended, lines.as_str(), errors).status
+}
+
+/// The help of `dcc check`.
+fn check_help<R: AllocGlobal, W: Write>(rt: &R, output: &mut W) -> Result<(), Failure> {
+    match help_of(rt.alloc(), HELP, "check")? {
+        Some(help) => Ok(write_all(output, help.as_bytes())?),
+        None => Ok(()),
+    }
+}

@@ -1,0 +1,236 @@
+//! The lines that explain a failure.
+
+ghost use Rattle.std.specs.Prelude.{◌≡◌, Some, IfOk, IfSome};
+ghost use Rattle.dcc_tariff.specs.Faults.{fault_number};
+
+use crate::task_words::{address, folder_path, plan_path};
+use dcc_explain::{Looks, PlanNote, explain_line, explain_plan, explain_words, usage_line};
+use dcc_program::{Failure, HELP, plan_of};
+use dcc_sockets::{Door, Silence};
+use dcc_tariff::Plan;
+use dcc_words::parts;
+use std::alloc::{AllocError, Global};
+use std::hash::RandomState;
+use std::net::{Net, TcpListener, TcpStream};
+use std::random::RandomSource;
+use std::rt::Files;
+use std::{fs, io};
+
+/// What a run left behind: why its streams failed, and the script that it read.
+#[derive(Drop)]
+pub(crate) struct Seen {
+    pub input: Option<io::Error>,
+    pub output: Option<io::Error>,
+    pub script: Vec<u8>,
+}
+
+/// The lines that explain a failure of these words, each with the program's name in front. What was read before is read again: where a second try finds
+/// another state of a file, no line says more than that.
+pub(crate) fn lines_of<
+    R: Files + RandomSource + Net<Listener = TcpListener, Stream = TcpStream> + AllocGlobal,
+    L: Looks,
+>(rt: &R, words: &[String], looks: &L, failure: Failure, seen: &Seen) -> Result<String, Failure> {
+    let alloc = rt.alloc();
+    match failure {
+        Failure::Usage => usage_lines(alloc, words),
+        Failure::Plan(number) => plan_lines(rt, words, number),
+        Failure::Script(line) => script_lines(alloc, seen.script.as_slice(), line),
+        Failure::Io => io_lines(rt, words, seen),
+        Failure::Store(number) => store_lines(rt, words, looks, number),
+        Failure::Close(number) => line(alloc, close_words(number)),
+        Failure::Memory => line(alloc, "memory was refused"),
+    }
+}
+
+/// A line with the program's name in front.
+fn line(alloc: Global, words: &str) -> Result<String, Failure> {
+    Ok(format!(in alloc; "dcc: {words}\n")?)
+}
+
+/// The word that doesn't fit, and the command's own line.
+fn usage_lines(alloc: Global, words: &[String]) -> Result<String, Failure> {
+    let slip = explain_words(alloc, words)?;
+    let mut lines = line(alloc, slip.as_str())?;
+    let name = match words.get(1) {
+        Some(name) => name.as_str(),
+        None => "",
+    };
+    match usage_line(HELP, name) {
+        Some(usage) => write!(lines, "dcc: usage: {usage}\n")?,
+        None => lines.push_str("dcc: dcc help prints the commands\n")?,
+    }
+    Ok(lines)
+}
+
+/// The explanation of a plan's fault.
+fn plan_lines<R: Files + AllocGlobal>(
+    rt: &R,
+    words: &[String],
+    number: u8,
+) -> Result<String, Failure> {
+    let alloc = rt.alloc();
+    let Some(path) = plan_path(alloc, words)? else {
+        return Ok(String::new(alloc));
+    };
+    let octets = fs::read(rt, path)?;
+    let mut lines = String::new(alloc);
+    plan_words(alloc, octets.as_slice(), number, &mut lines)?;
+    Ok(lines)
+}
+
+/// Adds the explanation of the fault with this number of a plan file's octets to lines.
+pub(crate) fn plan_words(
+    alloc: Global,
+    octets: &[u8],
+    number: u8,
+    lines: &mut String,
+) -> Result<(), AllocError> {
+    match plan_note(alloc, octets, number)? {
+        Some(note) => {
+            let words = note.words.as_str();
+            write!(lines, "dcc: {words}\n")
+        }
+        None => lines.push_str(
+            "dcc: the plan file was changed since: it has another fault now, or none\n",
+        ),
+    }
+}
+
+/// The explanation of the fault of a plan file's octets, if that has this number.
+fn plan_note(alloc: Global, octets: &[u8], number: u8) -> Result<Option<PlanNote>, AllocError>
+    ensures { IfOk result (λ note. IfSome note (λ n. fault_number n.fault ≡ Some number)) }
+{
+    let Some(note) = explain_plan(alloc, octets)? else {
+        return Ok(None);
+    };
+    match note.fault.number() {
+        Some(found) => {
+            if found == number {
+                Ok(Some(note))
+            } else {
+                Ok(None)
+            }
+        }
+        None => Ok(None),
+    }
+}
+
+/// The explanation of a script's line.
+fn script_lines(alloc: Global, script: &[u8], number: u64) -> Result<String, Failure> {
+    let lines = parts(alloc, script, b'\n')?;
+    let at = match usize::try_from(number) {
+        Ok(number) => number.saturating_sub(1),
+        Err(_) => usize::MAX,
+    };
+    let Some(text) = lines.get(at) else {
+        return Ok(String::new(alloc));
+    };
+    let note = explain_line(alloc, text)?;
+    let words = note.words.as_str();
+    Ok(format!(in alloc; "dcc: script line {number}: {words}\n")?)
+}
+
+/// The file, the stream or the address that failed, with the system's reason.
+fn io_lines<R: Files + Net<Listener = TcpListener, Stream = TcpStream> + AllocGlobal>(
+    rt: &R,
+    words: &[String],
+    seen: &Seen,
+) -> Result<String, Failure> {
+    let alloc = rt.alloc();
+    if let Some(error) = seen.input {
+        return Ok(format!(in alloc; "dcc: standard input: {error}\n")?);
+    }
+    if let Some(error) = seen.output {
+        return Ok(format!(in alloc; "dcc: standard output: {error}\n")?);
+    }
+    if let Some(path) = plan_path(alloc, words)? {
+        if let Some(error) = read_error(rt, path) {
+            return Ok(format!(in alloc; "dcc: {path}: {error}\n")?);
+        }
+    }
+    if let (Some(address), Some(silence)) = (address(alloc, words)?, Silence::new(0)) {
+        if let Err(error) = Door::bind(rt, alloc, address, silence) {
+            return Ok(format!(in alloc; "dcc: {address}: {error}\n")?);
+        }
+    }
+    line(alloc, "a second try found nothing that fails")
+}
+
+/// Why a file can't be read.
+fn read_error<R: Files + AllocGlobal>(rt: &R, path: &str) -> Option<io::Error> {
+    match fs::read(rt, path) {
+        Ok(_) => None,
+        Err(error) => Some(error),
+    }
+}
+
+/// What is wrong with the stores of the folder that the words name: each that has the fault with this number.
+fn store_lines<R: Files + RandomSource + AllocGlobal, L: Looks>(
+    rt: &R,
+    words: &[String],
+    looks: &L,
+    number: u8,
+) -> Result<String, Failure> {
+    let alloc = rt.alloc();
+    let Some(folder) = folder_path(alloc, words)? else {
+        return line(alloc, store_words(number));
+    };
+    let Some(path) = plan_path(alloc, words)? else {
+        return line(alloc, store_words(number));
+    };
+    let octets = fs::read(rt, path)?;
+    let plan = plan_of(alloc, octets.as_slice())?;
+    let found = lines_under(rt, looks, folder, &plan, number);
+    // By a call: a plan that is let go in place is proved part by part.
+    drop(plan);
+    let lines = found?;
+    if lines.is_empty() {
+        return line(alloc, store_words(number));
+    }
+    Ok(lines)
+}
+
+/// A line for each store of a folder under a plan that has the fault with this number.
+fn lines_under<R: RandomSource + AllocGlobal, L: Looks>(
+    rt: &R,
+    looks: &L,
+    folder: &str,
+    plan: &Plan,
+    number: u8,
+) -> Result<String, Failure> {
+    let mut lines = String::new(rt.alloc());
+    for shard in 0..usize::from(plan.shards()) {
+        let note = looks.look(folder, plan, shard, RandomState::new(rt)?)?;
+        if note.fault == Some(number) {
+            let words = note.words.as_str();
+            write!(lines, "dcc: {words}\n")?;
+        }
+    }
+    Ok(lines)
+}
+
+/// What the number of a store's fault means.
+fn store_words(number: u8) -> &'static str {
+    match number {
+        50 => "memory was refused",
+        51 =>
+            "a store's file or folder can't be used, another process has it open, or the database failed",
+        52 => "a store has failed before, and is stopped",
+        53 =>
+            "a store's tables are others, or it was made under another plan: for other hosts, realms, numbers of shards or terms",
+        54 =>
+            "the acts, entries and accounts of a store disagree, or it has a subscriber of another shard",
+        55 => "a row of a store can't be read",
+        _ => "a store has no tables",
+    }
+}
+
+/// What the number of a fault at the end of a round means.
+fn close_words(number: u8) -> &'static str {
+    match number {
+        60 => "a gateway's receipts have one that is not of the books",
+        61 => "the books have an act without a receipt",
+        62 => "the receipts of a gateway are out of order",
+        _ => "a lane was ended without one of its senders",
+    }
+}

@@ -1,0 +1,111 @@
+//! A top-up's words: the moment that is left out, and a ticket that was used before.
+
+use dcc_operator::{Stores, TopUpAsk};
+use dcc_program::{Failure, Place, Task, ledger, task_of};
+use dcc_tariff::LAST_SECOND;
+use dcc_words::parts;
+use std::alloc::Global;
+use std::fs;
+use std::hash::RandomState;
+use std::random::RandomSource;
+use std::rt::Files;
+use std::time::Clock;
+
+/// The words of a command line; those of a top-up without its moment end with the clock's.
+pub(crate) fn with_moment<R: Clock + AllocGlobal>(
+    rt: &R,
+    words: Vec<String>,
+) -> Result<Vec<String>, Failure> {
+    let alloc = rt.alloc();
+    let mut words = words;
+    if !is_top_up(words.as_slice()) || is_use(alloc, words.as_slice())? {
+        return Ok(words);
+    }
+    let seconds = rt.since_1970()?.as_secs().min(LAST_SECOND);
+    words.push(format!(in alloc; "{seconds}")?)?;
+    if !is_use(alloc, words.as_slice())? {
+        let _moment = words.pop();
+    }
+    Ok(words)
+}
+
+fn is_top_up(words: &[String]) -> bool {
+    match words.get(1) {
+        Some(name) => name.as_str() == "topup",
+        None => false,
+    }
+}
+
+/// Whether the words ask for something.
+fn is_use(alloc: Global, words: &[String]) -> Result<bool, Failure> {
+    match task_of(alloc, words) {
+        Ok(_) => Ok(true),
+        Err(Failure::Usage) => Ok(false),
+        Err(failure) => Err(failure),
+    }
+}
+
+/// That the ticket of a top-up was used before, with its amount and moment, if the words ask for such a one. The ledger is read before the top-up is
+/// made; a fault of its reading is the top-up's too, and is reported there.
+pub(crate) fn used_before<R: Files + RandomSource + AllocGlobal, S: Stores>(
+    rt: &R,
+    words: &[String],
+    stores: &S,
+) -> Option<String> {
+    match task_of(rt.alloc(), words) {
+        Ok(Task::TopUp(place, ask)) => match used_ticket(rt, stores, place, ask) {
+            Ok(found) => found,
+            Err(_) => None,
+        },
+        _ => None,
+    }
+}
+
+fn used_ticket<R: Files + RandomSource + AllocGlobal, S: Stores>(
+    rt: &R,
+    stores: &S,
+    place: Place<'_>,
+    ask: TopUpAsk,
+) -> Result<Option<String>, Failure> {
+    let alloc = rt.alloc();
+    let hasher = RandomState::new(rt)?;
+    let mut file = fs::open(rt, place.plan)?;
+    let mut page = Vec::new(alloc);
+    ledger(
+        alloc,
+        &mut file,
+        stores,
+        place.folder,
+        ask.sub,
+        &mut page,
+        hasher,
+    )?;
+    line_with(alloc, page.as_slice(), ask.ticket)
+}
+
+/// The entry of a ticket in a ledger, in words.
+fn line_with(alloc: Global, page: &[u8], ticket: u64) -> Result<Option<String>, Failure> {
+    let end = format!(in alloc; " ticket {ticket}")?;
+    let lines = parts(alloc, page, b'\n')?;
+    for line in &lines {
+        if line.ends_with(end.as_bytes()) {
+            return entry_words(alloc, line, ticket);
+        }
+    }
+    Ok(None)
+}
+
+/// An entry's moment and amount: its second word, and the one that begins with a plus.
+fn entry_words(alloc: Global, line: &[u8], ticket: u64) -> Result<Option<String>, Failure> {
+    let Ok(line) = str::from_utf8(line) else {
+        return Ok(None);
+    };
+    let moment = line.split_ascii_whitespace().nth(1).unwrap_or("");
+    let amount = line
+        .split_ascii_whitespace()
+        .find(|word| word.starts_with('+'))
+        .unwrap_or("");
+    Ok(Some(format!(in alloc;
+        "dcc: ticket {ticket} was used before, for {amount} at {moment}: nothing was added\n"
+    )?))
+}
