@@ -16,8 +16,24 @@ pub(crate) const HOP: usize = 15;
 /// Where a debit has the last digit of its subscriber.
 pub(crate) const DEBIT_SUBSCRIBER: usize = 203;
 
-/// A Validity-Time of 600 seconds.
-const VALIDITY: [u8; 12] = [0, 0, 1, 192, 64, 0, 0, 12, 0, 0, 2, 88];
+/// Where a request that opens a session has the last digit of its subscriber.
+pub(crate) const OPENING_SUBSCRIBER: usize = 191;
+
+/// An initial request of the samples' session and subscriber, for 100,000 octets of group 10.
+const OPENING: &str = "\
+010000ecc000011000000004000000110000002100000107400000176777312e6578616d706c653b313b310000000108\
+400000136777312e6578616d706c6500000001284000000f6578616d706c65000000011b4000000f6578616d706c6500\
+000001024000000c00000004000001cd4000001464617461406578616d706c65000001a04000000c000000010000019f\
+4000000c00000000000001bb40000028000001c24000000c00000000000001bc40000014343931373030303030303031\
+000001c84000002c000001b04000000c0000000a000001b540000018000001a54000001000000000000186a0";
+
+/// Its answer.
+const OPENED: &str = "\
+010000c44000011000000004000000110000002100000107400000176777312e6578616d706c653b313b31000000010c\
+4000000c000007d100000108400000136f63732e6578616d706c6500000001284000000f6578616d706c650000000102\
+4000000c00000004000001a04000000c000000010000019f4000000c00000000000001c840000044000001af40000018\
+000001a54000001000000000000186a0000001b04000000c0000000a000001c04000000c000002580000010c4000000c\
+000007d1";
 
 /// The octets of these samples, one behind another.
 pub(crate) fn decoded(alloc: Global, samples: &[&str]) -> Result<Vec<u8>, Fail> {
@@ -71,21 +87,16 @@ pub(crate) fn debited(alloc: Global, units: u64, changes: &[Change]) -> Result<V
     changed(alloc, ANSWER, units, changes)
 }
 
-/// A request that opens a session for 100,000 octets, with these changes in the debit of which it is made.
+/// A request that opens a session for 100,000 octets of group 10, with these changes.
 pub(crate) fn opening(alloc: Global, changes: &[Change]) -> Result<Vec<u8>, Fail> {
-    let debit = debit(alloc, 100_000, changes)?;
-    let mut octets = Vec::from_slice(alloc, debit.get(..152).ok_or("a request")?)?;
-    // Behind the Requested-Action, which sessions don't have.
-    octets.extend_from_slice(debit.get(164..).ok_or("a subscriber")?)?;
-    // Its length, and INITIAL_REQUEST in the place of EVENT_REQUEST.
-    change(&mut octets, &[(3, 216), (139, 1)])?;
+    let mut octets = hex::decode(alloc, OPENING)?;
+    change(&mut octets, changes)?;
     Ok(octets)
 }
 
-/// Its answer: the octets are granted, for 600 seconds.
+/// Its answer, with these changes: the octets are granted, for 600 seconds.
 pub(crate) fn opened(alloc: Global, changes: &[Change]) -> Result<Vec<u8>, Fail> {
-    let mut octets = debited(alloc, 100_000, changes)?;
-    octets.extend_from_slice(&VALIDITY)?;
-    change(&mut octets, &[(3, 164), (115, 1)])?;
+    let mut octets = hex::decode(alloc, OPENED)?;
+    change(&mut octets, changes)?;
     Ok(octets)
 }

@@ -3,9 +3,9 @@
 use crate::gateways::{Gateways, Input, Output, Stage, Untold};
 use crate::server::Server;
 use dcc_act::Moment;
+use dcc_callers::are_shards;
 use dcc_connect::Clock;
 use dcc_records::Records;
-use dcc_running_tests::are_shards;
 use dcc_serve::{Rounds, ServeFault, Service, serve_run};
 use dcc_shard::Shard;
 use std::alloc::Global;

@@ -5,7 +5,7 @@ use crate::connection::{self, Talking};
 use crate::server::Server;
 use crate::sweeps::{self, Sweeping};
 use crate::workers;
-use dcc_running_tests::identity;
+use dcc_callers::identity;
 use dcc_samples::PLAN;
 use dcc_tariff::Plan;
 use std::alloc::Global;

@@ -1,9 +1,9 @@
 //! The server of these tests, its subscribers, and what they have at first.
 
 use dcc_act::{Moment, Sub};
+use dcc_callers::{in_memory, shard_over};
 use dcc_message::Identity;
 use dcc_records::{MemoryRecords, Records};
-use dcc_running_tests::{in_memory, shard_over};
 use dcc_shard::{Shard, TopUpAnswer};
 use dcc_tariff::Plan;
 use std::alloc::Global;

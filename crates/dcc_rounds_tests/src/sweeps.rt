@@ -2,14 +2,14 @@
 
 use crate::gateways::{Stage, Talk};
 use crate::messages::{
-    Change, DEBIT_SUBSCRIBER, SESSION, debit, debited, decoded, opened, opening,
+    Change, OPENING_SUBSCRIBER, SESSION, debit, debited, decoded, opened, opening,
 };
 use crate::rounds::{Watch, serve};
 use crate::rows::{self, Row};
 use crate::server::{Server, after, topped_up};
 use crate::short::ShortRecords;
+use dcc_callers::{in_memory, pair};
 use dcc_gate_records::Gate;
-use dcc_running_tests::{in_memory, pair};
 use dcc_samples::{WATCHDOG, WATCHDOG_ANSWER};
 use dcc_serve::Rounds;
 use dcc_shard::Shard;
@@ -24,7 +24,7 @@ use std::thread::Threads;
 const FIRST: &[Change] = &[(SESSION, b'2')];
 
 /// That of another subscriber, whom the same shard keeps.
-const SECOND: &[Change] = &[(SESSION, b'3'), (DEBIT_SUBSCRIBER, b'3')];
+const SECOND: &[Change] = &[(SESSION, b'3'), (OPENING_SUBSCRIBER, b'3')];
 
 const SECOND_ANSWER: &[Change] = &[(SESSION, b'3')];
 

@@ -1,18 +1,78 @@
-//! Two gateways at once, and their requests again.
+//! Two gateways of one subscriber at once, each at its own seat, and their requests again.
 
-use crate::callers::{Caller, DEBITS};
-use crate::locks::one;
-use crate::shards::in_memory;
 use dcc_act::Sub;
+use dcc_callers::{Caller, DEBITS, after, in_memory, one, shard_over};
 use dcc_records::{MemoryRecords, Records};
 use dcc_running::{Books, Seat, Shards};
-use dcc_shard::TopUpAnswer;
+use dcc_shard::{Shard, TopUpAnswer};
 use std::alloc::Global;
 use std::process::Abort;
 use std::random::RandomSource;
 use std::sync::Wait;
 use std::test::Fail;
 use std::thread::{Threads, join};
+
+/// The number of the subscriber.
+const NUMBER: &[u8] = b"491700000001";
+
+/// So many debits each gateway repeats at once.
+const REPEATS: u32 = 10;
+
+const ADDED: TopUpAnswer = TopUpAnswer::Done {
+    place: 1,
+    fresh: true,
+};
+
+/// Tops up 1,000,000 minor units.
+fn top_up<R: Records>(alloc: Global, shard: &mut Shard<R>) -> Result<TopUpAnswer, Fail> {
+    let sub = Sub::new(0, NUMBER).ok_or("a subscriber")?;
+    let moment = after(0).ok_or("a moment")?;
+    Ok(shard.top_up(alloc, sub, moment, 1, 1_000_000))
+}
+
+/// Asserts that the top-up is added.
+fn add_money<R: Records>(
+    rt: &(impl Abort + AllocGlobal),
+    shard: &mut Shard<R>,
+) -> Result<(), Fail> {
+    let told = top_up(rt.alloc(), shard)?;
+    assert_eq!(rt; told, ADDED);
+    Ok(())
+}
+
+/// Two gateways of the subscriber.
+fn gateways<R: Records>(alloc: Global, shards: &Shards<R>) -> Result<(Caller, Caller), Fail> {
+    let first = Caller::new(alloc, shards, NUMBER, b"gw1.example;1;1")?;
+    let second = Caller::new(alloc, shards, NUMBER, b"gw2.example;1;1")?;
+    Ok((first, second))
+}
+
+/// Makes the debits of a gateway, and repeats some: how many repeats get their first answer.
+fn debit_and_repeat<W: Wait, R: Records>(
+    rt: &W,
+    alloc: Global,
+    shards: &Shards<R>,
+    caller: &mut Caller,
+) -> u32 {
+    caller.debit_all(rt, alloc, shards);
+    caller.repeat(rt, alloc, shards, REPEATS)
+}
+
+/// The same of both gateways at once.
+fn debit_at_once<W: Wait + Threads + Abort + Sync + AllocGlobal, R: Records + Send + Sync>(
+    rt: &W,
+    shards: &Shards<R>,
+    first: &mut Caller,
+    second: &mut Caller,
+) {
+    let alloc = rt.alloc();
+    let repeated = join(
+        rt,
+        || debit_and_repeat(rt, alloc, shards, first),
+        || debit_and_repeat(rt, alloc, shards, second),
+    );
+    assert_eq!(rt; repeated, (REPEATS, REPEATS));
+}
 
 /// The seats of both.
 fn seats<R: Records>(
@@ -27,107 +87,86 @@ fn seats<R: Records>(
     Ok(seats)
 }
 
-/// How many acts a subscriber has, and its funds.
+/// How many receipts of these seats are fresh, and how many are not.
+fn receipts_in(seats: &[Seat]) -> (u32, u32) {
+    let mut counts = (0u32, 0u32);
+    for seat in seats {
+        for receipt in seat.receipts() {
+            if receipt.fresh {
+                counts.0 = counts.0.saturating_add(1);
+            } else {
+                counts.1 = counts.1.saturating_add(1);
+            }
+        }
+    }
+    counts
+}
+
+/// How many acts the subscriber has, and its funds.
 fn sums<R: Records>(books: &Books<R>, sub: Sub) -> Option<(usize, i128)> {
     let account = books.account(sub)?;
     Some((account.acts().len(), account.funds()))
 }
 
-/// The records of the one shard.
-fn records_of<R: Records + Drop>(books: Books<R>) -> Result<R, Fail> {
-    let shard = books.into_shards().pop().ok_or("a shard")?;
-    Ok(shard.into_records())
+/// The one shard of these books.
+fn shard_of<R: Records + Drop>(books: Books<R>) -> Result<Shard<R>, Fail> {
+    Ok(books.into_shards().pop().ok_or("a shard")?)
 }
 
-/// What is opened again of the records, once the receipts agree with what the shard holds: a top-up of 1,000 and forty debits of 10.
-fn reopened<S: Abort + RandomSource + AllocGlobal, R: Records + Drop>(
+/// The shard whose books agree with the receipts, so many fresh and so many not: a top-up of 1,000,000 and 180 debits of 5.
+fn closed<S: Abort + AllocGlobal, R: Records + Drop>(
     rt: &S,
     shards: Shards<R>,
     first: &mut Caller,
     second: &mut Caller,
-) -> Result<Shards<R>, Fail> {
+    receipts: (u32, u32),
+) -> Result<Shard<R>, Fail> {
     let seats = seats(rt.alloc(), &shards, first, second)?;
+    assert_eq!(rt; receipts_in(&seats), receipts);
     match shards.close(rt.alloc(), seats) {
         Ok(books) => {
-            assert_eq!(rt; sums(&books, first.sub), Some((41, 600)));
-            one(rt, records_of(books)?)
+            assert_eq!(rt; sums(&books, first.sub), Some((181, 999_100)));
+            shard_of(books)
         }
         Err(_) => Err("receipts disagree".into()),
     }
 }
 
-/// Two gateways of one subscriber.
-fn gateways<R: Records>(alloc: Global, shards: &Shards<R>) -> Result<(Caller, Caller), Fail> {
-    let first = Caller::new(alloc, shards, b"491700000001", b"gw1.example;1;1")?;
-    let second = Caller::new(alloc, shards, b"491700000001", b"gw2.example;1;1")?;
-    Ok((first, second))
-}
-
-/// Makes the debits of both at once, behind a top-up.
-fn debit_at_once<W: Wait + Threads + Abort + Sync + AllocGlobal>(
-    rt: &W,
-    shards: &Shards<MemoryRecords>,
-    first: &mut Caller,
-    second: &mut Caller,
-) {
-    let alloc = rt.alloc();
-    let topped = first.top_up(rt, alloc, shards, 1, 1000);
-    assert!(rt;
-        matches!(
-            topped,
-            Some(TopUpAnswer::Done {
-                place: 1,
-                fresh: true
-            })
-        )
-    );
-    join(
-        rt,
-        || first.debit_all(rt, alloc, shards),
-        || second.debit_all(rt, alloc, shards),
-    );
-}
-
-/// Asks for the debits of both again.
+/// Repeats all debits of both.
 fn repeat_both<W: Wait + Abort + AllocGlobal, R: Records>(
     rt: &W,
     shards: &Shards<R>,
     first: &mut Caller,
     second: &mut Caller,
 ) {
-    assert_eq!(rt; first.repeat_all(rt, rt.alloc(), shards), DEBITS);
-    assert_eq!(rt; second.repeat_all(rt, rt.alloc(), shards), DEBITS);
+    assert_eq!(rt; first.repeat(rt, rt.alloc(), shards, DEBITS), DEBITS);
+    assert_eq!(rt; second.repeat(rt, rt.alloc(), shards, DEBITS), DEBITS);
 }
 
-/// Closes the shards, asks what is opened again for the debits of both, and closes that.
-fn close_twice<S: Wait + Abort + RandomSource + AllocGlobal, R: Records + Drop>(
-    rt: &S,
-    shards: Shards<R>,
-    first: &mut Caller,
-    second: &mut Caller,
-) -> Result<(), Fail> {
-    let again = close_and_repeat(rt, shards, first, second)?;
-    let third = reopened(rt, again, first, second)?;
-    drop(third);
-    Ok(())
+/// The shard over these records, behind the top-up, under its lock.
+fn begun<S: Abort + RandomSource + AllocGlobal>(rt: &S) -> Result<Shards<MemoryRecords>, Fail> {
+    let mut shard = shard_over(rt, in_memory(rt)?)?;
+    add_money(rt, &mut shard)?;
+    again(rt, shard)
 }
 
-/// Closes the shards, and asks what is opened again for the debits of both.
-fn close_and_repeat<S: Wait + Abort + RandomSource + AllocGlobal, R: Records + Drop>(
+/// The shard that is opened over the records of a shard, under its lock.
+fn again<S: RandomSource + AllocGlobal, R: Records + Drop>(
     rt: &S,
-    shards: Shards<R>,
-    first: &mut Caller,
-    second: &mut Caller,
+    shard: Shard<R>,
 ) -> Result<Shards<R>, Fail> {
-    let again = reopened(rt, shards, first, second)?;
-    repeat_both(rt, &again, first, second);
-    Ok(again)
+    one(rt, shard.into_records())
 }
 
 #[test]
 fn two_gateways_at_once(rt: HostRuntime) -> Result<(), Fail> {
-    let shards = one(&rt, in_memory(&rt)?)?;
+    let shards = begun(&rt)?;
     let (mut first, mut second) = gateways(rt.alloc(), &shards)?;
     debit_at_once(&rt, &shards, &mut first, &mut second);
-    close_twice(&rt, shards, &mut first, &mut second)
+    let shard = closed(&rt, shards, &mut first, &mut second, (180, 20))?;
+    let shards = again(&rt, shard)?;
+    repeat_both(&rt, &shards, &mut first, &mut second);
+    let shard = closed(&rt, shards, &mut first, &mut second, (0, 180))?;
+    drop(shard);
+    Ok(())
 }

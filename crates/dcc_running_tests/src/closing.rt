@@ -2,12 +2,9 @@
 
 ghost use Rattle.std.specs.Prelude.{◌<◌};
 
-use crate::callers::Caller;
-use crate::jobs::{after, event};
-use crate::locks::one;
-use crate::shards::in_memory;
 use dcc_act::{Act, Action, Kind, MAX_AMOUNT, TopUp};
 use dcc_answer::Proxies;
+use dcc_callers::{Caller, after, event, in_memory, one};
 use dcc_receipts::{Receipt, Told, check_receipts};
 use dcc_records::{MemoryRecords, Records};
 use dcc_running::{Seat, Shards};

@@ -3,9 +3,8 @@
 ghost use Rattle.std.specs.Prelude.{◌≡◌, IfOk};
 
 use crate::history::{ACTS, FUNDS, History, busy, subscribers};
-use crate::placed::are_shards;
-use crate::shards::{TERMS, pair};
 use dcc_act::Sub;
+use dcc_callers::{TERMS, are_shards, pair};
 use dcc_engine::{Engine, Event, Out};
 use dcc_message::Identity;
 use dcc_records::{MemoryRecords, OnceRecords, Records};

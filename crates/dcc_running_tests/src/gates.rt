@@ -1,8 +1,6 @@
 //! One shard answers while another's append is held at its gate.
 
-use crate::callers::Caller;
-use crate::locks::two;
-use crate::shards::TERMS;
+use dcc_callers::{Caller, TERMS, two};
 use dcc_gate_records::{Gate, GateRecords};
 use dcc_records::{MemoryRecords, Records};
 use dcc_running::Shards;

@@ -1,8 +1,8 @@
 //! What happens to two subscribers on two shards: money, debits, a session, and a sweep.
 
-use crate::jobs::after;
 use dcc_act::Sub;
 use dcc_base::Host;
+use dcc_callers::after;
 use dcc_engine::Event;
 use dcc_octets::OctetString;
 use dcc_samples::{BUSY, DEBIT};

@@ -1,8 +1,8 @@
 //! What a run without a stop is told, and runs that are compared with it.
 
 use crate::play::{Told, ledger, standing, tell};
-use crate::script::Line;
-use crate::server::{Server, TERMS};
+use crate::script::{Line, Who};
+use dcc_disks::{Server, TERMS};
 use dcc_octets::OctetString;
 use dcc_records::{MemoryRecords, Records};
 use dcc_shard::Shard;
@@ -10,12 +10,13 @@ use std::alloc::Global;
 use std::process::Abort;
 use std::test::Fail;
 
-/// A script, what each of its acts is told by a run without a stop, and the ledger behind it.
+/// A script, what each of its acts is told by a run without a stop, and the ledgers behind it.
 #[derive(Drop)]
 pub(crate) struct Known {
     pub script: &'static [Line],
     told: Vec<OctetString>,
-    ledger: Vec<u8>,
+    first: Vec<u8>,
+    second: Vec<u8>,
 }
 
 /// What the act at an index is told, or nothing where it is refused.
@@ -25,35 +26,50 @@ fn told_at<R: Records>(
     script: &[Line],
     at: usize,
 ) -> Result<Option<Told>, Fail> {
-    let (ask, _, _) = *script.get(at).ok_or("an act")?;
-    tell(alloc, shard, u32::try_from(at)?, ask)
+    let (who, ask, _, _) = *script.get(at).ok_or("an act")?;
+    tell(alloc, shard, who, u32::try_from(at)?, ask)
 }
 
-/// The funds behind so many acts, and what is free.
-fn money(script: &[Line], acts: usize) -> Result<(i128, i128), Fail> {
-    let Some(at) = acts.checked_sub(1) else {
-        return Ok((0, 0));
-    };
-    let (_, funds, free) = *script.get(at).ok_or("an act")?;
-    Ok((funds, free))
+/// How many of the script's first acts are a subscriber's, the funds behind them, what is free, and what is overrun.
+fn known_standing(script: &[Line], acts: usize, who: Who) -> (usize, i128, i128, i128) {
+    let mut known = (0usize, 0, 0, 0);
+    for &(of, _, funds, free) in &script[..acts.min(script.len())] {
+        if of == who {
+            known = (known.0.saturating_add(1), funds, free, 0);
+        }
+    }
+    known
 }
 
-/// Asserts that so many acts are held, with their money.
+/// Asserts that the script's first acts are held, so many, each by its subscriber and with its money, and no others.
 fn assert_standing<R: Records>(
     rt: &impl Abort,
     shard: &Shard<R>,
     script: &[Line],
     acts: usize,
 ) -> Result<(), Fail> {
-    let (funds, free) = money(script, acts)?;
-    assert_eq!(rt; standing(shard)?, (acts, funds, free, 0));
+    assert_eq!(rt;
+        standing(shard, Who::First)?,
+        known_standing(script, acts, Who::First)
+    );
+    assert_eq!(rt;
+        standing(shard, Who::Second)?,
+        known_standing(script, acts, Who::Second)
+    );
     Ok(())
 }
 
 /// Asserts that an answer is that of the act at an index, made then or again.
-fn assert_place(rt: &impl Abort, told: &Told, at: usize, fresh: bool) -> Result<(), Fail> {
-    let place = u64::try_from(at)?.saturating_add(1);
-    assert_eq!(rt; (told.place, told.fresh), (place, fresh));
+fn assert_place(
+    rt: &impl Abort,
+    told: &Told,
+    script: &[Line],
+    at: usize,
+    fresh: bool,
+) -> Result<(), Fail> {
+    let (who, _, _, _) = *script.get(at).ok_or("an act")?;
+    let (place, _, _, _) = known_standing(script, at.saturating_add(1), who);
+    assert_eq!(rt; (told.place, told.fresh), (u64::try_from(place)?, fresh));
     Ok(())
 }
 
@@ -67,7 +83,7 @@ fn told_by<R: Records>(
     let mut all = Vec::new(alloc);
     for at in 0..script.len() {
         let told = told_at(alloc, shard, script, at)?.ok_or("memory was refused")?;
-        assert_place(rt, &told, at, true)?;
+        assert_place(rt, &told, script, at, true)?;
         assert_standing(rt, shard, script, at.saturating_add(1))?;
         all.push(told.octets)?;
     }
@@ -82,11 +98,13 @@ fn known_by<R: Records>(
     script: &'static [Line],
 ) -> Result<Known, Fail> {
     let told = told_by(rt, alloc, shard, script)?;
-    let ledger = ledger(alloc, shard)?;
+    let first = ledger(alloc, shard, Who::First)?;
+    let second = ledger(alloc, shard, Who::Second)?;
     Ok(Known {
         script,
         told,
-        ledger,
+        first,
+        second,
     })
 }
 
@@ -119,7 +137,7 @@ impl Known {
         };
         let known = self.told.get(at).ok_or("an act")?;
         assert_eq!(rt; told.octets.as_slice(), known.as_slice());
-        assert_place(rt, &told, at, fresh)?;
+        assert_place(rt, &told, self.script, at, fresh)?;
         Ok(true)
     }
 
@@ -155,8 +173,8 @@ impl Known {
         assert_standing(rt, shard, self.script, answered)
     }
 
-    /// Asserts that a shard holds the acts that were answered, and at most one beyond, and that each is told again as it was and
-    /// charged no second time. It gives how many there are. Where one isn't told again, memory was refused.
+    /// Asserts that a shard holds the acts that were answered, and at most one beyond, of one subscriber, and that each is told again as it
+    /// was and charged no second time. It gives how many there are. Where one isn't told again, memory was refused.
     pub(crate) fn assert_kept<R: Records>(
         &self,
         rt: &impl Abort,
@@ -164,7 +182,9 @@ impl Known {
         shard: &mut Shard<R>,
         answered: usize,
     ) -> Result<usize, Fail> {
-        let (acts, _, _, _) = standing(shard)?;
+        let (first, _, _, _) = standing(shard, Who::First)?;
+        let (second, _, _, _) = standing(shard, Who::Second)?;
+        let acts = first.saturating_add(second);
         assert!(rt; acts == answered || acts == answered.saturating_add(1));
         assert_standing(rt, shard, self.script, acts)?;
         self.assert_told(rt, alloc, shard, acts)?;
@@ -196,8 +216,10 @@ impl Known {
         shard: &Shard<R>,
     ) -> Result<(), Fail> {
         assert_standing(rt, shard, self.script, self.script.len())?;
-        let found = ledger(alloc, shard)?;
-        assert_eq!(rt; found.as_slice(), self.ledger.as_slice());
+        let first = ledger(alloc, shard, Who::First)?;
+        let second = ledger(alloc, shard, Who::Second)?;
+        assert_eq!(rt; first.as_slice(), self.first.as_slice());
+        assert_eq!(rt; second.as_slice(), self.second.as_slice());
         Ok(())
     }
 }

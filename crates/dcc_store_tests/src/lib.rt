@@ -4,14 +4,12 @@
 #![tactic(auto)]
 
 #[cfg(test)]
-mod disks;
-#[cfg(test)]
 mod known;
 #[cfg(test)]
 mod play;
 #[cfg(test)]
 mod script;
 #[cfg(test)]
-mod server;
-#[cfg(test)]
 mod stops;
+#[cfg(test)]
+mod subscribers;

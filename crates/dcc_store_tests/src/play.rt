@@ -1,7 +1,7 @@
 //! A shard that is asked, over any records.
 
-use crate::script::{Ask, kind};
-use crate::server::subscriber;
+use crate::script::{Ask, Who, kind};
+use crate::subscribers::subscriber;
 use dcc_act::{Act, Kind, Moment};
 use dcc_answer::Proxies;
 use dcc_message::Header;
@@ -59,10 +59,11 @@ fn told_of_top_up(alloc: Global, answer: TopUpAnswer) -> Result<Option<Told>, Fa
 fn top_up<R: Records>(
     alloc: Global,
     shard: &mut Shard<R>,
+    who: Who,
     ticket: u32,
     amount: u64,
 ) -> Result<Option<Told>, Fail> {
-    let answer = shard.top_up(alloc, subscriber()?, now()?, u64::from(ticket), amount);
+    let answer = shard.top_up(alloc, subscriber(who)?, now()?, u64::from(ticket), amount);
     told_of_top_up(alloc, answer)
 }
 
@@ -87,6 +88,7 @@ fn told_of(answer: RequestAnswer) -> Result<Option<Told>, Fail> {
 fn answered<R: Records>(
     alloc: Global,
     shard: &mut Shard<R>,
+    who: Who,
     place: u32,
     act: Act,
 ) -> Result<RequestAnswer, Fail> {
@@ -97,13 +99,14 @@ fn answered<R: Records>(
         return Err("a request".into());
     }
     let header = header(place);
-    Ok(shard.step(alloc, subscriber()?, act, &header, &Proxies::none(alloc)))
+    Ok(shard.step(alloc, subscriber(who)?, act, &header, &Proxies::none(alloc)))
 }
 
 /// What a request is told, or nothing where it is refused.
 fn request<R: Records>(
     alloc: Global,
     shard: &mut Shard<R>,
+    who: Who,
     place: u32,
     ask: Ask,
 ) -> Result<Option<Told>, Fail> {
@@ -111,25 +114,29 @@ fn request<R: Records>(
         moment: now()?,
         kind: kind(alloc, ask)?,
     };
-    told_of(answered(alloc, shard, place, act)?)
+    told_of(answered(alloc, shard, who, place, act)?)
 }
 
-/// What the act at this place is told, or nothing where it is refused.
+/// What the act of a subscriber at this place of a script is told, or nothing where it is refused.
 pub(crate) fn tell<R: Records>(
     alloc: Global,
     shard: &mut Shard<R>,
+    who: Who,
     place: u32,
     ask: Ask,
 ) -> Result<Option<Told>, Fail> {
     match ask {
-        Ask::TopUp(amount) => top_up(alloc, shard, place, amount),
-        _ => request(alloc, shard, place, ask),
+        Ask::TopUp(amount) => top_up(alloc, shard, who, place, amount),
+        _ => request(alloc, shard, who, place, ask),
     }
 }
 
-/// How many acts an account holds, its funds, what is free, and what is overrun.
-pub(crate) fn standing<R: Records>(shard: &Shard<R>) -> Result<(usize, i128, i128, i128), Fail> {
-    Ok(match shard.account(subscriber()?) {
+/// How many acts a subscriber's account holds, its funds, what is free, and what is overrun.
+pub(crate) fn standing<R: Records>(
+    shard: &Shard<R>,
+    who: Who,
+) -> Result<(usize, i128, i128, i128), Fail> {
+    Ok(match shard.account(subscriber(who)?) {
         Some(account) => (
             account.acts().len(),
             account.funds(),
@@ -140,10 +147,16 @@ pub(crate) fn standing<R: Records>(shard: &Shard<R>) -> Result<(usize, i128, i12
     })
 }
 
-/// The ledger of the subscriber.
-pub(crate) fn ledger<R: Records>(alloc: Global, shard: &Shard<R>) -> Result<Vec<u8>, Fail> {
-    let sub = subscriber()?;
-    let account = shard.account(sub).ok_or("an account")?;
+/// The ledger of a subscriber; that of an account without acts is empty.
+pub(crate) fn ledger<R: Records>(
+    alloc: Global,
+    shard: &Shard<R>,
+    who: Who,
+) -> Result<Vec<u8>, Fail> {
+    let sub = subscriber(who)?;
+    let Some(account) = shard.account(sub) else {
+        return Ok(Vec::new(alloc));
+    };
     Ok(ledger_text(
         alloc,
         &sub,

@@ -1,4 +1,4 @@
-//! What is asked of a shard, one subscriber's acts in order.
+//! What is asked of a shard, the acts of two subscribers in order.
 
 ghost use Rattle.std.specs.Prelude.{◌≤◌};
 ghost use Rattle.std.specs.Option.{ForSome};
@@ -33,38 +33,83 @@ pub(crate) enum Ask {
     Termination(u8, u32, &'static [Want]),
 }
 
-/// An act, and the funds and what is free behind it.
-pub(crate) type Line = (Ask, i128, i128);
+/// A subscriber.
+#[derive(Clone, Copy, PartialEq, Eq)]
+pub(crate) enum Who {
+    First,
+    Second,
+}
 
-/// Three sessions share a balance, and an update charges what was used: 205 for 40,001 octets, of which 295 are left for 59,000 more.
+/// An act of a subscriber, and its funds and what is free behind it.
+pub(crate) type Line = (Who, Ask, i128, i128);
+
+/// Three sessions share a balance, and an update charges what was used: 205 for 40,001 octets, of which 295 are left for 59,000 more. A subscriber beside
+/// them has a session of the same name.
 pub(crate) const CHARGED: &[Line] = &[
-    (Ask::TopUp(1000), 1000, 1000),
-    (Ask::Initial(b'1', 0, &[Want::Asks(10, 100_000)]), 1000, 500),
-    (Ask::Initial(b'2', 0, &[Want::Asks(10, 200_000)]), 1000, 0),
-    (Ask::Initial(b'3', 0, &[Want::Asks(10, 1)]), 1000, 0),
+    (Who::First, Ask::TopUp(1000), 1000, 1000),
     (
+        Who::First,
+        Ask::Initial(b'1', 0, &[Want::Asks(10, 100_000)]),
+        1000,
+        500,
+    ),
+    (Who::Second, Ask::TopUp(60), 60, 60),
+    (
+        Who::First,
+        Ask::Initial(b'2', 0, &[Want::Asks(10, 200_000)]),
+        1000,
+        0,
+    ),
+    (
+        Who::First,
+        Ask::Initial(b'3', 0, &[Want::Asks(10, 1)]),
+        1000,
+        0,
+    ),
+    (
+        Who::Second,
+        Ask::Initial(b'1', 0, &[Want::Asks(10, 7000)]),
+        60,
+        25,
+    ),
+    (
+        Who::First,
         Ask::Update(b'1', 1, &[Want::Both(10, 40_001, 100_000)]),
         795,
         0,
     ),
-    (Ask::Termination(b'1', 2, &[Want::Used(10, 1000)]), 790, 290),
-    (Ask::Termination(b'2', 1, &[]), 790, 790),
+    (
+        Who::First,
+        Ask::Termination(b'1', 2, &[Want::Used(10, 1000)]),
+        790,
+        290,
+    ),
+    (
+        Who::Second,
+        Ask::Termination(b'1', 1, &[Want::Used(10, 2001)]),
+        45,
+        45,
+    ),
+    (Who::First, Ask::Termination(b'2', 1, &[]), 790, 790),
 ];
 
 /// Two services in one request: 75 for the one leave 25 for the other, of which 24 are reserved; 700 seconds cost 24.
 pub(crate) const TWO_SERVICES: &[Line] = &[
-    (Ask::TopUp(100), 100, 100),
+    (Who::First, Ask::TopUp(100), 100, 100),
     (
+        Who::First,
         Ask::Initial(b'1', 0, &[Want::Asks(10, 15_000), Want::Asks(20, 900)]),
         100,
         1,
     ),
     (
+        Who::First,
         Ask::Update(b'1', 1, &[Want::Used(20, 700), Want::Asks(10, 10_000)]),
         76,
         26,
     ),
     (
+        Who::First,
         Ask::Termination(b'1', 2, &[Want::Used(10, 10_000), Want::Used(20, 0)]),
         26,
         26,

@@ -3,7 +3,7 @@ use Rattle.dcc_act.specs.declared.sub.Sub.{Sub}
 use Rattle.dcc_shard.specs.Routes.{shard_of}
 use Rattle.dcc_shard.specs.Shards.{held}
 use Rattle.dcc_shard.specs.Stored.{StoredView}
-use Rattle.dcc_running_tests.proofs.placed.are_shards.Given as goal
+use Rattle.dcc_callers.proofs.placed.are_shards.Given as goal
 
 abbrev pub invariant-loop-i : goal.invariant-loop-i
 invariant-loop-i g l = record {

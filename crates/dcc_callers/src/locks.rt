@@ -59,28 +59,35 @@ fn server<S: RandomSource + AllocGlobal>(rt: &S) -> Result<(Identity, RandomStat
     Ok((identity(rt.alloc())?, hasher))
 }
 
-/// The one shard of what these records hold.
-fn alone<S: RandomSource + AllocGlobal, R: Records + Drop>(
-    rt: &S,
-    records: R,
-) -> Result<Vec<Shard<R>>, Fail> {
-    let mut shards = Vec::with_capacity(rt.alloc(), 1)?;
-    shards.push_reserved(shard_over(rt, records)?);
+/// A list of this shard alone. The only error is want of memory.
+fn alone<R: Records + Drop>(alloc: Global, shard: Shard<R>) -> Result<Vec<Shard<R>>, Fail> {
+    let mut shards = Vec::with_capacity(alloc, 1)?;
+    shards.push_reserved(shard);
     Ok(shards)
 }
 
-/// That shard, under its lock.
-pub(crate) fn one<S: RandomSource + AllocGlobal, R: Records + Drop>(
+/// This shard alone, under its lock.
+pub fn locked_alone<S: RandomSource + AllocGlobal, R: Records + Drop>(
+    rt: &S,
+    shard: Shard<R>,
+) -> Result<Shards<R>, Fail>
+    ensures { IfOk result (λ locked. 0 < locked.count) }
+{
+    locked_for(rt, alone(rt.alloc(), shard))
+}
+
+/// The one shard over these records, under its lock.
+pub fn one<S: RandomSource + AllocGlobal, R: Records + Drop>(
     rt: &S,
     records: R,
 ) -> Result<Shards<R>, Fail>
     ensures { IfOk result (λ locked. 0 < locked.count) }
 {
-    locked_for(rt, alone(rt, records))
+    locked_alone(rt, shard_over(rt, records)?)
 }
 
-/// Two shards, each under its lock.
-pub(crate) fn two<S: RandomSource + AllocGlobal, R: Records + Drop>(
+/// Two shards over these records, each under its lock.
+pub fn two<S: RandomSource + AllocGlobal, R: Records + Drop>(
     rt: &S,
     first: R,
     second: R,

@@ -12,19 +12,23 @@ use std::sync::Wait;
 use std::test::Fail;
 
 /// So many debits each caller makes.
-pub(crate) const DEBITS: u32 = 20;
+pub const DEBITS: u32 = 90;
 
-/// Who calls for a subscriber, in a session of this name.
+/// A caller for a subscriber.
 #[derive(Drop)]
-pub(crate) struct Caller {
+pub struct Caller {
     pub sub: Sub,
+    /// The name of its session.
     pub name: &'static [u8],
     pub seat: Seat,
-    /// What its debits were answered, each in its turn.
+    /// The answers to its debits, in order.
     pub told: Vec<OctetString>,
 }
 
 impl Caller {
+    /// A caller for the end user of this E.164 number, with a seat of these shards.
+    ///
+    /// Errors: the number is none, or want of memory.
     pub fn new<R: Records>(
         alloc: Global,
         shards: &Shards<R>,
@@ -39,7 +43,7 @@ impl Caller {
         })
     }
 
-    /// Its seat, in place of which it has another.
+    /// Hands out its seat, and takes another. The only error is want of memory.
     pub fn stand_up<R: Records>(
         &mut self,
         alloc: Global,
@@ -48,7 +52,7 @@ impl Caller {
         Ok(replace(&mut self.seat, shards.seat(alloc)?))
     }
 
-    /// What a job is answered.
+    /// Submits a job of a debit or an opening. Other jobs get no answer.
     fn submit<W: Wait, R: Records>(
         &mut self,
         rt: &W,
@@ -62,7 +66,7 @@ impl Caller {
         shards.submit(rt, alloc, &mut self.seat, job)
     }
 
-    /// What a debit is answered, where its act is made or was there, and whether it is made.
+    /// Makes the debit of this number: its answer, and whether its act is fresh. None if it is busy, unknown or has no answer.
     pub fn debit<W: Wait, R: Records>(
         &mut self,
         rt: &W,
@@ -74,7 +78,7 @@ impl Caller {
         done(self.submit(rt, alloc, shards, job))
     }
 
-    /// The Result-Code that a refund is answered, where its act is made. A session's name has 15 octets.
+    /// Makes the refund of this number: the Result-Code of its answer. None as of [`Caller::debit`], or if the session's name has other than 15 octets.
     pub fn refund<W: Wait, R: Records>(
         &mut self,
         rt: &W,
@@ -87,7 +91,7 @@ impl Caller {
         octets.as_slice().get(52..56)?.try_into().ok()
     }
 
-    /// Whether a session is opened.
+    /// Opens its session: whether the act is fresh. None as of [`Caller::debit`].
     pub fn open<W: Wait, R: Records>(
         &mut self,
         rt: &W,
@@ -99,6 +103,7 @@ impl Caller {
         Some(fresh)
     }
 
+    /// Makes a top-up by a ticket, of an amount in minor units. None if there is no moment.
     pub fn top_up<W: Wait, R: Records>(
         &mut self,
         rt: &W,
@@ -111,6 +116,7 @@ impl Caller {
         Some(shards.top_up(rt, alloc, &mut self.seat, self.sub, moment, ticket, amount))
     }
 
+    /// Ends the due sessions, so many seconds after the debits. None if there is no moment.
     pub fn expire<W: Wait, R: Records>(
         &mut self,
         rt: &W,
@@ -122,7 +128,7 @@ impl Caller {
         Some(shards.expire(rt, alloc, &mut self.seat, self.sub, moment))
     }
 
-    /// Makes its debits, and keeps what they are answered.
+    /// Makes its debits, and keeps the answers to the fresh ones.
     pub fn debit_all<W: Wait, R: Records>(&mut self, rt: &W, alloc: Global, shards: &Shards<R>) {
         for number in 0..DEBITS {
             if let Some((octets, true)) = self.debit(rt, alloc, shards, number) {
@@ -131,15 +137,16 @@ impl Caller {
         }
     }
 
-    /// How many of its debits are answered as they were, and aren't made again.
-    pub fn repeat_all<W: Wait, R: Records>(
+    /// Repeats its first debits, so many: how many get their first answer, and no second act.
+    pub fn repeat<W: Wait, R: Records>(
         &mut self,
         rt: &W,
         alloc: Global,
         shards: &Shards<R>,
+        count: u32,
     ) -> u32 {
         let mut same = 0u32;
-        for number in 0..DEBITS {
+        for number in 0..count {
             if let Some((octets, false)) = self.debit(rt, alloc, shards, number) {
                 if is_told(&self.told, number, &octets) {
                     same = same.saturating_add(1);
@@ -150,7 +157,7 @@ impl Caller {
     }
 }
 
-/// The octets of an answer whose act is made or was there, and whether it is made.
+/// The octets of an answer to an act that the books have, and whether it is fresh.
 fn done(answer: RequestAnswer) -> Option<(OctetString, bool)> {
     match answer {
         RequestAnswer::Done {

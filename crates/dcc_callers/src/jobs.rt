@@ -12,12 +12,12 @@ use dcc_running::Job;
 use dcc_tariff::{Tariff, UnitKind};
 use std::alloc::Global;
 
-/// So many seconds after 2025-07-01T00:00:00Z.
-pub(crate) fn after(seconds: u32) -> Option<Moment> {
+/// The moment so many seconds after 2025-07-01T00:00:00Z. None past the last moment.
+pub fn after(seconds: u32) -> Option<Moment> {
     Moment::new(1_751_328_000 + u64::from(seconds))
 }
 
-/// 1,001 octets at 5 minor units per 1,000, which cost 10.
+/// 1,000 octets at 5 minor units per 1,000, which cost 5.
 fn service(alloc: Global) -> Service
     ensures { is_some result.asked ≡ true }
 {
@@ -25,7 +25,7 @@ fn service(alloc: Global) -> Service
         group: None,
         ids: ServiceIds::new(alloc),
         form: Form::Single,
-        asked: Some(1001),
+        asked: Some(1000),
         used: None,
         unit: Some(UnitKind::Octets),
         tariff: Some(Tariff {
@@ -59,8 +59,8 @@ fn job(alloc: Global, sub: Sub, act: Act, number: u32) -> Job {
     }
 }
 
-/// The act of an event in a session.
-pub(crate) fn event(alloc: Global, action: Action, name: &[u8], number: u32) -> Option<Act> {
+/// The act of a one-time event in a session of this name. None if there is no such name, or memory is short.
+pub fn event(alloc: Global, action: Action, name: &[u8], number: u32) -> Option<Act> {
     let moment = after(0)?;
     let key = key(alloc, name, number)?;
     let kind = Kind::Event(OneTimeEvent {
