@@ -3,8 +3,6 @@
 #![tactic(auto)]
 
 #[cfg(test)]
-mod at_once;
-#[cfg(test)]
 mod closing;
 #[cfg(test)]
 mod failing;

@@ -1,11 +1,16 @@
 //! Two gateways of one subscriber at once, each at its own seat, and their requests again.
 
 use dcc_act::Sub;
-use dcc_callers::{Caller, DEBITS, after, in_memory, one, shard_over};
-use dcc_records::{MemoryRecords, Records};
+use dcc_callers::{Caller, DEBITS, after, locked_alone};
+use dcc_disks::{FileShard, Server, left, opened, reopened};
+use dcc_records::Records;
 use dcc_running::{Books, Seat, Shards};
 use dcc_shard::{Shard, TopUpAnswer};
+use dcc_sqlrec::SqlRecords;
+use sqlite::{FileStore, Files};
+use sqlite_disk::Memory;
 use std::alloc::Global;
+use std::hash::RandomState;
 use std::process::Abort;
 use std::random::RandomSource;
 use std::sync::Wait;
@@ -143,28 +148,42 @@ fn repeat_both<W: Wait + Abort + AllocGlobal, R: Records>(
     assert_eq!(rt; second.repeat(rt, rt.alloc(), shards, DEBITS), DEBITS);
 }
 
-/// The shard over these records, behind the top-up, under its lock.
-fn begun<S: Abort + RandomSource + AllocGlobal>(rt: &S) -> Result<Shards<MemoryRecords>, Fail> {
-    let mut shard = shard_over(rt, in_memory(rt)?)?;
-    add_money(rt, &mut shard)?;
-    again(rt, shard)
+/// A shard over new files.
+fn new_shard(alloc: Global, server: &Server) -> Result<FileShard<Memory>, Fail> {
+    let files = Files {
+        log: Memory::new(alloc),
+        db: Memory::new(alloc),
+    };
+    opened(alloc, server, files, 1).map_err(|_| Fail::from("a new store"))
 }
 
-/// The shard that is opened over the records of a shard, under its lock.
-fn again<S: RandomSource + AllocGlobal, R: Records + Drop>(
+/// The shard over the files of a shard behind a power cut.
+fn again(
+    alloc: Global,
+    server: &Server,
+    shard: FileShard<Memory>,
+) -> Result<FileShard<Memory>, Fail> {
+    reopened(alloc, server, left(shard)).map_err(|_| Fail::from("the store"))
+}
+
+/// The shard under its lock that a store has behind the top-up.
+fn begun<S: Abort + RandomSource + AllocGlobal>(
     rt: &S,
-    shard: Shard<R>,
-) -> Result<Shards<R>, Fail> {
-    one(rt, shard.into_records())
+    server: &Server,
+) -> Result<Shards<SqlRecords<FileStore<Memory>>>, Fail> {
+    let mut shard = new_shard(rt.alloc(), server)?;
+    add_money(rt, &mut shard)?;
+    locked_alone(rt, again(rt.alloc(), server, shard)?)
 }
 
 #[test]
 fn two_gateways_at_once(rt: HostRuntime) -> Result<(), Fail> {
-    let shards = begun(&rt)?;
+    let server = Server::new(rt.alloc(), RandomState::new(&rt)?)?;
+    let shards = begun(&rt, &server)?;
     let (mut first, mut second) = gateways(rt.alloc(), &shards)?;
     debit_at_once(&rt, &shards, &mut first, &mut second);
     let shard = closed(&rt, shards, &mut first, &mut second, (180, 20))?;
-    let shards = again(&rt, shard)?;
+    let shards = locked_alone(&rt, again(rt.alloc(), &server, shard)?)?;
     repeat_both(&rt, &shards, &mut first, &mut second);
     let shard = closed(&rt, shards, &mut first, &mut second, (0, 180))?;
     drop(shard);
