@@ -54,6 +54,10 @@ pub(crate) fn command_help(alloc: Global, words: &[String]) -> Result<Option<Str
     if !is_help(alloc, words)? {
         return Ok(None);
     }
+    // The help of `dcc help` is the whole text, which `run` prints.
+    if name.as_str() == "help" {
+        return Ok(None);
+    }
     Ok(help_of(alloc, HELP, name.as_str())?)
 }
 
