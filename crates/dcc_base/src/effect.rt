@@ -1,6 +1,6 @@
 //! What an accepted request does to its peer.
 
-use crate::host::Host;
+use dcc_octets::Host;
 
 /// What an accepted request of the base protocol does to its peer.
 #[derive(Debug, Drop)]

@@ -12,13 +12,12 @@
 mod answer;
 mod capabilities;
 mod effect;
-mod host;
 mod laws;
 mod peer;
 mod reply;
 mod requests;
 
-pub use host::Host;
+pub use dcc_octets::Host;
 pub use laws::{numbers_are_given, told_apart};
 pub use peer::Peer;
 pub use reply::Reply;

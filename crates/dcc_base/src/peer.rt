@@ -9,13 +9,12 @@ ghost use Rattle.dcc_base.specs.Peers.{host_of_peer, is_closed as is_over, hears
 
 use crate::answer::{is_capabilities, write_accepted, write_refused};
 use crate::effect::Effect;
-use crate::host::Host;
 use crate::reply::Reply;
 use crate::requests::{judged, named};
 use dcc_answer::{Proxies, Session, session_id};
 use dcc_avp::{Avp, AvpFault};
 use dcc_message::{HEADER_LENGTH, Header, Identity, MAX_LENGTH, applications, commands};
-use dcc_octets::OctetString;
+use dcc_octets::{Host, OctetString};
 use dcc_request::{Refused, Stop, shown_within, unread};
 use std::alloc::{AllocError, Global};
 
@@ -37,6 +36,16 @@ impl Peer {
     {
         match self {
             Peer::Open(host) => Some(host.as_slice()),
+            Peer::Wait | Peer::Closed => None,
+        }
+    }
+
+    /// The same name as a [`Host`].
+    pub fn name(&self) -> Option<&Host>
+        ensures { option_map (λ host. host.now) result ≡ host_of_peer self.now }
+    {
+        match self {
+            Peer::Open(host) => Some(host),
             Peer::Wait | Peer::Closed => None,
         }
     }

@@ -6,10 +6,9 @@ ghost use Rattle.dcc_base.specs.Requests.{capabilities, watchdog, disconnect, na
 
 use crate::capabilities::host_of;
 use crate::effect::Effect;
-use crate::host::Host;
 use dcc_avp::{Avp, codes};
 use dcc_message::Header;
-use dcc_octets::OctetString;
+use dcc_octets::{Host, OctetString};
 use dcc_request::{Command, Refused, Stop, check, command_of, number_within, required};
 use std::alloc::Global;
 

@@ -1,10 +1,16 @@
 //! The name of a peer's host.
 
-ghost use Rattle.std.specs.Prelude.{◌≡◌, true, if◌then◌else◌, Some, None, IfOk};
+ghost use Rattle.std.specs.Prelude.{◌≡◌, true, if◌then◌else◌, Some, None, IfOk, nat_eq, ◌∷◌, []};
+ghost use Rattle.std.specs.Cmp.{on_equiv, on_per, partial_equiv_from_equiv};
+ghost use Rattle.std.specs.Cmp.Lexicographic.{pointwise, nat_list_eq_equiv};
+ghost use Rattle.std.specs.Cmp.Rules.{hashing};
+ghost use Rattle.std.proofs.Common.{rules};
 ghost use Rattle.dcc_octets.specs.Names.{is_short};
 
-use dcc_octets::{OctetString, is_short};
+use crate::names::is_short;
+use crate::octet_string::OctetString;
 use std::alloc::{AllocError, Global};
+use std::hash::{Hash, Hasher};
 use std::marker::Model;
 
 /// The name of a peer's host, as its Origin-Host has it (RFC 6733, section 6.3): 1 to 255 octets, of any value.
@@ -35,8 +41,8 @@ impl Host {
         Some(Host { octets })
     }
 
-    /// The host of a name that has 1 to 255 octets, where memory suffices.
-    pub(crate) fn of(alloc: Global, name: &[u8]) -> Result<Host, AllocError>
+    /// The host of a name that has 1 to 255 octets, where memory suffices; the only error is want of it.
+    pub fn of(alloc: Global, name: &[u8]) -> Result<Host, AllocError>
         requires { is_short name.now ≡ true }
         ensures { IfOk result (λ host. host ≡ name.now) }
     {
@@ -60,5 +66,30 @@ impl Host {
         Ok(Host {
             octets: self.octets.copy()?,
         })
+    }
+}
+
+impl PartialEq for Host {
+    ghost eq = { λ s t. pointwise nat_eq s t };
+
+    ghost laws = { on_per (λ s. s) (partial_equiv_from_equiv nat_list_eq_equiv) };
+
+    fn eq(&self, other: &Host) -> bool {
+        self.as_slice() == other.as_slice()
+    }
+}
+
+impl Eq for Host {
+    ghost laws = { on_equiv (λ s. s) nat_list_eq_equiv };
+}
+
+impl Hash for Host {
+    // At once: a hasher takes whole words of the octets, where it takes them one by one of a slice that is hashed as one.
+    ghost hash_input = { λ s. s ∷ [] };
+
+    ghost respects_eq = { Prim.search (hashing, rules) };
+
+    fn hash<H: Hasher>(&self, state: &mut H) {
+        state.write(self.as_slice());
     }
 }
