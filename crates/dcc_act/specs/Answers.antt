@@ -5,7 +5,7 @@ use Rattle.dcc_act.specs.declared.outcome.ServiceAnswer.{ServiceAnswer}
 use Rattle.dcc_act.specs.declared.service_key.ServiceKey.{ServiceKey}
 use Rattle.dcc_act.specs.ServiceKeys.{key_of}
 
--- at most 16 services, and 5,460 identifiers together
+-- at most 32 services, and 5,460 identifiers together
 pub record AreAnswers (answers : List ServiceAnswer) : Type 0 where
   pub few : length answers ≤ MAX_SERVICES
   pub few_ids : sum_by (λ answer. length answer.ids) answers ≤ MAX_IDS

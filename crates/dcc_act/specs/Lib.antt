@@ -1,6 +1,7 @@
 pub mod Answers
 pub mod Grants
 pub mod Journals
+pub mod Limits
 pub mod Numbers
 pub mod OneTimeEvents
 pub mod ServiceKeys

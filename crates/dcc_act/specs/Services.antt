@@ -45,7 +45,7 @@ is_multi Multi = true
 abbrev pub stand_right : List ServiceView → Bool
 stand_right services = nat_le (length services) 1 || list_all (λ service. is_multi service.form) services
 
--- at most 16 services, with at most 5,460 identifiers together, each of a key of its own; one in single form stands alone
+-- at most 32 services, with at most 5,460 identifiers together, each of a key of its own; one in single form stands alone
 abbrev pub are_services : List ServiceView → Bool
 are_services services =
     nat_le (length services) MAX_SERVICES && nat_le (sum_by (λ service. length service.ids) services) MAX_IDS &&

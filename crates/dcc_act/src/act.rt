@@ -4,8 +4,10 @@ ghost use Rattle.std.specs.Prelude.{◌≡◌, IfOk};
 
 use crate::moment::Moment;
 use crate::one_time_event::OneTimeEvent;
+use crate::session_limit::SessionLimit;
 use crate::session_request::SessionRequest;
 use crate::top_up::TopUp;
+use dcc_octets::Host;
 use std::alloc::AllocError;
 
 /// What happens to an account.
@@ -13,7 +15,14 @@ use std::alloc::AllocError;
 pub enum Kind {
     TopUp(TopUp),
     /// INITIAL_REQUEST (RFC 8506, section 8.3): opens a session.
-    Initial(SessionRequest),
+    Initial {
+        request: SessionRequest,
+        /// It is refused while so many sessions are open.
+        limit: SessionLimit,
+        /// The host of its peer, by the exchange of capabilities last before it (Origin-Host, RFC 6733, sections 5.3 and 6.3), where
+        /// it is known.
+        host: Option<Host>,
+    },
     /// UPDATE_REQUEST: reports what was used in an open session, and asks for more.
     Update(SessionRequest),
     /// TERMINATION_REQUEST: reports what was used, and ends the session.
@@ -30,7 +39,18 @@ impl Kind {
     {
         match self {
             Kind::TopUp(top_up) => Ok(Kind::TopUp(*top_up)),
-            Kind::Initial(request) => Ok(Kind::Initial(request.copy()?)),
+            Kind::Initial {
+                request,
+                limit,
+                host,
+            } => Ok(Kind::Initial {
+                request: request.copy()?,
+                limit: *limit,
+                host: match host {
+                    Some(host) => Some(host.copy()?),
+                    None => None,
+                },
+            }),
             Kind::Update(request) => Ok(Kind::Update(request.copy()?)),
             Kind::Termination(request) => Ok(Kind::Termination(request.copy()?)),
             Kind::Event(event) => Ok(Kind::Event(event.copy()?)),

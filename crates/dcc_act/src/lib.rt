@@ -23,6 +23,7 @@ mod service_ids;
 mod service_key;
 mod services;
 mod session_id;
+mod session_limit;
 mod session_request;
 mod sub;
 mod sub_order;
@@ -33,7 +34,9 @@ pub use entry::{Entry, EntryKind, EntryName};
 pub use grant::Grant;
 pub use journal::Journal;
 pub use laws::{numbers_are_given, same_subscribers_are_equal};
-pub use limits::{MAX_AMOUNT, MAX_IDS, MAX_SECONDS, MAX_SERVICES, MAX_SESSIONS};
+pub use limits::{
+    FEW_SERVICES, FEW_SESSIONS, MAX_AMOUNT, MAX_IDS, MAX_SECONDS, MAX_SERVICES, MAX_SESSIONS,
+};
 pub use looks::Looks;
 pub use moment::Moment;
 pub use one_time_event::{Action, OneTimeEvent};
@@ -45,6 +48,7 @@ pub use service_ids::ServiceIds;
 pub use service_key::ServiceKey;
 pub use services::Services;
 pub use session_id::SessionId;
+pub use session_limit::SessionLimit;
 pub use session_request::SessionRequest;
 pub use sub::Sub;
 pub use top_up::TopUp;

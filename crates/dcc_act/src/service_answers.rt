@@ -8,7 +8,7 @@ use crate::outcome::ServiceAnswer;
 use std::alloc::{AllocError, Global};
 use std::marker::Model;
 
-/// What the services of a request come to, in the order of the request: at most 16, with at most 5,460 identifiers
+/// What the services of a request come to, in the order of the request: at most 32, with at most 5,460 identifiers
 /// together.
 #[derive(Debug, Drop)]
 pub struct ServiceAnswers {

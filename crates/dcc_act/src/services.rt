@@ -11,7 +11,7 @@ use crate::service_key::ServiceKey;
 use std::alloc::{AllocError, Global};
 use std::marker::Model;
 
-/// The services of a request, in its order: at most 16, with at most 5,460 identifiers together, each of a key of its own;
+/// The services of a request, in its order: at most 32, with at most 5,460 identifiers together, each of a key of its own;
 /// one in single form stands alone.
 #[derive(Debug, Drop)]
 pub struct Services {
