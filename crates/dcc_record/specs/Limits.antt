@@ -1,5 +1,5 @@
 -- What holds of every act: the limits that its types keep.
-use Rattle.std.specs.Prelude.{◌≡◌, ◌<◌, ◌≤◌, ◌^◌, true, length, All, IfSome}
+use Rattle.std.specs.Prelude.{◌≡◌, ℕ, ◌<◌, ◌≤◌, ◌^◌, true, List, length, All, Option, IfSome}
 use Rattle.dcc_tariff.specs.Terms.{IsTariff}
 use Rattle.dcc_tariff.specs.declared.limits.TheConstants.{LAST_SECOND}
 use Rattle.dcc_octets.specs.Names.{is_short}
@@ -39,6 +39,16 @@ pub record WithinRequest (request : SessionRequest) : Type 0 where
   pub each : All WithinService request.services
   pub services : are_services request.services ≡ true
 
+-- a name of 1 to 255 octets
+pub record WithinHost (host : List ℕ) : Type 0 where
+  pub octets : All (λ octet. octet < 2 ^ 8) host
+  pub short : is_short host ≡ true
+
+-- an initial request, and its host if it is known
+pub record WithinOpening (request : SessionRequest) (host : Option (List ℕ)) : Type 0 where
+  pub opens : WithinRequest request
+  pub from : IfSome host WithinHost
+
 -- a service that asks for units
 pub record WithinEvent (event : OneTimeEventView) : Type 0 where
   pub key : WithinKey event.key
@@ -47,7 +57,7 @@ pub record WithinEvent (event : OneTimeEventView) : Type 0 where
 
 abbrev pub WithinKind : Kind → Type 0
 WithinKind (TopUp top_up) = WithinTopUp top_up
-WithinKind (Initial request) = WithinRequest request
+WithinKind (Initial request limit host) = WithinOpening request host
 WithinKind (Update request) = WithinRequest request
 WithinKind (Termination request) = WithinRequest request
 WithinKind (Event event) = WithinEvent event

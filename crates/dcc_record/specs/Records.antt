@@ -1,4 +1,4 @@
--- The record of an act, version 1: the octets that spell it, each number with its highest octet first.
+-- The record of an act, version 2: the octets that spell it, each number with its highest octet first.
 use Rattle.std.specs.Prelude.{ℕ, List, [], ◌∷◌, ◌++◌, length, Option, Some, None}
 use Rattle.std.specs.Int.{w16, w32, w64, to_be_bytes}
 use Rattle.std.specs.List.{flat_map}
@@ -13,7 +13,9 @@ use Rattle.dcc_act.specs.declared.one_time_event.Action.TheVariants as action
 use Rattle.dcc_act.specs.declared.request_key.RequestKey.{RequestKey}
 use Rattle.dcc_act.specs.declared.service.Form.{Form}
 use Rattle.dcc_act.specs.declared.service.Form.TheVariants as form
+use Rattle.dcc_act.specs.declared.session_limit.SessionLimit.{SessionLimit}
 use Rattle.dcc_act.specs.declared.session_request.SessionRequest.{SessionRequest}
+use Rattle.dcc_act.specs.Limits.{most_sessions}
 use Rattle.dcc_act.specs.OneTimeEvents.{OneTimeEventView}
 use Rattle.dcc_act.specs.Services.{ServiceView}
 use Rattle.dcc_act.specs.TopUps.{TopUpView}
@@ -82,6 +84,19 @@ services_octets services = length services ∷ flat_map service_octets services
 unfoldable pub request_octets : SessionRequest → List ℕ
 request_octets request = key_octets request.key ++ services_octets request.services
 
+-- how many sessions may be open: the number in two octets
+unfoldable pub limit_octets : SessionLimit → List ℕ
+limit_octets limit = to_be_bytes w16 (most_sessions limit)
+
+-- a host: the length of its name in one octet, and its octets; 0 where it is not known
+unfoldable pub host_octets : Option (List ℕ) → List ℕ
+host_octets None = 0 ∷ []
+host_octets (Some host) = length host ∷ host
+
+-- an initial request: its session and number, the limit by which it was judged, the host that it came from, and its services
+unfoldable pub opening_octets : SessionRequest → SessionLimit → (host : Option (List ℕ)) → List ℕ
+opening_octets request limit host = key_octets request.key ++ limit_octets limit ++ host_octets host ++ services_octets request.services
+
 -- a one-time event: its session and number, what it asks for, and its services, of which it has one
 unfoldable pub event_octets : OneTimeEventView → List ℕ
 event_octets event = key_octets event.key ++ action_octet event.action ∷ services_octets (event.service ∷ [])
@@ -89,7 +104,7 @@ event_octets event = key_octets event.key ++ action_octet event.action ∷ servi
 -- what stands for a kind, and what follows it
 abbrev pub kind_octet : Kind → ℕ
 kind_octet (kind.TopUp top_up) = 1
-kind_octet (kind.Initial request) = 2
+kind_octet (kind.Initial request limit host) = 2
 kind_octet (kind.Update request) = 3
 kind_octet (kind.Termination request) = 4
 kind_octet (kind.Event event) = 5
@@ -97,7 +112,7 @@ kind_octet kind.Expiry = 6
 
 abbrev pub kind_octets : Kind → List ℕ
 kind_octets (kind.TopUp top_up) = top_up_octets top_up
-kind_octets (kind.Initial request) = request_octets request
+kind_octets (kind.Initial request limit host) = opening_octets request limit host
 kind_octets (kind.Update request) = request_octets request
 kind_octets (kind.Termination request) = request_octets request
 kind_octets (kind.Event event) = event_octets event
@@ -105,4 +120,4 @@ kind_octets kind.Expiry = []
 
 -- a record: the version, what stands for the kind, the act's moment, and what follows for its kind
 unfoldable pub record_of : Act → List ℕ
-record_of act = 1 ∷ kind_octet act.kind ∷ u64_octets act.moment ++ kind_octets act.kind
+record_of act = 2 ∷ kind_octet act.kind ∷ u64_octets act.moment ++ kind_octets act.kind

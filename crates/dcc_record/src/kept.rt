@@ -2,9 +2,10 @@
 
 ghost use Rattle.std.specs.Prelude.{◌≡◌, ◌<◌, ◌^◌, All, IfSome};
 ghost use Rattle.dcc_tariff.specs.Terms.{IsTariff};
-ghost use Rattle.dcc_record.specs.Limits.{WithinTopUp, WithinKey, WithinService, WithinRequest, WithinEvent, WithinKind, IsAct};
+ghost use Rattle.dcc_record.specs.Limits.{WithinTopUp, WithinKey, WithinService, WithinRequest, WithinHost, WithinOpening, WithinEvent, WithinKind, IsAct};
 
 use dcc_act::{Act, Kind, OneTimeEvent, RequestKey, Service, SessionRequest, TopUp};
+use dcc_octets::Host;
 use dcc_tariff::Tariff;
 
 /// Every act is within its limits.
@@ -21,7 +22,7 @@ fn kind_keeps_limits(kind: &Kind)
 {
     match kind {
         Kind::TopUp(top_up) => top_up_keeps_limits(top_up),
-        Kind::Initial(request) => request_keeps_limits(request),
+        Kind::Initial { request, host, .. } => opening_keeps_limits(request, host),
         Kind::Update(request) => request_keeps_limits(request),
         Kind::Termination(request) => request_keeps_limits(request),
         Kind::Event(event) => event_keeps_limits(event),
@@ -43,6 +44,23 @@ fn request_keeps_limits(request: &SessionRequest)
 {
     key_keeps_limits(&request.key);
     each_keeps_limits(request.services.as_slice());
+}
+
+/// An initial request is within its limits.
+fn opening_keeps_limits(request: &SessionRequest, host: &Option<Host>)
+    ensures { WithinOpening request.now host.now }
+{
+    request_keeps_limits(request);
+    host_keeps_limits(host);
+}
+
+/// A host, if it is known, is within its limits.
+fn host_keeps_limits(host: &Option<Host>)
+    ensures { IfSome host.now WithinHost }
+{
+    if let Some(host) = host {
+        octets_fit(host.as_slice());
+    }
 }
 
 /// A one-time event is within its limits.

@@ -1,8 +1,9 @@
-//! The laws of records. The function does nothing: it has its laws as its contract.
+//! The laws of records. Each function does nothing: it has its laws as its contract.
 
 ghost use Rattle.std.specs.Prelude.{◌≡◌, ℕ, List, ◌++◌};
 ghost use Rattle.dcc_act.specs.declared.act.Act.{Act};
 ghost use Rattle.dcc_record.specs.Limits.{IsAct};
+ghost use Rattle.dcc_record.specs.OldRecords.{old_record_of, IsOldAct};
 ghost use Rattle.dcc_record.specs.Records.{record_of};
 
 /// Two acts within their limits never have one record, and none begins another: what stands behind a record is told apart
@@ -10,4 +11,10 @@ ghost use Rattle.dcc_record.specs.Records.{record_of};
 pub fn records_differ()
     ensures one { (a b : Act) → IsAct a → IsAct b → record_of a ≡ record_of b → a ≡ b }
     ensures followed { (a b : Act) (x y : List ℕ) → IsAct a → IsAct b → record_of a ++ x ≡ record_of b ++ y → (a ≡ b) × (x ≡ y) }
+{}
+
+/// The same of records of version 1, and of the acts that have one.
+pub fn old_records_differ()
+    ensures one { (a b : Act) → IsOldAct a → IsOldAct b → old_record_of a ≡ old_record_of b → a ≡ b }
+    ensures followed { (a b : Act) (x y : List ℕ) → IsOldAct a → IsOldAct b → old_record_of a ++ x ≡ old_record_of b ++ y → (a ≡ b) × (x ≡ y) }
 {}

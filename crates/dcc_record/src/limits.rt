@@ -1,12 +1,23 @@
-//! The limits of tariffs and of a service's amounts, tested.
+//! The limits of sessions, of tariffs and of a service's amounts, tested.
 
 ghost use Rattle.std.specs.Prelude.{◌≡◌, true, Option, is_some};
 ghost use Rattle.dcc_tariff.specs.Terms.{TariffView};
 ghost use Rattle.dcc_act.specs.Services.{IsService};
-ghost use Rattle.dcc_record.specs.inner.Reading.{is_tariff, tariff_from, is_nothing, is_used, most_asked, is_asked, is_service, service_from};
+ghost use Rattle.dcc_record.specs.inner.Reading.{limit_from, is_tariff, tariff_from, is_nothing, is_used, most_asked, is_asked, is_service, service_from};
 
-use dcc_act::{Form, MAX_SECONDS, Service, ServiceIds};
+use dcc_act::{FEW_SESSIONS, Form, MAX_SECONDS, MAX_SESSIONS, Service, ServiceIds, SessionLimit};
 use dcc_tariff::{MAX_BLOCK_PRICE, MAX_UNITS, Tariff, UnitKind};
+
+/// The limit of so many sessions, if there is one.
+pub(crate) fn limit_from(sessions: u16) -> Option<SessionLimit>
+    ensures { result ≡ limit_from sessions }
+{
+    match sessions as usize {
+        FEW_SESSIONS => Some(SessionLimit::Few),
+        MAX_SESSIONS => Some(SessionLimit::Many),
+        _ => None,
+    }
+}
 
 /// The tariff of a price and a block, if they are within their limits.
 pub(crate) fn tariff_from(price: u32, block: u64) -> Option<Tariff>

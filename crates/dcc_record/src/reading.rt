@@ -1,23 +1,24 @@
 //! Reading a record: one function for each part, in the order of the parts.
 
-ghost use Rattle.std.specs.Prelude.{◌≡◌, ◌≢◌, IfOk, IfErr};
+ghost use Rattle.std.specs.Prelude.{◌≡◌, ◌≢◌, ◌<◌, ◌^◌, length, IfOk, IfErr};
 ghost use Rattle.std.specs.Int.{w32};
 ghost use Rattle.dcc_record.specs.Limits.{IsAct};
 ghost use Rattle.dcc_record.specs.Records.{record_of};
 ghost use Rattle.dcc_record.specs.inner.Readers.{Gives, number_in, many_in, optional_in};
-ghost use Rattle.dcc_record.specs.inner.Reading.{top_up_in, string_in, session_in, key_in, form_in, unit_in, action_in, ids_in, tariff_in, is_service, service_in, services_in, request_in, event_in, kind_in, first_act_in, act_in};
+ghost use Rattle.dcc_record.specs.inner.Reading.{top_up_in, string_in, session_in, key_in, form_in, unit_in, action_in, ids_in, tariff_in, is_service, service_in, services_in, request_in, limit_in, host_in, opening_in, event_in, kind_in, head_in, first_act_in, act_in};
 
 use crate::fault::RecordFault;
 use crate::fields::{
     behind_fixed, first_octet, first_octets, first_u16, first_u32, first_u64, optional_u32,
     optional_u64,
 };
-use crate::limits::{service_from, tariff_from};
+use crate::limits::{limit_from, service_from, tariff_from};
 use crate::writing::VERSION;
 use dcc_act::{
     Act, Action, Form, Kind, Moment, OneTimeEvent, RequestKey, Service, ServiceIds, Services,
-    SessionId, SessionRequest, TopUp,
+    SessionId, SessionLimit, SessionRequest, TopUp,
 };
+use dcc_octets::Host;
 use dcc_tariff::{Tariff, UnitKind};
 use std::alloc::Global;
 
@@ -33,7 +34,6 @@ pub fn read_act(alloc: Global, octets: &[u8]) -> Result<Act, RecordFault>
 }
 
 /// The act of all the octets.
-#[tactic(auto, unfolding(crate::specs::inner::Reading::act_in))]
 fn act_of(alloc: Global, octets: &[u8]) -> Result<Act, RecordFault>
     ensures { Gives (λ act. act) result (act_in octets.now) }
 {
@@ -45,23 +45,40 @@ fn act_of(alloc: Global, octets: &[u8]) -> Result<Act, RecordFault>
 }
 
 /// The act in front.
-#[tactic(auto, unfolding(crate::specs::inner::Reading::first_act_in, crate::specs::inner::Reading::moment_in))]
+#[tactic(auto, unfolding(crate::specs::inner::Reading::first_act_in, crate::specs::inner::Reading::act_by))]
 fn first_act(alloc: Global, octets: &[u8]) -> Result<(Act, &[u8]), RecordFault>
     ensures { Gives (λ x. (x.0, x.1.now)) result (first_act_in octets.now) }
 {
-    let rest = behind_fixed(VERSION, octets)?;
+    match first_head(VERSION, octets) {
+        Ok((octet, moment, rest)) => {
+            let (kind, rest) = first_kind(alloc, octet, rest)?;
+            Ok((Act { moment, kind }, rest))
+        }
+        Err(fault) => Err(fault),
+    }
+}
+
+/// What stands for the kind, and the moment, behind the version in front.
+#[tactic(auto, unfolding(crate::specs::inner::Reading::head_in, crate::specs::inner::Reading::moment_in))]
+pub(crate) fn first_head(version: u8, octets: &[u8]) -> Result<(u8, Moment, &[u8]), RecordFault>
+    ensures { Gives (λ x. ((x.0, x.1), x.2.now)) result (head_in version octets.now) }
+{
+    let rest = behind_fixed(version, octets)?;
     let (octet, rest) = first_octet(rest)?;
     let (seconds, rest) = first_u64(rest)?;
-    let Some(moment) = Moment::new(seconds) else {
-        return Err(RecordFault::BadRecord);
-    };
-    let (kind, rest) = first_kind(alloc, octet, rest)?;
-    Ok((Act { moment, kind }, rest))
+    match Moment::new(seconds) {
+        Some(moment) => Ok((octet, moment, rest)),
+        None => Err(RecordFault::BadRecord),
+    }
 }
 
 /// What follows for a kind.
 #[tactic(auto, unfolding(crate::specs::inner::Reading::kind_in))]
-fn first_kind(alloc: Global, octet: u8, octets: &[u8]) -> Result<(Kind, &[u8]), RecordFault>
+pub(crate) fn first_kind(
+    alloc: Global,
+    octet: u8,
+    octets: &[u8],
+) -> Result<(Kind, &[u8]), RecordFault>
     ensures { Gives (λ x. (x.0, x.1.now)) result (kind_in octet octets.now) }
 {
     match octet {
@@ -69,10 +86,7 @@ fn first_kind(alloc: Global, octet: u8, octets: &[u8]) -> Result<(Kind, &[u8]), 
             Ok((top_up, rest)) => Ok((Kind::TopUp(top_up), rest)),
             Err(fault) => Err(fault),
         },
-        2 => {
-            let (request, rest) = first_request(alloc, octets)?;
-            Ok((Kind::Initial(request), rest))
-        }
+        2 => first_opening(alloc, octets),
         3 => {
             let (request, rest) = first_request(alloc, octets)?;
             Ok((Kind::Update(request), rest))
@@ -105,12 +119,56 @@ fn first_top_up(octets: &[u8]) -> Result<(TopUp, &[u8]), RecordFault>
 
 /// The request of a session in front.
 #[tactic(auto, unfolding(crate::specs::inner::Reading::request_in))]
-fn first_request(alloc: Global, octets: &[u8]) -> Result<(SessionRequest, &[u8]), RecordFault>
+pub(crate) fn first_request(
+    alloc: Global,
+    octets: &[u8],
+) -> Result<(SessionRequest, &[u8]), RecordFault>
     ensures { Gives (λ x. (x.0, x.1.now)) result (request_in octets.now) }
 {
     let (key, rest) = first_key(alloc, octets)?;
     let (services, rest) = first_services(alloc, rest)?;
     Ok((SessionRequest { key, services }, rest))
+}
+
+/// The initial request in front.
+#[tactic(auto, unfolding(crate::specs::inner::Reading::opening_in))]
+fn first_opening(alloc: Global, octets: &[u8]) -> Result<(Kind, &[u8]), RecordFault>
+    ensures { Gives (λ x. (x.0, x.1.now)) result (opening_in octets.now) }
+{
+    let (key, rest) = first_key(alloc, octets)?;
+    let (limit, rest) = first_limit(rest)?;
+    let (host, rest) = first_host(alloc, rest)?;
+    let (services, rest) = first_services(alloc, rest)?;
+    let opening = Kind::Initial {
+        request: SessionRequest { key, services },
+        limit,
+        host,
+    };
+    Ok((opening, rest))
+}
+
+/// How many sessions may be open, in front.
+#[tactic(auto, unfolding(crate::specs::inner::Reading::limit_in))]
+fn first_limit(octets: &[u8]) -> Result<(SessionLimit, &[u8]), RecordFault>
+    ensures { Gives (λ x. (x.0, x.1.now)) result (limit_in octets.now) }
+{
+    let (sessions, rest) = first_u16(octets)?;
+    match limit_from(sessions) {
+        Some(limit) => Ok((limit, rest)),
+        None => Err(RecordFault::BadRecord),
+    }
+}
+
+/// The host behind the length of its name in front, or none.
+#[tactic(auto, unfolding(crate::specs::inner::Reading::host_in))]
+fn first_host(alloc: Global, octets: &[u8]) -> Result<(Option<Host>, &[u8]), RecordFault>
+    ensures { Gives (λ x. (x.0, x.1.now)) result (host_in octets.now) }
+{
+    let (name, rest) = first_string(octets)?;
+    match name {
+        [] => Ok((None, rest)),
+        _ => Ok((Some(Host::of(alloc, name)?), rest)),
+    }
 }
 
 /// The one-time event in front, which has one service.
@@ -158,7 +216,8 @@ fn first_session(alloc: Global, octets: &[u8]) -> Result<(SessionId, &[u8]), Rec
 /// The octets behind their count in front.
 #[tactic(auto, unfolding(crate::specs::inner::Reading::string_in))]
 fn first_string(octets: &[u8]) -> Result<(&[u8], &[u8]), RecordFault>
-    ensures { Gives (λ x. (x.0.now, x.1.now)) result (string_in octets.now) }
+    ensures value { Gives (λ x. (x.0.now, x.1.now)) result (string_in octets.now) }
+    ensures short { IfOk result (λ x. length x.0.now < 2 ^ 8) }
 {
     let (count, rest) = first_octet(octets)?;
     first_octets(rest, count as usize)

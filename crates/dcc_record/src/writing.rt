@@ -1,18 +1,19 @@
 //! Writing a record.
 
 ghost use Rattle.std.specs.Prelude.{◌≡◌, ◌++◌, ◌∷◌, [], ◌≤◌, ◌<◌, ◌^◌, length, OnOk, IfOk};
-ghost use Rattle.dcc_act.specs.declared.limits.TheConstants.{MAX_IDS};
-ghost use Rattle.dcc_record.specs.Records.{u32_octets, u64_octets, optional, session_octets, key_octets, ids_octets, tariff_octets, service_octets, services_octets, request_octets, event_octets, top_up_octets, form_octet, unit_octet, action_octet, kind_octet, kind_octets, record_of};
+ghost use Rattle.dcc_act.specs.declared.limits.TheConstants.{MAX_IDS, MAX_SERVICES};
+ghost use Rattle.dcc_record.specs.Records.{u32_octets, u64_octets, optional, session_octets, key_octets, ids_octets, tariff_octets, service_octets, services_octets, request_octets, limit_octets, host_octets, opening_octets, event_octets, top_up_octets, form_octet, unit_octet, action_octet, kind_octet, kind_octets, record_of};
 
 use dcc_act::{
     Act, Action, Form, Kind, OneTimeEvent, RequestKey, Service, ServiceIds, Services, SessionId,
-    SessionRequest, TopUp,
+    SessionLimit, SessionRequest, TopUp,
 };
+use dcc_octets::Host;
 use dcc_tariff::{Tariff, UnitKind};
 use std::alloc::{AllocError, Global};
 
 /// The version of a record's format.
-pub(crate) const VERSION: u8 = 1;
+pub(crate) const VERSION: u8 = 2;
 
 /// The record of an act, where memory suffices.
 #[tactic(auto, unfolding(crate::specs::Records::record_of))]
@@ -20,11 +21,18 @@ pub fn write_act(alloc: Global, act: &Act) -> Result<Vec<u8>, AllocError>
     ensures { IfOk result (λ octets. octets.items ≡ record_of act.now) }
 {
     let mut out = Vec::new(alloc);
-    out.push(VERSION)?;
-    out.push(kind_octet(&act.kind))?;
-    put_u64(&mut out, act.moment.seconds())?;
+    put_head(&mut out, VERSION, act)?;
     put_kind(&mut out, &act.kind)?;
     Ok(out)
+}
+
+/// Appends a version, what stands for the act's kind, and its moment.
+pub(crate) fn put_head(out: &mut Vec<u8>, version: u8, act: &Act) -> Result<(), AllocError>
+    ensures { OnOk result (out.new.items ≡ out.old.items ++ version ∷ kind_octet act.now.kind ∷ u64_octets act.now.moment) }
+{
+    out.push(version)?;
+    out.push(kind_octet(&act.kind))?;
+    put_u64(out, act.moment.seconds())
 }
 
 /// What stands for a kind.
@@ -33,7 +41,7 @@ fn kind_octet(kind: &Kind) -> u8
 {
     match kind {
         Kind::TopUp(_) => 1,
-        Kind::Initial(_) => 2,
+        Kind::Initial { .. } => 2,
         Kind::Update(_) => 3,
         Kind::Termination(_) => 4,
         Kind::Event(_) => 5,
@@ -42,12 +50,16 @@ fn kind_octet(kind: &Kind) -> u8
 }
 
 /// Appends what follows for a kind.
-fn put_kind(out: &mut Vec<u8>, kind: &Kind) -> Result<(), AllocError>
+pub(crate) fn put_kind(out: &mut Vec<u8>, kind: &Kind) -> Result<(), AllocError>
     ensures { OnOk result (out.new.items ≡ out.old.items ++ kind_octets kind.now) }
 {
     match kind {
         Kind::TopUp(top_up) => put_top_up(out, *top_up),
-        Kind::Initial(request) => put_request(out, request),
+        Kind::Initial {
+            request,
+            limit,
+            host,
+        } => put_opening(out, request, *limit, host),
         Kind::Update(request) => put_request(out, request),
         Kind::Termination(request) => put_request(out, request),
         Kind::Event(event) => put_event(out, event),
@@ -66,11 +78,50 @@ fn put_top_up(out: &mut Vec<u8>, top_up: TopUp) -> Result<(), AllocError>
 
 /// Appends a request of a session.
 #[tactic(auto, unfolding(crate::specs::Records::request_octets))]
-fn put_request(out: &mut Vec<u8>, request: &SessionRequest) -> Result<(), AllocError>
+pub(crate) fn put_request(out: &mut Vec<u8>, request: &SessionRequest) -> Result<(), AllocError>
     ensures { OnOk result (out.new.items ≡ out.old.items ++ request_octets request.now) }
 {
     put_key(out, &request.key)?;
     put_services(out, request.services.as_slice())
+}
+
+/// Appends an initial request.
+#[tactic(auto, unfolding(crate::specs::Records::opening_octets))]
+fn put_opening(
+    out: &mut Vec<u8>,
+    request: &SessionRequest,
+    limit: SessionLimit,
+    host: &Option<Host>,
+) -> Result<(), AllocError>
+    ensures { OnOk result (out.new.items ≡ out.old.items ++ opening_octets request.now limit host.now) }
+{
+    put_key(out, &request.key)?;
+    put_limit(out, limit)?;
+    put_host(out, host)?;
+    put_services(out, request.services.as_slice())
+}
+
+/// Appends how many sessions may be open.
+#[tactic(auto, unfolding(crate::specs::Records::limit_octets))]
+fn put_limit(out: &mut Vec<u8>, limit: SessionLimit) -> Result<(), AllocError>
+    ensures { OnOk result (out.new.items ≡ out.old.items ++ limit_octets limit) }
+{
+    out.extend_from_slice(&(limit.sessions() as u16).to_be_bytes())
+}
+
+/// Appends the name of a host behind its length, or 0 if there is none.
+#[tactic(auto, unfolding(crate::specs::Records::host_octets))]
+fn put_host(out: &mut Vec<u8>, host: &Option<Host>) -> Result<(), AllocError>
+    ensures { OnOk result (out.new.items ≡ out.old.items ++ host_octets host.now) }
+{
+    match host {
+        None => Ok(out.push(0)?),
+        Some(host) => {
+            let name = host.as_slice();
+            out.push(name.len() as u8)?;
+            out.extend_from_slice(name)
+        }
+    }
 }
 
 /// Appends a one-time event, which has one service.
@@ -106,7 +157,7 @@ fn put_session(out: &mut Vec<u8>, sid: &SessionId) -> Result<(), AllocError>
 /// Appends services behind their count.
 #[tactic(auto, unfolding(crate::specs::Records::services_octets))]
 fn put_services(out: &mut Vec<u8>, services: &[Service]) -> Result<(), AllocError>
-    requires { length services.now ≤ 16 }
+    requires { length services.now ≤ MAX_SERVICES }
     ensures { OnOk result (out.new.items ≡ out.old.items ++ services_octets services.now) }
 {
     out.push(services.len() as u8)?;

@@ -74,3 +74,9 @@ abbrev pub counted_in : {A : Type 0} → Reader ℕ → Reader A → Reader (Lis
 counted_in count part octets = do
   n ← count octets
   many_in part n.0 n.1
+
+-- what all of the octets are read as
+abbrev pub whole : {A : Type 0} → Reader A → List ℕ → Option A
+whole part octets = do
+  found ← part octets
+  if length found.1 == 0 then Some found.0 else None

@@ -1,5 +1,5 @@
 -- Reading a record, part for part.
-use Rattle.std.specs.Prelude.{ℕ, Bool, true, ◌&&◌, ◌==◌, nat_le, if◌then◌else◌, List, length, Option, Some, None, is_some, not}
+use Rattle.std.specs.Prelude.{ℕ, Bool, true, ◌&&◌, ◌==◌, nat_le, if◌then◌else◌, List, [], ◌∷◌, length, Option, Some, None, is_some, not}
 use Rattle.std.specs.Int.{w16, w32, w64}
 use Rattle.dcc_tariff.specs.Terms.{TariffView}
 use Rattle.dcc_tariff.specs.declared.limits.TheConstants.{LAST_SECOND, MAX_UNITS, MAX_BLOCK_PRICE}
@@ -9,17 +9,19 @@ use Rattle.dcc_octets.specs.Names.{is_short}
 use Rattle.dcc_act.specs.declared.act.Act.{Act}
 use Rattle.dcc_act.specs.declared.act.Kind.{Kind}
 use Rattle.dcc_act.specs.declared.act.Kind.TheVariants as kind
-use Rattle.dcc_act.specs.declared.limits.TheConstants.{MAX_IDS, MAX_SECONDS}
+use Rattle.dcc_act.specs.declared.limits.TheConstants.{FEW_SESSIONS, MAX_SESSIONS, MAX_IDS, MAX_SECONDS}
 use Rattle.dcc_act.specs.declared.one_time_event.Action.{Action}
 use Rattle.dcc_act.specs.declared.one_time_event.Action.TheVariants as action
 use Rattle.dcc_act.specs.declared.request_key.RequestKey.{RequestKey}
 use Rattle.dcc_act.specs.declared.service.Form.{Form}
 use Rattle.dcc_act.specs.declared.service.Form.TheVariants as form
+use Rattle.dcc_act.specs.declared.session_limit.SessionLimit.{SessionLimit}
+use Rattle.dcc_act.specs.declared.session_limit.SessionLimit.TheVariants.{Few, Many}
 use Rattle.dcc_act.specs.declared.session_request.SessionRequest.{SessionRequest}
 use Rattle.dcc_act.specs.OneTimeEvents.{OneTimeEventView}
 use Rattle.dcc_act.specs.Services.{ServiceView, are_services}
 use Rattle.dcc_act.specs.TopUps.{TopUpView, is_amount}
-use Rattle.dcc_record.specs.inner.Readers.{◌>>=◌, Reader, octet_in, front_in, number_in, both, checked, fixed_in, optional_in, counted_in}
+use Rattle.dcc_record.specs.inner.Readers.{◌>>=◌, Reader, octet_in, front_in, number_in, both, checked, fixed_in, optional_in, counted_in, whole}
 
 -- ---- top-ups
 
@@ -140,6 +142,34 @@ services_in = checked (λ services. if are_services services then Some services 
 unfoldable pub request_in : Reader SessionRequest
 request_in = checked (λ parts. Some (record { key = parts.0; services = parts.1 })) (both key_in services_in)
 
+-- the limit of so many sessions
+abbrev pub limit_from : ℕ → Option SessionLimit
+limit_from sessions = if sessions == FEW_SESSIONS then Some Few else (if sessions == MAX_SESSIONS then Some Many else None)
+
+unfoldable pub limit_in : Reader SessionLimit
+limit_in = checked limit_from (number_in w16)
+
+-- a host that is not known has a name of no octets
+abbrev pub host_from : List ℕ → Option (List ℕ)
+host_from [] = None
+host_from (octet ∷ octets) = Some (octet ∷ octets)
+
+unfoldable pub host_in : Reader (Option (List ℕ))
+host_in = checked (λ name. Some (host_from name)) string_in
+
+-- the parts of an initial request, in their order
+abbrev pub OpeningParts : Type 0
+OpeningParts = ((RequestKey × SessionLimit) × Option (List ℕ)) × List ServiceView
+
+abbrev pub opening_from : OpeningParts → Kind
+opening_from parts = kind.Initial (record { key = parts.0.0.0; services = parts.1 }) parts.0.0.1 parts.0.1
+
+abbrev pub opening_parts_in : Reader OpeningParts
+opening_parts_in = both (both (both key_in limit_in) host_in) services_in
+
+unfoldable pub opening_in : Reader Kind
+opening_in = checked (λ parts. Some (opening_from parts)) opening_parts_in
+
 abbrev pub event_from : ((RequestKey × Action) × ℕ) × ServiceView → Option OneTimeEventView
 event_from parts =
     if is_some parts.1.asked then Some (record { key = parts.0.0.0; action = parts.0.0.1; service = parts.1 }) else None
@@ -153,7 +183,7 @@ event_in = checked event_from (both (both (both key_in action_in) (fixed_in 1)) 
 unfoldable pub kind_in : ℕ → Reader Kind
 kind_in octet octets =
     if octet == 1 then checked (λ top_up. Some (kind.TopUp top_up)) top_up_in octets else
-    (if octet == 2 then checked (λ request. Some (kind.Initial request)) request_in octets else
+    (if octet == 2 then opening_in octets else
     (if octet == 3 then checked (λ request. Some (kind.Update request)) request_in octets else
     (if octet == 4 then checked (λ request. Some (kind.Termination request)) request_in octets else
     (if octet == 5 then checked (λ event. Some (kind.Event event)) event_in octets else
@@ -162,17 +192,24 @@ kind_in octet octets =
 unfoldable pub moment_in : Reader ℕ
 moment_in = checked (λ seconds. if nat_le seconds LAST_SECOND then Some seconds else None) (number_in w64)
 
--- the act in front
-unfoldable pub first_act_in : Reader Act
-first_act_in octets = do
-  version ← fixed_in 1 octets
-  octet ← octet_in version.1
+-- what is in front of each record: its version, what stands for the kind, and the moment
+unfoldable pub head_in : (version : ℕ) → Reader (ℕ × ℕ)
+head_in version octets = do
+  front ← fixed_in version octets
+  octet ← octet_in front.1
   moment ← moment_in octet.1
-  what ← kind_in octet.0 moment.1
-  Some (record { moment = moment.0; kind = what.0 }, what.1)
+  Some ((octet.0, moment.0), moment.1)
 
--- the act of all the octets
-unfoldable pub act_in : List ℕ → Option Act
-act_in octets = do
-  found ← first_act_in octets
-  if length found.1 == 0 then Some found.0 else None
+-- the act in front, of a version whose kinds are read so
+unfoldable pub act_by : (version : ℕ) → (kinds : ℕ → Reader Kind) → Reader Act
+act_by version kinds octets = do
+  head ← head_in version octets
+  what ← kinds head.0.0 head.1
+  Some (record { moment = head.0.1; kind = what.0 }, what.1)
+
+-- the act in front, and the act of all the octets
+unfoldable pub first_act_in : Reader Act
+first_act_in = act_by 2 kind_in
+
+abbrev pub act_in : List ℕ → Option Act
+act_in = whole first_act_in
