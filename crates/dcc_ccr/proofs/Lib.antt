@@ -4,3 +4,4 @@ pub mod Forms
 pub mod Bounds
 pub mod Sizes
 pub mod Shown
+pub mod Named

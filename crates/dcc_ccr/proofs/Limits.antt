@@ -11,10 +11,10 @@ use Rattle.dcc_request.specs.declared.checks.Check.TheVariants.{Unknown, TooMany
 use Rattle.dcc_request.specs.declared.command.Command.TheVariants.{CreditControl}
 use Rattle.dcc_request.specs.declared.table.Times.{Times}
 use Rattle.dcc_request.specs.declared.table.Times.TheVariants.{AtMost}
-use Rattle.dcc_request.specs.declared.table.TheConstants.{MAX_SERVICES, EVENT, SESSION}
+use Rattle.dcc_request.specs.declared.table.TheConstants.{MAX_SERVICES, EVENT, SESSION, REPORT}
 use Rattle.dcc_request.specs.Refusals.{Refusal, refusal, or_else, first_some, ◌>>=◌, each, clear}
 use Rattle.dcc_request.specs.Tables.{Table, most_times}
-use Rattle.dcc_request.specs.Commands.{is_event, table_for}
+use Rattle.dcc_request.specs.Commands.{is_event, is_report, table_for}
 use Rattle.dcc_request.specs.Walk.{GroupView, groups_of}
 use Rattle.dcc_request.specs.Checks.{is_over, beyond, row_beyond, too_many_in, fault_in, fault_in_group, fault_anywhere, first_fault, checked}
 use Rattle.dcc_ccr.specs.declared.request_type.RequestType.{RequestType}
@@ -33,7 +33,7 @@ each_step x xs (Ok y) (Ok others) ys ih e =
 each_step x xs (Ok y) (Err refusal) ys ih e = absurd cc
 each_step x xs (Err refusal) rest ys ih e = absurd cc
 
-each_length : {A B : Type 0} (f : A → Result B Refusal) (xs : List A) (ys : List B) → each f xs ≡ Ok ys → length ys ≡ length xs
+pub each_length : {A B : Type 0} (f : A → Result B Refusal) (xs : List A) (ys : List B) → each f xs ≡ Ok ys → length ys ≡ length xs
 each_length f [] ys e =
     let s : [] ≡ ys = cc in
     sym (ap length s)
@@ -117,7 +117,7 @@ too_many_step : (o : Option Refusal) (groups given : List GroupView) → (clear 
 too_many_step None groups given e = refl
 too_many_step (Some refusal) groups given e = absurd cc
 
-checked_step : (read : Result (List GroupView) Refusal) (fault : List GroupView → Option Refusal) (given : List GroupView)
+pub checked_step : (read : Result (List GroupView) Refusal) (fault : List GroupView → Option Refusal) (given : List GroupView)
     → (read >>= λ groups. clear (fault groups) >>= λ complete. Ok groups) ≡ Ok given → (groups : List GroupView) × (fault groups ≡ None)
 checked_step (Ok groups) fault given e = (groups, too_many_step (fault groups) groups given e)
 checked_step (Err refusal) fault given e = absurd cc
@@ -126,7 +126,7 @@ pub first_none : {X : Type 0} (a b : Option X) → or_else a b ≡ None → a �
 first_none None b e = refl
 first_none (Some x) b e = absurd cc
 
-map_none : {X Y : Type 0} (f : X → Y) (o : Option X) → option_map f o ≡ None → o ≡ None
+pub map_none : {X Y : Type 0} (f : X → Y) (o : Option X) → option_map f o ≡ None → o ≡ None
 map_none f None e = refl
 map_none f (Some x) e = absurd cc
 
@@ -154,10 +154,12 @@ last_row avps (other ∷ front) row e = last_row avps front row (none_step avps 
 abbrev services_row : ℕ × Times
 services_row = (MULTIPLE_SERVICES_CREDIT_CONTROL, AtMost MAX_SERVICES)
 
-in_table : (avps : List AvpView) (event : Bool) → too_many_in (if event then EVENT else SESSION) avps ≡ None → is_over avps services_row ≡ false
-in_table avps true e = last_row avps (take 12 EVENT) services_row
+in_table : (avps : List AvpView) (event report : Bool) → too_many_in (if event then EVENT else if report then REPORT else SESSION) avps ≡ None → is_over avps services_row ≡ false
+in_table avps true report e = last_row avps (take 12 EVENT) services_row
     (map_none (refusal AvpOccursTooManyTimes) (option_and_then (row_beyond avps) (find (is_over avps) EVENT)) e)
-in_table avps false e = last_row avps (take 12 SESSION) services_row
+in_table avps false true e = last_row avps (take 11 REPORT) services_row
+    (map_none (refusal AvpOccursTooManyTimes) (option_and_then (row_beyond avps) (find (is_over avps) REPORT)) e)
+in_table avps false false e = last_row avps (take 12 SESSION) services_row
     (map_none (refusal AvpOccursTooManyTimes) (option_and_then (row_beyond avps) (find (is_over avps) SESSION)) e)
 
 none_too_many : (avps : List AvpView) (groups : List GroupView) → first_fault (table_for CreditControl avps) avps groups ≡ None
@@ -175,7 +177,7 @@ pub few : (avps : List AvpView) (given : List GroupView) → checked CreditContr
 unfolding checked table_for
 few avps given e =
     let found = checked_step (groups_of CreditControl avps) (first_fault (table_for CreditControl avps) avps) given e in
-    let over = in_table avps (is_event avps) (none_too_many avps found.0 found.1) in
+    let over = in_table avps (is_event avps) (is_report avps) (none_too_many avps found.0 found.1) in
     rw (length-filter (has_code MULTIPLE_SERVICES_CREDIT_CONTROL) avps) (search (arith, tests))
 
 -- ---- the services of the request keep both limits

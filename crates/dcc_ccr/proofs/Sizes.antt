@@ -17,7 +17,7 @@ use Rattle.dcc_act.specs.declared.service.Form.{Form}
 use Rattle.dcc_act.specs.declared.service.Form.TheVariants.{Single, Multi}
 use Rattle.dcc_request.specs.declared.cause.Cause.TheVariants.{InvalidAvpLength, InvalidAvpValue, MissingAvp}
 use Rattle.dcc_request.specs.declared.table.TheConstants.{EVENT_TYPE}
-use Rattle.dcc_request.specs.Refusals.{Refusal, refusal, bare, ◌>>=◌, each}
+use Rattle.dcc_request.specs.Refusals.{Refusal, refusal, ◌>>=◌, each}
 use Rattle.dcc_request.specs.Layout.{message_list}
 use Rattle.dcc_request.specs.Checks.{missing_avp}
 use Rattle.dcc_request.specs.Sessions.{session_named, session_of}
@@ -28,7 +28,7 @@ use Rattle.dcc_ccr.specs.declared.request_type.RequestType.TheVariants.{Initial,
 use Rattle.dcc_ccr.specs.Steps.{if_there, number_of, long_number_of}
 use Rattle.dcc_ccr.specs.Types.{action_from, action_of, type_of}
 use Rattle.dcc_ccr.specs.Amounts.{AmountsView, UnitsView, units_in, plus, nothing, is_within, limited, added, asked_in, or_nothing, counted, used_in}
-use Rattle.dcc_ccr.specs.Subscribers.{SubscriptionView, subscription_of, chosen, sub_of, subscriber_of}
+use Rattle.dcc_ccr.specs.Subscribers.{SubscriptionView, subscription_of, chosen, sub_of, sub_of_chosen, subscriber_of}
 use Rattle.dcc_ccr.specs.declared.subscription.TheConstants.{E164}
 use Rattle.dcc_ccr.specs.Services.{ServiceView, service_in, service_of, multi_of, services_of, is_there}
 use Rattle.dcc_ccr.specs.Requests.{ValuesView, values_of, count_ids}
@@ -248,20 +248,23 @@ sub_of_bounded s few =
     (number_within_bounded s.type 0 4 few.0)
     (λ kind. named_bounded (is_sub kind s.name.value) s.name (record { kind = kind; name = s.name.value }) few.1)
 
-chosen_bounded : (all : List SubscriptionView) → AllByRecursion IsFewSubscription all → Bounded IsFewSubscription (ok_or (chosen all) (bare MissingAvp))
+sub_bounded : (o : Option SubscriptionView) → IfSome o IsFewSubscription → Bounded Any (sub_of_chosen o)
+sub_bounded None few = tt
+sub_bounded (Some s) few = bind_any Any (sub_of s) (λ sub. Ok (Some sub)) (sub_of_bounded s few) (λ sub. tt)
+
+chosen_bounded : (all : List SubscriptionView) → AllByRecursion IsFewSubscription all → Bounded Any (sub_of_chosen (chosen all))
 chosen_bounded all few =
-    ok_bounded IsFewSubscription (chosen all) (bare MissingAvp)
+    sub_bounded (chosen all)
     (either IsFewSubscription (find (λ s. s.kind == E164) all) (slice_get all 0) (found IsFewSubscription (λ s. s.kind == E164) all few) (gotten IsFewSubscription all 0 few))
-    (omega arith)
 
 subscriber_of_bounded : Laws → (avps : List AvpView) → AreFew avps → Bounded Any (subscriber_of avps)
 unfolding subscriber_of
 subscriber_of_bounded laws avps few =
     bind (AllByRecursion IsFewSubscription) Any (each subscription_of (filter (has_code codes.SUBSCRIPTION_ID) avps))
-    (λ all. ok_or (chosen all) (bare MissingAvp) >>= λ subscription. sub_of subscription)
+    (λ all. sub_of_chosen (chosen all))
     (each_bounded IsFew IsFewSubscription subscription_of (filter (has_code codes.SUBSCRIPTION_ID) avps) (subscription_of_bounded laws)
     (laws.each (filter (has_code codes.SUBSCRIPTION_ID) avps) (filter_few (has_code codes.SUBSCRIPTION_ID) avps few)))
-    (λ all each. bind IsFewSubscription Any (ok_or (chosen all) (bare MissingAvp)) sub_of (chosen_bounded all each) sub_of_bounded)
+    (λ all each. chosen_bounded all each)
 
 -- ---- the request
 
@@ -311,7 +314,7 @@ abbrev pub FewValues : List AvpView → ValuesView → Type 0
 FewValues avps v =
     (session_of avps ≡ Some v.session) × (12 * length v.single.ids ≤ sum_by padded_len avps) × (12 * count_ids v.multi ≤ sum_by padded_len avps)
 
-last_bounded : (avps : List AvpView) (session : List ℕ) (n : ℕ) (a : Result RequestType Refusal) (b : Result SubView Refusal)
+last_bounded : (avps : List AvpView) (session : List ℕ) (n : ℕ) (a : Result RequestType Refusal) (b : Result (Option SubView) Refusal)
     (c : Result ServiceView Refusal) (d : Result (List ServiceView) Refusal) → session_of avps ≡ Some session → Bounded Any a → Bounded Any b →
     Bounded (λ (s : ServiceView). 12 * length s.ids ≤ sum_by padded_len avps) c → Bounded (λ services. 12 * count_ids services ≤ sum_by padded_len avps) d →
     Bounded (FewValues avps) (a >>= λ type. b >>= λ sub. c >>= λ single. d >>= λ multi.
@@ -322,7 +325,7 @@ last_bounded avps session n (Ok a) (Err r) c d is h i j k = i
 last_bounded avps session n (Ok a) (Ok b) (Err r) d is h i j k = j
 last_bounded avps session n (Ok a) (Ok b) (Ok c) (Err r) is h i j k = k
 
-all_bounded : (avps : List AvpView) (a : Result (List ℕ) Refusal) (b c d : Result ℕ Refusal) (e : ℕ → Result RequestType Refusal) (f : Result SubView Refusal)
+all_bounded : (avps : List AvpView) (a : Result (List ℕ) Refusal) (b c d : Result ℕ Refusal) (e : ℕ → Result RequestType Refusal) (f : Result (Option SubView) Refusal)
     (g : Result ServiceView Refusal) (h : Result (List ServiceView) Refusal) →
     Bounded (λ session. session_of avps ≡ Some session) a → Bounded Any b → Bounded Any c → Bounded Any d → ((n : ℕ) → Bounded Any (e n)) → Bounded Any f →
     Bounded (λ (s : ServiceView). 12 * length s.ids ≤ sum_by padded_len avps) g → Bounded (λ services. 12 * count_ids services ≤ sum_by padded_len avps) h →

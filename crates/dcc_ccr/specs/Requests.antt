@@ -1,5 +1,5 @@
 -- The credit-control request that a message holds, or its first fault (RFC 8506, section 3.1).
-use Rattle.std.specs.Prelude.{ℕ, ◌≤◌, Bool, ◌&&◌, ◌||◌, nat_le, List, [], length, None, is_none, Result, Ok}
+use Rattle.std.specs.Prelude.{ℕ, ◌≤◌, Bool, ◌&&◌, ◌||◌, nat_le, List, [], length, Option, None, is_none, Result, Ok}
 use Rattle.std.specs.List.{sum_by, list_all}
 use Rattle.dcc_avp.specs.Spelling.{AvpView, padded_len}
 use Rattle.dcc_avp.specs.declared.codes.TheConstants.{SESSION_ID, AUTH_APPLICATION_ID, CC_REQUEST_TYPE, CC_REQUEST_NUMBER}
@@ -21,9 +21,9 @@ use Rattle.dcc_ccr.specs.Subscribers.{subscriber_of}
 use Rattle.dcc_ccr.specs.Services.{ServiceView, service_in, multi_of, services_of}
 use Rattle.dcc_ccr.specs.Contradictions.{repeated, contradiction}
 
--- what a request says: whose, in which session, which, of what type, and its services
+-- what a request says: whose, where it names anybody, in which session, which, of what type, and its services
 pub record RequestView : Type 0 where
-  pub sub : SubView
+  pub sub : Option SubView
   pub session : List ℕ
   pub number : ℕ
   pub type : RequestType
@@ -43,7 +43,7 @@ count_ids services = sum_by (λ service. length service.ids) services
 
 -- all values of a message: those of the request, and the services at both places
 pub record ValuesView : Type 0 where
-  pub sub : SubView
+  pub sub : Option SubView
   pub session : List ℕ
   pub number : ℕ
   pub type : RequestType

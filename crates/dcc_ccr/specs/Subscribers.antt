@@ -1,11 +1,11 @@
 -- Whose account a request is for (RFC 8506, sections 8.46 to 8.48).
-use Rattle.std.specs.Prelude.{ℕ, ◌==◌, if◌then◌else◌, List, filter, find, slice_get, Option, Result, Ok, Err}
-use Rattle.std.specs.Option.{option_or, ok_or}
+use Rattle.std.specs.Prelude.{ℕ, ◌==◌, if◌then◌else◌, List, filter, find, slice_get, Option, Some, None, Result, Ok, Err}
+use Rattle.std.specs.Option.{option_or}
 use Rattle.dcc_avp.specs.Spelling.{AvpView, has_code}
 use Rattle.dcc_avp.specs.declared.codes.TheConstants.{SUBSCRIPTION_ID, SUBSCRIPTION_ID_TYPE, SUBSCRIPTION_ID_DATA}
 use Rattle.dcc_act.specs.Subs.{SubView, is_sub}
-use Rattle.dcc_request.specs.declared.cause.Cause.TheVariants.{InvalidAvpValue, MissingAvp}
-use Rattle.dcc_request.specs.Refusals.{Refusal, refusal, bare, each, ◌>>=◌}
+use Rattle.dcc_request.specs.declared.cause.Cause.TheVariants.{InvalidAvpValue}
+use Rattle.dcc_request.specs.Refusals.{Refusal, refusal, each, ◌>>=◌}
 use Rattle.dcc_request.specs.Layout.{message_list}
 use Rattle.dcc_request.specs.Values.{required, number, number_within}
 use Rattle.dcc_ccr.specs.declared.subscription.TheConstants.{E164}
@@ -37,9 +37,13 @@ sub_of subscription = do
       then Ok (record { kind = kind; name = subscription.name.value })
       else Err (refusal InvalidAvpValue subscription.name)
 
--- the sizes of all Subscription-Ids, as they stand, and then the one that is chosen; that there is one was checked
-unfoldable pub subscriber_of : List AvpView → Result SubView Refusal
+-- of none there is no subscriber
+abbrev pub sub_of_chosen : Option SubscriptionView → Result (Option SubView) Refusal
+sub_of_chosen None = Ok None
+sub_of_chosen (Some subscription) = sub_of subscription >>= λ sub. Ok (Some sub)
+
+-- the sizes of all Subscription-Ids, as they stand, and then the one that is chosen; that there is one, where there has to be, was checked
+unfoldable pub subscriber_of : List AvpView → Result (Option SubView) Refusal
 subscriber_of avps = do
   subscriptions ← each subscription_of (filter (has_code SUBSCRIPTION_ID) avps)
-  subscription ← ok_or (chosen subscriptions) (bare MissingAvp)
-  sub_of subscription
+  sub_of_chosen (chosen subscriptions)

@@ -16,6 +16,13 @@ is_event Initial = false
 is_event Update = false
 is_event Termination = false
 
+-- it is of a session that was opened before: an update or a termination
+abbrev pub is_report : RequestType → Bool
+is_report (Event action) = false
+is_report Initial = false
+is_report Update = true
+is_report Termination = true
+
 -- the action of a number from 0 to 3
 abbrev pub action_from : ℕ → Action
 action_from n = if n == 0 then DirectDebiting else if n == 1 then RefundAccount else if n == 2 then CheckBalance else PriceEnquiry

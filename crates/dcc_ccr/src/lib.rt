@@ -11,7 +11,7 @@
 //! 3. contradictions between AVPs.
 //!
 //! A `Request` keeps its limits: a Session-Id of 1 to 255 octets, amounts of at most 10^12, at most 2^32 - 1 seconds asked for
-//! in a service, at most 16 services, no two of one key, one in single form alone, in an event just one, and at most 5,460
+//! in a service, at most 32 services, no two of one key, one in single form alone, in an event just one, and at most 5,460
 //! Service-Identifiers in all. These are few because the message is: `read_ccr` is called with a list that stands in at most
 //! 65,532 octets. What a refusal shows fits as many.
 //! What a request asks for is kept in each unit that it may be counted in: which of them counts is the plan's business.

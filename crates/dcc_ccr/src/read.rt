@@ -1,6 +1,6 @@
 //! Reading a request: the checks of its lists, then its values, then the contradictions between them.
 
-ghost use Rattle.std.specs.Prelude.{◌≡◌, ◌+◌, ◌≤◌, true, length, filter, Some, IfOk, IfErr};
+ghost use Rattle.std.specs.Prelude.{◌≡◌, ◌+◌, ◌≤◌, true, length, filter, Some, None, IfOk, IfErr};
 ghost use Rattle.std.specs.List.{sum_by, list_all};
 ghost use Rattle.dcc_avp.specs.Spelling.{has_code, padded_len};
 ghost use Rattle.dcc_avp.specs.declared.codes.TheConstants.{MULTIPLE_SERVICES_CREDIT_CONTROL};
@@ -8,6 +8,7 @@ ghost use Rattle.dcc_message.specs.declared.length.TheConstants.{HEADER_LENGTH, 
 ghost use Rattle.dcc_act.specs.Services.{is_multi};
 ghost use Rattle.dcc_request.specs.Answers.{Gives};
 ghost use Rattle.dcc_request.specs.Sessions.{session_of};
+ghost use Rattle.dcc_ccr.specs.Types.{is_report};
 ghost use Rattle.dcc_ccr.specs.Requests.{ValuesView, IsStopWithin, values_of, request_of};
 
 use crate::contradiction::contradiction;
@@ -28,7 +29,7 @@ use std::marker::Model;
 /// All values of a message: those of the request, and the services at both places.
 #[derive(Drop)]
 struct Values<'a> {
-    sub: Sub,
+    sub: Option<Sub>,
     session: &'a [u8],
     number: u32,
     kind: RequestType,
@@ -107,6 +108,8 @@ pub fn read_ccr<'a>(alloc: Global, avps: &[Avp<'a>]) -> Result<Request<'a>, Stop
     ensures value { Gives (λ request. request) result (request_of avps.now) }
     // The session that a busy answer would take over is the request's.
     ensures session { IfOk result (λ request. session_of avps.now ≡ Some request.session) }
+    // Only an update or a termination names nobody.
+    ensures named { IfOk result (λ request. request.sub ≡ None → is_report request.type ≡ true) }
     // What a refusal shows fits a message.
     ensures shown { IfErr result IsStopWithin }
 {

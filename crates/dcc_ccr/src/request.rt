@@ -15,7 +15,7 @@ use std::marker::Model;
 /// `RequestView`.
 #[derive(Debug, Drop)]
 pub struct Request<'a> {
-    pub(crate) sub: Sub,
+    pub(crate) sub: Option<Sub>,
     pub(crate) session: &'a [u8],
     pub(crate) number: u32,
     pub(crate) kind: RequestType,
@@ -44,8 +44,8 @@ impl<'a> Model for Request<'a> {
 }
 
 /// Whose account the request is for: the type and the data of its first Subscription-Id of type E164, or else of its first
-/// (RFC 8506, section 8.46).
-pub fn subscriber(request: &Request<'_>) -> Sub
+/// (RFC 8506, section 8.46). An update or a termination may have none, and then names nobody.
+pub fn subscriber(request: &Request<'_>) -> Option<Sub>
     ensures { result ≡ request.now.sub }
 {
     request.sub

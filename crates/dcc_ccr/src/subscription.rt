@@ -6,7 +6,7 @@ ghost use Rattle.dcc_avp.specs.declared.codes.TheConstants.{SUBSCRIPTION_ID as S
 ghost use Rattle.dcc_act.specs.Subs.{is_sub};
 ghost use Rattle.dcc_request.specs.Answers.{Gives};
 ghost use Rattle.dcc_request.specs.Refusals.{each};
-ghost use Rattle.dcc_ccr.specs.Subscribers.{SubscriptionView, subscription_of, chosen, sub_of, subscriber_of};
+ghost use Rattle.dcc_ccr.specs.Subscribers.{SubscriptionView, subscription_of, chosen, sub_of, sub_of_chosen, subscriber_of};
 
 use dcc_act::Sub;
 use dcc_avp::{Avp, codes};
@@ -98,14 +98,21 @@ fn sub_of<'a>(subscription: &Subscription<'a>) -> Result<Sub, Refused<'a>>
     }
 }
 
-/// The subscriber of a message.
+/// The subscriber of the one that is chosen, where there is one.
+fn sub_of_chosen<'a>(chosen: Option<&Subscription<'a>>) -> Result<Option<Sub>, Refused<'a>>
+    ensures { result ≡ sub_of_chosen (option_copied chosen.entry) }
+{
+    match chosen {
+        Some(subscription) => Ok(Some(sub_of(subscription)?)),
+        None => Ok(None),
+    }
+}
+
+/// The subscriber of a message, where it names one.
 #[tactic(auto, unfolding(crate::specs::Subscribers::subscriber_of))]
-pub(crate) fn subscriber_of<'a>(alloc: Global, avps: &[Avp<'a>]) -> Result<Sub, Stop<'a>>
+pub(crate) fn subscriber_of<'a>(alloc: Global, avps: &[Avp<'a>]) -> Result<Option<Sub>, Stop<'a>>
     ensures { Gives (λ sub. sub) result (subscriber_of avps.now) }
 {
     let all = subscriptions_of(alloc, avps)?;
-    match chosen(&all) {
-        Some(subscription) => Ok(sub_of(subscription)?),
-        None => Err(Stop::Refused(Refused::bare(Cause::MissingAvp))),
-    }
+    Ok(sub_of_chosen(chosen(&all))?)
 }

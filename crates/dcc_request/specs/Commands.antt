@@ -13,7 +13,7 @@ use Rattle.dcc_request.specs.declared.cause.Cause.{Cause}
 use Rattle.dcc_request.specs.declared.cause.Cause.TheVariants as causes
 use Rattle.dcc_request.specs.declared.command.Command.{Command}
 use Rattle.dcc_request.specs.declared.command.Command.TheVariants.{CapabilitiesExchange, DeviceWatchdog, DisconnectPeer, CreditControl}
-use Rattle.dcc_request.specs.declared.table.TheConstants.{EVENT_TYPE, CAPABILITIES, WATCHDOG, DISCONNECT, SESSION, EVENT}
+use Rattle.dcc_request.specs.declared.table.TheConstants.{UPDATE_TYPE, TERMINATION_TYPE, EVENT_TYPE, CAPABILITIES, WATCHDOG, DISCONNECT, SESSION, REPORT, EVENT}
 use Rattle.dcc_request.specs.Tables.{Table}
 
 -- the command that a header names together with its application, if it is served
@@ -41,9 +41,18 @@ is_event_type (Some n) = n == EVENT_TYPE
 abbrev pub is_event : List AvpView → Bool
 is_event avps = option_map_or (λ (avp : AvpView). is_event_type (number_in w32 avp.value)) (find (has_code CC_REQUEST_TYPE) avps) false
 
+-- a number was read, and it is that of an update or of a termination
+abbrev pub is_report_type : Option ℕ → Bool
+is_report_type None = false
+is_report_type (Some n) = n == UPDATE_TYPE || n == TERMINATION_TYPE
+
+-- the first CC-Request-Type has four octets that spell UPDATE_REQUEST or TERMINATION_REQUEST
+abbrev pub is_report : List AvpView → Bool
+is_report avps = option_map_or (λ (avp : AvpView). is_report_type (number_in w32 avp.value)) (find (has_code CC_REQUEST_TYPE) avps) false
+
 -- the table of a message's list, which for a Credit-Control request depends on its type
 unfoldable pub table_for : Command → List AvpView → Table
 table_for CapabilitiesExchange avps = CAPABILITIES
 table_for DeviceWatchdog avps = WATCHDOG
 table_for DisconnectPeer avps = DISCONNECT
-table_for CreditControl avps = if is_event avps then EVENT else SESSION
+table_for CreditControl avps = if is_event avps then EVENT else if is_report avps then REPORT else SESSION

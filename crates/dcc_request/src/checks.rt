@@ -2,7 +2,8 @@
 
 ghost use Rattle.std.specs.Prelude.{◌≡◌, [], ◌∷◌, count_by, find, option_copied};
 ghost use Rattle.dcc_avp.specs.Spelling.{has_code};
-ghost use Rattle.dcc_request.specs.Refusals.{first_some};
+ghost use Rattle.dcc_request.specs.declared.cause.Cause.TheVariants.{MissingAvp};
+ghost use Rattle.dcc_request.specs.Refusals.{first_some, refusal};
 ghost use Rattle.dcc_request.specs.declared.checks.Check.TheVariants.{TooMany, Missing};
 ghost use Rattle.dcc_request.specs.Checks.{is_unknown, unknown_in, beyond, is_over, row_beyond, too_many_in};
 ghost use Rattle.dcc_request.specs.Checks.{is_lacking, missing_flags, missing_avp, missing_in};
@@ -95,7 +96,7 @@ fn is_lacking(avps: &[Avp<'_>], row: &Row) -> bool
 }
 
 /// The AVP that stands for a missing one.
-pub(crate) fn missing_avp(code: u32) -> Avp<'static>
+fn missing_avp(code: u32) -> Avp<'static>
     ensures { result ≡ missing_avp code }
 {
     let flags = if code == codes::PRODUCT_NAME {
@@ -106,6 +107,13 @@ pub(crate) fn missing_avp(code: u32) -> Avp<'static>
     Avp::new(code, flags, least_data(code))
 }
 
+/// The refusal of a request without an AVP of this code that has to be there: `MissingAvp`, with the AVP that stands for it.
+pub fn missing(code: u32) -> Refused<'static>
+    ensures { result ≡ refusal MissingAvp (missing_avp code) }
+{
+    Refused::one(Cause::MissingAvp, missing_avp(code))
+}
+
 /// The refusal of the first row of which there are too few.
 fn missing_in<'a>(table: &[Row], avps: &[Avp<'a>]) -> Option<Refused<'a>>
     ensures { result ≡ missing_in table.now avps.now }
@@ -113,7 +121,7 @@ fn missing_in<'a>(table: &[Row], avps: &[Avp<'a>]) -> Option<Refused<'a>>
     table
         .iter()
         .find(|row| is_lacking(avps, row))
-        .map(|row| Refused::one(Cause::MissingAvp, missing_avp(row.0)))
+        .map(|row| missing(row.0))
 }
 
 impl Check {

@@ -2,7 +2,7 @@
 
 ghost use Rattle.std.specs.Prelude.{◌≡◌};
 ghost use Rattle.dcc_request.specs.Answers.{Gives};
-ghost use Rattle.dcc_request.specs.Commands.{served, command_of, is_event, table_for};
+ghost use Rattle.dcc_request.specs.Commands.{served, command_of, is_event, is_report, table_for};
 ghost use Rattle.dcc_request.specs.Checks.{checked};
 
 use crate::cause::Cause;
@@ -72,6 +72,19 @@ fn is_event(avps: &[Avp<'_>]) -> bool
     }
 }
 
+/// Whether the first CC-Request-Type has four octets that spell UPDATE_REQUEST or TERMINATION_REQUEST (RFC 8506, section 8.3).
+fn is_report(avps: &[Avp<'_>]) -> bool
+    ensures { result ≡ is_report avps.now }
+{
+    match first(avps, codes::CC_REQUEST_TYPE) {
+        Some(avp) => matches!(
+            avp.as_u32(),
+            Ok(table::UPDATE_TYPE | table::TERMINATION_TYPE)
+        ),
+        None => false,
+    }
+}
+
 impl Command {
     /// What may and has to stand in the message's list, which for a Credit-Control request depends on its type.
     #[tactic(auto, unfolding(crate::specs::Commands::table_for))]
@@ -83,6 +96,7 @@ impl Command {
             Command::DeviceWatchdog => &table::WATCHDOG,
             Command::DisconnectPeer => &table::DISCONNECT,
             Command::CreditControl if is_event(avps) => &table::EVENT,
+            Command::CreditControl if is_report(avps) => &table::REPORT,
             Command::CreditControl => &table::SESSION,
         }
     }

@@ -11,11 +11,14 @@ ghost use Rattle.dcc_request.specs.Layout.{message_list, unread};
 ghost use Rattle.dcc_request.specs.Checks.{checked, missing_avp};
 ghost use Rattle.dcc_request.specs.Sizes.{AreWithin, IsGroupWithin};
 
-use crate::table::{EVENT_TYPE, MAX_SERVICES};
+use crate::table::{EVENT_TYPE, MAX_SERVICES, TERMINATION_TYPE, UPDATE_TYPE};
 
-/// The numbers that definitions cite by name: 16 services for a request, and EVENT_REQUEST (RFC 8506, section 8.3).
+/// The numbers that definitions cite by name: 32 services for a request, and UPDATE_REQUEST, TERMINATION_REQUEST and
+/// EVENT_REQUEST (RFC 8506, section 8.3).
 pub fn numbers_are_given()
-    ensures services { MAX_SERVICES ≡ 16 }
+    ensures services { MAX_SERVICES ≡ 32 }
+    ensures update { UPDATE_TYPE ≡ 2 }
+    ensures termination { TERMINATION_TYPE ≡ 3 }
     ensures event { EVENT_TYPE ≡ 4 }
 {}
 

@@ -28,6 +28,7 @@ mod values;
 mod walk;
 
 pub use cause::Cause;
+pub use checks::missing;
 pub use command::{Command, check, command_of};
 pub use laws::{list_within, numbers_are_given, shown_within};
 pub use layout::{read_message_list, unread};

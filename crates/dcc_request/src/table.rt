@@ -46,7 +46,13 @@ impl Times {
 pub type Row = (u32, Times);
 
 /// The most services (Multiple-Services-Credit-Control) of one request, a limit of this server.
-pub const MAX_SERVICES: usize = 16;
+pub const MAX_SERVICES: usize = 32;
+
+/// The CC-Request-Type of an update, UPDATE_REQUEST (RFC 8506, section 8.3).
+pub const UPDATE_TYPE: u32 = 2;
+
+/// The CC-Request-Type of a termination, TERMINATION_REQUEST (RFC 8506, section 8.3).
+pub const TERMINATION_TYPE: u32 = 3;
 
 /// The CC-Request-Type of an event, EVENT_REQUEST (RFC 8506, section 8.3).
 pub const EVENT_TYPE: u32 = 4;
@@ -73,7 +79,8 @@ pub const DISCONNECT: [Row; 3] = [
     (codes::DISCONNECT_CAUSE, Times::Once),
 ];
 
-/// A Credit-Control request of a session (RFC 8506, section 3.1): any that isn't an event.
+/// A Credit-Control request (RFC 8506, section 3.1) that is neither an event nor an update or a termination: an initial request, or one
+/// of a type that there isn't.
 pub const SESSION: [Row; 13] = [
     (codes::SESSION_ID, Times::Once),
     (codes::ORIGIN_HOST, Times::Once),
@@ -84,6 +91,26 @@ pub const SESSION: [Row; 13] = [
     (codes::CC_REQUEST_TYPE, Times::Once),
     (codes::CC_REQUEST_NUMBER, Times::Once),
     (codes::SUBSCRIPTION_ID, Times::AtLeastOnce),
+    (codes::SERVICE_IDENTIFIER, Times::AtMostOnce),
+    (codes::REQUESTED_ACTION, Times::AtMostOnce),
+    (codes::REQUESTED_SERVICE_UNIT, Times::AtMostOnce),
+    (
+        codes::MULTIPLE_SERVICES_CREDIT_CONTROL,
+        Times::AtMost(MAX_SERVICES),
+    ),
+];
+
+/// A Credit-Control request that is an update or a termination. It may lack a Subscription-Id
+/// (RFC 8506, section 3.1): its session names the subscriber.
+pub const REPORT: [Row; 12] = [
+    (codes::SESSION_ID, Times::Once),
+    (codes::ORIGIN_HOST, Times::Once),
+    (codes::ORIGIN_REALM, Times::Once),
+    (codes::DESTINATION_REALM, Times::Once),
+    (codes::AUTH_APPLICATION_ID, Times::Once),
+    (codes::SERVICE_CONTEXT_ID, Times::Once),
+    (codes::CC_REQUEST_TYPE, Times::Once),
+    (codes::CC_REQUEST_NUMBER, Times::Once),
     (codes::SERVICE_IDENTIFIER, Times::AtMostOnce),
     (codes::REQUESTED_ACTION, Times::AtMostOnce),
     (codes::REQUESTED_SERVICE_UNIT, Times::AtMostOnce),

@@ -6,7 +6,7 @@ ghost use Rattle.dcc_request.specs.Answers.{seen};
 ghost use Rattle.dcc_request.specs.Values.{required, name_octets, number, number_within, long_number};
 
 use crate::cause::Cause;
-use crate::checks::missing_avp;
+use crate::checks::missing;
 use crate::refused::Refused;
 use dcc_avp::Avp;
 use dcc_octets::is_short;
@@ -24,7 +24,7 @@ pub fn required<'m, 'a>(avps: &'m [Avp<'a>], code: u32) -> Result<&'m Avp<'a>, R
 {
     match first(avps, code) {
         Some(avp) => Ok(avp),
-        None => Err(Refused::one(Cause::MissingAvp, missing_avp(code))),
+        None => Err(missing(code)),
     }
 }
 

@@ -8,6 +8,7 @@ use Rattle.dcc_ccr.proofs.Limits.{limits}
 use Rattle.dcc_ccr.proofs.Forms.{stand, one_service}
 use Rattle.dcc_ccr.proofs.Bounds.{Laws, clear_bounded}
 use Rattle.dcc_ccr.proofs.Sizes.{FewValues, values_bounded, values_few, few_ids}
+use Rattle.dcc_ccr.proofs.Named.{named}
 use Rattle.dcc_ccr.proofs.Shown.{contradiction_shown, stop_within}
 use Rattle.dcc_ccr.proofs.read.read_ccr.Goals as goal
 
@@ -42,3 +43,8 @@ returns-clause-session c =
     let laws : Laws = record { list = c.list_within.ensures; unread = c.shown_within.ensures.unread; missing = c.shown_within.ensures.missing; each = c.shown_within.ensures.list } in
     let few = values_few laws c.args.avps.now (omega arith) _ (c.in_ok-values.ensures.value ∙ ap (λ (v : ValuesView). Ok v) (sym c.values.view_is)) in
     few.0
+
+pub returns-clause-named : goal.returns-clause-named
+returns-clause-named c =
+    let v = c.values.inside in
+    named c.args.avps.now c.in_ok-check.field-0.items _ c.in_ok-check.ensures (c.in_ok-values.ensures.value ∙ ap (λ (v : ValuesView). Ok v) (sym c.values.view_is))
