@@ -19,6 +19,7 @@ use Rattle.dcc_act.specs.declared.outcome.Outcome.{Outcome}
 use Rattle.dcc_act.specs.declared.outcome.RequestType.{RequestType}
 use Rattle.dcc_act.specs.declared.request_key.RequestKey.{RequestKey}
 use Rattle.dcc_act.specs.declared.service_key.ServiceKey.{ServiceKey}
+use Rattle.dcc_act.specs.declared.session_limit.SessionLimit.{SessionLimit}
 use Rattle.dcc_act.specs.declared.session_request.SessionRequest.{SessionRequest}
 use Rattle.dcc_model.specs.declared.done.Done.{Done}
 use Rattle.dcc_model.specs.Results.{succeeded, refused, is_success, answers_of}
@@ -52,23 +53,23 @@ debit_free funds space CheckBalance (Some grant) = inl refl
 debit_free funds space PriceEnquiry (Some grant) = inl refl
 
 -- an initial request is served, or doesn't succeed
-pub begun_served : (terms : TermsView) (past : List Done) (key : RequestKey) (services : List ServiceView)
-    → (answers_of (begun terms past key services) ≡ answers terms past key.sid services [] services) ⊎ (succeeded (begun terms past key services) ≡ false)
-begun_served terms past key services = elim (begun_cases terms past key services) [ inl opening ↦ inl (ap answers_of opening.0) | inr f ↦ inr f ]
+pub begun_served : (terms : TermsView) (past : List Done) (key : RequestKey) (limit : SessionLimit) (services : List ServiceView)
+    → (answers_of (begun terms past key limit services) ≡ answers terms past key.sid services [] services) ⊎ (succeeded (begun terms past key limit services) ≡ false)
+begun_served terms past key limit services = elim (begun_cases terms past key limit services) [ inl opening ↦ inl (ap answers_of opening.0) | inr f ↦ inr f ]
 
 -- a report is served, or refused as a whole
 pub reported_served : (terms : TermsView) (past : List Done) (type : RequestType) (key : RequestKey) (services : List ServiceView)
     → (answers_of (reported terms past type key services) ≡ answers terms past key.sid services [] services) ⊎ (refused (reported terms past type key services) ≡ true)
 reported_served terms past type key services = elim (reported_cases terms past type key services) [ inl report ↦ inl (ap answers_of report.0) | inr t ↦ inr t ]
 
-initial_step : (terms : TermsView) (past : List Done) (moment : ℕ) (opening : SessionRequest) (outcome : Outcome)
-    → (answers_of outcome ≡ answers terms past opening.key.sid (looked_at (kind.Initial opening)) [] (looked_at (kind.Initial opening))) ⊎ (succeeded outcome ≡ false)
-    → Holds terms past → Holds terms (done_as moment (kind.Initial opening) outcome ∷ past)
-initial_step terms past moment opening outcome (inr f) old = idle_step terms past (done_as moment (kind.Initial opening) outcome) (rw f refl) refl (inl refl) old
-initial_step terms past moment opening outcome (inl are) old =
+initial_step : (terms : TermsView) (past : List Done) (moment : ℕ) (opening : SessionRequest) (limit : SessionLimit) (host : Option (List ℕ)) (outcome : Outcome)
+    → (answers_of outcome ≡ answers terms past opening.key.sid (looked_at (kind.Initial opening limit host)) [] (looked_at (kind.Initial opening limit host))) ⊎ (succeeded outcome ≡ false)
+    → Holds terms past → Holds terms (done_as moment (kind.Initial opening limit host) outcome ∷ past)
+initial_step terms past moment opening limit host outcome (inr f) old = idle_step terms past (done_as moment (kind.Initial opening limit host) outcome) (rw f refl) refl (inl refl) old
+initial_step terms past moment opening limit host outcome (inl are) old =
     elim (cases_Bool (succeeded outcome)) [
-      | inl t ↦ open_step terms past (done_as moment (kind.Initial opening) outcome) opening.key.sid (rw t refl) refl are refl old
-      | inr f ↦ idle_step terms past (done_as moment (kind.Initial opening) outcome) (rw f refl) refl (inl refl) old
+      | inl t ↦ open_step terms past (done_as moment (kind.Initial opening limit host) outcome) opening.key.sid (rw t refl) refl are refl old
+      | inr f ↦ idle_step terms past (done_as moment (kind.Initial opening limit host) outcome) (rw f refl) refl (inl refl) old
     ]
 
 update_step : (terms : TermsView) (past : List Done) (moment : ℕ) (report : SessionRequest) (outcome : Outcome)
@@ -93,8 +94,8 @@ termination_step terms past moment report outcome (inl are) apart old =
 
 step : (terms : TermsView) (past : List Done) (moment : ℕ) (k : Kind) → are_apart (named (looked_at k)) ≡ true → Holds terms past → Holds terms (done_as moment k (decided terms past moment k) ∷ past)
 step terms past moment (kind.TopUp top_up) apart old = idle_step terms past (done_as moment (kind.TopUp top_up) (decided terms past moment (kind.TopUp top_up))) refl refl (inl refl) old
-step terms past moment (kind.Initial opening) apart old =
-    initial_step terms past moment opening (decided terms past moment (kind.Initial opening)) (begun_served terms past opening.key (looked_at (kind.Initial opening))) old
+step terms past moment (kind.Initial opening limit host) apart old =
+    initial_step terms past moment opening limit host (decided terms past moment (kind.Initial opening limit host)) (begun_served terms past opening.key limit (looked_at (kind.Initial opening limit host))) old
 step terms past moment (kind.Update report) apart old =
     update_step terms past moment report (decided terms past moment (kind.Update report)) (reported_served terms past _ report.key (looked_at (kind.Update report))) apart old
 step terms past moment (kind.Termination report) apart old =
@@ -140,7 +141,7 @@ keys_without_asked (service ∷ services) = ap (λ (keys : List ServiceKey). ser
 -- a request looks at its services under their keys
 pub keys_looked_at : (k : Kind) → map service_key (looked_at k) ≡ map service_key (services_of k)
 keys_looked_at (kind.TopUp top_up) = refl
-keys_looked_at (kind.Initial opening) = keys_without_report opening.services
+keys_looked_at (kind.Initial opening limit host) = keys_without_report opening.services
 keys_looked_at (kind.Update report) = refl
 keys_looked_at (kind.Termination report) = keys_without_asked report.services
 keys_looked_at (kind.Event event) = refl

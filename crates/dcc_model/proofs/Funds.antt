@@ -28,9 +28,9 @@ use Rattle.dcc_model.specs.declared.decide.EventResult.{EventResult}
 use Rattle.dcc_model.specs.Results.{is_added, is_success, refused}
 use Rattle.dcc_model.specs.Sessions.{Sid, looked_at, accepted_by}
 use Rattle.dcc_model.specs.Money.{asked_units, charged_by, charged_event, refunded_by, refunded_event, grant_price, charge, charges, charged, credit, debit, funds_of, reserved_of}
-use Rattle.dcc_model.specs.Outcomes.{is_made, is_over, is_under, top_up_outcome, acted, event_result, decided, served, reported, history, funds}
+use Rattle.dcc_model.specs.Outcomes.{is_made, is_over, is_under, top_up_outcome, acted, event_result, decided, served, reported, history, after, is_new, funds}
 use Rattle.dcc_model.specs.Entries.{debit_entry, refund_entry, charge_entry, charge_entries, entries_of_kind, entries_by, entries_of, entries, sum_of}
-use Rattle.dcc_model.specs.Laws.{FundsAreLimited, EntriesAddUp}
+use Rattle.dcc_model.specs.Laws.{FundsAreLimited, ChargesAreBorne, EntriesAddUp}
 use Rattle.dcc_model.proofs.Histories.{judged_new}
 use Rattle.dcc_model.proofs.Served.{reported_cases}
 
@@ -126,7 +126,7 @@ done_as moment kind outcome = record { act = record { moment = moment; kind = ki
 decided_funds : (terms : TermsView) (past : List Done) (moment : ℕ) (k : Kind) → AreFunds (funds_of terms past)
     → AreFunds (funds_of terms (done_as moment k (decided terms past moment k) ∷ past))
 decided_funds terms past moment (kind.TopUp top_up) are = topped_up (funds_of terms past) top_up are
-decided_funds terms past moment (kind.Initial opening) are = unmoved (funds_of terms past) are
+decided_funds terms past moment (kind.Initial opening limit host) are = unmoved (funds_of terms past) are
 decided_funds terms past moment (kind.Update report) are =
     updated (funds_of terms past) report.key.sid (λ sid. charges terms past sid (looked_at (kind.Update report))) (refused (decided terms past moment (kind.Update report))) are
     (floor_bears terms past _ report.key (looked_at (kind.Update report)))
@@ -151,6 +151,39 @@ history_funds terms (act ∷ earlier) =
 pub funds_are_limited : FundsAreLimited
 unfolding funds
 funds_are_limited terms xs = let are = history_funds terms (reverse xs) in (are.low, are.high)
+
+-- what the floor bears is at most what lies above it
+update_borne : (funds : ℤ) (sid : Sid) (cost : Sid → ℕ) (is_refused : Bool) → AreFunds funds → (is_refused ≡ true) ⊎ (is_under funds (cost sid) ≡ false)
+    → pos (option_map_or cost (option_or (cond is_refused None (Some sid)) None) 0) ≤ℤ (CEILING +ℤ CEILING)
+update_borne funds sid cost true are h = omega (arith, ints)
+update_borne funds sid cost false are (inl t) = absurd cc
+update_borne funds sid cost false are (inr f) = let high = are.high in grind (arith, ints)
+
+termination_borne : (funds : ℤ) (sid : Sid) (cost : Sid → ℕ) (is_refused : Bool) → AreFunds funds → (is_refused ≡ true) ⊎ (is_under funds (cost sid) ≡ false)
+    → pos (option_map_or cost (cond is_refused None (Some sid)) 0) ≤ℤ (CEILING +ℤ CEILING)
+termination_borne funds sid cost true are h = omega (arith, ints)
+termination_borne funds sid cost false are (inl t) = absurd cc
+termination_borne funds sid cost false are (inr f) = let high = are.high in grind (arith, ints)
+
+decided_borne : (terms : TermsView) (past : List Done) (moment : ℕ) (k : Kind) → AreFunds (funds_of terms past)
+    → pos (charged terms past (done_as moment k (decided terms past moment k))) ≤ℤ (CEILING +ℤ CEILING)
+decided_borne terms past moment (kind.TopUp top_up) are = omega (arith, ints)
+decided_borne terms past moment (kind.Initial opening limit host) are = omega (arith, ints)
+decided_borne terms past moment (kind.Update report) are =
+    update_borne (funds_of terms past) report.key.sid (λ sid. charges terms past sid (looked_at (kind.Update report))) (refused (decided terms past moment (kind.Update report))) are
+    (floor_bears terms past _ report.key (looked_at (kind.Update report)))
+decided_borne terms past moment (kind.Termination report) are =
+    termination_borne (funds_of terms past) report.key.sid (λ sid. charges terms past sid (looked_at (kind.Termination report))) (refused (decided terms past moment (kind.Termination report))) are
+    (floor_bears terms past _ report.key (looked_at (kind.Termination report)))
+decided_borne terms past moment (kind.Event event) are = omega (arith, ints)
+decided_borne terms past moment kind.Expiry are = omega (arith, ints)
+
+pub charges_are_borne : ChargesAreBorne
+unfolding after is_new
+charges_are_borne terms xs act new =
+    let past = history terms (reverse xs) in
+    subst (λ (outcome : Outcome). pos (charged terms past (record { act = act; outcome = outcome })) ≤ℤ (CEILING +ℤ CEILING)) (sym (judged_new terms past act new))
+    (decided_borne terms past act.moment act.kind (history_funds terms (reverse xs)))
 
 pub sum_of-append : (xs ys : List Entry) → sum_of (xs ++ ys) ≡ sum_of xs +ℤ sum_of ys
 sum_of-append [] ys = omega (arith, ints)
@@ -194,7 +227,7 @@ sum_of_kind terms past place moment (kind.TopUp top_up) outcome =
       | inl t ↦ rw t (omega (arith, ints))
       | inr f ↦ rw f (omega (arith, ints))
     ]
-sum_of_kind terms past place moment (kind.Initial opening) outcome = omega (arith, ints)
+sum_of_kind terms past place moment (kind.Initial opening limit host) outcome = omega (arith, ints)
 sum_of_kind terms past place moment (kind.Update report) outcome =
     let sum = sum_of_reports terms past place moment (accepted_by (kind.Update report) outcome) (looked_at (kind.Update report)) in omega (arith, ints)
 sum_of_kind terms past place moment (kind.Termination report) outcome =

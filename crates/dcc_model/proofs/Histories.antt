@@ -17,7 +17,7 @@ use Rattle.dcc_model.specs.Outcomes.{is_new, counts, first_of, is_made, decided,
 settled_where : (account : Bool) (k : Kind) (outcome : Outcome) → (account || is_none (request_key k)) ≡ true → cond account outcome (unwrap_or (unknown_of k) outcome) ≡ outcome
 settled_where true k outcome h = refl
 settled_where false (kind.TopUp top_up) outcome h = refl
-settled_where false (kind.Initial opening) outcome h = absurd cc
+settled_where false (kind.Initial opening limit host) outcome h = absurd cc
 settled_where false (kind.Update report) outcome h = absurd cc
 settled_where false (kind.Termination report) outcome h = absurd cc
 settled_where false (kind.Event event) outcome h = absurd cc
@@ -52,7 +52,7 @@ judged_expiry terms past act none counted =
 
 judged_made : (terms : TermsView) (past : List Done) (moment : ℕ) (k : Kind) → is_made terms past (record { moment = moment; kind = k }) ≡ true → judged terms past (record { moment = moment; kind = k }) ≡ decided terms past moment k
 judged_made terms past moment (kind.TopUp top_up) h = judged_first terms past (record { moment = moment; kind = kind.TopUp top_up }) h
-judged_made terms past moment (kind.Initial opening) h = judged_first terms past (record { moment = moment; kind = kind.Initial opening }) h
+judged_made terms past moment (kind.Initial opening limit host) h = judged_first terms past (record { moment = moment; kind = kind.Initial opening limit host }) h
 judged_made terms past moment (kind.Update report) h = judged_first terms past (record { moment = moment; kind = kind.Update report }) h
 judged_made terms past moment (kind.Termination report) h = judged_first terms past (record { moment = moment; kind = kind.Termination report }) h
 judged_made terms past moment (kind.Event event) h = judged_first terms past (record { moment = moment; kind = kind.Event event }) h

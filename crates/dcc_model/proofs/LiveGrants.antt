@@ -17,6 +17,7 @@ use Rattle.dcc_act.specs.declared.grant.Grant.{Grant}
 use Rattle.dcc_act.specs.declared.outcome.Outcome.{Outcome}
 use Rattle.dcc_act.specs.declared.outcome.ServiceAnswer.{ServiceAnswer}
 use Rattle.dcc_act.specs.declared.service_key.ServiceKey.{ServiceKey}
+use Rattle.dcc_act.specs.declared.session_limit.SessionLimit.{SessionLimit}
 use Rattle.dcc_act.specs.declared.session_request.SessionRequest.{SessionRequest}
 use Rattle.dcc_model.specs.declared.done.Done.{Done}
 use Rattle.dcc_model.specs.Results.{succeeded, refused, answers_of}
@@ -138,11 +139,11 @@ served_suit : (terms : TermsView) (past : List Done) (moment : ℕ) (k : Kind) (
 served_suit terms past moment k outcome own sid (inl are) is = subst (AllSuit (looked_at k)) (sym are) (answers_suit terms past own (looked_at k) [] (looked_at k))
 served_suit terms past moment k outcome own sid (inr none) is = absurd cc
 
-initial_served : (terms : TermsView) (past : List Done) (moment : ℕ) (opening : SessionRequest) (outcome : Outcome)
-    → (answers_of outcome ≡ answers terms past opening.key.sid (looked_at (kind.Initial opening)) [] (looked_at (kind.Initial opening))) ⊎ (succeeded outcome ≡ false)
-    → ServedOr terms past moment (kind.Initial opening) outcome opening.key.sid
-initial_served terms past moment opening outcome (inl are) = inl are
-initial_served terms past moment opening outcome (inr f) = inr (rw f refl)
+initial_served : (terms : TermsView) (past : List Done) (moment : ℕ) (opening : SessionRequest) (limit : SessionLimit) (host : Option (List ℕ)) (outcome : Outcome)
+    → (answers_of outcome ≡ answers terms past opening.key.sid (looked_at (kind.Initial opening limit host)) [] (looked_at (kind.Initial opening limit host))) ⊎ (succeeded outcome ≡ false)
+    → ServedOr terms past moment (kind.Initial opening limit host) outcome opening.key.sid
+initial_served terms past moment opening limit host outcome (inl are) = inl are
+initial_served terms past moment opening limit host outcome (inr f) = inr (rw f refl)
 
 update_served : (terms : TermsView) (past : List Done) (moment : ℕ) (report : SessionRequest) (outcome : Outcome)
     → (answers_of outcome ≡ answers terms past report.key.sid (looked_at (kind.Update report)) [] (looked_at (kind.Update report))) ⊎ (refused outcome ≡ true)
@@ -159,10 +160,10 @@ termination_served terms past moment report outcome (inr t) = inr (rw t refl)
 decided_suit : (terms : TermsView) (past : List Done) (moment : ℕ) (k : Kind) (sid : Sid) → session_of (done_as moment k (decided terms past moment k)) ≡ Some sid
     → AllSuit (looked_at k) (answers_of (decided terms past moment k))
 decided_suit terms past moment (kind.TopUp top_up) sid is = absurd cc
-decided_suit terms past moment (kind.Initial opening) sid is =
-    let outcome = decided terms past moment (kind.Initial opening) in
-    served_suit terms past moment (kind.Initial opening) outcome opening.key.sid sid
-    (initial_served terms past moment opening outcome (begun_served terms past opening.key (looked_at (kind.Initial opening)))) is
+decided_suit terms past moment (kind.Initial opening limit host) sid is =
+    let outcome = decided terms past moment (kind.Initial opening limit host) in
+    served_suit terms past moment (kind.Initial opening limit host) outcome opening.key.sid sid
+    (initial_served terms past moment opening limit host outcome (begun_served terms past opening.key limit (looked_at (kind.Initial opening limit host)))) is
 decided_suit terms past moment (kind.Update report) sid is =
     let outcome = decided terms past moment (kind.Update report) in
     served_suit terms past moment (kind.Update report) outcome report.key.sid sid

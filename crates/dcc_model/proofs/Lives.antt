@@ -18,6 +18,7 @@ use Rattle.dcc_act.specs.declared.outcome.ResultCode.TheVariants.{Success}
 use Rattle.dcc_act.specs.declared.outcome.ServiceAnswer.{ServiceAnswer}
 use Rattle.dcc_act.specs.declared.service.Form.{Form}
 use Rattle.dcc_act.specs.declared.service.Form.TheVariants.{Single, Multi}
+use Rattle.dcc_act.specs.declared.session_limit.SessionLimit.{SessionLimit}
 use Rattle.dcc_act.specs.declared.session_request.SessionRequest.{SessionRequest}
 use Rattle.dcc_model.specs.declared.done.Done.{Done}
 use Rattle.dcc_model.specs.Results.{is_success, succeeded, refused, answers_of}
@@ -130,10 +131,10 @@ none_open : (terms : TermsView) (past : List Done) (helds : List Live) → helds
 none_open terms past [] none = tt
 none_open terms past (held ∷ helds) none = absurd cc
 
-initial_made : (terms : TermsView) (past : List Done) (moment : ℕ) (opening : SessionRequest) (outcome : Outcome)
-    → AllAreOpen terms (done_as moment (kind.Initial opening) outcome ∷ past) (made_by (done_as moment (kind.Initial opening) outcome))
-initial_made terms past moment opening outcome =
-    let done = done_as moment (kind.Initial opening) outcome in
+initial_made : (terms : TermsView) (past : List Done) (moment : ℕ) (opening : SessionRequest) (limit : SessionLimit) (host : Option (List ℕ)) (outcome : Outcome)
+    → AllAreOpen terms (done_as moment (kind.Initial opening limit host) outcome ∷ past) (made_by (done_as moment (kind.Initial opening limit host) outcome))
+initial_made terms past moment opening limit host outcome =
+    let done = done_as moment (kind.Initial opening limit host) outcome in
     elim (cases_Bool (succeeded outcome)) [
       | inl t ↦
           let opened : opens done opening.key.sid ≡ true = rw t (sid_is_own opening.key.sid) in
@@ -202,7 +203,7 @@ termination_made terms past moment report outcome (inl (is, may)) =
 decided_made : (terms : TermsView) (past : List Done) (moment : ℕ) (k : Kind)
     → AllAreOpen terms (done_as moment k (decided terms past moment k) ∷ past) (made_by (done_as moment k (decided terms past moment k)))
 decided_made terms past moment (kind.TopUp top_up) = tt
-decided_made terms past moment (kind.Initial opening) = initial_made terms past moment opening (decided terms past moment (kind.Initial opening))
+decided_made terms past moment (kind.Initial opening limit host) = initial_made terms past moment opening limit host (decided terms past moment (kind.Initial opening limit host))
 decided_made terms past moment (kind.Update report) =
     update_made terms past moment report (decided terms past moment (kind.Update report)) (reported_cases terms past request.Update report.key (looked_at (kind.Update report)))
 decided_made terms past moment (kind.Termination report) =

@@ -13,6 +13,7 @@ use Rattle.dcc_act.specs.declared.act.Kind.TheVariants as kind
 use Rattle.dcc_act.specs.declared.limits.TheConstants.{MAX_SESSIONS}
 use Rattle.dcc_act.specs.declared.outcome.Outcome.{Outcome}
 use Rattle.dcc_act.specs.declared.request_key.RequestKey.{RequestKey}
+use Rattle.dcc_act.specs.declared.session_limit.SessionLimit.{SessionLimit}
 use Rattle.dcc_model.specs.declared.done.Done.{Done}
 use Rattle.dcc_model.specs.Results.{succeeded}
 use Rattle.dcc_model.specs.Sessions.{Sid, opens_by, is_sid, opens, ends, is_open, was_opened, opened, open_sessions, looked_at}
@@ -22,15 +23,15 @@ use Rattle.dcc_model.proofs.Histories.{judged_new}
 use Rattle.dcc_model.proofs.Served.{MayOpen, begun_cases}
 use Rattle.dcc_model.proofs.Grants.{same_sid}
 
-begun_may : (terms : TermsView) (past : List Done) (key : RequestKey) (services : List ServiceView) → succeeded (begun terms past key services) ≡ true → MayOpen terms past key.sid
-begun_may terms past key services h = elim (begun_cases terms past key services) [ inl opening ↦ opening.1 | inr f ↦ absurd cc ]
+begun_may : (terms : TermsView) (past : List Done) (key : RequestKey) (limit : SessionLimit) (services : List ServiceView) → succeeded (begun terms past key limit services) ≡ true → MayOpen terms past key.sid
+begun_may terms past key limit services h = elim (begun_cases terms past key limit services) [ inl opening ↦ opening.1 | inr f ↦ absurd cc ]
 
 -- what is decided opens only what may be opened
 pub opens_what_may : (terms : TermsView) (past : List Done) (moment : ℕ) (k : Kind) (sid : Sid) → opens_by k (decided terms past moment k) ≡ Some sid → MayOpen terms past sid
 opens_what_may terms past moment (kind.TopUp top_up) sid h = absurd cc
-opens_what_may terms past moment (kind.Initial opening) sid h =
-    let parts = cond_some (succeeded (decided terms past moment (kind.Initial opening))) opening.key.sid sid h in
-    subst (MayOpen terms past) parts.1 (begun_may terms past opening.key (looked_at (kind.Initial opening)) parts.0)
+opens_what_may terms past moment (kind.Initial opening limit host) sid h =
+    let parts = cond_some (succeeded (decided terms past moment (kind.Initial opening limit host))) opening.key.sid sid h in
+    subst (MayOpen terms past) parts.1 (begun_may terms past opening.key limit (looked_at (kind.Initial opening limit host)) parts.0)
 opens_what_may terms past moment (kind.Update report) sid h = absurd cc
 opens_what_may terms past moment (kind.Termination report) sid h = absurd cc
 opens_what_may terms past moment (kind.Event event) sid h = absurd cc

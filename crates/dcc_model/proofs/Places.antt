@@ -5,6 +5,7 @@ use Rattle.std.specs.Option.{option_map_or}
 use Rattle.std.proofs.lemmas.Bool.{cases_Bool, cond_both, or_parts, or_from}
 use Rattle.std.proofs.lemmas.List.{reverse-append, reverse-reverse, length-reverse, length-map}
 use Rattle.dcc_tariff.specs.Terms.{TermsView}
+use Rattle.dcc_act.specs.Limits.{most_sessions}
 use Rattle.dcc_act.specs.declared.act.Act.{Act}
 use Rattle.dcc_act.specs.declared.act.Kind.{Kind}
 use Rattle.dcc_act.specs.declared.act.Kind.TheVariants as kind
@@ -13,8 +14,8 @@ use Rattle.dcc_act.specs.declared.outcome.Outcome.TheVariants.{Added, Ceiling}
 use Rattle.dcc_act.specs.declared.outcome.RequestType.{RequestType}
 use Rattle.dcc_act.specs.declared.outcome.RequestType.TheVariants as request
 use Rattle.dcc_act.specs.declared.request_key.RequestKey.{RequestKey}
-use Rattle.dcc_act.specs.declared.limits.TheConstants.{MAX_SESSIONS}
 use Rattle.dcc_act.specs.Services.{ServiceView}
+use Rattle.dcc_act.specs.declared.session_limit.SessionLimit.{SessionLimit}
 use Rattle.dcc_model.specs.declared.done.Done.{Done}
 use Rattle.dcc_model.specs.declared.decide.TheConstants.{CEILING}
 use Rattle.dcc_model.specs.Keys.{request_key, same_key, is_top_up, is_expiry}
@@ -26,7 +27,7 @@ use Rattle.dcc_model.proofs.Histories.{judged_new, made_parts, history_of_made, 
 
 is_request : (k : Kind) → is_top_up k ≡ false → is_expiry k ≡ false → is_none (request_key k) ≡ false
 is_request (kind.TopUp top_up) h other = absurd cc
-is_request (kind.Initial opening) h other = refl
+is_request (kind.Initial opening limit host) h other = refl
 is_request (kind.Update report) h other = refl
 is_request (kind.Termination report) h other = refl
 is_request (kind.Event event) h other = refl
@@ -214,11 +215,11 @@ place_holds terms xs act n h =
 Known : Outcome → Type 0
 Known outcome = is_unknown outcome ≡ false
 
-begun_known : (terms : TermsView) (past : List Done) (key : RequestKey) (services : List ServiceView) → Known (begun terms past key services)
+begun_known : (terms : TermsView) (past : List Done) (key : RequestKey) (limit : SessionLimit) (services : List ServiceView) → Known (begun terms past key limit services)
 unfolding Known
-begun_known terms past key services =
+begun_known terms past key limit services =
     cond_both (was_opened past key.sid) _ _ Known (λ _. refl)
-    (λ _. cond_both (nat_le MAX_SESSIONS (length (open_sessions terms past))) _ _ Known (λ _. refl) (λ _. refl))
+    (λ _. cond_both (nat_le (most_sessions limit) (length (open_sessions terms past))) _ _ Known (λ _. refl) (λ _. refl))
 
 reported_known : (terms : TermsView) (past : List Done) (type : RequestType) (key : RequestKey) (services : List ServiceView) → Known (reported terms past type key services)
 unfolding Known
@@ -230,7 +231,7 @@ decided_known : (terms : TermsView) (past : List Done) (moment : ℕ) (k : Kind)
 unfolding Known
 decided_known terms past moment (kind.TopUp top_up) =
     cond_both (int_lt CEILING (funds_of terms past +ℤ pos top_up.amount)) Ceiling Added (λ (o : Outcome). is_unknown o ≡ false) (λ _. refl) (λ _. refl)
-decided_known terms past moment (kind.Initial opening) = begun_known terms past opening.key (looked_at (kind.Initial opening))
+decided_known terms past moment (kind.Initial opening limit host) = begun_known terms past opening.key limit (looked_at (kind.Initial opening limit host))
 decided_known terms past moment (kind.Update report) = reported_known terms past request.Update report.key (looked_at (kind.Update report))
 decided_known terms past moment (kind.Termination report) = reported_known terms past request.Termination report.key (looked_at (kind.Termination report))
 decided_known terms past moment (kind.Event event) = refl
@@ -263,7 +264,7 @@ kept_known (done ∷ past) k rest known h =
 
 unknown_kind : (k : Kind) (rest : Outcome) → is_expiry k ≡ false → (is_none (request_key k) && true) ≡ false → true ≡ is_unknown (unwrap_or (unknown_of k) rest)
 unknown_kind (kind.TopUp top_up) rest other h = absurd cc
-unknown_kind (kind.Initial opening) rest other h = refl
+unknown_kind (kind.Initial opening limit host) rest other h = refl
 unknown_kind (kind.Update report) rest other h = refl
 unknown_kind (kind.Termination report) rest other h = refl
 unknown_kind (kind.Event event) rest other h = refl
@@ -291,7 +292,7 @@ unknown_has_no_place terms xs act other =
 expiry_nowhere : (k : Kind) (all : List Act) → is_expiry k ≡ true → place_of_key all k ≡ None
 expiry_nowhere k [] expiry = refl
 expiry_nowhere (kind.TopUp top_up) (act ∷ all) expiry = absurd cc
-expiry_nowhere (kind.Initial opening) (act ∷ all) expiry = absurd cc
+expiry_nowhere (kind.Initial opening limit host) (act ∷ all) expiry = absurd cc
 expiry_nowhere (kind.Update report) (act ∷ all) expiry = absurd cc
 expiry_nowhere (kind.Termination report) (act ∷ all) expiry = absurd cc
 expiry_nowhere (kind.Event event) (act ∷ all) expiry = absurd cc

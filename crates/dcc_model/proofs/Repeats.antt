@@ -51,7 +51,7 @@ one_key_request key a b first second =
 one_key : (k a b : Kind) → same_key k a ≡ true → same_key k b ≡ true → same_key a b ≡ true
 one_key (kind.TopUp top_up) a b first second =
     or_right (same_request (request_key a) (request_key b)) (same_ticket (ticket a) (ticket b)) (one_ticket (Some top_up.ticket) (ticket a) (ticket b) first second)
-one_key (kind.Initial opening) a b first second = one_key_request opening.key a b first second
+one_key (kind.Initial opening limit host) a b first second = one_key_request opening.key a b first second
 one_key (kind.Update report) a b first second = one_key_request report.key a b first second
 one_key (kind.Termination report) a b first second = one_key_request report.key a b first second
 one_key (kind.Event event) a b first second = one_key_request event.key a b first second
@@ -60,7 +60,7 @@ one_key kind.Expiry a b first second = absurd cc
 -- what has a key is no expiry
 keyed_lasts : (k a : Kind) → same_key k a ≡ true → is_expiry k ≡ false
 keyed_lasts (kind.TopUp top_up) a same = refl
-keyed_lasts (kind.Initial opening) a same = refl
+keyed_lasts (kind.Initial opening limit host) a same = refl
 keyed_lasts (kind.Update report) a same = refl
 keyed_lasts (kind.Termination report) a same = refl
 keyed_lasts (kind.Event event) a same = refl

@@ -6,6 +6,7 @@ use Rattle.std.proofs.lemmas.Bool.{cases_Bool, cond_both, or_parts, or_from}
 use Rattle.std.proofs.lemmas.List.{reverse-append}
 use Rattle.std.proofs.lemmas.List.Folds.{list_any-append}
 use Rattle.dcc_tariff.specs.Terms.{TermsView}
+use Rattle.dcc_act.specs.Limits.{most_sessions}
 use Rattle.dcc_act.specs.declared.act.Act.{Act}
 use Rattle.dcc_act.specs.declared.act.Kind.{Kind}
 use Rattle.dcc_act.specs.declared.act.Kind.TheVariants as kind
@@ -15,8 +16,8 @@ use Rattle.dcc_act.specs.declared.outcome.Outcome.TheVariants.{Added, Ceiling}
 use Rattle.dcc_act.specs.declared.outcome.RequestType.{RequestType}
 use Rattle.dcc_act.specs.declared.outcome.RequestType.TheVariants as request
 use Rattle.dcc_act.specs.declared.request_key.RequestKey.{RequestKey}
-use Rattle.dcc_act.specs.declared.limits.TheConstants.{MAX_SESSIONS}
 use Rattle.dcc_act.specs.Services.{ServiceView}
+use Rattle.dcc_act.specs.declared.session_limit.SessionLimit.{SessionLimit}
 use Rattle.dcc_model.specs.declared.done.Done.{Done}
 use Rattle.dcc_model.specs.declared.decide.TheConstants.{CEILING}
 use Rattle.dcc_model.specs.Keys.{request_key, same_key, is_top_up, is_expiry}
@@ -26,7 +27,7 @@ use Rattle.dcc_model.specs.Outcomes.{begun, reported, is_under, has_account, has
 
 abbrev pub IsOf : Kind → Outcome → Type 0
 IsOf (kind.TopUp top_up) outcome = IsOfTopUp outcome
-IsOf (kind.Initial opening) outcome = IsOfRequest outcome
+IsOf (kind.Initial opening limit host) outcome = IsOfRequest outcome
 IsOf (kind.Update report) outcome = IsOfRequest outcome
 IsOf (kind.Termination report) outcome = IsOfRequest outcome
 IsOf (kind.Event event) outcome = IsOfRequest outcome
@@ -35,10 +36,10 @@ IsOf kind.Expiry outcome = IsOfExpiry outcome
 top_up_of_top_up : (funds : ℤ) (top_up : TopUp) → IsOfTopUp (top_up_outcome funds top_up)
 top_up_of_top_up funds top_up = cond_both (int_lt CEILING (funds +ℤ pos top_up.amount)) Ceiling Added IsOfTopUp (λ _. tt) (λ _. tt)
 
-begun_is_of : (terms : TermsView) (past : List Done) (key : RequestKey) (services : List ServiceView) → IsOfRequest (begun terms past key services)
-begun_is_of terms past key services =
+begun_is_of : (terms : TermsView) (past : List Done) (key : RequestKey) (limit : SessionLimit) (services : List ServiceView) → IsOfRequest (begun terms past key limit services)
+begun_is_of terms past key limit services =
     cond_both (was_opened past key.sid) _ _ IsOfRequest (λ _. tt)
-    (λ _. cond_both (nat_le MAX_SESSIONS (length (open_sessions terms past))) _ _ IsOfRequest (λ _. tt) (λ _. tt))
+    (λ _. cond_both (nat_le (most_sessions limit) (length (open_sessions terms past))) _ _ IsOfRequest (λ _. tt) (λ _. tt))
 
 reported_is_of : (terms : TermsView) (past : List Done) (type : RequestType) (key : RequestKey) (services : List ServiceView) → IsOfRequest (reported terms past type key services)
 reported_is_of terms past type key services =
@@ -47,7 +48,7 @@ reported_is_of terms past type key services =
 
 decided_is_of : (terms : TermsView) (past : List Done) (moment : ℕ) (k : Kind) → IsOf k (decided terms past moment k)
 decided_is_of terms past moment (kind.TopUp top_up) = top_up_of_top_up (funds_of terms past) top_up
-decided_is_of terms past moment (kind.Initial opening) = begun_is_of terms past opening.key (looked_at (kind.Initial opening))
+decided_is_of terms past moment (kind.Initial opening limit host) = begun_is_of terms past opening.key limit (looked_at (kind.Initial opening limit host))
 decided_is_of terms past moment (kind.Update report) = reported_is_of terms past request.Update report.key (looked_at (kind.Update report))
 decided_is_of terms past moment (kind.Termination report) = reported_is_of terms past request.Termination report.key (looked_at (kind.Termination report))
 decided_is_of terms past moment (kind.Event event) = tt
@@ -56,37 +57,37 @@ decided_is_of terms past moment kind.Expiry = tt
 -- one key, one kind
 same_kind : (a b : Kind) (outcome : Outcome) → same_key a b ≡ true → IsOf b outcome → IsOf a outcome
 same_kind (kind.TopUp a) (kind.TopUp b) outcome same is = is
-same_kind (kind.TopUp a) (kind.Initial b) outcome same is = absurd cc
+same_kind (kind.TopUp a) (kind.Initial b lb hb) outcome same is = absurd cc
 same_kind (kind.TopUp a) (kind.Update b) outcome same is = absurd cc
 same_kind (kind.TopUp a) (kind.Termination b) outcome same is = absurd cc
 same_kind (kind.TopUp a) (kind.Event b) outcome same is = absurd cc
 same_kind (kind.TopUp a) kind.Expiry outcome same is = absurd cc
-same_kind (kind.Initial a) (kind.TopUp b) outcome same is = absurd cc
-same_kind (kind.Initial a) (kind.Initial b) outcome same is = is
-same_kind (kind.Initial a) (kind.Update b) outcome same is = is
-same_kind (kind.Initial a) (kind.Termination b) outcome same is = is
-same_kind (kind.Initial a) (kind.Event b) outcome same is = is
-same_kind (kind.Initial a) kind.Expiry outcome same is = absurd cc
+same_kind (kind.Initial a la ha) (kind.TopUp b) outcome same is = absurd cc
+same_kind (kind.Initial a la ha) (kind.Initial b lb hb) outcome same is = is
+same_kind (kind.Initial a la ha) (kind.Update b) outcome same is = is
+same_kind (kind.Initial a la ha) (kind.Termination b) outcome same is = is
+same_kind (kind.Initial a la ha) (kind.Event b) outcome same is = is
+same_kind (kind.Initial a la ha) kind.Expiry outcome same is = absurd cc
 same_kind (kind.Update a) (kind.TopUp b) outcome same is = absurd cc
-same_kind (kind.Update a) (kind.Initial b) outcome same is = is
+same_kind (kind.Update a) (kind.Initial b lb hb) outcome same is = is
 same_kind (kind.Update a) (kind.Update b) outcome same is = is
 same_kind (kind.Update a) (kind.Termination b) outcome same is = is
 same_kind (kind.Update a) (kind.Event b) outcome same is = is
 same_kind (kind.Update a) kind.Expiry outcome same is = absurd cc
 same_kind (kind.Termination a) (kind.TopUp b) outcome same is = absurd cc
-same_kind (kind.Termination a) (kind.Initial b) outcome same is = is
+same_kind (kind.Termination a) (kind.Initial b lb hb) outcome same is = is
 same_kind (kind.Termination a) (kind.Update b) outcome same is = is
 same_kind (kind.Termination a) (kind.Termination b) outcome same is = is
 same_kind (kind.Termination a) (kind.Event b) outcome same is = is
 same_kind (kind.Termination a) kind.Expiry outcome same is = absurd cc
 same_kind (kind.Event a) (kind.TopUp b) outcome same is = absurd cc
-same_kind (kind.Event a) (kind.Initial b) outcome same is = is
+same_kind (kind.Event a) (kind.Initial b lb hb) outcome same is = is
 same_kind (kind.Event a) (kind.Update b) outcome same is = is
 same_kind (kind.Event a) (kind.Termination b) outcome same is = is
 same_kind (kind.Event a) (kind.Event b) outcome same is = is
 same_kind (kind.Event a) kind.Expiry outcome same is = absurd cc
 same_kind kind.Expiry (kind.TopUp b) outcome same is = absurd cc
-same_kind kind.Expiry (kind.Initial b) outcome same is = absurd cc
+same_kind kind.Expiry (kind.Initial b lb hb) outcome same is = absurd cc
 same_kind kind.Expiry (kind.Update b) outcome same is = absurd cc
 same_kind kind.Expiry (kind.Termination b) outcome same is = absurd cc
 same_kind kind.Expiry (kind.Event b) outcome same is = absurd cc
@@ -107,7 +108,7 @@ first_is_of (done ∷ past) k rest all is =
 
 unknown_is_of : (k : Kind) (rest : Outcome) → IsOf k rest → IsOf k (unwrap_or (unknown_of k) rest)
 unknown_is_of (kind.TopUp top_up) rest is = is
-unknown_is_of (kind.Initial opening) rest is = tt
+unknown_is_of (kind.Initial opening limit host) rest is = tt
 unknown_is_of (kind.Update report) rest is = tt
 unknown_is_of (kind.Termination report) rest is = tt
 unknown_is_of (kind.Event event) rest is = tt
@@ -157,7 +158,7 @@ has_top_up-reverse (act ∷ all) h =
 -- what may be of an unknown user is a request
 unknown_requests : (k : Kind) (unknown : Outcome) → unknown_of k ≡ Some unknown → is_none (request_key k) ≡ false
 unknown_requests (kind.TopUp top_up) unknown h = absurd cc
-unknown_requests (kind.Initial opening) unknown h = refl
+unknown_requests (kind.Initial opening limit host) unknown h = refl
 unknown_requests (kind.Update report) unknown h = refl
 unknown_requests (kind.Termination report) unknown h = refl
 unknown_requests (kind.Event event) unknown h = refl
@@ -165,7 +166,7 @@ unknown_requests kind.Expiry unknown h = absurd cc
 
 unknown_no_expiry : (k : Kind) (unknown : Outcome) → unknown_of k ≡ Some unknown → is_expiry k ≡ false
 unknown_no_expiry (kind.TopUp top_up) unknown h = refl
-unknown_no_expiry (kind.Initial opening) unknown h = refl
+unknown_no_expiry (kind.Initial opening limit host) unknown h = refl
 unknown_no_expiry (kind.Update report) unknown h = refl
 unknown_no_expiry (kind.Termination report) unknown h = refl
 unknown_no_expiry (kind.Event event) unknown h = refl

@@ -6,12 +6,12 @@ use Rattle.std.proofs.lemmas.Bool.Decides.{nat_tests}
 use Rattle.std.proofs.lemmas.Bool.{cases_Bool, cond_both}
 use Rattle.dcc_tariff.specs.Terms.{TermsView, TariffView}
 use Rattle.dcc_tariff.specs.Prices.{greatest, price, covers, best}
+use Rattle.dcc_act.specs.Limits.{most_sessions}
 use Rattle.dcc_act.specs.Services.{ServiceView}
 use Rattle.dcc_act.specs.declared.act.Act.{Act}
 use Rattle.dcc_act.specs.declared.act.Kind.{Kind}
 use Rattle.dcc_act.specs.declared.act.Kind.TheVariants as kind
 use Rattle.dcc_act.specs.declared.grant.Grant.{Grant}
-use Rattle.dcc_act.specs.declared.limits.TheConstants.{MAX_SESSIONS}
 use Rattle.dcc_act.specs.declared.one_time_event.Action.{Action}
 use Rattle.dcc_act.specs.declared.one_time_event.Action.TheVariants.{DirectDebiting, RefundAccount, CheckBalance, PriceEnquiry}
 use Rattle.dcc_act.specs.declared.outcome.Outcome.{Outcome}
@@ -20,6 +20,7 @@ use Rattle.dcc_act.specs.declared.outcome.RequestType.{RequestType}
 use Rattle.dcc_act.specs.declared.outcome.RequestType.TheVariants as request
 use Rattle.dcc_act.specs.declared.outcome.ServiceAnswer.{ServiceAnswer}
 use Rattle.dcc_act.specs.declared.request_key.RequestKey.{RequestKey}
+use Rattle.dcc_act.specs.declared.session_limit.SessionLimit.{SessionLimit}
 use Rattle.dcc_model.specs.declared.done.Done.{Done}
 use Rattle.dcc_model.specs.Results.{answers_of}
 use Rattle.dcc_model.specs.Sessions.{Sid, is_open, was_opened, open_sessions, looked_at}
@@ -76,10 +77,10 @@ grants_fit terms past sid services before (service ∷ rest) =
 abbrev Fits : TermsView → List Done → Sid → List ServiceView → Outcome → Type 0
 Fits terms past sid services outcome = GrantsFit terms past sid services [] (answers_of outcome)
 
-begun_fits : (terms : TermsView) (past : List Done) (key : RequestKey) (services : List ServiceView) → Fits terms past key.sid services (begun terms past key services)
-begun_fits terms past key services =
+begun_fits : (terms : TermsView) (past : List Done) (key : RequestKey) (limit : SessionLimit) (services : List ServiceView) → Fits terms past key.sid services (begun terms past key limit services)
+begun_fits terms past key limit services =
     cond_both (was_opened past key.sid) _ _ (Fits terms past key.sid services) (λ _. tt)
-    (λ _. cond_both (nat_le MAX_SESSIONS (length (open_sessions terms past))) _ _ (Fits terms past key.sid services) (λ _. tt)
+    (λ _. cond_both (nat_le (most_sessions limit) (length (open_sessions terms past))) _ _ (Fits terms past key.sid services) (λ _. tt)
     (λ _. grants_fit terms past key.sid services [] services))
 
 reported_fits : (terms : TermsView) (past : List Done) (type : RequestType) (key : RequestKey) (services : List ServiceView) → Fits terms past key.sid services (reported terms past type key services)
@@ -108,7 +109,7 @@ decided_covered : (terms : TermsView) (xs : List Act) (moment : ℕ) (k : Kind) 
 unfolding free
 decided_covered terms xs moment (kind.TopUp top_up) =
     cond_both (is_over (funds_of terms (history terms (reverse xs))) top_up.amount) Ceiling Added (λ (outcome : Outcome). answers_of outcome ≡ []) (λ _. refl) (λ _. refl)
-decided_covered terms xs moment (kind.Initial opening) = begun_fits terms (history terms (reverse xs)) opening.key (looked_at (kind.Initial opening))
+decided_covered terms xs moment (kind.Initial opening limit host) = begun_fits terms (history terms (reverse xs)) opening.key limit (looked_at (kind.Initial opening limit host))
 decided_covered terms xs moment (kind.Update report) = reported_fits terms (history terms (reverse xs)) request.Update report.key (looked_at (kind.Update report))
 decided_covered terms xs moment (kind.Termination report) = reported_fits terms (history terms (reverse xs)) request.Termination report.key (looked_at (kind.Termination report))
 decided_covered terms xs moment (kind.Event event) =

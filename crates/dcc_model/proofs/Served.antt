@@ -1,7 +1,9 @@
 -- A request of a session is served, or refused as a whole.
-use Rattle.std.proofs.Common.{◌≡◌, Bool, true, false, not, cond, List, length, refl, inl, inr, ◌⊎◌}
-use Rattle.std.specs.Prelude.{nat_le}
+use Rattle.std.proofs.Common.{◌≡◌, arith, Bool, true, false, not, cond, List, length, refl, inl, inr, ◌⊎◌}
+use Rattle.std.proofs.lemmas.Bool.Decides.{nat_tests}
+use Rattle.std.specs.Prelude.{ℕ, nat_le}
 use Rattle.dcc_tariff.specs.Terms.{TermsView}
+use Rattle.dcc_act.specs.Limits.{most_sessions}
 use Rattle.dcc_act.specs.Services.{ServiceView}
 use Rattle.dcc_act.specs.declared.limits.TheConstants.{MAX_SESSIONS}
 use Rattle.dcc_act.specs.declared.outcome.Outcome.{Outcome}
@@ -9,6 +11,8 @@ use Rattle.dcc_act.specs.declared.outcome.RequestType.{RequestType}
 use Rattle.dcc_act.specs.declared.outcome.RequestType.TheVariants as request
 use Rattle.dcc_act.specs.declared.outcome.ResultCode.TheVariants.{UnknownSession, ResourcesExceeded, UnableToComply}
 use Rattle.dcc_act.specs.declared.request_key.RequestKey.{RequestKey}
+use Rattle.dcc_act.specs.declared.session_limit.SessionLimit.{SessionLimit}
+use Rattle.dcc_act.specs.declared.session_limit.SessionLimit.TheVariants.{Few, Many}
 use Rattle.dcc_model.specs.declared.done.Done.{Done}
 use Rattle.dcc_model.specs.Results.{succeeded, refused}
 use Rattle.dcc_model.specs.Sessions.{Sid, is_open, was_opened, open_sessions}
@@ -20,6 +24,11 @@ pub record MayOpen (terms : TermsView) (past : List Done) (sid : Sid) : Type 0 w
   pub new : was_opened past sid ≡ false
   pub few : nat_le MAX_SESSIONS (length (open_sessions terms past)) ≡ false
 
+-- each limit of an act is at most the greatest
+under_most : (limit : SessionLimit) (many : ℕ) → nat_le (most_sessions limit) many ≡ false → nat_le MAX_SESSIONS many ≡ false
+under_most Few many h = grind (arith, nat_tests)
+under_most Many many h = h
+
 begun_by : (was full : Bool) (twice many served : Outcome) → succeeded twice ≡ false → succeeded many ≡ false
     → ((cond was twice (cond full many served) ≡ served) × ((was ≡ false) × (full ≡ false))) ⊎ (succeeded (cond was twice (cond full many served)) ≡ false)
 begun_by true full twice many served a b = inr a
@@ -27,12 +36,12 @@ begun_by false true twice many served a b = inr b
 begun_by false false twice many served a b = inl (refl, (refl, refl))
 
 -- an initial request is served where its session may be opened, and else doesn't succeed
-pub begun_cases : (terms : TermsView) (past : List Done) (key : RequestKey) (services : List ServiceView)
-    → ((begun terms past key services ≡ served terms past request.Initial key services) × MayOpen terms past key.sid) ⊎ (succeeded (begun terms past key services) ≡ false)
-begun_cases terms past key services =
-    elim (begun_by (was_opened past key.sid) (nat_le MAX_SESSIONS (length (open_sessions terms past)))
+pub begun_cases : (terms : TermsView) (past : List Done) (key : RequestKey) (limit : SessionLimit) (services : List ServiceView)
+    → ((begun terms past key limit services ≡ served terms past request.Initial key services) × MayOpen terms past key.sid) ⊎ (succeeded (begun terms past key limit services) ≡ false)
+begun_cases terms past key limit services =
+    elim (begun_by (was_opened past key.sid) (nat_le (most_sessions limit) (length (open_sessions terms past)))
     (bare request.Initial key UnableToComply) (bare request.Initial key ResourcesExceeded) (served terms past request.Initial key services) refl refl) [
-      | inl parts ↦ inl (parts.0, record { new = parts.1.0; few = parts.1.1 })
+      | inl parts ↦ inl (parts.0, record { new = parts.1.0; few = under_most limit (length (open_sessions terms past)) parts.1.1 })
       | inr f ↦ inr f
     ]
 

@@ -7,7 +7,7 @@ use Rattle.dcc_act.specs.declared.request_key.RequestKey.{RequestKey}
 -- a request has the key of its session and number (RFC 8506, section 8.2); a top-up and an expiry have no key of a request
 abbrev pub request_key : Kind → Option RequestKey
 request_key (TopUp top_up) = None
-request_key (Initial request) = Some request.key
+request_key (Initial request limit host) = Some request.key
 request_key (Update request) = Some request.key
 request_key (Termination request) = Some request.key
 request_key (Event event) = Some event.key
@@ -16,7 +16,7 @@ request_key Expiry = None
 -- a top-up has a ticket, and nothing else has
 abbrev pub ticket : Kind → Option ℕ
 ticket (TopUp top_up) = Some top_up.ticket
-ticket (Initial request) = None
+ticket (Initial request limit host) = None
 ticket (Update request) = None
 ticket (Termination request) = None
 ticket (Event event) = None

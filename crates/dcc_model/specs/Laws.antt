@@ -1,5 +1,5 @@
 -- What the layers above know of outcomes and acts without a look into them.
-use Rattle.std.specs.Prelude.{◌≡◌, ℕ, ◌+◌, ◌-◌, ◌≤◌, pos, ◌+ℤ◌, neg_ℤ, ◌≤ℤ◌, Bool, true, false, not, ◌&&◌, if◌then◌else◌, List, [], ◌∷◌, ◌++◌, length, map, reverse, find, slice_get, bytes_eq, Some, is_some, is_none, option_map, IsSomeAnd, ◌⊎◌}
+use Rattle.std.specs.Prelude.{◌≡◌, ℕ, ◌+◌, ◌-◌, ◌≤◌, pos, ◌+ℤ◌, neg_ℤ, ◌≤ℤ◌, Bool, true, false, not, ◌&&◌, ◌||◌, if◌then◌else◌, List, [], ◌∷◌, ◌++◌, length, map, reverse, find, slice_get, bytes_eq, Some, is_some, is_none, option_map, IsSomeAnd, ◌⊎◌}
 use Rattle.std.specs.List.{AllByRecursion}
 use Rattle.dcc_tariff.specs.Terms.{TermsView}
 use Rattle.dcc_tariff.specs.Prices.{covers}
@@ -17,9 +17,9 @@ use Rattle.dcc_model.specs.declared.decide.TheConstants.{CEILING}
 use Rattle.dcc_model.specs.declared.done.Done.{Done}
 use Rattle.dcc_model.specs.Keys.{request_key, ticket, same_key, is_expiry}
 use Rattle.dcc_model.specs.Results.{answers_of}
-use Rattle.dcc_model.specs.Sessions.{Sid, looked_at, opens, was_opened, is_open, open_sessions, live, Live, lives}
-use Rattle.dcc_model.specs.Money.{made_price, room}
-use Rattle.dcc_model.specs.Outcomes.{decided, judged, is_made, history, after, is_new, place, outcome, acts, funds, overrun, free, kept, has_top_up, unknown_of, is_unknown, IsOfRequest, IsOfTopUp, IsOfExpiry}
+use Rattle.dcc_model.specs.Sessions.{Sid, looked_at, opens, opens_from, was_opened, is_open, open_sessions, live, Live, lives}
+use Rattle.dcc_model.specs.Money.{made_price, room, charged}
+use Rattle.dcc_model.specs.Outcomes.{decided, judged, is_made, history, after, is_new, place, outcome, acts, funds, overrun, free, kept, was_opened_from, has_top_up, unknown_of, is_unknown, IsOfRequest, IsOfTopUp, IsOfExpiry}
 use Rattle.dcc_model.specs.Entries.{entries, sum_of}
 
 -- what comes later changes no outcome
@@ -64,6 +64,15 @@ NoActs = (terms : TermsView) → acts terms [] ≡ []
 -- nor the outcomes that are kept
 abbrev pub KeptStay : Type 0
 KeptStay = (terms : TermsView) (xs : List Act) (key : RequestKey) → kept terms (acts terms xs) key ≡ kept terms xs key
+
+-- nor who opened which session from where
+abbrev pub OpenersStay : Type 0
+OpenersStay = (terms : TermsView) (xs : List Act) (host : List ℕ) (sid : Sid) → was_opened_from terms (acts terms xs) host sid ≡ was_opened_from terms xs host sid
+
+-- one more act opens its session from its host just where it is new and comes to what opens one; what was opened before stays so
+abbrev pub OneMoreOpens : Type 0
+OneMoreOpens = (terms : TermsView) (xs : List Act) (act : Act) (host : List ℕ) (sid : Sid) → was_opened_from terms (xs ++ act ∷ []) host sid
+    ≡ ((is_new terms xs act && opens_from (record { act = act; outcome = after terms xs act }) host sid) || was_opened_from terms xs host sid)
 
 -- nor the funds, what is overrun, what is free and the entries
 abbrev pub AccountStays : Type 0
@@ -122,9 +131,14 @@ ExpiriesEnd = (terms : TermsView) (xs : List Act) (act : Act) → is_expiry act.
 abbrev pub FundsAreLimited : Type 0
 FundsAreLimited = (terms : TermsView) (xs : List Act) → (neg_ℤ CEILING ≤ℤ funds terms xs) × (funds terms xs ≤ℤ CEILING)
 
+-- so what a new act charges for all that it reports is at most 2 * 10^18, whatever its services are
+abbrev pub ChargesAreBorne : Type 0
+ChargesAreBorne = (terms : TermsView) (xs : List Act) (act : Act) → is_new terms xs act ≡ true
+    → pos (charged terms (history terms (reverse xs)) (record { act = act; outcome = after terms xs act })) ≤ℤ (CEILING +ℤ CEILING)
+
 -- the services of a session's request
 abbrev pub services_of : Kind → List ServiceView
-services_of (kind.Initial request) = request.services
+services_of (kind.Initial request limit host) = request.services
 services_of (kind.Update request) = request.services
 services_of (kind.Termination request) = request.services
 services_of _ = []
@@ -150,7 +164,7 @@ GrantsFit terms past sid services before (answer ∷ rest) =
 -- else grants
 abbrev pub AreCovered : TermsView → List Act → Kind → List ServiceAnswer → Type 0
 AreCovered terms xs (kind.TopUp top_up) made = made ≡ []
-AreCovered terms xs (kind.Initial request) made = GrantsFit terms (history terms (reverse xs)) request.key.sid (looked_at (kind.Initial request)) [] made
+AreCovered terms xs (kind.Initial request limit host) made = GrantsFit terms (history terms (reverse xs)) request.key.sid (looked_at (kind.Initial request limit host)) [] made
 AreCovered terms xs (kind.Update request) made = GrantsFit terms (history terms (reverse xs)) request.key.sid (looked_at (kind.Update request)) [] made
 AreCovered terms xs (kind.Termination request) made = GrantsFit terms (history terms (reverse xs)) request.key.sid (looked_at (kind.Termination request)) [] made
 AreCovered terms xs (kind.Event event) made = AllByRecursion (λ answer. covers (free terms xs) (made_price answer) ≡ true) made
@@ -165,7 +179,7 @@ GrantsAreCovered = (terms : TermsView) (xs : List Act) (act : Act) → is_new te
 abbrev pub EntriesAddUp : Type 0
 EntriesAddUp = (terms : TermsView) (xs : List Act) → sum_of (entries terms xs) ≡ funds terms xs
 
--- a subscriber has at most 64 sessions open
+-- a subscriber has at most 1,024 sessions open, whatever limits its acts have
 abbrev pub FewAreOpen : Type 0
 FewAreOpen = (terms : TermsView) (xs : List Act) → length (open_sessions terms (history terms (reverse xs))) ≤ MAX_SESSIONS
 

@@ -4,6 +4,7 @@ use Rattle.std.specs.List.{list_any}
 use Rattle.std.specs.Option.{option_map_or}
 use Rattle.dcc_tariff.specs.Prices.{covers, best}
 use Rattle.dcc_tariff.specs.Terms.{TermsView}
+use Rattle.dcc_act.specs.Limits.{most_sessions}
 use Rattle.dcc_act.specs.declared.act.Act.{Act}
 use Rattle.dcc_act.specs.declared.one_time_event.Action.{Action}
 use Rattle.dcc_act.specs.declared.one_time_event.Action.TheVariants.{DirectDebiting, RefundAccount, CheckBalance, PriceEnquiry}
@@ -12,7 +13,6 @@ use Rattle.dcc_act.specs.declared.act.Kind.{Kind}
 use Rattle.dcc_act.specs.declared.act.Kind.TheVariants as kind
 use Rattle.dcc_act.specs.declared.top_up.TopUp.{TopUp}
 use Rattle.dcc_act.specs.declared.grant.Grant.{Grant}
-use Rattle.dcc_act.specs.declared.limits.TheConstants.{MAX_SESSIONS}
 use Rattle.dcc_act.specs.declared.outcome.Outcome.{Outcome}
 use Rattle.dcc_act.specs.declared.outcome.Outcome.TheVariants.{Unknown, Answered, Added, Ceiling, Expired}
 use Rattle.dcc_act.specs.declared.outcome.RequestType.{RequestType}
@@ -25,12 +25,13 @@ use Rattle.dcc_act.specs.declared.outcome.ServiceAnswer.{ServiceAnswer}
 use Rattle.dcc_act.specs.declared.request_key.RequestKey.{RequestKey}
 use Rattle.dcc_act.specs.declared.service.Form.TheVariants.{Single, Multi}
 use Rattle.dcc_act.specs.declared.service.Service.{Service}
+use Rattle.dcc_act.specs.declared.session_limit.SessionLimit.{SessionLimit}
 use Rattle.dcc_model.specs.declared.done.Done.{Done}
 use Rattle.dcc_model.specs.declared.decide.TheConstants.{CEILING}
 use Rattle.dcc_model.specs.declared.decide.EventResult.{EventResult}
 use Rattle.dcc_model.specs.declared.judgement.Standing.{Standing}
 use Rattle.dcc_model.specs.Keys.{request_key, same_key, same_request, is_top_up, is_expiry}
-use Rattle.dcc_model.specs.Sessions.{Sid, deadline, is_open, was_opened, open_sessions, looked_at}
+use Rattle.dcc_model.specs.Sessions.{Sid, deadline, is_open, was_opened, was_opened_in, open_sessions, looked_at}
 use Rattle.dcc_model.specs.Money.{asked_units, grant_price, is_unrated, charges, funds_of, overrun_of, free_of, room}
 
 -- an account exists from its first top-up
@@ -96,16 +97,20 @@ served terms past type key services = answered type key (answers terms past key.
 abbrev pub bare : RequestType → RequestKey → ResultCode → Outcome
 bare type key code = Answered (record { request = type; key = key; result = code; services = []; cost = None; balance = None })
 
--- a session opens once, and no more than 64 are open at a time
-abbrev pub begun : TermsView → List Done → RequestKey → List Service → Outcome
-begun terms past key services =
+-- a session opens once, and only while fewer are open than the act's own limit
+abbrev pub begun : TermsView → List Done → RequestKey → SessionLimit → List Service → Outcome
+begun terms past key limit services =
     if was_opened past key.sid then bare request.Initial key UnableToComply
-    else if nat_le MAX_SESSIONS (length (open_sessions terms past)) then bare request.Initial key ResourcesExceeded
+    else if nat_le (most_sessions limit) (length (open_sessions terms past)) then bare request.Initial key ResourcesExceeded
     else served terms past request.Initial key services
 
--- these charges would take the funds below the floor
+-- funds are below the floor
+abbrev pub is_below_floor : ℤ → Bool
+is_below_floor funds = int_lt funds (neg_ℤ CEILING)
+
+-- these charges would take the funds there
 abbrev pub is_under : ℤ → ℕ → Bool
-is_under funds charged = int_lt (funds -ℤ pos charged) (neg_ℤ CEILING)
+is_under funds charged = is_below_floor (funds -ℤ pos charged)
 
 -- an update or a termination, whose session has to be open and whose charges the floor has to bear
 abbrev pub reported : TermsView → List Done → RequestType → RequestKey → List Service → Outcome
@@ -181,7 +186,7 @@ top_up_outcome funds top_up = if is_over funds top_up.amount then Ceiling else A
 -- what an act comes to that is made
 abbrev pub decided : TermsView → List Done → (moment : ℕ) → Kind → Outcome
 decided terms past moment (kind.TopUp top_up) = top_up_outcome (funds_of terms past) top_up
-decided terms past moment (kind.Initial opening) = begun terms past opening.key (looked_at (kind.Initial opening))
+decided terms past moment (kind.Initial opening limit host) = begun terms past opening.key limit (looked_at (kind.Initial opening limit host))
 decided terms past moment (kind.Update report) = reported terms past request.Update report.key (looked_at (kind.Update report))
 decided terms past moment (kind.Termination report) = reported terms past request.Termination report.key (looked_at (kind.Termination report))
 decided terms past moment (kind.Event event) = event_outcome (funds_of terms past) (free_of terms past) event
@@ -190,7 +195,7 @@ decided terms past moment kind.Expiry = Expired (expired terms past moment)
 -- what a request comes to that has no account, under its own type and key; a top-up and an expiry need none
 abbrev pub unknown_of : Kind → Option Outcome
 unknown_of (kind.TopUp top_up) = None
-unknown_of (kind.Initial opening) = Some (Unknown request.Initial opening.key)
+unknown_of (kind.Initial opening limit host) = Some (Unknown request.Initial opening.key)
 unknown_of (kind.Update report) = Some (Unknown request.Update report.key)
 unknown_of (kind.Termination report) = Some (Unknown request.Termination report.key)
 unknown_of (kind.Event event) = Some (Unknown request.Event event.key)
@@ -251,6 +256,10 @@ is_new terms before act = is_made terms (history terms (reverse before)) act
 -- user and an expiry that ends nothing have no place
 unfoldable pub place : TermsView → List Act → Act → Option ℕ
 place terms before act = place_of terms (history terms (reverse before)) act
+
+-- whether these acts opened the session from the host, be it open or ended; an act that isn't made opens nothing
+unfoldable pub was_opened_from : TermsView → List Act → (host : List ℕ) → Sid → Bool
+was_opened_from terms all host sid = was_opened_in (history terms (reverse all)) host sid
 
 -- the outcome of the act at a place of a list, counted from 1: what it comes to after those before; where no act stands
 -- there is none

@@ -24,7 +24,7 @@ Sid = List ℕ
 -- An initial request opens its session where the command succeeds: in multi form unless it is refused as a whole; a service
 -- in single form gives the command its own result.
 abbrev pub opens_by : Kind → Outcome → Option Sid
-opens_by (Initial request) outcome = if succeeded outcome then Some request.key.sid else None
+opens_by (Initial request limit host) outcome = if succeeded outcome then Some request.key.sid else None
 opens_by _ outcome = None
 
 -- an update is accepted unless it is refused as a whole
@@ -54,6 +54,19 @@ updates done sid = is_sid (updates_by done.act.kind done.outcome) sid
 abbrev pub terminates : Done → Sid → Bool
 terminates done sid = is_sid (terminates_by done.act.kind done.outcome) sid
 
+-- the host of the peer of an initial request, where it is known
+abbrev pub host_by : Kind → Option (List ℕ)
+host_by (Initial request limit host) = host
+host_by _ = None
+
+abbrev pub is_host : Option (List ℕ) → List ℕ → Bool
+is_host None host = false
+is_host (Some a) host = bytes_eq a host
+
+-- an act opens a session from a host: that of the peer whose request opened it
+abbrev pub opens_from : Done → (host : List ℕ) → Sid → Bool
+opens_from done host sid = opens done sid && is_host (host_by done.act.kind) host
+
 -- until when a session is held: for the plan's time after the moment of the last act that opened or updated it; 0 where none
 -- did, which is asked of no session
 abbrev pub deadline : TermsView → List Done → Sid → ℕ
@@ -74,6 +87,10 @@ is_open terms (done ∷ past) sid = opens done sid || (is_open terms past sid &&
 abbrev pub was_opened : List Done → Sid → Bool
 was_opened past sid = list_any (λ done. opens done sid) past
 
+-- and from this host
+abbrev pub was_opened_in : List Done → (host : List ℕ) → Sid → Bool
+was_opened_in past host sid = list_any (λ done. opens_from done host sid) past
+
 -- the sessions that were opened, the latest first
 abbrev pub opened : List Done → List Sid
 opened past = filter_map (λ done. opens_by done.act.kind done.outcome) past
@@ -90,7 +107,7 @@ without_asked service = record service { asked = None }
 
 -- the services as their request looks at them: an initial request at no reports, a termination at no units that are asked for
 abbrev pub looked_at : Kind → List ServiceView
-looked_at (Initial request) = map without_report request.services
+looked_at (Initial request limit host) = map without_report request.services
 looked_at (Update request) = request.services
 looked_at (Termination request) = map without_asked request.services
 looked_at _ = []

@@ -3,7 +3,7 @@
 ghost use Rattle.std.specs.Prelude.{◌≡◌, ◌≤◌, ◌+◌, if◌then◌else◌, length, map, reverse, Some, IfOk};
 ghost use Rattle.std.specs.Option.{option_copied, option_map_or};
 ghost use Rattle.dcc_model.specs.declared.done.Done.{Done};
-ghost use Rattle.dcc_model.specs.Outcomes.{has_account, counts, first_of, unknown_of, decided, settled, judged, is_made, with_act, history, act_made, place_of_key, place_of, standing_of, outcome};
+ghost use Rattle.dcc_model.specs.Outcomes.{has_account, counts, first_of, unknown_of, decided, settled, judged, is_made, with_act, history, act_made, place_of_key, place_of, standing_of, outcome, was_opened_from};
 ghost use Rattle.dcc_model.specs.Entries.{entries_with};
 
 use crate::decide::{decide_event, decide_top_up};
@@ -14,8 +14,9 @@ use crate::looked_at::services_looked_at;
 use crate::money::{free, funds, standing, standing_with};
 use crate::outcomes::{begun, reported};
 use crate::posting::entries_by;
-use crate::sessions::expired;
-use dcc_act::{Act, Kind, Moment, Outcome, RequestType};
+use crate::sessions::{expired, was_opened_in};
+use dcc_act::{Act, Kind, Moment, Outcome, RequestType, SessionId};
+use dcc_octets::Host;
 use dcc_tariff::Terms;
 use std::alloc::{AllocError, Global};
 
@@ -33,6 +34,21 @@ pub fn plain_answer(
 {
     let past = made(alloc, terms, &acts[..place - 1])?;
     judged(alloc, terms, &past, &acts[place - 1])
+}
+
+/// Whether these acts opened a session from a host, be it open or ended. The only error is want of memory. It is slow, as
+/// [`plain_answer`] is.
+pub fn was_opened_from(
+    alloc: Global,
+    terms: &Terms,
+    acts: &[Act],
+    host: &Host,
+    sid: &SessionId,
+) -> Result<bool, AllocError>
+    ensures { IfOk result (λ opened. opened ≡ was_opened_from terms.now acts.now host.now sid.now) }
+{
+    let made = made(alloc, terms, acts)?;
+    Ok(was_opened_in(&made, host, sid))
 }
 
 /// What one more act comes to after these, which were made in this order, and what it does. The only error is want of
@@ -109,7 +125,7 @@ pub fn unknown(kind: &Kind) -> Result<Option<Outcome>, AllocError>
 {
     let (request, key) = match kind {
         Kind::TopUp(_) | Kind::Expiry => return Ok(None),
-        Kind::Initial(opening) => (RequestType::Initial, &opening.key),
+        Kind::Initial { request, .. } => (RequestType::Initial, &request.key),
         Kind::Update(report) => (RequestType::Update, &report.key),
         Kind::Termination(report) => (RequestType::Termination, &report.key),
         Kind::Event(event) => (RequestType::Event, &event.key),
@@ -200,9 +216,9 @@ fn decide(
 {
     match kind {
         Kind::TopUp(top_up) => Ok(decide_top_up(funds(terms, past), top_up)),
-        Kind::Initial(opening) => {
+        Kind::Initial { request, limit, .. } => {
             let services = services_looked_at(alloc, kind)?;
-            begun(alloc, terms, past, &opening.key, &services)
+            begun(alloc, terms, past, &request.key, *limit, &services)
         }
         Kind::Update(report) => {
             let services = services_looked_at(alloc, kind)?;

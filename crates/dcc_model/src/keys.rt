@@ -11,7 +11,7 @@ pub fn request_key(kind: &Kind) -> Option<&RequestKey>
 {
     match kind {
         Kind::TopUp(_) | Kind::Expiry => None,
-        Kind::Initial(request) | Kind::Update(request) | Kind::Termination(request) => {
+        Kind::Initial { request, .. } | Kind::Update(request) | Kind::Termination(request) => {
             Some(&request.key)
         }
         Kind::Event(event) => Some(&event.key),

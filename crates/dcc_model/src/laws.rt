@@ -3,10 +3,10 @@
 
 ghost use Rattle.std.specs.Prelude.{◌≡◌, pos};
 ghost use Rattle.dcc_model.specs.Laws.{LaterChangesNothing, OneMoreAct, AfterStays, NewStays, PlaceStays, OutcomesStay, ActsStay};
-ghost use Rattle.dcc_model.specs.Laws.{ActsAreActs, NoActs, KeptStay, AccountStays, NewIsLast, PlaceHolds, UnknownHasNoPlace};
+ghost use Rattle.dcc_model.specs.Laws.{ActsAreActs, NoActs, KeptStay, OpenersStay, OneMoreOpens, AccountStays, NewIsLast, PlaceHolds, UnknownHasNoPlace};
 ghost use Rattle.dcc_model.specs.Laws.{IdleExpiryHasNoPlace, LastComesAfter, UnknownBefore, NewAreDecided, RepeatsAreFirsts, RepeatsAreOld};
 ghost use Rattle.dcc_model.specs.Laws.{RequestsAreAnswered, TopUpsAreAdded, ExpiriesEnd};
-ghost use Rattle.dcc_model.specs.Laws.{IsKeyed, FundsAreLimited, FreeIsCovered, GrantsAreCovered, EntriesAddUp, FewAreOpen, SessionsOpenOnce, LiveAreOpen, LiveIsFound};
+ghost use Rattle.dcc_model.specs.Laws.{IsKeyed, FundsAreLimited, ChargesAreBorne, FreeIsCovered, GrantsAreCovered, EntriesAddUp, FewAreOpen, SessionsOpenOnce, LiveAreOpen, LiveIsFound};
 
 use crate::decide::CEILING;
 use crate::money::services_of;
@@ -27,8 +27,15 @@ pub fn one_more_act()
     ensures { OneMoreAct }
 {}
 
+/// One more act opens its session from its host where it is new and comes to what opens a session. What was opened before
+/// stays so.
+pub fn one_more_act_opens()
+    ensures { OneMoreOpens }
+{}
+
 /// Leaving out what isn't made changes neither what one more act comes to, nor whether it is new, nor its place, nor the
-/// outcomes of what comes later, nor which acts are made, nor the outcomes that are kept, nor the account.
+/// outcomes of what comes later, nor which acts are made, nor the outcomes that are kept, nor who opened which session from
+/// which host, nor the account.
 pub fn leaving_out_changes_nothing()
     ensures after { AfterStays }
     ensures is_new { NewStays }
@@ -38,6 +45,7 @@ pub fn leaving_out_changes_nothing()
     ensures whole { ActsAreActs }
     ensures none { NoActs }
     ensures kept { KeptStay }
+    ensures openers { OpenersStay }
     ensures account { AccountStays }
 {}
 
@@ -84,7 +92,13 @@ pub fn funds_are_accounted_for()
     ensures entries { EntriesAddUp }
 {}
 
-/// At most 64 sessions are open. A session is opened once, and never again, whether it is open or has ended. Each live
+/// What a new act charges for all that it reports is at most 2 * 10^18 minor units: the funds were at most 10^18 before, and
+/// the floor bears what they are after it. So no sum of accepted charges depends on how many services a request may have.
+pub fn charges_are_borne()
+    ensures { ChargesAreBorne }
+{}
+
+/// At most 1,024 sessions are open, whatever limits the acts have. A session is opened once, and never again, whether it is open or has ended. Each live
 /// grant is of an open session. Where each act's services have keys of their own, a service's live grant, which the last
 /// act that named the service made, is the one that all live grants have for it.
 pub fn sessions_open_once()

@@ -22,17 +22,20 @@ mod sessions;
 
 pub use decide::{CEILING, decide_event, decide_top_up, price};
 pub use done::Done;
-pub use evaluator::{first, has_account, judge, place_of_key, plain_answer, unknown};
+pub use evaluator::{
+    first, has_account, judge, place_of_key, plain_answer, unknown, was_opened_from,
+};
 pub use granting::{answer_with, asked_answer};
 pub use judgement::{Judgement, Standing};
 pub use keys::{is_expiry, request_key};
 pub use laws::{
-    acts_come_to_their_own, funds_are_accounted_for, keys_are_apart, later_acts_change_no_outcome,
-    leaving_out_changes_nothing, numbers_are_given, one_more_act, places_hold, sessions_open_once,
+    acts_come_to_their_own, charges_are_borne, funds_are_accounted_for, keys_are_apart,
+    later_acts_change_no_outcome, leaving_out_changes_nothing, numbers_are_given, one_more_act,
+    one_more_act_opens, places_hold, sessions_open_once,
 };
 pub use looked_at::services_looked_at;
 pub use money::{credited, debited};
-pub use outcomes::{bare, command_result, is_under};
+pub use outcomes::{bare, command_result, is_below_floor};
 pub use posting::{charge_entry, event_entries, top_up_entries};
 pub use results::{has_succeeded, is_refused};
 pub use sessions::{answers_of, names_any, was_opened};

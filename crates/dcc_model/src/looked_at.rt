@@ -17,7 +17,7 @@ pub fn services_looked_at(alloc: Global, kind: &Kind) -> Result<Vec<Service>, Al
     ensures limits { IfOk result (λ services. are_services services.items ≡ true) }
 {
     match kind {
-        Kind::Initial(request) => without_reports(alloc, request.services.as_slice()),
+        Kind::Initial { request, .. } => without_reports(alloc, request.services.as_slice()),
         Kind::Update(request) => Ok(request.services.copy()?.into_vec()),
         Kind::Termination(request) => without_wishes(alloc, request.services.as_slice()),
         Kind::TopUp(_) | Kind::Event(_) | Kind::Expiry => Ok(Vec::new(alloc)),

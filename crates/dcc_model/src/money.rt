@@ -1,7 +1,7 @@
 //! Charges, funds, what is reserved and what is free, in minor units. Each function looks back over the acts that were
 //! made, in order.
 
-ghost use Rattle.std.specs.Prelude.{◌≡◌, ◌+◌, ◌*◌, ◌∷◌, ◌^◌, ◌≤◌, true, pos, neg_ℤ, ◌-ℤ◌, ◌≤ℤ◌, length, reverse, sum_by, unwrap_or, IfOk};
+ghost use Rattle.std.specs.Prelude.{◌≡◌, ◌+◌, ◌*◌, ◌∷◌, ◌^◌, ◌<◌, ◌≤◌, true, pos, neg_ℤ, ◌-ℤ◌, ◌≤ℤ◌, length, reverse, sum_by, unwrap_or, IfOk};
 ghost use Rattle.std.specs.Option.{ForSome};
 ghost use Rattle.dcc_act.specs.Services.{are_services};
 ghost use Rattle.dcc_model.specs.Laws.{services_of};
@@ -20,8 +20,16 @@ use dcc_act::{
 use dcc_tariff::{MAX_PRICE, Tariff, Terms, price_of};
 use std::alloc::{AllocError, Global};
 
-/// The most that one act may change the funds by: 16 charges and a debit.
-const MOST: u64 = 17_000_000_000_000_000_000;
+/// The most that one act may change the funds by, in minor units, whatever the floor says: 32 charges and a debit.
+const MOST: u128 = 33_000_000_000_000_000_000;
+
+/// Says that acts in memory are so few that their charges fit an `i128` together: each takes 64 octets at least.
+fn are_few(past: &[Done])
+    ensures { length past.now < 2 ^ 58 }
+{
+    // For its clause alone: it says how many octets they take, and that is a number of 64 bits.
+    let _octets = size_of_val(past);
+}
 
 /// The charge for a service's report, where there is one and a tariff for it.
 pub(crate) fn charge(
@@ -67,14 +75,14 @@ fn cost(terms: &Terms, past: &[Done], sid: &SessionId, service: &Service) -> u64
 }
 
 /// The charges of a request's reports together.
-pub(crate) fn charges(terms: &Terms, past: &[Done], sid: &SessionId, services: &[Service]) -> u64
+pub(crate) fn charges(terms: &Terms, past: &[Done], sid: &SessionId, services: &[Service]) -> i128
     requires { length services.now ≤ MAX_SERVICES }
-    ensures value { result ≡ charges terms.now (reverse past.now) sid.now services.now }
-    ensures bound { result ≤ MAX_SERVICES * MAX_PRICE }
+    ensures value { result ≡ pos (charges terms.now (reverse past.now) sid.now services.now) }
+    ensures bound { result ≤ℤ pos (MAX_SERVICES * MAX_PRICE) }
 {
     let mut sum = 0;
     for service in services {
-        sum += cost(terms, past, sid, service);
+        sum += i128::from(cost(terms, past, sid, service));
     }
     sum
 }
@@ -91,15 +99,15 @@ fn live_price(terms: &Terms, past: &[Done], sid: &SessionId, key: ServiceKey) ->
 }
 
 /// What each charge exceeds the price of the live grant by, together.
-fn overruns(terms: &Terms, past: &[Done], sid: &SessionId, services: &[Service]) -> u64
+fn overruns(terms: &Terms, past: &[Done], sid: &SessionId, services: &[Service]) -> i128
     requires { length services.now ≤ MAX_SERVICES }
-    ensures value { result ≡ overruns terms.now (reverse past.now) sid.now services.now }
-    ensures bound { result ≤ MAX_SERVICES * MAX_PRICE }
+    ensures value { result ≡ pos (overruns terms.now (reverse past.now) sid.now services.now) }
+    ensures bound { result ≤ℤ pos (MAX_SERVICES * MAX_PRICE) }
 {
     let mut sum = 0;
     for service in services {
         let reserved = live_price(terms, past, sid, service.key());
-        sum += cost(terms, past, sid, service).saturating_sub(reserved);
+        sum += i128::from(cost(terms, past, sid, service).saturating_sub(reserved));
     }
     sum
 }
@@ -169,7 +177,7 @@ pub(crate) fn services_of(kind: &Kind) -> &[Service]
     ensures limits { are_services result.now ≡ true }
 {
     match kind {
-        Kind::Initial(request) | Kind::Update(request) | Kind::Termination(request) => {
+        Kind::Initial { request, .. } | Kind::Update(request) | Kind::Termination(request) => {
             request.services.as_slice()
         }
         Kind::TopUp(_) | Kind::Event(_) | Kind::Expiry => &[],
@@ -177,9 +185,9 @@ pub(crate) fn services_of(kind: &Kind) -> &[Service]
 }
 
 /// What an accepted update or termination charged.
-fn charged(terms: &Terms, past: &[Done], done: &Done) -> u64
-    ensures value { result ≡ charged terms.now (reverse past.now) done.now }
-    ensures bound { result ≤ MAX_SERVICES * MAX_PRICE }
+fn charged(terms: &Terms, past: &[Done], done: &Done) -> i128
+    ensures value { result ≡ pos (charged terms.now (reverse past.now) done.now) }
+    ensures bound { result ≤ℤ pos (MAX_SERVICES * MAX_PRICE) }
 {
     match accepted(done) {
         Some(sid) => charges(terms, past, sid, services_of(&done.act.kind)),
@@ -188,9 +196,9 @@ fn charged(terms: &Terms, past: &[Done], done: &Done) -> u64
 }
 
 /// By how much its charges exceeded the live grants.
-fn overran(terms: &Terms, past: &[Done], done: &Done) -> u64
-    ensures value { result ≡ overran terms.now (reverse past.now) done.now }
-    ensures bound { result ≤ MAX_SERVICES * MAX_PRICE }
+fn overran(terms: &Terms, past: &[Done], done: &Done) -> i128
+    ensures value { result ≡ pos (overran terms.now (reverse past.now) done.now) }
+    ensures bound { result ≤ℤ pos (MAX_SERVICES * MAX_PRICE) }
 {
     match accepted(done) {
         Some(sid) => overruns(terms, past, sid, services_of(&done.act.kind)),
@@ -207,22 +215,16 @@ fn change(terms: &Terms, past: &[Done], done: &Done) -> i128
 {
     let credited = i128::from(credited(&done.act.kind, &done.outcome));
     let debited = i128::from(debited(&done.act.kind, &done.outcome));
-    credited - debited - i128::from(charged(terms, past, done))
-}
-
-/// The funds after these acts.
-pub(crate) fn funds(terms: &Terms, past: &[Done]) -> i128
-    ensures { result ≡ funds_of terms.now (reverse past.now) }
-{
-    funds_within(terms, past)
+    credited - debited - charged(terms, past, done)
 }
 
 /// The funds after these acts, as far from nothing as the number of acts allows.
-fn funds_within(terms: &Terms, past: &[Done]) -> i128
+pub(crate) fn funds(terms: &Terms, past: &[Done]) -> i128
     ensures value { result ≡ funds_of terms.now (reverse past.now) }
-    ensures low { neg_ℤ (pos (MOST * length past.now)) ≤ℤ result }
-    ensures high { result ≤ℤ pos (MOST * length past.now) }
+    ensures low { neg_ℤ (pos (MOST * 2 ^ 58)) ≤ℤ result }
+    ensures high { result ≤ℤ pos (MOST * 2 ^ 58) }
 {
+    are_few(past);
     let mut funds = 0;
     for (i, done) in past.iter().enumerate() {
         funds += change(terms, &past[..i], done);
@@ -233,11 +235,12 @@ fn funds_within(terms: &Terms, past: &[Done]) -> i128
 /// What was charged beyond what was reserved, over all acts.
 fn overrun(terms: &Terms, past: &[Done]) -> i128
     ensures value { result ≡ pos (overrun_of terms.now (reverse past.now)) }
-    ensures high { result ≤ℤ pos (MOST * length past.now) }
+    ensures high { result ≤ℤ pos (MOST * 2 ^ 58) }
 {
+    are_few(past);
     let mut overrun = 0;
     for (i, done) in past.iter().enumerate() {
-        overrun += i128::from(overran(terms, &past[..i], done));
+        overrun += overran(terms, &past[..i], done);
     }
     overrun
 }
@@ -259,7 +262,7 @@ pub(crate) fn free(alloc: Global, terms: &Terms, past: &[Done]) -> Result<i128, 
     ensures { IfOk result (λ free. free ≡ free_of terms.now (reverse past.now)) }
 {
     let held = lives(alloc, terms, past)?;
-    Ok(funds_within(terms, past) - reserved(&held))
+    Ok(funds(terms, past) - reserved(&held))
 }
 
 /// The money after these acts. The only error is want of memory.
@@ -283,11 +286,11 @@ pub(crate) fn standing_with(
     ensures { IfOk result (λ standing. standing ≡ standing_of terms.now (done.now ∷ reverse past.now)) }
 {
     let held = lives_with(alloc, terms, past, done)?;
-    let funds = funds_within(terms, past) + change(terms, past, done);
+    let funds = funds(terms, past) + change(terms, past, done);
     Ok(Standing {
         funds,
         free: funds - reserved(&held),
-        overrun: overrun(terms, past) + i128::from(overran(terms, past, done)),
+        overrun: overrun(terms, past) + overran(terms, past, done),
     })
 }
 
@@ -326,14 +329,14 @@ fn made_price(answer: &ServiceAnswer) -> u64
 }
 
 /// The prices of the grants that were made.
-fn made_prices(answers: &[ServiceAnswer]) -> u64
+fn made_prices(answers: &[ServiceAnswer]) -> i128
     requires { length answers.now ≤ MAX_SERVICES }
-    ensures value { result ≡ sum_by made_price answers.now }
-    ensures bound { result ≤ MAX_SERVICES * MAX_PRICE }
+    ensures value { result ≡ pos (sum_by made_price answers.now) }
+    ensures bound { result ≤ℤ pos (MAX_SERVICES * MAX_PRICE) }
 {
     let mut sum = 0;
     for answer in answers {
-        sum += made_price(answer);
+        sum += i128::from(made_price(answer));
     }
     sum
 }
@@ -355,6 +358,5 @@ pub(crate) fn room(
     let beside = reserved_beside(alloc, terms, past, sid, services)?;
     let charged = charges(terms, past, sid, services);
     let made = made_prices(before);
-    let taken = i128::from(charged) + beside + i128::from(made);
-    Ok(funds_within(terms, past) - taken)
+    Ok(funds(terms, past) - (charged + beside + made))
 }

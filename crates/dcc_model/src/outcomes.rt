@@ -3,7 +3,7 @@
 ghost use Rattle.std.specs.Prelude.{◌≡◌, ◌≤◌, length, reverse, sum_by, IfOk};
 ghost use Rattle.dcc_act.specs.Services.{ServiceView};
 ghost use Rattle.dcc_act.specs.declared.limits.TheConstants.{MAX_SERVICES, MAX_IDS};
-ghost use Rattle.dcc_model.specs.Outcomes.{command_result, served, bare, begun, is_under, reported};
+ghost use Rattle.dcc_model.specs.Outcomes.{command_result, served, bare, begun, is_below_floor, reported};
 
 use crate::decide::CEILING;
 use crate::done::Done;
@@ -11,27 +11,28 @@ use crate::granting::answers;
 use crate::money::{charges, funds};
 use crate::sessions::{count_open, is_open, was_opened};
 use dcc_act::{
-    Answer, Form, MAX_SESSIONS, Outcome, RequestKey, RequestType, ResultCode, Service,
-    ServiceAnswer, ServiceAnswers,
+    Answer, Form, Outcome, RequestKey, RequestType, ResultCode, Service, ServiceAnswer,
+    ServiceAnswers, SessionLimit,
 };
 use dcc_tariff::Terms;
 use std::alloc::{AllocError, Global};
 
-/// What an initial request comes to: a session opens once, and no more than 64 are open at a time.
+/// What an initial request comes to: a session opens once, and only while fewer are open than the request's limit.
 pub(crate) fn begun(
     alloc: Global,
     terms: &Terms,
     past: &[Done],
     key: &RequestKey,
+    limit: SessionLimit,
     services: &[Service],
 ) -> Result<Outcome, AllocError>
     requires few { length services.now ≤ MAX_SERVICES }
     requires few_ids { sum_by (λ (service : ServiceView). length service.ids) services.now ≤ MAX_IDS }
-    ensures { IfOk result (λ outcome. outcome ≡ begun terms.now (reverse past.now) key.now services.now) }
+    ensures { IfOk result (λ outcome. outcome ≡ begun terms.now (reverse past.now) key.now limit services.now) }
 {
     if was_opened(past, &key.sid) {
         bare(alloc, RequestType::Initial, key, ResultCode::UnableToComply)
-    } else if count_open(terms, past) >= MAX_SESSIONS {
+    } else if count_open(terms, past) >= limit.sessions() {
         bare(
             alloc,
             RequestType::Initial,
@@ -60,18 +61,18 @@ pub(crate) fn reported(
         return bare(alloc, request, key, ResultCode::UnknownSession);
     }
     let charged = charges(terms, past, &key.sid, services);
-    if is_under(funds(terms, past), charged) {
+    if is_below_floor(funds(terms, past) - charged) {
         bare(alloc, request, key, ResultCode::UnableToComply)
     } else {
         served(alloc, terms, past, request, key, services)
     }
 }
 
-/// Whether these charges would take the funds below the floor, both in minor units.
-pub fn is_under(funds: i128, charged: u64) -> bool
-    ensures { result ≡ is_under funds charged }
+/// Whether funds, in minor units, are below the floor: what charges would leave may not be.
+pub fn is_below_floor(funds: i128) -> bool
+    ensures { result ≡ is_below_floor funds }
 {
-    funds < i128::from(charged) - CEILING
+    funds < -CEILING
 }
 
 /// An answer that carries nothing but its result. The only error is want of memory.

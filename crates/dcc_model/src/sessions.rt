@@ -8,7 +8,7 @@ ghost use Rattle.dcc_act.specs.Answers.{answer_key};
 ghost use Rattle.dcc_act.specs.ServiceKeys.{same_service};
 ghost use Rattle.dcc_tariff.specs.declared.limits.TheConstants.{LAST_SECOND, MAX_HOLD};
 ghost use Rattle.dcc_model.specs.Results.{answers_of};
-ghost use Rattle.dcc_model.specs.Sessions.{opens_by, updates_by, terminates_by, accepted_by, opens, updates, terminates, deadline, ends, is_open, was_opened, open_sessions, session_of, names, made, last_grant, live, named, looked_at, live_of, made_by, goes_on, lives};
+ghost use Rattle.dcc_model.specs.Sessions.{opens_by, updates_by, terminates_by, accepted_by, opens, opens_from, updates, terminates, deadline, ends, is_open, was_opened, was_opened_in, open_sessions, session_of, names, made, last_grant, live, named, looked_at, live_of, made_by, goes_on, lives};
 ghost use Rattle.dcc_model.specs.Outcomes.{expired};
 ghost use Rattle.dcc_model.specs.inner.Lookback.{opened_one, opened_expired, asks_for, reports_of};
 
@@ -16,6 +16,7 @@ use crate::done::Done;
 use crate::keys::is_expiry;
 use crate::results::{has_succeeded, is_refused};
 use dcc_act::{Grant, Kind, Moment, Outcome, Service, ServiceAnswer, ServiceKey, SessionId};
+use dcc_octets::Host;
 use dcc_tariff::Terms;
 use std::alloc::{AllocError, Global};
 use std::marker::Model;
@@ -25,7 +26,7 @@ fn opened(done: &Done) -> Option<&SessionId>
     ensures { option_map (λ sid. sid.now) result ≡ opens_by done.now.act.kind done.now.outcome }
 {
     match &done.act.kind {
-        Kind::Initial(request) if has_succeeded(&done.outcome) => Some(&request.key.sid),
+        Kind::Initial { request, .. } if has_succeeded(&done.outcome) => Some(&request.key.sid),
         _ => None,
     }
 }
@@ -57,6 +58,19 @@ fn opens(done: &Done, sid: &SessionId) -> bool
     match opened(done) {
         Some(other) => *other == *sid,
         None => false,
+    }
+}
+
+/// Whether an act opened a session from a host.
+fn opens_from(done: &Done, host: &Host, sid: &SessionId) -> bool
+    ensures { result ≡ opens_from done.now host.now sid.now }
+{
+    match &done.act.kind {
+        Kind::Initial {
+            host: Some(own),
+            ..
+        } => opens(done, sid) && *own == *host,
+        _ => false,
     }
 }
 
@@ -119,6 +133,13 @@ pub fn was_opened(past: &[Done], sid: &SessionId) -> bool
     ensures { result ≡ was_opened (reverse past.now) sid.now }
 {
     past.iter().rev().any(|done| opens(done, sid))
+}
+
+/// Whether a session was opened before from a host, be it open or ended.
+pub(crate) fn was_opened_in(past: &[Done], host: &Host, sid: &SessionId) -> bool
+    ensures { result ≡ was_opened_in (reverse past.now) host.now sid.now }
+{
+    past.iter().rev().any(|done| opens_from(done, host, sid))
 }
 
 /// How many sessions are open.
@@ -187,7 +208,7 @@ fn names_service(kind: &Kind, key: ServiceKey) -> bool
     ensures { result ≡ list_any (same_service key) (named (looked_at kind.now)) }
 {
     match kind {
-        Kind::Initial(request) => asks_for(request.services.as_slice(), key),
+        Kind::Initial { request, .. } => asks_for(request.services.as_slice(), key),
         Kind::Update(request) => names_any(request.services.as_slice(), key),
         Kind::Termination(request) => reports_of(request.services.as_slice(), key),
         Kind::TopUp(_) | Kind::Event(_) | Kind::Expiry => false,

@@ -1,11 +1,9 @@
 -- The services of a request, one after another.
 use Rattle.std.specs.Prelude.{nat_le, ◌&&◌}
-use Rattle.std.proofs.Common.{◌≡◌, ℕ, zero, suc, ◌+◌, ◌<◌, ◌≤◌, sum_by, true, false, not, ◌||◌, List, [], ◌∷◌, length, get_or, take, refl, sym, ap, ◌∙◌, inl, inr, arith, filter, map, Option, Some, None, unwrap_or, ℤ, pos, ◌-ℤ◌}
+use Rattle.std.proofs.Common.{◌≡◌, ℕ, zero, suc, ◌+◌, ◌<◌, ◌≤◌, sum_by, true, false, not, ◌||◌, List, [], ◌∷◌, length, get_or, take, refl, sym, ap, ◌∙◌, inl, inr, arith, filter, map, Option, unwrap_or, ℤ, pos, ◌-ℤ◌}
 use Rattle.std.specs.List.{list_any, fold}
-use Rattle.std.specs.Option.{ForSome}
 use Rattle.std.proofs.lemmas.Int.{ints}
 use Rattle.std.proofs.lemmas.Bool.{cases_Bool, and_parts, or_parts}
-use Rattle.std.proofs.lemmas.Bool.Decides.{nat_tests}
 use Rattle.std.proofs.lemmas.List.Filters.{sum_by-filter_both}
 use Rattle.dcc_act.specs.ServiceKeys.{same_service, are_apart}
 use Rattle.dcc_act.specs.Services.{ServiceView, service_key, stand_right, are_services}
@@ -13,24 +11,16 @@ use Rattle.dcc_act.specs.declared.limits.TheConstants.{MAX_SERVICES, MAX_IDS}
 use Rattle.dcc_act.specs.declared.grant.Grant.{Grant}
 use Rattle.dcc_act.specs.declared.service_key.ServiceKey.{ServiceKey}
 use Rattle.dcc_session.specs.declared.held.Held.{Held}
-use Rattle.dcc_session.specs.Grants.{live_in, without, held_price, prices, charge_by, cost_in, is_named, left_by, is_given_back, given_back, left_of}
+use Rattle.dcc_session.specs.Grants.{live_in, without, held_price, prices, charge_by, cost_in, overrun_in, is_named, left_by, is_given_back, given_back, left_of}
 use Rattle.dcc_session.proofs.Keys.{same_service-true, same_both_ways, apart_parts}
 
--- the services of a request have keys of their own, and are few
+-- the services of a request have keys of their own
 pub apart_of : (services : List ServiceView) → are_services services ≡ true → are_apart (map service_key services) ≡ true
 apart_of services h =
     let few = nat_le (length services) MAX_SERVICES in
     let short = nat_le (sum_by (λ (service : ServiceView). length service.ids) services) MAX_IDS in
     let apart = are_apart (map service_key services) in
     (and_parts (few && short) apart (and_parts ((few && short) && apart) (stand_right services) h).0).1
-
-pub few_of : (services : List ServiceView) → are_services services ≡ true → length services ≤ MAX_SERVICES
-few_of services h =
-    let few = nat_le (length services) MAX_SERVICES in
-    let short = nat_le (sum_by (λ (service : ServiceView). length service.ids) services) MAX_IDS in
-    let apart = are_apart (map service_key services) in
-    let is = (and_parts few short (and_parts (few && short) apart (and_parts ((few && short) && apart) (stand_right services) h).0).0).0 in
-    grind (arith, nat_tests, is)
 
 -- another service's grant is as it was
 live_without : (own : List Held) (key other : ServiceKey) → same_service key other ≡ false → live_in (without own other) key ≡ live_in own key
@@ -120,9 +110,9 @@ left_is (service ∷ services) own =
 pub given_and_left : (own : List Held) (services : List ServiceView) → given_back own services + prices (left_of own services) ≡ prices own
 given_and_left own services = sum_by-filter_both (is_given_back services) (λ (held : Held). not (is_given_back services held)) (λ held. refl) held_price own
 
-pub at_most : (n : ℕ) (found : Option ℕ) → ForSome found (λ (m : ℕ). m ≤ n) → unwrap_or found 0 ≤ n
-at_most n None all = omega arith
-at_most n (Some m) all = all m refl
+-- no report exceeds what was granted by more than its charge
+pub overrun_less : (own : List Held) (service : ServiceView) → overrun_in own service ≤ cost_in own service
+overrun_less own service = omega arith
 
 -- what one more report is charged
 pub committed_more : (first before after : ℤ) (sum cost more : ℕ) → before ≡ first -ℤ pos sum → after ≡ before -ℤ pos cost → (own : ℕ) → cost ≡ own → more ≡ sum + own → after ≡ first -ℤ pos more

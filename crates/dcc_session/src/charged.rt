@@ -9,7 +9,7 @@ pub struct Charged {
     pub overrun: u64,
 }
 
-/// What the reports of a request came to together, in minor units.
+/// What the reports of a request came to together, in minor units: at most 2 * 10^18, since the floor bears them.
 #[derive(Clone, Copy, Debug, PartialEq, Eq)]
 pub struct Charges {
     /// What was charged.

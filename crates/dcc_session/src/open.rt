@@ -6,7 +6,7 @@ ghost use Rattle.std.specs.Option.{ForSome};
 ghost use Rattle.dcc_escrow.specs.Pools.{IsCovered, IsAboveFloor};
 ghost use Rattle.dcc_act.specs.ServiceKeys.{are_apart};
 ghost use Rattle.dcc_act.specs.Services.{service_key};
-ghost use Rattle.dcc_act.specs.declared.limits.TheConstants.{MAX_SERVICES};
+ghost use Rattle.dcc_escrow.specs.declared.limits.TheConstants.{MOST_MONEY};
 ghost use Rattle.dcc_session.specs.Grants.{key_of_held, live_in, held_price, prices, without, live_price_in, charge_in, cost_in, overrun_in, charges_in, overruns_in, given_by, left_by, given_back, left_of};
 ghost use Rattle.dcc_session.specs.Sessions.{IsHeldOn};
 
@@ -118,14 +118,15 @@ impl Open {
     }
 
     /// Gives back what the services of a request hold that report or ask for some, and charges what they report, each as
-    /// [`Open::report`] does; the charges and what of them passes the holds are told together. It takes no memory.
-    #[tactic(auto, using(crate::proofs::Reporting::apart_of, crate::proofs::Reporting::few_of))]
+    /// [`Open::report`] does; the charges and what of them passes the holds are told together: at most 2 * 10^18 minor units, since
+    /// the floor bears them. It takes no memory.
+    #[tactic(auto, using(crate::proofs::Reporting::apart_of))]
     pub fn report_all(&mut self, pool: &mut Pool, services: &Services) -> Charges
         requires held { IsHeldOn pool.old self.old }
         requires floor { IsAboveFloor (pool.old.committed -ℤ pos (charges_in self.old.grants services.now)) }
         ensures total { result.total ≡ charges_in self.old.grants services.now }
         ensures overrun { result.overrun ≡ overruns_in self.old.grants services.now }
-        ensures overrun_bound { result.overrun ≤ MAX_SERVICES * MAX_PRICE }
+        ensures overrun_bound { result.overrun ≤ 2 * MOST_MONEY }
         ensures session { self.new ≡ record self.old { grants = left_of self.old.grants services.now } }
         ensures held { prices self.new.grants + given_back self.old.grants services.now ≡ prices self.old.grants }
         ensures pool { pool.new ≡ record {
@@ -137,15 +138,14 @@ impl Open {
         self.report_each(pool, services.as_slice())
     }
 
-    /// The same of a few services with keys of their own.
+    /// The same of services with keys of their own.
     fn report_each(&mut self, pool: &mut Pool, services: &[Service]) -> Charges
         requires held { IsHeldOn pool.old self.old }
-        requires few { length services.now ≤ MAX_SERVICES }
         requires apart { are_apart (map service_key services.now) ≡ true }
         requires floor { IsAboveFloor (pool.old.committed -ℤ pos (charges_in self.old.grants services.now)) }
         ensures total { result.total ≡ charges_in self.old.grants services.now }
         ensures overrun { result.overrun ≡ overruns_in self.old.grants services.now }
-        ensures overrun_bound { result.overrun ≤ MAX_SERVICES * MAX_PRICE }
+        ensures overrun_bound { result.overrun ≤ 2 * MOST_MONEY }
         ensures session { self.new ≡ record self.old { grants = left_of self.old.grants services.now } }
         ensures held { prices self.new.grants + given_back self.old.grants services.now ≡ prices self.old.grants }
         ensures pool { pool.new ≡ record {
@@ -154,6 +154,8 @@ impl Open {
           reserved = pool.old.reserved - given_back self.old.grants services.now;
         } }
     {
+        // For its clause alone: the money is at most 10^18 before the charges, and owes at most as much after them.
+        pool.committed();
         let mut total = 0;
         let mut overrun = 0;
         for service in services {

@@ -10,5 +10,5 @@ returns c =
     let made_bound = c.made_prices-made.ensures.bound in
     let charged = c.charges-charged.ensures.value in
     let charged_bound = c.charges-charged.ensures.bound in
-    let funds = c.funds_within.ensures.value in
+    let funds = c.funds.ensures.value in
     omega (arith, ints)

@@ -10,11 +10,10 @@ returns c =
     let terms = c.args.terms.now in
     let past = reverse c.args.past.now in
     let done = c.args.done.now in
-    let before = c.funds_within.ensures.value in
+    let before = c.funds.ensures.value in
     let changed = c.change.ensures.value in
     let held : c.reserved.result ≡ pos (reserved_of terms (done ∷ past)) =
     c.reserved.ensures.value ∙ ap (λ (live : List Live). pos (sum_by held_price live)) (c.deref.ensures.value ∙ c.in_ok-held.ensures) in
     let over = c.overrun.ensures.value in
     let more = c.overran.ensures.value in
-    let from = c.from.ensures in
     standing_is terms (done ∷ past) _ (omega (arith, ints)) (omega (arith, ints)) (omega (arith, ints))

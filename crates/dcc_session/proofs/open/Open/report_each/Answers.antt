@@ -3,13 +3,12 @@ use Rattle.std.specs.List.{fold}
 use Rattle.std.proofs.lemmas.Int.{ints}
 use Rattle.std.proofs.lemmas.List.Sums.{sum_by_more, sum_by_more_le, fold_more}
 use Rattle.dcc_escrow.specs.Pools.{PoolView}
-use Rattle.dcc_tariff.specs.declared.limits.TheConstants.{MAX_PRICE}
 use Rattle.dcc_act.specs.Services.{service_key}
 use Rattle.dcc_act.specs.declared.grant.Grant.{Grant}
 use Rattle.dcc_session.specs.declared.held.Held.{Held}
 use Rattle.dcc_session.specs.Sessions.{OpenView}
 use Rattle.dcc_session.specs.Grants.{live_in, charge_by, cost_in, charges_in, overrun_by, overrun_in, prices, left_by, left_of}
-use Rattle.dcc_session.proofs.Reporting.{at_most, committed_more, live_later, cost_later, left_is, given_and_left}
+use Rattle.dcc_session.proofs.Reporting.{overrun_less, committed_more, live_later, cost_later, left_is, given_and_left}
 use Rattle.dcc_session.proofs.Covering.{pool_is}
 use Rattle.dcc_session.proofs.open.Open.report_each.Goals as goal
 
@@ -53,8 +52,7 @@ loop-service-preserved c =
     let held_then = now.held in
     let charged : c.unwrap_or-total.result ≡ cost_in c.loop-service.self.grants service
     = c.unwrap_or-total.ensures ∙ ap (λ (charge : Option ℕ). unwrap_or charge 0) now.charge in
-    let most = at_most MAX_PRICE c.report-charged.result.charge now.charge_bound in
-    let most_is = c.unwrap_or-total.ensures in
+    let less = overrun_less c.loop-service.self.grants service in
     let with_grants : List Held → OpenView = λ grants. record { pool = c.args.self.now.pool; deadline = c.args.self.now.deadline; grants = grants } in
     record {
       session = now.session ∙ ap (λ (s : OpenView). record s { grants = left_by s.grants service }) before.session
@@ -64,7 +62,6 @@ loop-service-preserved c =
       reserved = omega arith;
       total = omega arith;
       overrun = omega arith;
-      total_bound = omega (arith, most);
       overrun_bound = omega arith;
     }
 

@@ -1,4 +1,4 @@
-use Rattle.std.proofs.Common.{◌≡◌, ◌+◌, ◌*◌, ◌≤◌, pos, ◌-ℤ◌, take}
+use Rattle.std.proofs.Common.{◌≡◌, ◌+◌, ◌≤◌, pos, ◌-ℤ◌, take}
 use Rattle.std.specs.List.{fold}
 use Rattle.dcc_session.specs.Grants.{charges_in, overruns_in, prices, left_by}
 use Rattle.dcc_session.proofs.open.Open.report_each.Given as goal
@@ -11,6 +11,5 @@ invariant-loop-service l = record {
   reserved : l.pool.reserved + prices l.initial.self.grants ≡ l.initial.pool.reserved + prices l.self.grants;
   total : l.total ≡ charges_in l.initial.self.grants (take l.service-index l.services);
   overrun : l.overrun ≡ overruns_in l.initial.self.grants (take l.service-index l.services);
-  total_bound : l.total ≤ 1_000_000_000_000_000_000 * l.service-index;
-  overrun_bound : l.overrun ≤ 1_000_000_000_000_000_000 * l.service-index;
+  overrun_bound : l.overrun ≤ l.total;
 }

@@ -2,7 +2,7 @@ use Rattle.std.proofs.Common.{ap, arith}
 use Rattle.std.proofs.lemmas.Int.{ints}
 use Rattle.dcc_model.specs.Money.{funds_of}
 use Rattle.dcc_model.proofs.Lookback.{latest_first}
-use Rattle.dcc_model.proofs.money.funds_within.Goals as goal
+use Rattle.dcc_model.proofs.money.funds.Goals as goal
 
 pub loop-i-preserved : goal.loop-i-preserved
 loop-i-preserved c = record {
