@@ -17,6 +17,7 @@ use Rattle.dcc_act.specs.TopUps.{TopUpView}
 use Rattle.dcc_act.specs.declared.session_request.SessionRequest.{SessionRequest}
 use Rattle.dcc_act.specs.declared.outcome.Outcome.{Outcome}
 use Rattle.dcc_act.specs.declared.request_key.RequestKey.{RequestKey}
+use Rattle.dcc_act.specs.declared.session_limit.SessionLimit.{SessionLimit}
 use Rattle.dcc_model.specs.declared.done.Done.{Done}
 use Rattle.dcc_model.specs.Keys.{request_key, same_request, same_key, is_top_up}
 use Rattle.dcc_model.specs.Outcomes.{act_made, outcome_of, place_of_key, first_of, kept_of, has_account, history, is_made}
@@ -44,7 +45,7 @@ or_false false = refl
 -- an act has the key of a request just where it is the request of that key
 keyed : (kind other : Kind) (key : RequestKey) → request_key kind ≡ Some key → same_key kind other ≡ same_request (Some key) (request_key other)
 keyed (TopUp top_up) other key h = absurd cc
-keyed (Initial request) other key h = or_false (same_request (Some request.key) (request_key other)) ∙ ap (λ (k : Option RequestKey). same_request k (request_key other)) h
+keyed (Initial request limit host) other key h = or_false (same_request (Some request.key) (request_key other)) ∙ ap (λ (k : Option RequestKey). same_request k (request_key other)) h
 keyed (Update request) other key h = or_false (same_request (Some request.key) (request_key other)) ∙ ap (λ (k : Option RequestKey). same_request k (request_key other)) h
 keyed (Termination request) other key h = or_false (same_request (Some request.key) (request_key other)) ∙ ap (λ (k : Option RequestKey). same_request k (request_key other)) h
 keyed (Event event) other key h = or_false (same_request (Some event.key) (request_key other)) ∙ ap (λ (k : Option RequestKey). same_request k (request_key other)) h
@@ -68,8 +69,8 @@ pub place_of_expiry : (past : List Done) (kind : Kind) → kind ≡ Expiry → N
 place_of_expiry past kind h = rw h (sym (never past))
 
 -- a request of a session has a key
-pub key_of : (kind : Kind) (request : SessionRequest) → (kind ≡ Initial request) ⊎ ((kind ≡ Update request) ⊎ (kind ≡ Termination request)) → request_key kind ≡ Some request.key
-key_of kind request (inl h) = ap request_key h
+pub key_of : (kind : Kind) (request : SessionRequest) → ((limit : SessionLimit) × (host : Option (List ℕ)) × (kind ≡ Initial request limit host)) ⊎ ((kind ≡ Update request) ⊎ (kind ≡ Termination request)) → request_key kind ≡ Some request.key
+key_of kind request (inl h) = ap request_key h.2
 key_of kind request (inr (inl h)) = ap request_key h
 key_of kind request (inr (inr h)) = ap request_key h
 
@@ -143,7 +144,7 @@ one_begins terms act h = by act.kind act.moment h
   where
     by : (kind : Kind) (moment : ℕ) → is_made terms [] (record { moment = moment; kind = kind }) ≡ true → is_top_up kind ≡ true
     by (TopUp top_up) moment h = refl
-    by (Initial request) moment h = absurd cc
+    by (Initial request limit host) moment h = absurd cc
     by (Update request) moment h = absurd cc
     by (Termination request) moment h = absurd cc
     by (Event event) moment h = absurd cc

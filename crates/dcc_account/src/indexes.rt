@@ -64,7 +64,7 @@ impl Indexes {
     {
         match kind {
             Kind::TopUp(top_up) => self.place_of_top_up(top_up.ticket),
-            Kind::Initial(request) | Kind::Update(request) | Kind::Termination(request) => {
+            Kind::Initial { request, .. } | Kind::Update(request) | Kind::Termination(request) => {
                 self.place_of_request(&request.key)
             }
             Kind::Event(event) => self.place_of_request(&event.key),

@@ -53,7 +53,7 @@ fn opened_by<'a>(kind: &'a Kind, outcome: &Outcome) -> Option<&'a SessionId>
     ensures { option_map (λ sid. sid.now) result ≡ opens_by kind.now outcome.now }
 {
     match kind {
-        Kind::Initial(request) if has_succeeded(outcome) => Some(&request.key.sid),
+        Kind::Initial { request, .. } if has_succeeded(outcome) => Some(&request.key.sid),
         _ => None,
     }
 }

@@ -6,13 +6,13 @@ use Rattle.std.proofs.lemmas.Bool.{cases_Bool, and_parts}
 use Rattle.std.proofs.lemmas.Int.{ints}
 use Rattle.dcc_tariff.specs.Prices.{covers}
 use Rattle.dcc_tariff.specs.Terms.{TermsView}
+use Rattle.dcc_act.specs.Limits.{most_sessions}
 use Rattle.dcc_act.specs.ServiceKeys.{are_apart}
 use Rattle.dcc_act.specs.Services.{ServiceView, service_key}
 use Rattle.dcc_act.specs.declared.act.Act.{Act}
 use Rattle.dcc_act.specs.declared.act.Kind.{Kind}
 use Rattle.dcc_act.specs.declared.act.Kind.TheVariants as kind
 use Rattle.dcc_act.specs.declared.grant.Grant.{Grant}
-use Rattle.dcc_act.specs.declared.limits.TheConstants.{MAX_SESSIONS}
 use Rattle.dcc_act.specs.declared.one_time_event.Action.{Action}
 use Rattle.dcc_act.specs.declared.one_time_event.Action.TheVariants.{DirectDebiting, RefundAccount, CheckBalance, PriceEnquiry}
 use Rattle.dcc_act.specs.declared.outcome.Outcome.{Outcome}
@@ -20,6 +20,7 @@ use Rattle.dcc_act.specs.declared.outcome.RequestType.{RequestType}
 use Rattle.dcc_act.specs.declared.outcome.RequestType.TheVariants as request
 use Rattle.dcc_act.specs.declared.request_key.RequestKey.{RequestKey}
 use Rattle.dcc_act.specs.declared.service_key.ServiceKey.{ServiceKey}
+use Rattle.dcc_act.specs.declared.session_limit.SessionLimit.{SessionLimit}
 use Rattle.dcc_act.specs.declared.top_up.TopUp.{TopUp}
 use Rattle.dcc_model.specs.declared.decide.TheConstants.{CEILING}
 use Rattle.dcc_model.specs.Keys.{request_key, is_expiry}
@@ -76,13 +77,13 @@ reported_served facts sessions type key services h =
     ]
 
 -- an initial request that succeeds is served
-begun_served : (facts : Facts) (sessions : List SessionView) (key : RequestKey) (services : List ServiceView)
-    → succeeded (begun_in facts sessions key services) ≡ true
-    → answers_of (begun_in facts sessions key services) ≡ answers_in facts.standing.free (own_in sessions key.sid) services [] services
-begun_served facts sessions key services h =
+begun_served : (facts : Facts) (sessions : List SessionView) (key : RequestKey) (limit : SessionLimit) (services : List ServiceView)
+    → succeeded (begun_in facts sessions key limit services) ≡ true
+    → answers_of (begun_in facts sessions key limit services) ≡ answers_in facts.standing.free (own_in sessions key.sid) services [] services
+begun_served facts sessions key limit services h =
     elim (cases_Bool facts.was_opened) [
       | inl was ↦ let no : false ≡ true = rw was at h in absurd cc
-      | inr fresh ↦ elim (cases_Bool (nat_le MAX_SESSIONS (length sessions))) [
+      | inr fresh ↦ elim (cases_Bool (nat_le (most_sessions limit) (length sessions))) [
         | inl many ↦ let no : false ≡ true = rw (fresh, many) at h in absurd cc
         | inr few ↦ rw (fresh, few) refl
       ]
@@ -139,14 +140,14 @@ change_backed terms facts sessions moment (kind.TopUp top_up) keyed low high = t
 change_backed terms facts sessions moment (kind.Event event) keyed low high =
     event_posted facts.standing.funds facts.standing.free event.action (asked_units event.service) high
 change_backed terms facts sessions moment kind.Expiry keyed low high = tt
-change_backed terms facts sessions moment (kind.Initial opening) keyed low high =
-    let services = looked_at (kind.Initial opening) in
+change_backed terms facts sessions moment (kind.Initial opening limit host) keyed low high =
+    let services = looked_at (kind.Initial opening limit host) in
     let own = own_in sessions opening.key.sid in
-    let outcome = begun_in facts sessions opening.key services in
+    let outcome = begun_in facts sessions opening.key limit services in
     elim (cases_Bool (succeeded outcome)) [
       | inr f ↦ rw f tt
       | inl t ↦
-          let served = begun_served facts sessions opening.key services t in
+          let served = begun_served facts sessions opening.key limit services t in
           let nothing = no_charges own opening.services in
           let apart = ap are_apart (same_keys_reported opening.services) ∙ keyed in
           rw t (served_goes facts.standing.funds facts.standing.free own (turn_after terms sessions moment opening.key.sid services outcome) apart (ap (filter_map held_by) served) refl (omega (arith, ints)) refl)
@@ -206,9 +207,9 @@ made_backed terms facts first sessions moment kind.Expiry outcome keyed low high
 made_backed terms facts first sessions moment (kind.Event event) outcome keyed low high made is =
     let decided = is ∙ decided_new facts first sessions (record { moment = moment; kind = kind.Event event }) made refl refl in
     subst (StandsOn terms facts sessions moment (kind.Event event)) (sym decided) (change_backed terms facts sessions moment (kind.Event event) keyed low high)
-made_backed terms facts first sessions moment (kind.Initial opening) outcome keyed low high made is =
-    let decided = is ∙ decided_new facts first sessions (record { moment = moment; kind = kind.Initial opening }) made refl refl in
-    subst (StandsOn terms facts sessions moment (kind.Initial opening)) (sym decided) (change_backed terms facts sessions moment (kind.Initial opening) keyed low high)
+made_backed terms facts first sessions moment (kind.Initial opening limit host) outcome keyed low high made is =
+    let decided = is ∙ decided_new facts first sessions (record { moment = moment; kind = kind.Initial opening limit host }) made refl refl in
+    subst (StandsOn terms facts sessions moment (kind.Initial opening limit host)) (sym decided) (change_backed terms facts sessions moment (kind.Initial opening limit host) keyed low high)
 made_backed terms facts first sessions moment (kind.Update report) outcome keyed low high made is =
     let decided = is ∙ decided_new facts first sessions (record { moment = moment; kind = kind.Update report }) made refl refl in
     subst (StandsOn terms facts sessions moment (kind.Update report)) (sym decided) (change_backed terms facts sessions moment (kind.Update report) keyed low high)

@@ -5,11 +5,11 @@ use Rattle.std.specs.Option.{option_map_or}
 use Rattle.std.proofs.lemmas.Bool.{cases_Bool}
 use Rattle.std.proofs.lemmas.List.{length-map}
 use Rattle.dcc_tariff.specs.Terms.{TermsView}
+use Rattle.dcc_act.specs.Limits.{most_sessions}
 use Rattle.dcc_act.specs.Services.{ServiceView}
 use Rattle.dcc_act.specs.declared.act.Act.{Act}
 use Rattle.dcc_act.specs.declared.act.Kind.{Kind}
 use Rattle.dcc_act.specs.declared.act.Kind.TheVariants as kind
-use Rattle.dcc_act.specs.declared.limits.TheConstants.{MAX_SESSIONS}
 use Rattle.dcc_act.specs.declared.outcome.Outcome.{Outcome}
 use Rattle.dcc_act.specs.declared.outcome.Outcome.TheVariants.{Expired}
 use Rattle.dcc_act.specs.declared.outcome.RequestType.{RequestType}
@@ -17,6 +17,7 @@ use Rattle.dcc_act.specs.declared.outcome.RequestType.TheVariants as request
 use Rattle.dcc_act.specs.declared.outcome.ResultCode.TheVariants.{UnknownSession, ResourcesExceeded, UnableToComply}
 use Rattle.dcc_act.specs.declared.outcome.ServiceAnswer.{ServiceAnswer}
 use Rattle.dcc_act.specs.declared.request_key.RequestKey.{RequestKey}
+use Rattle.dcc_act.specs.declared.session_limit.SessionLimit.{SessionLimit}
 use Rattle.dcc_model.specs.declared.done.Done.{Done}
 use Rattle.dcc_model.specs.declared.judgement.Standing.{Standing}
 use Rattle.dcc_model.specs.Entries.{charge_entries, entries_of_kind}
@@ -54,11 +55,11 @@ served_is terms past standing sessions knows type key services =
     ∙ ap (λ (own : List Held). served_in (free_of terms past) own type key services) (own_by terms past standing sessions knows key.sid)
     ∙ ap (λ (made : List ServiceAnswer). answered type key made) (sym (answers_are terms past knows.sound key.sid services [] services))
 
-begun_is : (terms : TermsView) (past : List Done) (facts : Facts) (sessions : List SessionView) → Knows terms past facts.standing sessions → (key : RequestKey) (services : List ServiceView)
-    → facts.was_opened ≡ was_opened past key.sid → begun_in facts sessions key services ≡ begun terms past key services
-begun_is terms past facts sessions knows key services opened =
+begun_is : (terms : TermsView) (past : List Done) (facts : Facts) (sessions : List SessionView) → Knows terms past facts.standing sessions → (key : RequestKey) (limit : SessionLimit) (services : List ServiceView)
+    → facts.was_opened ≡ was_opened past key.sid → begun_in facts sessions key limit services ≡ begun terms past key limit services
+begun_is terms past facts sessions knows key limit services opened =
     let with : Bool → ℕ → Outcome → Outcome = λ was many served.
-    cond was (bare request.Initial key UnableToComply) (cond (nat_le MAX_SESSIONS many) (bare request.Initial key ResourcesExceeded) served) in
+    cond was (bare request.Initial key UnableToComply) (cond (nat_le (most_sessions limit) many) (bare request.Initial key ResourcesExceeded) served) in
     ap (λ (was : Bool). with was (length sessions) (served_in facts.standing.free (own_in sessions key.sid) request.Initial key services)) opened
     ∙ ap (λ (many : ℕ). with (was_opened past key.sid) many (served_in facts.standing.free (own_in sessions key.sid) request.Initial key services)) (many_are terms past sessions knows.once knows.sessions_are)
     ∙ ap (with (was_opened past key.sid) (length (open_sessions terms past))) (served_is terms past facts.standing sessions knows request.Initial key services)
@@ -83,7 +84,7 @@ reported_is terms past facts sessions knows type key services =
 pub decided_is : (terms : TermsView) (past : List Done) (facts : Facts) (sessions : List SessionView) → Knows terms past facts.standing sessions → (moment : ℕ) (k : Kind)
     → facts.was_opened ≡ was_opened_by past (request_key k) → decided_in facts sessions moment k ≡ decided terms past moment k
 decided_is terms past facts sessions knows moment (kind.TopUp top_up) opened = ap (λ (s : Standing). top_up_outcome s.funds top_up) knows.standing_is
-decided_is terms past facts sessions knows moment (kind.Initial opening) opened = begun_is terms past facts sessions knows opening.key (looked_at (kind.Initial opening)) opened
+decided_is terms past facts sessions knows moment (kind.Initial opening limit host) opened = begun_is terms past facts sessions knows opening.key limit (looked_at (kind.Initial opening limit host)) opened
 decided_is terms past facts sessions knows moment (kind.Update report) opened = reported_is terms past facts sessions knows request.Update report.key (looked_at (kind.Update report))
 decided_is terms past facts sessions knows moment (kind.Termination report) opened = reported_is terms past facts sessions knows request.Termination report.key (looked_at (kind.Termination report))
 decided_is terms past facts sessions knows moment (kind.Event event) opened = ap (λ (s : Standing). event_outcome s.funds s.free event) knows.standing_is
@@ -140,7 +141,7 @@ entries_are terms past standing sessions knows place moment sid services =
 pub entries_is : (terms : TermsView) (past : List Done) (standing : Standing) (sessions : List SessionView) → Knows terms past standing sessions → (place moment : ℕ) (k : Kind) (outcome : Outcome)
     → entries_by_in sessions place moment k outcome ≡ entries_of_kind terms past place moment k outcome
 entries_is terms past standing sessions knows place moment (kind.TopUp top_up) outcome = refl
-entries_is terms past standing sessions knows place moment (kind.Initial opening) outcome = refl
+entries_is terms past standing sessions knows place moment (kind.Initial opening limit host) outcome = refl
 entries_is terms past standing sessions knows place moment (kind.Update report) outcome =
     elim (cases_Bool (refused outcome)) [ inl t ↦ rw t refl | inr f ↦ rw f (entries_are terms past standing sessions knows place moment report.key.sid (looked_at (kind.Update report))) ]
 entries_is terms past standing sessions knows place moment (kind.Termination report) outcome =
@@ -161,7 +162,7 @@ pub looks_are : (terms : TermsView) (past : List Done) (standing : Standing) (se
 looks_are terms past standing sessions knows moment (kind.TopUp top_up) = omega arith
 looks_are terms past standing sessions knows moment (kind.Event event) = omega arith
 looks_are terms past standing sessions knows moment kind.Expiry = omega arith
-looks_are terms past standing sessions knows moment (kind.Initial opening) = few_own terms past standing sessions knows opening.key.sid
+looks_are terms past standing sessions knows moment (kind.Initial opening limit host) = few_own terms past standing sessions knows opening.key.sid
 looks_are terms past standing sessions knows moment (kind.Update report) = few_own terms past standing sessions knows report.key.sid
 looks_are terms past standing sessions knows moment (kind.Termination report) = few_own terms past standing sessions knows report.key.sid
 
@@ -178,6 +179,6 @@ pub looks_reach : (terms : TermsView) (past : List Done) (standing : Standing) (
 looks_reach terms past standing sessions knows (kind.TopUp top_up) = omega arith
 looks_reach terms past standing sessions knows (kind.Event event) = omega arith
 looks_reach terms past standing sessions knows kind.Expiry = omega arith
-looks_reach terms past standing sessions knows (kind.Initial opening) = all_own terms past standing sessions knows opening.key.sid
+looks_reach terms past standing sessions knows (kind.Initial opening limit host) = all_own terms past standing sessions knows opening.key.sid
 looks_reach terms past standing sessions knows (kind.Update report) = all_own terms past standing sessions knows report.key.sid
 looks_reach terms past standing sessions knows (kind.Termination report) = all_own terms past standing sessions knows report.key.sid

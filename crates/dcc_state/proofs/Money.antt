@@ -38,7 +38,7 @@ pub funds_with : (terms : TermsView) (sessions : List SessionView) (funds : ℤ)
 funds_with terms sessions funds moment (kind.TopUp top_up) outcome = omega (arith, ints)
 funds_with terms sessions funds moment (kind.Event event) outcome = omega (arith, ints)
 funds_with terms sessions funds moment kind.Expiry outcome = omega (arith, ints)
-funds_with terms sessions funds moment (kind.Initial opening) outcome =
+funds_with terms sessions funds moment (kind.Initial opening limit host) outcome =
     elim (cases_Bool (succeeded outcome)) [
       | inl t ↦ let nothing = no_charges (own_in sessions opening.key.sid) opening.services in rw t (omega (arith, ints))
       | inr f ↦ rw f (omega (arith, ints))
@@ -57,7 +57,7 @@ pub overrun_is : (terms : TermsView) (sessions : List SessionView) (moment : ℕ
 overrun_is terms sessions moment (kind.TopUp top_up) outcome = refl
 overrun_is terms sessions moment (kind.Event event) outcome = refl
 overrun_is terms sessions moment kind.Expiry outcome = refl
-overrun_is terms sessions moment (kind.Initial opening) outcome =
+overrun_is terms sessions moment (kind.Initial opening limit host) outcome =
     elim (cases_Bool (succeeded outcome)) [
       | inl t ↦ rw t (no_overruns (own_in sessions opening.key.sid) opening.services)
       | inr f ↦ rw f refl

@@ -13,6 +13,7 @@ use Rattle.dcc_act.specs.declared.outcome.Outcome.{Outcome}
 use Rattle.dcc_act.specs.declared.outcome.RequestType.{RequestType}
 use Rattle.dcc_act.specs.declared.outcome.RequestType.TheVariants as request
 use Rattle.dcc_act.specs.declared.request_key.RequestKey.{RequestKey}
+use Rattle.dcc_act.specs.declared.session_limit.SessionLimit.{SessionLimit}
 use Rattle.dcc_act.specs.declared.session_request.SessionRequest.{SessionRequest}
 use Rattle.dcc_model.specs.declared.done.Done.{Done}
 use Rattle.dcc_model.specs.declared.judgement.Standing.{Standing}
@@ -156,12 +157,12 @@ reported_open terms past type key services h =
 abbrev pub done_as : ℕ → Kind → Outcome → Done
 done_as moment k outcome = record { act = record { moment = moment; kind = k }; outcome = outcome }
 
-initial_change : (terms : TermsView) (past : List Done) (standing : Standing) (sessions : List SessionView) → Knows terms past standing sessions → (moment : ℕ) (opening : SessionRequest) (outcome : Outcome)
-    → AreOpen terms (done_as moment (kind.Initial opening) outcome ∷ past) (changed (change_of terms sessions moment (kind.Initial opening) outcome) sessions)
-initial_change terms past standing sessions knows moment opening outcome =
-    let done = done_as moment (kind.Initial opening) outcome in
+initial_change : (terms : TermsView) (past : List Done) (standing : Standing) (sessions : List SessionView) → Knows terms past standing sessions → (moment : ℕ) (opening : SessionRequest) (limit : SessionLimit) (host : Option (List ℕ)) (outcome : Outcome)
+    → AreOpen terms (done_as moment (kind.Initial opening limit host) outcome ∷ past) (changed (change_of terms sessions moment (kind.Initial opening limit host) outcome) sessions)
+initial_change terms past standing sessions knows moment opening limit host outcome =
+    let done = done_as moment (kind.Initial opening limit host) outcome in
     let own = opening.key.sid in
-    let services = looked_at (kind.Initial opening) in
+    let services = looked_at (kind.Initial opening limit host) in
     elim (cases_Bool (succeeded outcome)) [
       | inl t ↦
           let session_is : session_of done ≡ Some own = rw t refl in
@@ -237,7 +238,7 @@ pub change_is : (terms : TermsView) (past : List Done) (standing : Standing) (se
 change_is terms past standing sessions knows moment (kind.TopUp top_up) outcome is =
     unmoved terms past (done_as moment (kind.TopUp top_up) outcome) sessions
     (λ sid. quiet terms past (done_as moment (kind.TopUp top_up) outcome) sid refl refl refl refl refl refl) knows.sessions_are
-change_is terms past standing sessions knows moment (kind.Initial opening) outcome is = initial_change terms past standing sessions knows moment opening outcome
+change_is terms past standing sessions knows moment (kind.Initial opening limit host) outcome is = initial_change terms past standing sessions knows moment opening limit host outcome
 change_is terms past standing sessions knows moment (kind.Update report) outcome is = update_change terms past standing sessions knows moment report outcome is
 change_is terms past standing sessions knows moment (kind.Termination report) outcome is = termination_change terms past standing sessions knows moment report outcome
 change_is terms past standing sessions knows moment (kind.Event event) outcome is =

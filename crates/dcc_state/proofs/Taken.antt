@@ -1,4 +1,4 @@
--- A session is taken out of those that are open, or those whose time is over.
+-- A session is taken out of those that are open.
 use Rattle.std.proofs.Common.{◌≡◌, ℕ, zero, suc, ◌+◌, ◌<◌, ◌≤◌, Bool, true, false, not, List, [], ◌∷◌, length, get_or, filter, refl, sym, ap, ◌∙◌, inl, inr, arith, bytes_eq, Some, None}
 use Rattle.std.specs.Prelude.{position, remove, nat_lt}
 use Rattle.std.specs.List.{list_any, position_or_len}
@@ -60,12 +60,3 @@ not_there sessions sid h =
       | inl t ↦ let some : Some (position_or_len (is_session sid) sessions) ≡ None = rw t at h in absurd cc
       | inr f ↦ none_own sessions sid (grind (arith, nat_tests, f))
     ]
-
--- one that passes a test is removed, and those that don't pass it are the same
-pub removed : {X : Type 0} (p : X → Bool) (xs : List X) (i : ℕ) (d : X) → i < length xs → p (get_or xs i d) ≡ true
-    → filter (λ x. not (p x)) (remove xs i) ≡ filter (λ x. not (p x)) xs
-removed p [] i d within passes = absurd (omega arith)
-removed p (x ∷ xs) zero d within passes = rw passes refl
-removed p (x ∷ xs) (suc i) d within passes =
-    let rest = removed p xs i d (omega arith) passes in
-    elim (cases_Bool (p x)) [ inl t ↦ rw t rest | inr f ↦ rw f (ap (λ (more : List _). x ∷ more) rest) ]

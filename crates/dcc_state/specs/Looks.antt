@@ -18,7 +18,7 @@ many_over terms past moment = length (filter (λ (held : Live). nat_le (deadline
 -- and a top-up and a one-time event at none
 abbrev pub most_looks : TermsView → List Done → (moment : ℕ) → Kind → ℕ
 most_looks terms past moment (kind.TopUp top_up) = 0
-most_looks terms past moment (kind.Initial request) = many_of terms past request.key.sid
+most_looks terms past moment (kind.Initial request limit host) = many_of terms past request.key.sid
 most_looks terms past moment (kind.Update request) = many_of terms past request.key.sid
 most_looks terms past moment (kind.Termination request) = many_of terms past request.key.sid
 most_looks terms past moment (kind.Event event) = 0
@@ -27,7 +27,7 @@ most_looks terms past moment kind.Expiry = many_over terms past moment
 -- those that an act has to look at, each of which counts: a request of a session at each of its own session's; and else none
 abbrev pub least_looks : TermsView → List Done → Kind → ℕ
 least_looks terms past (kind.TopUp top_up) = 0
-least_looks terms past (kind.Initial request) = many_of terms past request.key.sid
+least_looks terms past (kind.Initial request limit host) = many_of terms past request.key.sid
 least_looks terms past (kind.Update request) = many_of terms past request.key.sid
 least_looks terms past (kind.Termination request) = many_of terms past request.key.sid
 least_looks terms past (kind.Event event) = 0

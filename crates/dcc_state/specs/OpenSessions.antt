@@ -53,7 +53,7 @@ own_in sessions sid = option_map_or (λ (session : SessionView). session.grants)
 -- what the session of a request holds; what is no request of a session has none
 abbrev pub own_by : List SessionView → Kind → List Held
 own_by sessions (kind.TopUp top_up) = []
-own_by sessions (kind.Initial request) = own_in sessions request.key.sid
+own_by sessions (kind.Initial request limit host) = own_in sessions request.key.sid
 own_by sessions (kind.Update request) = own_in sessions request.key.sid
 own_by sessions (kind.Termination request) = own_in sessions request.key.sid
 own_by sessions (kind.Event event) = []

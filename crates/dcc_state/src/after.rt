@@ -82,7 +82,7 @@ pub(crate) fn change_of(
             });
         }
         Kind::Expiry => return Ok(Change::Expire(moment)),
-        Kind::Initial(request) if has_succeeded(outcome) => &request.key.sid,
+        Kind::Initial { request, .. } if has_succeeded(outcome) => &request.key.sid,
         Kind::Update(request) if !is_refused(outcome) && has_succeeded(outcome) => &request.key.sid,
         Kind::Update(request) | Kind::Termination(request) if !is_refused(outcome) => {
             return Ok(Change::End {
@@ -90,7 +90,9 @@ pub(crate) fn change_of(
                 services,
             });
         }
-        Kind::Initial(_) | Kind::Update(_) | Kind::Termination(_) => return Ok(Change::Nothing),
+        Kind::Initial { .. } | Kind::Update(_) | Kind::Termination(_) => {
+            return Ok(Change::Nothing);
+        }
     };
     let turn = turn_with(alloc, terms, own, moment, sid, services, outcome)?;
     Ok(Change::Open(turn))

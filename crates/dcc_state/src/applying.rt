@@ -2,7 +2,7 @@
 
 ghost use Rattle.std.specs.Prelude.{◌≡◌, ℕ, List, Some, None, if◌then◌else◌, ◌≤◌, ◌<◌, ◌+◌, ◌*◌, ◌∷◌, [], ◌++◌, filter, not, pos, ◌+ℤ◌, ◌-ℤ◌, sum_by, vec_len, vec_capacity};
 ghost use Rattle.dcc_escrow.specs.Pools.{free};
-ghost use Rattle.dcc_act.specs.declared.limits.TheConstants.{MAX_SERVICES};
+ghost use Rattle.dcc_escrow.specs.declared.limits.TheConstants.{MOST_MONEY};
 ghost use Rattle.dcc_expiry.specs.Deadlines.{deadline_of, later_than, same_session};
 ghost use Rattle.dcc_session.specs.Grants.{prices, charges_in, overruns_in};
 ghost use Rattle.dcc_state.specs.Backed.{IsBorne, IsPosted, GoesOn, IsBacked};
@@ -11,15 +11,15 @@ ghost use Rattle.dcc_state.specs.OpenSessions.{is_session, is_over_at, own_in, A
 ghost use Rattle.dcc_state.specs.declared.limits.TheConstants.{POOL};
 
 use crate::change::{Change, Turn};
-use crate::open_session::{OpenSession, place_over, take_out};
-use dcc_act::{MAX_SERVICES, Moment, Services, SessionId};
+use crate::open_session::{OpenSession, gather_open, take_out};
+use dcc_act::{Moment, Services, SessionId};
 use dcc_escrow::Pool;
 use dcc_expiry::Due;
 use dcc_session::{Idle, Open};
-use dcc_tariff::MAX_PRICE;
 
 impl Change {
-    /// Makes the change, and tells what it charges beyond what the services held, in minor units. It takes no memory.
+    /// Makes the change, and tells what it charges beyond what the services held, in minor units: at most 2 * 10^18, since the
+    /// floor bears it. It takes no memory.
     pub fn apply(self, sessions: &mut Vec<OpenSession>, due: &mut Due, pool: &mut Pool) -> u64
         requires room { vec_len sessions.old < vec_capacity sessions.old }
         requires room_due { 1 ≤ due.old.room }
@@ -32,7 +32,7 @@ impl Change {
         ensures holds { HoldsAll pool.new sessions.new.items }
         ensures funds { pool.new.committed ≡ funds_after self pool.old.committed sessions.old.items }
         ensures overrun { result ≡ overrun_with self sessions.old.items }
-        ensures bound { result ≤ MAX_SERVICES * MAX_PRICE }
+        ensures bound { result ≤ 2 * MOST_MONEY }
     {
         match self {
             Change::Nothing => 0,
@@ -91,7 +91,7 @@ fn go_on(sessions: &mut Vec<OpenSession>, due: &mut Due, pool: &mut Pool, turn: 
     ensures holds { HoldsAll pool.new sessions.new.items }
     ensures funds { pool.new.committed ≡ pool.old.committed -ℤ pos (charges_in (own_in sessions.old.items turn.sid) turn.services) }
     ensures overrun { result ≡ overruns_in (own_in sessions.old.items turn.sid) turn.services }
-    ensures bound { result ≤ MAX_SERVICES * MAX_PRICE }
+    ensures bound { result ≤ 2 * MOST_MONEY }
 {
     let Turn {
         sid,
@@ -130,7 +130,7 @@ fn end(
     ensures holds { HoldsAll pool.new sessions.new.items }
     ensures funds { pool.new.committed ≡ pool.old.committed -ℤ pos (charges_in (own_in sessions.old.items sid.now) services.now) }
     ensures overrun { result ≡ overruns_in (own_in sessions.old.items sid.now) services.now }
-    ensures bound { result ≤ MAX_SERVICES * MAX_PRICE }
+    ensures bound { result ≤ 2 * MOST_MONEY }
 {
     due.clear(sid);
     let mut open = resume(sessions, pool, sid);
@@ -148,8 +148,9 @@ fn end_over(sessions: &mut Vec<OpenSession>, due: &mut Due, pool: &mut Pool, mom
     ensures funds { pool.new.committed ≡ pool.old.committed }
 {
     due.clear_due(moment);
-    while let Some(at) = place_over(sessions, moment) {
-        let over = sessions.remove(at);
+    let kept = gather_open(sessions, moment);
+    while sessions.len() > kept {
+        let over = sessions.pop().unwrap();
         over.session.resume().end(pool);
     }
 }

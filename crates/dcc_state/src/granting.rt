@@ -1,6 +1,6 @@
 //! The answers to the services of a request of a session.
 
-ghost use Rattle.std.specs.Prelude.{◌≡◌, ◌≤◌, ◌*◌, [], neg_ℤ, ◌≤ℤ◌, length, sum_by, IfOk};
+ghost use Rattle.std.specs.Prelude.{◌≡◌, ◌≤◌, ◌*◌, [], pos, neg_ℤ, ◌≤ℤ◌, length, sum_by, IfOk};
 ghost use Rattle.dcc_act.specs.Services.{ServiceView};
 ghost use Rattle.dcc_act.specs.declared.limits.TheConstants.{MAX_SERVICES};
 ghost use Rattle.dcc_act.specs.declared.outcome.ServiceAnswer.{ServiceAnswer};
@@ -58,8 +58,8 @@ fn room(free: i128, own: &[Held], services: &[Service], before: &[ServiceAnswer]
     requires free_high { free ≤ℤ CEILING }
     ensures { result ≡ room_in free own.now services.now before.now }
 {
-    let charged = i128::from(charges(own, services));
-    let made = i128::from(made_prices(before));
+    let charged = charges(own, services);
+    let made = made_prices(before);
     free + given_back(own, services) - (charged + made)
 }
 
@@ -75,14 +75,14 @@ fn made_price(answer: &ServiceAnswer) -> u64
 }
 
 /// The prices of the grants that were made.
-fn made_prices(answers: &[ServiceAnswer]) -> u64
+fn made_prices(answers: &[ServiceAnswer]) -> i128
     requires { length answers.now ≤ MAX_SERVICES }
-    ensures value { result ≡ sum_by made_price answers.now }
-    ensures bound { result ≤ MAX_SERVICES * MAX_PRICE }
+    ensures value { result ≡ pos (sum_by made_price answers.now) }
+    ensures bound { result ≤ℤ pos (MAX_SERVICES * MAX_PRICE) }
 {
     let mut sum = 0;
     for answer in answers {
-        sum += made_price(answer);
+        sum += i128::from(made_price(answer));
     }
     sum
 }

@@ -68,14 +68,14 @@ fn cost(own: &[Held], service: &Service) -> u64
 }
 
 /// The charges of a request's reports together.
-pub(crate) fn charges(own: &[Held], services: &[Service]) -> u64
+pub(crate) fn charges(own: &[Held], services: &[Service]) -> i128
     requires { length services.now ≤ MAX_SERVICES }
-    ensures value { result ≡ charges_in own.now services.now }
-    ensures bound { result ≤ MAX_SERVICES * MAX_PRICE }
+    ensures value { result ≡ pos (charges_in own.now services.now) }
+    ensures bound { result ≤ℤ pos (MAX_SERVICES * MAX_PRICE) }
 {
     let mut sum = 0;
     for service in services {
-        sum += cost(own, service);
+        sum += i128::from(cost(own, service));
     }
     sum
 }

@@ -151,6 +151,7 @@ fn outcome(
     requires few_ids { sum_by (λ (service : ServiceView). length service.ids) services.now ≤ MAX_IDS }
     requires looked { services.now ≡ looked_at act.now.kind }
     requires own { own.now ≡ own_by sessions.now act.now.kind }
+    requires funds_low { neg_ℤ CEILING ≤ℤ facts.now.standing.funds }
     requires free_low { neg_ℤ FARTHEST ≤ℤ facts.now.standing.free }
     requires free_high { facts.now.standing.free ≤ℤ CEILING }
     requires apart { AreApart sessions.now }
@@ -181,6 +182,7 @@ fn settled(
     requires few_ids { sum_by (λ (service : ServiceView). length service.ids) services.now ≤ MAX_IDS }
     requires looked { services.now ≡ looked_at act.now.kind }
     requires own { own.now ≡ own_by sessions.now act.now.kind }
+    requires funds_low { neg_ℤ CEILING ≤ℤ facts.now.standing.funds }
     requires free_low { neg_ℤ FARTHEST ≤ℤ facts.now.standing.free }
     requires free_high { facts.now.standing.free ≤ℤ CEILING }
     requires apart { AreApart sessions.now }
@@ -210,6 +212,7 @@ fn decide(
     requires few_ids { sum_by (λ (service : ServiceView). length service.ids) services.now ≤ MAX_IDS }
     requires looked { services.now ≡ looked_at kind.now }
     requires own { own.now ≡ own_by sessions.now kind.now }
+    requires funds_low { neg_ℤ CEILING ≤ℤ facts.now.standing.funds }
     requires free_low { neg_ℤ FARTHEST ≤ℤ facts.now.standing.free }
     requires free_high { facts.now.standing.free ≤ℤ CEILING }
     requires apart { AreApart sessions.now }
@@ -225,7 +228,9 @@ fn decide(
                 sessions: expired(sessions, due, moment),
             });
         }
-        Kind::Initial(opening) => return begun(alloc, facts, sessions, own, &opening.key, services),
+        Kind::Initial { request, limit, .. } => {
+            return begun(alloc, facts, sessions, own, &request.key, *limit, services);
+        }
         Kind::Update(report) => (RequestType::Update, report),
         Kind::Termination(report) => (RequestType::Termination, report),
     };

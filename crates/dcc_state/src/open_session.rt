@@ -1,6 +1,6 @@
 //! Sessions that are open.
 
-ghost use Rattle.std.specs.Prelude.{◌≡◌, ◌≤◌, ◌+◌, [], length, filter, not, position, sum_by, vec_len, vec_capacity, option_map};
+ghost use Rattle.std.specs.Prelude.{◌≡◌, ◌≤◌, ◌+◌, [], length, filter, not, position, sum_by, take, vec_len, vec_capacity, option_map};
 ghost use Rattle.std.specs.Option.{ForSome, option_map_or};
 ghost use Rattle.dcc_session.specs.Grants.{prices};
 ghost use Rattle.dcc_session.specs.Sessions.{OpenView};
@@ -57,11 +57,21 @@ fn place(sessions: &[OpenSession], sid: &SessionId) -> Option<usize>
     sessions.iter().position(|session| session.sid == *sid)
 }
 
-/// Where the first session stands whose time is over at this moment.
-pub(crate) fn place_over(sessions: &[OpenSession], moment: Moment) -> Option<usize>
-    ensures { result ≡ position (is_over_at moment) sessions.now }
+/// Moves the sessions whose time isn't over at this moment to the front, in their order, and tells how many they are. The
+/// others stand behind them, in any order. It takes no memory, and looks at each session once.
+pub(crate) fn gather_open(sessions: &mut [OpenSession], moment: Moment) -> usize
+    ensures kept { take result sessions.new ≡ filter (λ other. not (is_over_at moment other)) sessions.old }
+    ensures within { result ≤ length sessions.new }
+    ensures held { sum_by prices_of sessions.new ≡ sum_by prices_of sessions.old }
 {
-    sessions.iter().position(|session| is_over(session, moment))
+    let mut kept = 0;
+    for at in 0..sessions.len() {
+        if !is_over(&sessions[at], moment) {
+            sessions.swap(kept, at);
+            kept += 1;
+        }
+    }
+    kept
 }
 
 /// Takes the session of this name out, where it is in. It takes no memory.

@@ -13,10 +13,10 @@ use crate::grants::charges;
 use crate::limits::FARTHEST;
 use crate::open_session::OpenSession;
 use dcc_act::{
-    Answer, Kind, Looks, MAX_SESSIONS, Outcome, RequestKey, RequestType, ResultCode, Service,
-    ServiceAnswers, SessionId,
+    Answer, Kind, Looks, Outcome, RequestKey, RequestType, ResultCode, Service, ServiceAnswers,
+    SessionId, SessionLimit,
 };
-use dcc_model::{CEILING, bare, command_result, is_under};
+use dcc_model::{CEILING, bare, command_result, is_below_floor};
 use dcc_session::Held;
 use std::alloc::{AllocError, Global};
 
@@ -53,20 +53,21 @@ pub(crate) fn own_of<'a>(sessions: &'a [OpenSession], kind: &Kind, looks: &mut L
     ensures looks { looks.new ≡ length (own_by sessions.now kind.now) }
 {
     match kind {
-        Kind::Initial(request) | Kind::Update(request) | Kind::Termination(request) => {
+        Kind::Initial { request, .. } | Kind::Update(request) | Kind::Termination(request) => {
             own(sessions, &request.key.sid, looks)
         }
         Kind::TopUp(_) | Kind::Event(_) | Kind::Expiry => &[],
     }
 }
 
-/// What an initial request comes to: a session opens once, and no more than 64 are open at a time.
+/// What an initial request comes to: a session opens once, and only while fewer are open than the request's limit.
 pub(crate) fn begun(
     alloc: Global,
     facts: &Facts,
     sessions: &[OpenSession],
     own: &[Held],
     key: &RequestKey,
+    limit: SessionLimit,
     services: &[Service],
 ) -> Result<Outcome, AllocError>
     requires few { length services.now ≤ MAX_SERVICES }
@@ -74,11 +75,11 @@ pub(crate) fn begun(
     requires free_low { neg_ℤ FARTHEST ≤ℤ facts.now.standing.free }
     requires free_high { facts.now.standing.free ≤ℤ CEILING }
     requires own { own.now ≡ own_in sessions.now key.now.sid }
-    ensures { IfOk result (λ outcome. outcome ≡ begun_in facts.now sessions.now key.now services.now) }
+    ensures { IfOk result (λ outcome. outcome ≡ begun_in facts.now sessions.now key.now limit services.now) }
 {
     if facts.was_opened {
         bare(alloc, RequestType::Initial, key, ResultCode::UnableToComply)
-    } else if sessions.len() >= MAX_SESSIONS {
+    } else if sessions.len() >= limit.sessions() {
         bare(
             alloc,
             RequestType::Initial,
@@ -103,6 +104,7 @@ pub(crate) fn reported(
 ) -> Result<Outcome, AllocError>
     requires few { length services.now ≤ MAX_SERVICES }
     requires few_ids { sum_by (λ (service : ServiceView). length service.ids) services.now ≤ MAX_IDS }
+    requires funds_low { neg_ℤ CEILING ≤ℤ facts.now.standing.funds }
     requires free_low { neg_ℤ FARTHEST ≤ℤ facts.now.standing.free }
     requires free_high { facts.now.standing.free ≤ℤ CEILING }
     requires own { own.now ≡ own_in sessions.now key.now.sid }
@@ -112,7 +114,7 @@ pub(crate) fn reported(
         return bare(alloc, request, key, ResultCode::UnknownSession);
     }
     let charged = charges(own, services);
-    if is_under(facts.standing.funds, charged) {
+    if is_below_floor(facts.standing.funds - charged) {
         bare(alloc, request, key, ResultCode::UnableToComply)
     } else {
         let free = facts.standing.free;

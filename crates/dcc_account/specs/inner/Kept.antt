@@ -1,11 +1,10 @@
 -- What an account keeps.
 use Rattle.std.specs.Prelude.{◌≡◌, ℕ, ◌*◌, ℤ, pos, ◌≤ℤ◌, List, length, map, reverse}
 use Rattle.dcc_escrow.specs.Pools.{PoolView}
+use Rattle.dcc_escrow.specs.declared.limits.TheConstants.{MOST_MONEY}
 use Rattle.dcc_expiry.specs.Deadlines.{DueView}
 use Rattle.dcc_tariff.specs.Terms.{TermsView}
 use Rattle.dcc_act.specs.declared.entry.Entry.{Entry}
-use Rattle.dcc_tariff.specs.declared.limits.TheConstants.{MAX_PRICE}
-use Rattle.dcc_act.specs.declared.limits.TheConstants.{MAX_SERVICES}
 use Rattle.dcc_act.specs.declared.act.Act.{Act}
 use Rattle.dcc_act.specs.declared.outcome.Outcome.{Outcome}
 use Rattle.dcc_model.specs.Outcomes.{act_made, history, funds, overrun}
@@ -25,9 +24,9 @@ pub record IsKept (terms : TermsView) (all : List Act) (came : List Outcome) (po
   pub came_are : came ≡ outcomes terms all
   pub entries_are : posted ≡ entries terms all
 
--- the most that one act overruns
+-- the most that one act overruns: what the floor bears of the most funds
 abbrev pub MAX_OVERRUN : ℕ
-MAX_OVERRUN = MAX_SERVICES * MAX_PRICE
+MAX_OVERRUN = 2 * MOST_MONEY
 
 -- the sessions that are kept are those that are open, and the deadlines theirs; what the pool has reserved is just what they hold, and what it has
 -- committed is the funds; what is overrun is as defined, and can be reckoned with; the indexes find what a look back over the

@@ -2,18 +2,19 @@
 use Rattle.std.specs.Prelude.{ℕ, ◌+◌, Bool, not, ◌&&◌, ◌||◌, nat_le, nat_lt, if◌then◌else◌, List, [], ◌∷◌, ◌++◌, length, count_by, filter_map, Option, Some, is_some, is_none, option_map, unwrap_or}
 use Rattle.std.specs.Option.{option_to_list, option_map_or}
 use Rattle.dcc_tariff.specs.Terms.{TermsView}
+use Rattle.dcc_act.specs.Limits.{most_sessions}
 use Rattle.dcc_act.specs.Services.{ServiceView}
 use Rattle.dcc_act.specs.declared.act.Act.{Act}
 use Rattle.dcc_act.specs.declared.act.Kind.{Kind}
 use Rattle.dcc_act.specs.declared.act.Kind.TheVariants as kind
 use Rattle.dcc_act.specs.declared.entry.Entry.{Entry}
-use Rattle.dcc_act.specs.declared.limits.TheConstants.{MAX_SESSIONS}
 use Rattle.dcc_act.specs.declared.outcome.Outcome.{Outcome}
 use Rattle.dcc_act.specs.declared.outcome.Outcome.TheVariants.{Expired}
 use Rattle.dcc_act.specs.declared.outcome.RequestType.{RequestType}
 use Rattle.dcc_act.specs.declared.outcome.RequestType.TheVariants as request
 use Rattle.dcc_act.specs.declared.outcome.ResultCode.TheVariants.{UnknownSession, ResourcesExceeded, UnableToComply}
 use Rattle.dcc_act.specs.declared.request_key.RequestKey.{RequestKey}
+use Rattle.dcc_act.specs.declared.session_limit.SessionLimit.{SessionLimit}
 use Rattle.dcc_model.specs.Entries.{top_up_entry, debit_entry, refund_entry}
 use Rattle.dcc_model.specs.Keys.{request_key, is_expiry}
 use Rattle.dcc_model.specs.Money.{charged_event, refunded_event, credit, debit}
@@ -36,10 +37,10 @@ is_open_in sessions sid = is_some (session_in sessions sid)
 abbrev pub expired_in : List SessionView → ℕ → ℕ
 expired_in sessions moment = count_by (is_over_at moment) sessions
 
-abbrev pub begun_in : Facts → List SessionView → RequestKey → List ServiceView → Outcome
-begun_in facts sessions key services =
+abbrev pub begun_in : Facts → List SessionView → RequestKey → SessionLimit → List ServiceView → Outcome
+begun_in facts sessions key limit services =
     if facts.was_opened then bare request.Initial key UnableToComply
-    else if nat_le MAX_SESSIONS (length sessions) then bare request.Initial key ResourcesExceeded
+    else if nat_le (most_sessions limit) (length sessions) then bare request.Initial key ResourcesExceeded
     else served_in facts.standing.free (own_in sessions key.sid) request.Initial key services
 
 abbrev pub reported_in : Facts → List SessionView → RequestType → RequestKey → List ServiceView → Outcome
@@ -50,7 +51,7 @@ reported_in facts sessions type key services =
 
 abbrev pub decided_in : Facts → List SessionView → ℕ → Kind → Outcome
 decided_in facts sessions moment (kind.TopUp top_up) = top_up_outcome facts.standing.funds top_up
-decided_in facts sessions moment (kind.Initial opening) = begun_in facts sessions opening.key (looked_at (kind.Initial opening))
+decided_in facts sessions moment (kind.Initial opening limit host) = begun_in facts sessions opening.key limit (looked_at (kind.Initial opening limit host))
 decided_in facts sessions moment (kind.Update report) = reported_in facts sessions request.Update report.key (looked_at (kind.Update report))
 decided_in facts sessions moment (kind.Termination report) =
     reported_in facts sessions request.Termination report.key (looked_at (kind.Termination report))
@@ -110,8 +111,8 @@ turn_after terms sessions moment sid services outcome = turn_with terms (own_in 
 -- what a new act does to the money and to the sessions that are open
 abbrev pub change_with : TermsView → List Held → ℕ → Kind → Outcome → Change
 change_with terms own moment (kind.TopUp top_up) outcome = Post (credit (kind.TopUp top_up) outcome) (debit (kind.TopUp top_up) outcome)
-change_with terms own moment (kind.Initial opening) outcome =
-    if succeeded outcome then Open (turn_with terms own moment opening.key.sid (looked_at (kind.Initial opening)) outcome) else Nothing
+change_with terms own moment (kind.Initial opening limit host) outcome =
+    if succeeded outcome then Open (turn_with terms own moment opening.key.sid (looked_at (kind.Initial opening limit host)) outcome) else Nothing
 change_with terms own moment (kind.Update report) outcome =
     if refused outcome then Nothing
     else if succeeded outcome then Open (turn_with terms own moment report.key.sid (looked_at (kind.Update report)) outcome)
