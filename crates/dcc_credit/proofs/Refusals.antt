@@ -8,7 +8,7 @@ use Rattle.std.specs.declared.alloc.AllocError.{AllocError}
 use Rattle.dcc_octets.specs.Names.{is_short}
 use Rattle.dcc_octets.specs.Numbers.{number_in}
 use Rattle.dcc_avp.specs.Spelling.{AvpView, HasSpelling}
-use Rattle.dcc_avp.specs.declared.codes.TheConstants.{SESSION_ID, RESULT_CODE, ORIGIN_HOST, ORIGIN_REALM, AUTH_APPLICATION_ID, CC_REQUEST_TYPE, CC_REQUEST_NUMBER}
+use Rattle.dcc_avp.specs.declared.codes.TheConstants.{SESSION_ID, RESULT_CODE, ORIGIN_HOST, ORIGIN_REALM, AUTH_APPLICATION_ID, CC_REQUEST_TYPE, CC_REQUEST_NUMBER, SUBSCRIPTION_ID}
 use Rattle.dcc_message.specs.HeaderView.{HeaderView}
 use Rattle.dcc_message.specs.declared.applications.TheConstants.{CREDIT_CONTROL}
 use Rattle.dcc_message.specs.declared.identity.Identity.{Identity}
@@ -16,14 +16,16 @@ use Rattle.dcc_request.specs.declared.cause.Cause.{Cause}
 use Rattle.dcc_request.specs.declared.cause.Cause.TheVariants.{CommandUnsupported, ApplicationUnsupported, InvalidHeaderBits}
 use Rattle.dcc_request.specs.declared.cause.Cause.TheVariants.{AvpUnsupported, InvalidAvpValue, MissingAvp, ContradictingAvps}
 use Rattle.dcc_request.specs.declared.cause.Cause.TheVariants.{AvpOccursTooManyTimes, NoCommonApplication, InvalidAvpLength, NoCommonSecurity}
-use Rattle.dcc_request.specs.Refusals.{Refusal, cause_number}
+use Rattle.dcc_request.specs.Refusals.{Refusal, refusal, cause_number}
+use Rattle.dcc_request.specs.Checks.{missing_avp}
+use Rattle.dcc_act.specs.declared.act.Act.{Act}
 use Rattle.dcc_answer.specs.declared.protocol_error.TheConstants.{TOO_BUSY}
 use Rattle.dcc_answer.specs.Avps.{sent}
 use Rattle.dcc_answer.specs.Answers.{IsServer}
 use Rattle.dcc_answer.specs.Failed.{failed_avps}
 use Rattle.dcc_answer.specs.Proxies.{SpellProxies}
 use Rattle.dcc_answer.specs.Results.{is_just, are_busy, is_busy}
-use Rattle.dcc_credit.specs.Refusals.{Taken, number_avps, origin_avps, refusal_avps, refusal_octets}
+use Rattle.dcc_credit.specs.Refusals.{Taken, taken_of, number_avps, origin_avps, refusal_avps, refusal_octets, unfound_octets}
 use Rattle.dcc_credit.proofs.Messages.{AreTold, AreSome}
 use Rattle.dcc_credit.proofs.Spelled.{AllSpelled, sent_spelled, sent32_spelled, append_spelled, few_octets, few_of}
 
@@ -98,6 +100,17 @@ pub refusal_not_busy : AreTold → (identity : Identity) (request : HeaderView) 
 unfolding refusal_octets
 refusal_not_busy told identity request taken proxies refusal server short failed p =
     told request 0 (refusal_avps identity taken refusal) proxies (refusal_spelled identity taken refusal server short failed) p ∙ not_busy identity taken refusal
+
+-- a message without an AVP that has to be there
+abbrev pub lacking : ℕ → Refusal
+lacking code = refusal MissingAvp (missing_avp code)
+
+pub unfound_not_busy : AreTold → (identity : Identity) (request : HeaderView) (act : Act) (proxies : List ℕ) →
+    IsServer identity → ForSome (taken_of act.kind).session (λ octets. is_short octets ≡ true) → AllSpelled (failed_avps (lacking SUBSCRIPTION_ID).failed) → SpellProxies proxies →
+    is_busy (unfound_octets identity request act proxies) ≡ false
+unfolding unfound_octets
+unfound_not_busy told identity request act proxies server short failed p =
+    refusal_not_busy told identity request (taken_of act.kind) proxies (lacking SUBSCRIPTION_ID) server short failed p
 
 pub refusal_least : AreSome → (identity : Identity) (request : HeaderView) (taken : Taken) (proxies : List ℕ) (refusal : Refusal) →
     20 ≤ length (refusal_octets identity request taken proxies refusal)

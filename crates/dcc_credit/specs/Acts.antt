@@ -10,6 +10,7 @@ use Rattle.dcc_act.specs.declared.limits.TheConstants.{MAX_SECONDS}
 use Rattle.dcc_act.specs.declared.one_time_event.Action.{Action}
 use Rattle.dcc_act.specs.declared.one_time_event.OneTimeEvent.{OneTimeEvent}
 use Rattle.dcc_act.specs.declared.request_key.RequestKey.{RequestKey}
+use Rattle.dcc_act.specs.declared.session_limit.SessionLimit.TheVariants.{Many}
 use Rattle.dcc_act.specs.declared.session_request.SessionRequest.{SessionRequest}
 use Rattle.dcc_act.specs.declared.service.Form.TheVariants.{Single}
 use Rattle.dcc_act.specs.Services.{ServiceView}
@@ -90,13 +91,13 @@ abbrev pub event_of : PlanView → ℕ → RequestView → Action → OneTimeEve
 event_of plan moment request action =
     record { key = key_of request; action = action; service = service_of plan moment request.type (only_service request.services) }
 
--- what a request asks for, by its type
-abbrev pub kind_of : PlanView → ℕ → RequestView → RequestType → Kind
-kind_of plan moment request Initial = kind.Initial (session_of plan moment request)
-kind_of plan moment request Update = kind.Update (session_of plan moment request)
-kind_of plan moment request Termination = kind.Termination (session_of plan moment request)
-kind_of plan moment request (Event action) = kind.Event (event_of plan moment request action)
+-- What a request from a peer of this host asks for, by its type. An initial request keeps the host, and the limit of many sessions.
+abbrev pub kind_of : PlanView → (host : List ℕ) → ℕ → RequestView → RequestType → Kind
+kind_of plan host moment request Initial = kind.Initial (session_of plan moment request) Many (Some host)
+kind_of plan host moment request Update = kind.Update (session_of plan moment request)
+kind_of plan host moment request Termination = kind.Termination (session_of plan moment request)
+kind_of plan host moment request (Event action) = kind.Event (event_of plan moment request action)
 
--- the act that a request asks for at a moment
-unfoldable pub act_of : PlanView → RequestView → ℕ → Act
-act_of plan request moment = record { moment = moment; kind = kind_of plan moment request request.type }
+-- the act that a request from a peer of this host asks for at a moment
+unfoldable pub act_of : PlanView → (host : List ℕ) → RequestView → ℕ → Act
+act_of plan host request moment = record { moment = moment; kind = kind_of plan host moment request request.type }

@@ -1,5 +1,5 @@
 -- The octets of refusals of credit-control requests (RFC 6733, section 7.1.5, and RFC 8506, section 3.2).
-use Rattle.std.specs.Prelude.{ℕ, List, [], ◌∷◌, ◌++◌, Option, None, option_map, option_and_then}
+use Rattle.std.specs.Prelude.{ℕ, List, [], ◌∷◌, ◌++◌, Option, Some, None, option_map, option_and_then}
 use Rattle.std.specs.Int.{w32}
 use Rattle.std.specs.List.{find}
 use Rattle.std.specs.Option.{option_to_list}
@@ -7,11 +7,18 @@ use Rattle.dcc_octets.specs.Numbers.{number_in}
 use Rattle.dcc_avp.specs.Spelling.{AvpView, has_code}
 use Rattle.dcc_avp.specs.Reading.{FaultView}
 use Rattle.dcc_avp.specs.declared.codes.TheConstants.{SESSION_ID, RESULT_CODE, ORIGIN_HOST, ORIGIN_REALM, AUTH_APPLICATION_ID}
-use Rattle.dcc_avp.specs.declared.codes.TheConstants.{CC_REQUEST_TYPE, CC_REQUEST_NUMBER}
+use Rattle.dcc_avp.specs.declared.codes.TheConstants.{SUBSCRIPTION_ID, CC_REQUEST_TYPE, CC_REQUEST_NUMBER}
 use Rattle.dcc_message.specs.declared.applications.TheConstants.{CREDIT_CONTROL}
 use Rattle.dcc_message.specs.HeaderView.{HeaderView}
 use Rattle.dcc_message.specs.declared.identity.Identity.{Identity}
-use Rattle.dcc_request.specs.Refusals.{Refusal, cause_number}
+use Rattle.dcc_act.specs.declared.act.Act.{Act}
+use Rattle.dcc_act.specs.declared.act.Kind.{Kind}
+use Rattle.dcc_act.specs.declared.act.Kind.TheVariants as kind
+use Rattle.dcc_act.specs.declared.request_key.RequestKey.{RequestKey}
+use Rattle.dcc_request.specs.declared.cause.Cause.TheVariants.{MissingAvp}
+use Rattle.dcc_request.specs.declared.table.TheConstants.{UPDATE_TYPE, TERMINATION_TYPE}
+use Rattle.dcc_request.specs.Checks.{missing_avp}
+use Rattle.dcc_request.specs.Refusals.{Refusal, refusal, cause_number}
 use Rattle.dcc_request.specs.Layout.{unread}
 use Rattle.dcc_answer.specs.Avps.{sent, sent32}
 use Rattle.dcc_answer.specs.Answers.{answer_with}
@@ -35,6 +42,19 @@ taken_from avps = record { session = session_of avps; type = number_of CC_REQUES
 abbrev pub nothing : Taken
 nothing = record { session = None; type = None; number = None }
 
+-- from a request of this type and key that was read, all
+abbrev pub taken : ℕ → RequestKey → Taken
+taken type key = record { session = Some key.sid; type = Some type; number = Some key.number }
+
+-- from an update or a termination, by its act; of any other act nothing
+abbrev pub taken_of : Kind → Taken
+taken_of (kind.TopUp top_up) = nothing
+taken_of (kind.Initial request limit host) = nothing
+taken_of (kind.Update request) = taken UPDATE_TYPE request.key
+taken_of (kind.Termination request) = taken TERMINATION_TYPE request.key
+taken_of (kind.Event event) = nothing
+taken_of kind.Expiry = nothing
+
 -- a number in its AVP, where there is one
 abbrev pub number_avps : ℕ → Option ℕ → List AvpView
 number_avps code n = option_to_list (option_map (sent32 code) n)
@@ -47,14 +67,19 @@ origin_avps identity code =
 
 -- the AVPs of a refusal, in their order
 unfoldable pub refusal_avps : Identity → Taken → Refusal → List AvpView
-refusal_avps identity taken refusal =
-    option_to_list (option_map (sent SESSION_ID) taken.session) ++ origin_avps identity (cause_number refusal.cause) ++
-    number_avps CC_REQUEST_TYPE taken.type ++ number_avps CC_REQUEST_NUMBER taken.number ++ failed_avps refusal.failed
+refusal_avps identity over refused =
+    option_to_list (option_map (sent SESSION_ID) over.session) ++ origin_avps identity (cause_number refused.cause) ++
+    number_avps CC_REQUEST_TYPE over.type ++ number_avps CC_REQUEST_NUMBER over.number ++ failed_avps refused.failed
 
 -- the refusal of a request, under its identifiers and P bit, with its proxies at the end
 unfoldable pub refusal_octets : Identity → HeaderView → Taken → List ℕ → Refusal → List ℕ
-refusal_octets identity request taken proxies refusal = answer_with request 0 (refusal_avps identity taken refusal) proxies
+refusal_octets identity request over proxies refused = answer_with request 0 (refusal_avps identity over refused) proxies
 
 -- and of one whose list has this fault of layout
 abbrev pub unread_octets : Identity → HeaderView → FaultView → List ℕ
 unread_octets identity request fault = refusal_octets identity request nothing [] (unread fault)
+
+-- and of an update or a termination that names no subscriber, where its session doesn't tell one: a Subscription-Id is missing
+unfoldable pub unfound_octets : Identity → HeaderView → Act → List ℕ → List ℕ
+unfound_octets identity request act proxies =
+    refusal_octets identity request (taken_of act.kind) proxies (refusal MissingAvp (missing_avp SUBSCRIPTION_ID))

@@ -10,15 +10,19 @@ ghost use Rattle.dcc_credit.specs.Acts.{amount_in, or_instead, quantum_in, sessi
 
 use dcc_act::{
     Act, Action, Kind, MAX_IDS, MAX_SECONDS, Moment, OneTimeEvent, RequestKey, Service, ServiceIds,
-    Services, SessionId, SessionRequest,
+    Services, SessionId, SessionLimit, SessionRequest,
 };
 use dcc_ccr::{Amounts, Request, RequestType};
+use dcc_octets::Host;
 use dcc_tariff::{MAX_UNITS, Plan, UnitKind};
 use std::alloc::{AllocError, Global};
 
-/// The act that a request asks for at a moment (RFC 8506, sections 5 and 6). Each service is charged by its Rating-Group, or by
-/// the plan's default where none was sent: that gives the unit, in which the request's amounts are counted, and the tariff,
-/// if one holds at the moment. Of a group that the plan doesn't have there is no unit and no tariff, and the amounts are 0.
+/// The act that a request from a peer of this host asks for at a moment (RFC 8506, sections 5 and 6). An initial request keeps the
+/// host, and the limit of 1,024 sessions ([`SessionLimit::Many`]).
+///
+/// Each service is charged by its Rating-Group, or by the plan's default where none was sent: that gives the unit, in which the
+/// request's amounts are counted, and the tariff, if one holds at the moment. Of a group that the plan doesn't have there is no unit
+/// and no tariff, and the amounts are 0.
 ///
 /// In a session units are asked for where a Requested-Service-Unit is there, and an amount of 0 stands for the plan's
 /// quantum. In an event 1 is asked for where no amount is, or 0. Without memory there is no act.
@@ -27,12 +31,17 @@ pub fn to_act(
     alloc: Global,
     plan: &Plan,
     request: &Request<'_>,
+    host: &Host,
     moment: Moment,
 ) -> Result<Act, AllocError>
-    ensures { IfOk result (λ act. act ≡ act_of plan.now request.now moment) }
+    ensures { IfOk result (λ act. act ≡ act_of plan.now host.now request.now moment) }
 {
     let kind = match request.request_type() {
-        RequestType::Initial => Kind::Initial(session_of(alloc, plan, request, moment)?),
+        RequestType::Initial => Kind::Initial {
+            request: session_of(alloc, plan, request, moment)?,
+            limit: SessionLimit::Many,
+            host: Some(host.copy()?),
+        },
         RequestType::Update => Kind::Update(session_of(alloc, plan, request, moment)?),
         RequestType::Termination => Kind::Termination(session_of(alloc, plan, request, moment)?),
         RequestType::Event(action) => {

@@ -98,7 +98,7 @@ fn put_answer(
 fn put_told(out: &mut Vec<u8>, terms: &Terms, answer: &Answer) -> Result<(), AllocError>
     ensures ok { OnOk result (out.new.items ≡ out.old.items ++ flat_map padded (told_avps terms.now answer.now)) }
     ensures limits { AreAnswers answer.now.services }
-    ensures grows { OnOk result (Grows (vec_len out.old) (vec_len out.new) 91_000) }
+    ensures grows { OnOk result (Grows (vec_len out.old) (vec_len out.new) 92_000) }
 {
     put_services(out, answer.request, terms, &answer.services)?;
     put_cost(out, terms, answer.cost)?;

@@ -1,6 +1,9 @@
 //! The laws of answers. Each is the contract of a function that does nothing.
 
-ghost use Rattle.std.specs.Prelude.{◌≡◌, ℕ, ◌≤◌, false, List, ◌++◌, length, drop, Ok};
+ghost use Rattle.std.specs.Option.{ForSome};
+ghost use Rattle.dcc_octets.specs.Names.{is_short};
+ghost use Rattle.dcc_act.specs.declared.act.Act.{Act};
+ghost use Rattle.std.specs.Prelude.{◌≡◌, ℕ, ◌≤◌, true, false, List, ◌++◌, length, drop, Ok};
 ghost use Rattle.std.specs.List.{flat_map, sum_by, AllByRecursion};
 ghost use Rattle.dcc_avp.specs.Spelling.{AvpView, HasSpelling, padded, padded_len};
 ghost use Rattle.dcc_avp.specs.Reading.{FaultView, avps_of};
@@ -15,7 +18,7 @@ ghost use Rattle.dcc_answer.specs.Results.{is_busy};
 ghost use Rattle.dcc_tariff.specs.Terms.{TermsView};
 ghost use Rattle.dcc_act.specs.declared.outcome.Outcome.{Outcome};
 ghost use Rattle.dcc_credit.specs.Answers.{answer_avps, answer_octets, HasLimits};
-ghost use Rattle.dcc_credit.specs.Refusals.{Taken, taken_from, refusal_octets, unread_octets};
+ghost use Rattle.dcc_credit.specs.Refusals.{Taken, taken_from, taken_of, refusal_octets, unread_octets, unfound_octets};
 
 use crate::answer::USER_UNKNOWN;
 use crate::use_of_grants::TERMINATE;
@@ -41,6 +44,9 @@ pub fn told_apart()
         is_busy (refusal_octets identity request (taken_from avps) proxies refusal) ≡ false }
     ensures unread { (identity : Identity) (request : HeaderView) (fault : FaultView) →
         IsServer identity → is_busy (unread_octets identity request fault) ≡ false }
+    ensures unfound { (identity : Identity) (request : HeaderView) (act : Act) (proxies : List ℕ) →
+        IsServer identity → ForSome (taken_of act.kind).session (λ octets. is_short octets ≡ true) → SpellProxies proxies →
+        is_busy (unfound_octets identity request act proxies) ≡ false }
     ensures refused_some { (identity : Identity) (request : HeaderView) (taken : Taken) (proxies : List ℕ) (refusal : Refusal) →
         HEADER_LENGTH ≤ length (refusal_octets identity request taken proxies refusal) }
 {

@@ -19,5 +19,5 @@ mod use_of_grants;
 pub use act::to_act;
 pub use answer::{USER_UNKNOWN, write_cca};
 pub use laws::{numbers_are_given, read_back, told_apart};
-pub use refusal::{write_refusal, write_unread};
+pub use refusal::{write_refusal, write_unfound, write_unread};
 pub use session::lend_session;

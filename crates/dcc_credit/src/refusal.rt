@@ -13,15 +13,18 @@ ghost use Rattle.dcc_answer.specs.Failed.{failed_avps};
 ghost use Rattle.dcc_answer.specs.Proxies.{SpellProxies};
 ghost use Rattle.dcc_answer.specs.Results.{is_busy};
 ghost use Rattle.dcc_answer.specs.Sizes.{Grows};
-ghost use Rattle.dcc_credit.specs.Refusals.{Taken, number_of, taken_from, number_avps, origin_avps, refusal_avps, refusal_octets, unread_octets};
+ghost use Rattle.dcc_credit.specs.Refusals.{Taken, number_of, taken_from, nothing, taken, taken_of, number_avps, origin_avps, refusal_avps, refusal_octets, unread_octets, unfound_octets};
 
+use crate::session::lend_session;
+use dcc_act::{Act, Kind, RequestKey};
 use dcc_answer::{
     MAX_ANSWER, Proxies, Session, begin_answer, busy_by_result, finish_answer, put, put_failed,
     put_u32, session_id,
 };
 use dcc_avp::{Avp, AvpFault, codes};
 use dcc_message::{HEADER_LENGTH, Header, Identity, MAX_LENGTH, applications};
-use dcc_request::{Refused, first, shown_within, unread};
+use dcc_request::table::{TERMINATION_TYPE, UPDATE_TYPE};
+use dcc_request::{Refused, first, missing, shown_within, unread};
 use std::alloc::{AllocError, Global};
 use std::marker::Model;
 
@@ -92,13 +95,37 @@ pub fn write_unread(
     let Some(refused) = unread(fault) else {
         unreachable!()
     };
-    let nothing = TakenOver {
-        session: None,
-        request_type: None,
-        number: None,
-    };
     let proxies = Proxies::none(alloc);
-    refusal_within(alloc, identity, request, &nothing, &proxies, &refused)
+    refusal_within(alloc, identity, request, &nothing(), &proxies, &refused)
+}
+
+/// Writes the refusal of an update or a termination that names no subscriber, by the act that it asks for, where its session doesn't tell
+/// one either: DIAMETER_MISSING_AVP (5005, RFC 6733, section 7.1.5) with an empty Subscription-Id. It takes over what the refusal of the
+/// request's list would: session, type and number. Of any other act it takes over nothing. At want of memory there is no message.
+#[tactic(auto, unfolding(crate::specs::Refusals::unfound_octets))]
+pub fn write_unfound(
+    alloc: Global,
+    identity: &Identity,
+    request: &Header,
+    act: &Act,
+    proxies: &Proxies,
+) -> Result<Vec<u8>, AllocError>
+    ensures exact { IfOk result (λ answer. answer.items ≡ unfound_octets identity.now request.now act.now proxies.now) }
+    ensures not_busy { IfOk result (λ answer. is_busy answer.items ≡ false) }
+    ensures some { IfOk result (λ answer. HEADER_LENGTH ≤ length answer.items) }
+    ensures bounded { IfOk result (λ answer. length answer.items ≤ MAX_ANSWER) }
+{
+    busy_by_result();
+    shown_within();
+    let refused = missing(codes::SUBSCRIPTION_ID);
+    refusal_within(
+        alloc,
+        identity,
+        request,
+        &taken_of(&act.kind),
+        proxies,
+        &refused,
+    )
 }
 
 /// The refusal, and what is known of all that it holds.
@@ -195,6 +222,39 @@ fn taken_from<'a>(avps: &[Avp<'a>]) -> TakenOver<'a>
         session: session_id(avps),
         request_type: number_of(codes::CC_REQUEST_TYPE, avps),
         number: number_of(codes::CC_REQUEST_NUMBER, avps),
+    }
+}
+
+/// What a refusal takes over from an update or a termination, by its act.
+fn taken_of(kind: &Kind) -> TakenOver<'_>
+    ensures { result ≡ taken_of kind.now }
+{
+    match kind {
+        Kind::Update(request) => taken(UPDATE_TYPE, &request.key),
+        Kind::Termination(request) => taken(TERMINATION_TYPE, &request.key),
+        Kind::TopUp(_) | Kind::Initial { .. } | Kind::Event(_) | Kind::Expiry => nothing(),
+    }
+}
+
+/// From a list that can't be read, nothing.
+fn nothing<'a>() -> TakenOver<'a>
+    ensures { result ≡ nothing }
+{
+    TakenOver {
+        session: None,
+        request_type: None,
+        number: None,
+    }
+}
+
+/// From a request of this type and key, all.
+fn taken(request_type: u32, key: &RequestKey) -> TakenOver<'_>
+    ensures { result ≡ taken request_type key.now }
+{
+    TakenOver {
+        session: Some(lend_session(&key.sid)),
+        request_type: Some(request_type),
+        number: Some(key.number),
     }
 }
 

@@ -101,7 +101,7 @@ fn put_parts(
 pub(crate) fn put_finals(out: &mut Vec<u8>, services: &ServiceAnswers) -> Result<(), AllocError>
     ensures ok { OnOk result (out.new.items
         ≡ out.old.items ++ flat_map padded (flat_map (λ service. single_final service.form service) services.now)) }
-    ensures grows { OnOk result (Grows (vec_len out.old) (vec_len out.new) 480) }
+    ensures grows { OnOk result (Grows (vec_len out.old) (vec_len out.new) 960) }
 {
     for service in services.as_slice() {
         put_single_final(out, service)?;
@@ -129,7 +129,7 @@ pub(crate) fn put_validities(
 ) -> Result<(), AllocError>
     ensures ok { OnOk result (out.new.items
         ≡ out.old.items ++ flat_map padded (flat_map (λ service. single_validity request terms.now service.form service) services.now)) }
-    ensures grows { OnOk result (Grows (vec_len out.old) (vec_len out.new) 240) }
+    ensures grows { OnOk result (Grows (vec_len out.old) (vec_len out.new) 480) }
 {
     for service in services.as_slice() {
         put_single_validity(out, request, terms, service)?;

@@ -15,12 +15,14 @@ use Rattle.dcc_act.specs.declared.one_time_event.Action.TheVariants.{DirectDebit
 use Rattle.dcc_act.specs.declared.request_key.RequestKey.{RequestKey}
 use Rattle.dcc_act.specs.declared.service.Form.{Form}
 use Rattle.dcc_act.specs.declared.service.Form.TheVariants.{Single, Multi}
+use Rattle.dcc_act.specs.declared.session_limit.SessionLimit.{SessionLimit}
+use Rattle.dcc_act.specs.declared.session_limit.SessionLimit.TheVariants.{Few, Many}
 use Rattle.dcc_act.specs.declared.session_request.SessionRequest.{SessionRequest}
 use Rattle.dcc_act.specs.OneTimeEvents.{OneTimeEventView}
 use Rattle.dcc_act.specs.ServiceKeys.{same_number}
 use Rattle.dcc_act.specs.Services.{ServiceView}
 use Rattle.dcc_act.specs.TopUps.{TopUpView}
-use Rattle.dcc_receipts.specs.Acts.{same_unit, same_units, same_tariffs, same_form, same_action, same_service, same_key, same_request, same_event, same_kind, same_act, SameActsAreEqual}
+use Rattle.dcc_receipts.specs.Acts.{same_unit, same_units, same_tariffs, same_form, same_action, same_service, same_key, same_request, same_limit, same_host, same_event, same_kind, same_act, SameActsAreEqual}
 
 number_equal : (a b : Option ℕ) → same_number a b ≡ true → a ≡ b
 number_equal None None e = refl
@@ -164,6 +166,35 @@ request_equal a b e =
 request_self : (a : SessionRequest) → same_request a a ≡ true
 request_self a = and_from (same_key a.key a.key) (pointwise same_service a.services a.services) (key_self a.key) (services_self a.services)
 
+limit_equal : (a b : SessionLimit) → same_limit a b ≡ true → a ≡ b
+limit_equal Few Few e = refl
+limit_equal Few Many e = absurd cc
+limit_equal Many Few e = absurd cc
+limit_equal Many Many e = refl
+
+limit_self : (a : SessionLimit) → same_limit a a ≡ true
+limit_self Few = refl
+limit_self Many = refl
+
+host_equal : (a b : Option (List ℕ)) → same_host a b ≡ true → a ≡ b
+host_equal None None e = refl
+host_equal (Some a) (Some b) e = ap (λ (host : List ℕ). Some host) ((bytes_eq-Decides a b).0 e)
+host_equal None (Some b) e = absurd cc
+host_equal (Some a) None e = absurd cc
+
+host_self : (a : Option (List ℕ)) → same_host a a ≡ true
+host_self None = refl
+host_self (Some a) = octets_self a
+
+opening_equal : (a b : SessionRequest) (a_limit b_limit : SessionLimit) (a_host b_host : Option (List ℕ))
+    → same_request a b && (same_limit a_limit b_limit && same_host a_host b_host) ≡ true → Initial a a_limit a_host ≡ Initial b b_limit b_host
+opening_equal a b a_limit b_limit a_host b_host e =
+    let request = and_parts (same_request a b) (same_limit a_limit b_limit && same_host a_host b_host) e in
+    let rest = and_parts (same_limit a_limit b_limit) (same_host a_host b_host) request.1 in
+    ap (λ (r : SessionRequest). Initial r a_limit a_host) (request_equal a b request.0)
+    ∙ ap (λ (l : SessionLimit). Initial b l a_host) (limit_equal a_limit b_limit rest.0)
+    ∙ ap (λ (h : Option (List ℕ)). Initial b b_limit h) (host_equal a_host b_host rest.1)
+
 event_equal : (a b : OneTimeEventView) → same_event a b ≡ true → a ≡ b
 event_equal a b e =
     let key = and_parts (same_key a.key b.key) (same_action a.action b.action && same_service a.service b.service) e in
@@ -183,45 +214,45 @@ top_up_equal a b e =
 
 kind_equal : (a b : Kind) → same_kind a b ≡ true → a ≡ b
 kind_equal (TopUp a) (TopUp b) e = ap (λ (t : TopUpView). TopUp t) (top_up_equal a b e)
-kind_equal (Initial a) (Initial b) e = ap (λ (r : SessionRequest). Initial r) (request_equal a b e)
+kind_equal (Initial a a_limit a_host) (Initial b b_limit b_host) e = opening_equal a b a_limit b_limit a_host b_host e
 kind_equal (Update a) (Update b) e = ap (λ (r : SessionRequest). Update r) (request_equal a b e)
 kind_equal (Termination a) (Termination b) e = ap (λ (r : SessionRequest). Termination r) (request_equal a b e)
 kind_equal (Event a) (Event b) e = ap (λ (v : OneTimeEventView). Event v) (event_equal a b e)
 kind_equal Expiry Expiry e = refl
-kind_equal (TopUp a) (Initial b) e = absurd cc
+kind_equal (TopUp a) (Initial b limit host) e = absurd cc
 kind_equal (TopUp a) (Update b) e = absurd cc
 kind_equal (TopUp a) (Termination b) e = absurd cc
 kind_equal (TopUp a) (Event b) e = absurd cc
 kind_equal (TopUp a) Expiry e = absurd cc
-kind_equal (Initial a) (TopUp b) e = absurd cc
-kind_equal (Initial a) (Update b) e = absurd cc
-kind_equal (Initial a) (Termination b) e = absurd cc
-kind_equal (Initial a) (Event b) e = absurd cc
-kind_equal (Initial a) Expiry e = absurd cc
+kind_equal (Initial a limit host) (TopUp b) e = absurd cc
+kind_equal (Initial a limit host) (Update b) e = absurd cc
+kind_equal (Initial a limit host) (Termination b) e = absurd cc
+kind_equal (Initial a limit host) (Event b) e = absurd cc
+kind_equal (Initial a limit host) Expiry e = absurd cc
 kind_equal (Update a) (TopUp b) e = absurd cc
-kind_equal (Update a) (Initial b) e = absurd cc
+kind_equal (Update a) (Initial b limit host) e = absurd cc
 kind_equal (Update a) (Termination b) e = absurd cc
 kind_equal (Update a) (Event b) e = absurd cc
 kind_equal (Update a) Expiry e = absurd cc
 kind_equal (Termination a) (TopUp b) e = absurd cc
-kind_equal (Termination a) (Initial b) e = absurd cc
+kind_equal (Termination a) (Initial b limit host) e = absurd cc
 kind_equal (Termination a) (Update b) e = absurd cc
 kind_equal (Termination a) (Event b) e = absurd cc
 kind_equal (Termination a) Expiry e = absurd cc
 kind_equal (Event a) (TopUp b) e = absurd cc
-kind_equal (Event a) (Initial b) e = absurd cc
+kind_equal (Event a) (Initial b limit host) e = absurd cc
 kind_equal (Event a) (Update b) e = absurd cc
 kind_equal (Event a) (Termination b) e = absurd cc
 kind_equal (Event a) Expiry e = absurd cc
 kind_equal Expiry (TopUp b) e = absurd cc
-kind_equal Expiry (Initial b) e = absurd cc
+kind_equal Expiry (Initial b limit host) e = absurd cc
 kind_equal Expiry (Update b) e = absurd cc
 kind_equal Expiry (Termination b) e = absurd cc
 kind_equal Expiry (Event b) e = absurd cc
 
 kind_self : (a : Kind) → same_kind a a ≡ true
 kind_self (TopUp a) = and_from (a.ticket == a.ticket) (a.amount == a.amount) (eq-eqb a.ticket a.ticket refl) (eq-eqb a.amount a.amount refl)
-kind_self (Initial a) = request_self a
+kind_self (Initial a limit host) = and_from _ _ (request_self a) (and_from _ _ (limit_self limit) (host_self host))
 kind_self (Update a) = request_self a
 kind_self (Termination a) = request_self a
 kind_self (Event a) = event_self a

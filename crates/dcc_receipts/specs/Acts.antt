@@ -12,6 +12,8 @@ use Rattle.dcc_act.specs.declared.one_time_event.Action.TheVariants.{DirectDebit
 use Rattle.dcc_act.specs.declared.request_key.RequestKey.{RequestKey}
 use Rattle.dcc_act.specs.declared.service.Form.{Form}
 use Rattle.dcc_act.specs.declared.service.Form.TheVariants.{Single, Multi}
+use Rattle.dcc_act.specs.declared.session_limit.SessionLimit.{SessionLimit}
+use Rattle.dcc_act.specs.declared.session_limit.SessionLimit.TheVariants.{Few, Many}
 use Rattle.dcc_act.specs.declared.session_request.SessionRequest.{SessionRequest}
 use Rattle.dcc_act.specs.OneTimeEvents.{OneTimeEventView}
 use Rattle.dcc_act.specs.ServiceKeys.{same_number}
@@ -56,12 +58,23 @@ same_key a b = bytes_eq a.sid b.sid && (a.number == b.number)
 abbrev pub same_request : SessionRequest → SessionRequest → Bool
 same_request a b = same_key a.key b.key && pointwise same_service a.services b.services
 
+abbrev pub same_limit : SessionLimit → SessionLimit → Bool
+same_limit Few Few = true
+same_limit Many Many = true
+same_limit _ _ = false
+
+abbrev pub same_host : Option (List ℕ) → Option (List ℕ) → Bool
+same_host None None = true
+same_host (Some a) (Some b) = bytes_eq a b
+same_host _ _ = false
+
 abbrev pub same_event : OneTimeEventView → OneTimeEventView → Bool
 same_event a b = same_key a.key b.key && (same_action a.action b.action && same_service a.service b.service)
 
 abbrev pub same_kind : Kind → Kind → Bool
 same_kind (TopUp a) (TopUp b) = (a.ticket == b.ticket) && (a.amount == b.amount)
-same_kind (Initial a) (Initial b) = same_request a b
+same_kind (Initial a a_limit a_host) (Initial b b_limit b_host) =
+    same_request a b && (same_limit a_limit b_limit && same_host a_host b_host)
 same_kind (Update a) (Update b) = same_request a b
 same_kind (Termination a) (Termination b) = same_request a b
 same_kind (Event a) (Event b) = same_event a b

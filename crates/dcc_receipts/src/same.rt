@@ -2,10 +2,13 @@
 
 ghost use Rattle.std.specs.Prelude.{◌≡◌};
 ghost use Rattle.std.specs.Cmp.Lexicographic.{pointwise};
-ghost use Rattle.dcc_receipts.specs.Acts.{same_act, same_kind, same_request, same_event, same_key, same_service, same_tariffs, same_units, same_unit, same_form, same_action};
+ghost use Rattle.dcc_receipts.specs.Acts.{same_act, same_kind, same_request, same_limit, same_host, same_event, same_key, same_service, same_tariffs, same_units, same_unit, same_form, same_action};
 ghost use Rattle.dcc_act.specs.ServiceKeys.{same_number};
 
-use dcc_act::{Act, Action, Form, Kind, OneTimeEvent, RequestKey, Service, SessionRequest};
+use dcc_act::{
+    Act, Action, Form, Kind, OneTimeEvent, RequestKey, Service, SessionLimit, SessionRequest,
+};
+use dcc_octets::Host;
 use dcc_tariff::{Tariff, UnitKind};
 
 /// Whether two acts are one: the same happened at the same moment.
@@ -20,7 +23,18 @@ fn same_kind(a: &Kind, b: &Kind) -> bool
 {
     match (a, b) {
         (Kind::TopUp(a), Kind::TopUp(b)) => a.ticket == b.ticket && a.amount == b.amount,
-        (Kind::Initial(a), Kind::Initial(b)) => same_request(a, b),
+        (
+            Kind::Initial {
+                request: a,
+                limit: a_limit,
+                host: a_host,
+            },
+            Kind::Initial {
+                request: b,
+                limit: b_limit,
+                host: b_host,
+            },
+        ) => same_request(a, b) && same_limit(*a_limit, *b_limit) && same_host(a_host, b_host),
         (Kind::Update(a), Kind::Update(b)) => same_request(a, b),
         (Kind::Termination(a), Kind::Termination(b)) => same_request(a, b),
         (Kind::Event(a), Kind::Event(b)) => same_event(a, b),
@@ -33,6 +47,25 @@ fn same_request(a: &SessionRequest, b: &SessionRequest) -> bool
     ensures { result ≡ same_request a.now b.now }
 {
     same_key(&a.key, &b.key) && same_services(a.services.as_slice(), b.services.as_slice())
+}
+
+fn same_limit(a: SessionLimit, b: SessionLimit) -> bool
+    ensures { result ≡ same_limit a b }
+{
+    matches!(
+        (a, b),
+        (SessionLimit::Few, SessionLimit::Few) | (SessionLimit::Many, SessionLimit::Many)
+    )
+}
+
+fn same_host(a: &Option<Host>, b: &Option<Host>) -> bool
+    ensures { result ≡ same_host a.now b.now }
+{
+    match (a, b) {
+        (None, None) => true,
+        (Some(a), Some(b)) => a.as_slice() == b.as_slice(),
+        _ => false,
+    }
 }
 
 fn same_event(a: &OneTimeEvent, b: &OneTimeEvent) -> bool

@@ -3,7 +3,8 @@ use Rattle.dcc_request.specs.Layout.{unread}
 use Rattle.dcc_credit.specs.Refusals.{nothing, taken_from}
 use Rattle.dcc_credit.proofs.Taken.{none_short, taken_short}
 use Rattle.dcc_credit.proofs.Messages.{told_not_busy, answer_least}
-use Rattle.dcc_credit.proofs.Refusals.{refusal_not_busy, refusal_least}
+use Rattle.dcc_credit.proofs.Refusals.{refusal_not_busy, refusal_least, lacking, unfound_not_busy}
+use Rattle.dcc_avp.specs.declared.codes.TheConstants.{SUBSCRIPTION_ID}
 use Rattle.dcc_credit.proofs.Spelled.{answerable}
 use Rattle.dcc_credit.proofs.laws.told_apart.Goals as goal
 
@@ -19,5 +20,9 @@ returns c = record {
       let few = c.shown_within.ensures.unread fault in
       refusal_not_busy c.busy_by_result.ensures.told identity request nothing [] (unread fault) server none_short
       (c.read_back-2.ensures.shown (unread fault).failed (omega arith)) ([], tt, refl);
+  unfound = λ identity request act proxies server short p.
+      let least = c.shown_within.ensures.missing SUBSCRIPTION_ID in
+      unfound_not_busy c.busy_by_result.ensures.told identity request act proxies server short
+      (c.read_back-2.ensures.shown (lacking SUBSCRIPTION_ID).failed (omega (arith, least))) p;
   refused_some = refusal_least c.busy_by_result.ensures.some;
 }
