@@ -1,0 +1,85 @@
+//! The index: for each host its sessions, for each session who opened it.
+
+ghost use Rattle.std.specs.Prelude.{◌≡◌, ℕ, ◌<◌, ◌&&◌, List, bytes_eq, if◌then◌else◌, Some, OnOk};
+ghost use Rattle.indexmap.specs.IndexMap.{spare};
+ghost use Rattle.dcc_openers.specs.Found.{noted};
+ghost use Rattle.dcc_openers.specs.declared.found.Found.TheVariants as found;
+ghost use Rattle.dcc_openers.specs.Openers.{names_of, found_at, HasRoomAt};
+
+use crate::found::Found;
+use crate::names::Names;
+use dcc_act::{SessionId, Sub};
+use dcc_octets::Host;
+use indexmap::IndexMap;
+use std::alloc::{AllocError, Global};
+use std::hash::RandomState;
+use std::marker::Model;
+
+/// Who opened which session from which host. Hosts and sessions are found by a hash that nobody outside can know beforehand. Each host
+/// is kept once, each session once for its host.
+#[derive(Drop)]
+pub struct Openers {
+    hosts: IndexMap<Host, Names, RandomState>,
+}
+
+impl Model for Openers {
+    ghost use Rattle.dcc_openers.specs.Openers.{OpenersView};
+
+    ghost Value = { OpenersView };
+
+    ghost view = { λ o. o.hosts.entries };
+}
+
+impl Openers {
+    /// Nobody opened anything. It takes no memory.
+    pub fn new(alloc: Global, hasher: RandomState) -> Openers
+        ensures { (h s : List ℕ) → found_at result h s ≡ found.None }
+    {
+        Openers {
+            hosts: IndexMap::with_hasher(alloc, hasher),
+        }
+    }
+
+    /// Who opened the session from the host. It takes no memory.
+    pub fn find(&self, host: &Host, sid: &SessionId) -> Found
+        ensures { result ≡ found_at self.now host.now sid.now }
+    {
+        match self.hosts.get(host) {
+            Some(names) => names.find(sid),
+            None => Found::None,
+        }
+    }
+
+    /// Takes the memory for one more session of the host. The only error is want of it. What is found stays, either way.
+    pub fn make_room(&mut self, alloc: Global, host: &Host) -> Result<(), AllocError>
+        ensures same { (h s : List ℕ) → found_at self.new h s ≡ found_at self.old h s }
+        ensures room { OnOk result (HasRoomAt self.new host.now) }
+    {
+        if let Some(names) = self.hosts.get_mut(host) {
+            return names.make_room();
+        }
+        self.hosts.reserve(1)?;
+        let names = Names::with_room(alloc, *self.hosts.hasher())?;
+        let host = host.copy()?;
+        add(&mut self.hosts, host, names);
+        Ok(())
+    }
+
+    /// Notes that the subscriber opened the session from the host, for which there is room. It takes no memory.
+    pub fn note(&mut self, host: &Host, sid: SessionId, sub: Sub)
+        requires { HasRoomAt self.old host.now }
+        ensures { (h s : List ℕ) → found_at self.new h s
+            ≡ (if bytes_eq host.now h && bytes_eq sid s then noted (found_at self.old host.now sid) sub else found_at self.old h s) }
+    {
+        let names = self.hosts.get_mut(host).unwrap();
+        names.note(sid, sub);
+    }
+}
+
+/// Adds a host without sessions, for which there is room.
+fn add(hosts: &mut IndexMap<Host, Names, RandomState>, host: Host, names: Names)
+    requires { 0 < spare hosts.old }
+    ensures { (h : List ℕ) → names_of hosts.new.entries h ≡ (if bytes_eq host h then Some names else names_of hosts.old.entries h) }
+{
+    hosts.insert(host, names).unwrap();
+}
