@@ -4,7 +4,9 @@ pub mod BookSteps
 pub mod Storing
 pub mod Ordered
 pub mod Pages
+pub mod Opening
 pub mod Placed
 pub mod Routing
 pub mod RoutedSubs
 pub mod Beginnings
+pub mod Finding

@@ -1,11 +1,11 @@
 -- Subscribers in their order, each once.
-use Rattle.std.proofs.Common.{◌≡◌, ◌≢◌, Bool, true, false, cond, List, [], ◌∷◌, ◌++◌, Option, Some, None, refl, sym, ap, subst, ◌∙◌, inl, inr, rules}
+use Rattle.std.proofs.Common.{◌≡◌, ◌≢◌, Bool, true, false, List, [], ◌∷◌, ◌++◌, Option, Some, None, refl, sym, ap, subst, ◌∙◌, inl, inr, rules}
 use Rattle.std.specs.Prelude.{is_none, not}
-use Rattle.std.specs.Map.{lookup, keys_of}
+use Rattle.std.specs.Map.{keys_of}
 use Rattle.std.specs.Cmp.{IsTotalOrder}
 use Rattle.std.specs.Ordering.{eq_by_cmp}
 use Rattle.std.specs.Cmp.Rules.{comparing}
-use Rattle.std.specs.List.{list_any, dedup, dedup_from, AllByRecursion, IsDistinct}
+use Rattle.std.specs.List.{dedup, dedup_from, AllByRecursion, IsDistinct}
 use Rattle.std.specs.List.Sorted.{IsSorted, IsStrictlySortedBy, IsPermutation}
 use Rattle.std.proofs.lemmas.Bool.{cases_Bool}
 use Rattle.std.proofs.lemmas.List.{append-nil}
@@ -17,7 +17,6 @@ use Rattle.dcc_act.specs.Subs.{same_sub}
 use Rattle.dcc_account.specs.declared.account.Account.{Account}
 use Rattle.dcc_records.specs.Books.{sub_order}
 use Rattle.dcc_shard.specs.Shards.{account_in, held_in, is_among}
-use Rattle.dcc_shard.specs.inner.Books.{AreBooks}
 use Rattle.dcc_shard.proofs.BookRows.{Rows, acts_held}
 
 is_total : IsTotalOrder sub_order

@@ -1,5 +1,5 @@
 -- Books made of pages, the last page first.
-use Rattle.std.proofs.Common.{◌≡◌, ◌≢◌, ℕ, zero, suc, true, false, cond, List, [], ◌∷◌, ◌++◌, length, map, take, drop, Some, refl, sym, ap, subst, ◌∙◌, inl, inr, rules}
+use Rattle.std.proofs.Common.{◌≡◌, ◌≢◌, ℕ, zero, suc, true, false, List, [], ◌∷◌, ◌++◌, length, map, take, drop, refl, sym, ap, subst, ◌∙◌, inl, inr, rules}
 use Rattle.std.specs.Cmp.Rules.{comparing}
 use Rattle.std.specs.List.{AllByRecursion}
 use Rattle.std.specs.List.Sorted.{IsStrictlySortedBy}
@@ -12,14 +12,13 @@ use Rattle.dcc_tariff.specs.Terms.{TermsView}
 use Rattle.dcc_act.specs.declared.act.Act.{Act}
 use Rattle.dcc_act.specs.declared.sub.Sub.{Sub}
 use Rattle.dcc_act.specs.Subs.{same_sub, SameAreEqual}
-use Rattle.dcc_account.specs.declared.account.Account.{Account}
 use Rattle.dcc_model.specs.Outcomes.{acts}
 use Rattle.dcc_model.specs.Laws.{NoActs}
 use Rattle.dcc_records.specs.Books.{PageView, acts_in, IsBook, AreInOrder, sub_order}
-use Rattle.dcc_shard.specs.Shards.{account_in, held_in}
-use Rattle.dcc_shard.specs.inner.Books.{AreBooks}
-use Rattle.dcc_shard.proofs.Subs.{same_sub-same, one_or_other}
-use Rattle.dcc_shard.proofs.BookRows.{Rows, acts_held, IsWritten, moves_where_written}
+use Rattle.dcc_shard.specs.Shards.{held_in}
+use Rattle.dcc_shard.specs.inner.Books.{BooksView}
+use Rattle.dcc_shard.specs.inner.Indexed.{IsPageOf}
+use Rattle.dcc_shard.proofs.Subs.{same_sub-same}
 use Rattle.dcc_shard.proofs.Ordered.{turned}
 
 -- subscribers are one just where they compare equal
@@ -83,55 +82,51 @@ own_at same terms page pages book =
     let P : List Act → Type 0 = λ xs. acts terms xs ≡ xs in
     subst P is (book page.sub)
 
--- an account of a page is written before those of the pages behind it
-pub held_before : (rows new : Rows) (page : PageView) (pages : List PageView) (account : Account) → ((sub : Sub) → held_in rows sub ≡ acts_in pages sub) → IsWritten rows new page.sub account
-    → account.acts ≡ page.acts → (sub : Sub) → held_in new sub ≡ acts_in (page ∷ pages) sub
-held_before rows new page pages account held written acts_are sub =
-    elim (cases_Bool (same_sub page.sub sub)) [
-      | inl t ↦ ap acts_held (written sub) ∙ rw t acts_are
-      | inr f ↦ ap acts_held (written sub) ∙ rw f (held sub)
-    ]
+sorted_from : (n : ℕ) (pages : List PageView) → AreInOrder pages → AreInOrder (drop n pages)
+sorted_from zero pages sorted = sorted
+sorted_from (suc n) [] sorted = sorted
+sorted_from (suc n) (page ∷ pages) sorted = sorted_from n pages (sorted_behind page pages sorted)
 
-pub books_before : SameAreEqual → (rows new : Rows) (terms : TermsView) (page : PageView) (pages : List PageView) (account : Account) → AreBooks rows terms → IsWritten rows new page.sub account
-    → account.terms ≡ terms → account.acts ≢ [] → ((sub : Sub) → held_in new sub ≡ acts_in (page ∷ pages) sub) → IsBook terms (acts_in (page ∷ pages)) → AreBooks new terms
-books_before same rows new terms page pages account books written terms_are begun held book =
-    let moves = moves_where_written same rows new page.sub account written in
-    record {
-      terms_are = λ s found is. elim (one_or_other same s page.sub) [
-        | inl e ↦ (let here : Some found ≡ Some account = sym is ∙ ap (account_in new) e ∙ moves.own in let one : found ≡ account = cc in rw one terms_are)
-        | inr apart ↦ books.terms_are s found (sym (moves.others s apart) ∙ is)
-      ];
-      begun = λ s found is. elim (one_or_other same s page.sub) [
-        | inl e ↦ (let here : Some found ≡ Some account = sym is ∙ ap (account_in new) e ∙ moves.own in let one : found ≡ account = cc in rw one begun)
-        | inr apart ↦ books.begun s found (sym (moves.others s apart) ∙ is)
-      ];
-      own = λ s. let is = held s in rw is (book s);
-    }
+first_alone : (page : PageView) (pages : List PageView) → AreInOrder (page ∷ pages) → acts_in pages page.sub ≡ []
+unfolding IsStrictlySortedBy
+first_alone page pages sorted = none_behind pages page.sub sorted.0
+
+-- of the subscriber of the last page nothing stands behind
+pub none_held : (all taken left : List PageView) (page : PageView) → AreInOrder all → taken ≡ take (length taken) all → taken ≡ left ++ page ∷ []
+    → acts_in (drop (length taken) all) page.sub ≡ []
+none_held all taken left page sorted is popped =
+    let split = split_last all taken left page is popped in
+    first_alone page (drop (length taken) all) (subst AreInOrder split.behind_is (sorted_from (length left) all sorted))
 
 -- one page more
-pub record IsNextPage (all : List PageView) (terms : TermsView) (left : List PageView) (new : Rows) : Type 0 where
+pub record IsNextPage (all left : List PageView) (new : BooksView) : Type 0 where
   pub left_is : left ≡ take (length left) all
-  pub held : (sub : Sub) → held_in new sub ≡ acts_in (drop (length left) all) sub
-  pub books : AreBooks new terms
+  pub held : (sub : Sub) → held_in new.rows sub ≡ acts_in (drop (length left) all) sub
 
-pub next_page : SameAreEqual → NoActs → (all taken left : List PageView) (page : PageView) (terms : TermsView) (rows new : Rows) (sub : Sub) (account : Account) → AreInOrder all → IsBook terms (acts_in all)
-    → taken ≡ take (length taken) all → taken ≡ left ++ page ∷ [] → ((other : Sub) → held_in rows other ≡ acts_in (drop (length taken) all) other) → AreBooks rows terms
-    → sub ≡ page.sub → IsWritten rows new sub account → account.terms ≡ terms → account.acts ≡ page.acts → account.acts ≢ [] → IsNextPage all terms left new
-next_page same none all taken left page terms rows new sub account sorted book is popped held books sub_is written terms_are acts_are begun =
+-- what is held with the page that was added, before those behind it
+held_before : SameAreEqual → (page : PageView) (pages : List PageView) (old new : BooksView) → ((other : Sub) → held_in old.rows other ≡ acts_in pages other) → IsPageOf old new page.sub page.acts
+    → acts old.terms page.acts ≡ page.acts → (other : Sub) → held_in new.rows other ≡ acts_in (page ∷ pages) other
+held_before same page pages old new held added own other =
+    elim (cases_Bool (same_sub page.sub other)) [
+      | inl t ↦
+          let e : other ≡ page.sub = sym ((same page.sub other).0 t) in
+          ap (held_in new.rows) e ∙ added.own ∙ own ∙ rw t refl
+      | inr f ↦
+          let apart : other ≢ page.sub = λ e. (let t : same_sub page.sub other ≡ true = (same page.sub other).1 (sym e) in absurd cc) in
+          added.others other apart ∙ held other ∙ rw f refl
+    ]
+
+pub next_page : SameAreEqual → NoActs → (all taken left : List PageView) (page : PageView) (terms : TermsView) (old new : BooksView) (sub : Sub) (added : List Act) → AreInOrder all
+    → IsBook terms (acts_in all) → taken ≡ take (length taken) all → taken ≡ left ++ page ∷ [] → ((other : Sub) → held_in old.rows other ≡ acts_in (drop (length taken) all) other)
+    → sub ≡ page.sub → added ≡ page.acts → old.terms ≡ terms → IsPageOf old new sub added → IsNextPage all left new
+next_page same none all taken left page terms old new sub added sorted book is popped held sub_is added_is terms_are page_is =
     let split = split_last all taken left page is popped in
     let P : List PageView → Type 0 = λ pages. IsBook terms (acts_in pages) in
     let here = subst P split.behind_is (book_from same none terms (length left) all sorted book) in
-    let own_written = subst (λ (s : Sub). IsWritten rows new s account) sub_is written in
-    let held_now = held_before rows new page (drop (length taken) all) account held own_written acts_are in
+    let own = own_at same terms page (drop (length taken) all) here in
+    let own_page : IsPageOf old new page.sub page.acts = subst (λ (s : Sub). IsPageOf old new s page.acts) sub_is (subst (IsPageOf old new sub) added_is page_is) in
+    let own_acts : acts old.terms page.acts ≡ page.acts = ap (λ (t : TermsView). acts t page.acts) terms_are ∙ own in
     record {
       left_is = split.left_is;
-      held = λ other. held_now other ∙ ap (λ (pages : List PageView). acts_in pages other) (sym split.behind_is);
-      books = books_before same rows new terms page (drop (length taken) all) account books own_written terms_are begun held_now here;
+      held = λ other. held_before same page (drop (length taken) all) old new held own_page own_acts other ∙ ap (λ (pages : List PageView). acts_in pages other) (sym split.behind_is);
     }
-
-pub own_last : SameAreEqual → NoActs → (all taken left : List PageView) (page : PageView) (terms : TermsView) → AreInOrder all → IsBook terms (acts_in all)
-    → taken ≡ take (length taken) all → taken ≡ left ++ page ∷ [] → acts terms page.acts ≡ page.acts
-own_last same none all taken left page terms sorted book is popped =
-    let split = split_last all taken left page is popped in
-    let P : List PageView → Type 0 = λ pages. IsBook terms (acts_in pages) in
-    own_at same terms page (drop (length taken) all) (subst P split.behind_is (book_from same none terms (length left) all sorted book))

@@ -1,5 +1,5 @@
 -- The subscribers of shards, by shard and then in their own order.
-use Rattle.std.proofs.Common.{◌≡◌, ◌≢◌, ℕ, ◌+◌, ◌<◌, ◌==◌, ◌||◌, Bool, true, false, List, [], ◌∷◌, ◌++◌, filter, refl, ◌⊎◌, sym, ap, subst, ◌∙◌, arith, inl, inr, true≢false, rules}
+use Rattle.std.proofs.Common.{◌≡◌, ◌≢◌, ℕ, ◌+◌, ◌<◌, ◌==◌, ◌||◌, Bool, true, false, List, [], ◌∷◌, ◌++◌, filter, refl, ◌⊎◌, sym, ap, ◌∙◌, arith, inl, inr, true≢false, rules}
 use Rattle.std.specs.Prelude.{nat_lt}
 use Rattle.std.specs.Cmp.{IsTotalOrder}
 use Rattle.std.specs.Cmp.Rules.{comparing}

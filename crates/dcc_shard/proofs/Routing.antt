@@ -1,5 +1,5 @@
 -- The accounts of shards as those of one, and a step of one of them.
-use Rattle.std.proofs.Common.{◌≡◌, ◌≢◌, ℕ, zero, suc, ◌+◌, ◌-◌, ◌<◌, ◌≤◌, ◌==◌, Bool, true, false, cond, List, [], ◌∷◌, ◌++◌, filter, length, get_or, set, Option, Some, None, refl, sym, ap, subst, ◌∙◌, arith, inl, inr, true≢false}
+use Rattle.std.proofs.Common.{◌≡◌, ◌≢◌, ℕ, zero, suc, ◌+◌, ◌<◌, ◌≤◌, ◌==◌, Bool, true, false, cond, List, [], ◌∷◌, ◌++◌, filter, length, get_or, set, Option, Some, None, refl, sym, ap, subst, ◌∙◌, arith, inl, inr, true≢false}
 use Rattle.std.specs.Prelude.{sum}
 use Rattle.std.proofs.Math.Nat.{mod-lt}
 use Rattle.std.proofs.lemmas.Bool.{cases_Bool, false_from_ne_true, eqb-true, eq-eqb}
@@ -17,7 +17,7 @@ use Rattle.dcc_shard.specs.Answers.{IsAnswer, IsTold, IsExpired}
 use Rattle.dcc_shard.specs.declared.answers.RequestAnswer.{RequestAnswer}
 use Rattle.dcc_shard.specs.declared.answers.TopUpAnswer.{TopUpAnswer}
 use Rattle.dcc_shard.specs.declared.answers.ExpiryAnswer.{ExpiryAnswer}
-use Rattle.dcc_shard.specs.Shards.{ShardView, account_in, held_in, held, held_after, AreOwn, IsStep}
+use Rattle.dcc_shard.specs.Shards.{ShardView, account_in, held, held_after, AreOwn, IsStep}
 use Rattle.dcc_shard.specs.Stored.{StoredView}
 use Rattle.dcc_shard.specs.Routes.{shard_of, IsPartStep}
 use Rattle.dcc_shard.specs.inner.Routed.{rows_from, as_one, AreShards}
@@ -157,9 +157,10 @@ own_after law terms before after false act own is = rw is own
 -- after a step they are shards as before
 pub shards_after : {R : Type 0} → SameAreEqual → ActsAreActs → (terms : TermsView) (identity : Identity) (shards : List (StoredView R)) (one none : StoredView R) (judged : Bool) (sub : Sub) (act : Act)
     → AreShards terms identity shards → one.shard.terms ≡ terms → one.shard.identity ≡ identity
+    → ((other : Sub) → other ≢ sub → held one.shard other ≡ held (get_or shards (shard_of sub (length shards)) none).shard other)
     → IsStep (as_one terms identity shards) (as_one terms identity (set shards (shard_of sub (length shards)) one)) judged sub act
     → AreShards terms identity (set shards (shard_of sub (length shards)) one)
-shards_after {R} same law terms identity shards one none judged sub act are terms_are identity_is step =
+shards_after {R} same law terms identity shards one none judged sub act are terms_are identity_is stays_in step =
     let i = shard_of sub (length shards) in
     let new = set shards i one in
     let many : length new ≡ length shards = length-set shards i one in
@@ -177,6 +178,20 @@ shards_after {R} same law terms identity shards one none judged sub act are term
       own = λ other. elim (one_or_other same other sub) [
         | inl e ↦ (let Q : Sub → Type 0 = λ s. acts terms (held (as_one terms identity new) s) ≡ held (as_one terms identity new) s in subst Q (sym e) (own_after law terms (held (as_one terms identity shards) sub) (held (as_one terms identity new) sub) judged act (are.own sub) step.own))
         | inr apart ↦ (let stays = step.others other apart in rw stays (are.own other))
+      ];
+      placed = λ k d other below holds. elim (cases_Bool (k == i)) [
+        | inl t ↦
+            let e = eqb-true k i t in
+            let here : get_or new k d ≡ one = ap (λ (n : ℕ). get_or new n d) e ∙ get_or-set_same shards i one d (is_below shards are.some sub) in
+            elim (one_or_other same other sub) [
+              | inl s ↦ ap (λ (x : Sub). shard_of x (length new)) s ∙ ap (shard_of sub) many ∙ sym e
+              | inr apart ↦
+                  ap (shard_of other) many
+                  ∙ are.placed i none other (is_below shards are.some sub) (λ empty. holds (ap (λ (v : StoredView R). held v.shard other) here ∙ stays_in other apart ∙ empty)) ∙ sym e
+            ]
+        | inr f ↦
+            let there : get_or new k d ≡ get_or shards k d = get_or-set_other shards i k one d (λ e. absurd (true≢false (sym (eq-eqb k i e) ∙ f))) in
+            ap (shard_of other) many ∙ are.placed k d other (omega (arith, many, below)) (λ empty. holds (ap (λ (v : StoredView R). held v.shard other) there ∙ empty))
       ];
     }
 
@@ -220,7 +235,7 @@ one_steps {R} same law terms identity shards i row one judged sub act are i_is i
     let all = step_of_one same terms identity shards one row judged sub act (is_below shards are.some) (ap (λ (v : StoredView R). v.shard.terms) at ∙ there.terms_are) (subst P (sym at) step) in
     let Q : ℕ → Type 0 = λ k. AreAfter terms identity shards (set shards k one) judged sub act in
     subst Q (sym i_is) (record {
-      are = shards_after same law terms identity shards one row judged sub act are (step.terms ∙ there.terms_are) (step.identity ∙ there.identity_is) all;
+      are = shards_after same law terms identity shards one row judged sub act are (step.terms ∙ there.terms_are) (step.identity ∙ there.identity_is) (subst P (sym at) step).others all;
       step = all;
       parts = record {
         own = λ none.

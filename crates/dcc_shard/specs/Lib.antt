@@ -2,4 +2,5 @@ pub mod Shards
 pub mod Answers
 pub mod Stored
 pub mod Routes
+pub mod Openers
 pub mod inner

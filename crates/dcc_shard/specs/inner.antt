@@ -1,3 +1,4 @@
 pub mod Books
+pub mod Indexed
 pub mod Pending
 pub mod Routed

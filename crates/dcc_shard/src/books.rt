@@ -9,7 +9,7 @@ ghost use Rattle.std.specs.List.Sorted.{IsStrictlySortedBy};
 ghost use Rattle.std.specs.Map.{keys_of};
 ghost use Rattle.dcc_act.specs.declared.sub.Sub.{Sub};
 ghost use Rattle.dcc_model.specs.Outcomes.{acts};
-ghost use Rattle.dcc_records.specs.Books.{sub_order, acts_in, IsBook};
+ghost use Rattle.dcc_records.specs.Books.{sub_order};
 ghost use Rattle.dcc_shard.specs.Shards.{account_in, held_in, is_among};
 ghost use Rattle.dcc_shard.specs.Routes.{shard_of};
 ghost use Rattle.dcc_shard.specs.inner.Books.{IsStepOfBooks};
@@ -20,7 +20,6 @@ use crate::route::shard_of;
 use dcc_account::Account;
 use dcc_act::{Act, Sub, same_subscribers_are_equal};
 use dcc_model::{leaving_out_changes_nothing, one_more_act};
-use dcc_records::Book;
 use dcc_tariff::Terms;
 use indexmap::IndexMap;
 use std::alloc::{AllocError, Global};
@@ -57,29 +56,6 @@ impl Books {
             terms: *terms,
             accounts: IndexMap::with_hasher(alloc, hasher),
         }
-    }
-
-    /// The books of what records hold: each account is made anew from its acts. The only error is want of memory.
-    pub(crate) fn of_book(
-        alloc: Global,
-        terms: &Terms,
-        hasher: RandomState,
-        book: Book,
-    ) -> Result<Books, AllocError>
-        requires { IsBook terms.now (acts_in book) }
-        ensures terms { IfOk result (λ books. books.terms ≡ terms.now) }
-        ensures held { IfOk result (λ books. (sub : Sub) → held_in books.rows sub ≡ acts_in book sub) }
-    {
-        leaving_out_changes_nothing();
-        same_subscribers_are_equal();
-        let mut books = Books::new(alloc, terms, hasher);
-        let mut pages = book.into_vec();
-        for _ in 0..pages.len() {
-            let (sub, acts) = pages.pop().unwrap().into_parts();
-            let account = replayed(alloc, terms, acts, hasher)?;
-            books.accounts.insert(sub, account)?;
-        }
-        Ok(books)
     }
 
     /// The subscribers of the accounts, each once, in their order.
@@ -201,41 +177,6 @@ fn has_acts(account: &Account) -> bool
     ensures none { result ≡ false → account.now.acts ≡ [] }
 {
     account.acts().len() > 0
-}
-
-/// The account of these acts, each its own, made anew.
-fn replayed(
-    alloc: Global,
-    terms: &Terms,
-    all: Vec<Act>,
-    hasher: RandomState,
-) -> Result<Account, AllocError>
-    requires { acts terms.now all.items ≡ all.items }
-    ensures terms { IfOk result (λ account. account.terms ≡ terms.now) }
-    ensures acts { IfOk result (λ account. account.acts ≡ all.items) }
-{
-    let mut account = Account::new(alloc, terms, hasher);
-    match make_all(&mut account, all) {
-        Ok(()) => Ok(account),
-        Err(error) => {
-            drop(account);
-            Err(error)
-        }
-    }
-}
-
-/// Makes these acts in an account without any. The only error is want of memory.
-fn make_all(account: &mut Account, all: Vec<Act>) -> Result<(), AllocError>
-    requires { account.old.acts ≡ [] }
-    ensures terms { account.new.terms ≡ account.old.terms }
-    ensures acts { OnOk result (account.new.acts ≡ acts account.old.terms all.items) }
-{
-    leaving_out_changes_nothing();
-    for act in all {
-        let step = account.prepare(act)?;
-        account.install(step);
-    }
-    Ok(())
 }
 
 /// Adds an account, for which there is room. It takes no memory.

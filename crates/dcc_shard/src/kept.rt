@@ -1,18 +1,22 @@
 //! The books, and the records that keep their acts: an act is appended, and then installed.
 
 ghost use Rattle.std.specs.Prelude.{◌≡◌, true, false, OnOk, OnErr, IfOk};
-ghost use Rattle.dcc_model.specs.Outcomes.{acts};
+ghost use Rattle.dcc_model.specs.Outcomes.{acts, was_opened_from};
 ghost use Rattle.dcc_act.specs.declared.sub.Sub.{Sub};
 ghost use Rattle.dcc_records.specs.Stops.{LeavesOnly};
+ghost use Rattle.dcc_shard.specs.Openers.{IsFound};
 ghost use Rattle.dcc_shard.specs.Shards.{held_in};
 ghost use Rattle.dcc_shard.specs.Stored.{IsKept, LeavesHeld, LeavesOneMore};
 ghost use Rattle.dcc_shard.specs.inner.Books.{IsStepOfBooks};
+ghost use Rattle.dcc_shard.specs.inner.Indexed.{opening, IsReady};
 ghost use Rattle.dcc_shard.specs.inner.Pending.{step_of, IsPending};
 
 use crate::books::Books;
-use crate::pending::Pending;
-use dcc_act::{Act, Sub, same_subscribers_are_equal};
+use crate::indexed::{IndexedBooks, Ready};
+use dcc_act::{Act, SessionId, Sub, same_subscribers_are_equal};
 use dcc_model::{leaving_out_changes_nothing, one_more_act};
+use dcc_octets::Host;
+use dcc_openers::Found;
 use dcc_records::{
     Records, StoreFault, acts_stand_apart, content_has_one_book, new_acts_come_next,
 };
@@ -24,7 +28,7 @@ use std::marker::Model;
 /// leaves just what the books hold; where they are, this or, with it, the one act on which they failed.
 #[derive(Drop)]
 pub(crate) struct KeptBooks<R: Records> {
-    books: Books,
+    books: IndexedBooks,
     records: R,
 }
 
@@ -37,20 +41,20 @@ impl<R: Records> Model for KeptBooks<R> {
 
     ghost Value = { KeptView R };
 
-    ghost view = { λ k. record { books = k.books; records = k.records } };
+    ghost view = { λ k. record { books = k.books.books; openers = k.books.openers; records = k.records } };
 
-    ghost invariant = { λ k. (R.terms k.records ≡ k.books.terms)
-        × (R.is_stopped k.records ≡ false → LeavesOnly k.books.terms (held_in k.books.rows) (R.may_leave k.records))
-        × (R.is_stopped k.records ≡ true → LeavesOneMore k.books.terms (held_in k.books.rows) (R.may_leave k.records)) };
+    ghost invariant = { λ k. (R.terms k.records ≡ k.books.books.terms)
+        × (R.is_stopped k.records ≡ false → LeavesOnly k.books.books.terms (held_in k.books.books.rows) (R.may_leave k.records))
+        × (R.is_stopped k.records ≡ true → LeavesOneMore k.books.books.terms (held_in k.books.books.rows) (R.may_leave k.records)) };
 }
 
 impl<R: Records> KeptBooks<R> {
     /// These books with the records that keep them, and aren't stopped.
-    pub(crate) fn of(books: Books, records: R) -> KeptBooks<R>
-        requires terms { R.terms records ≡ books.terms }
+    pub(crate) fn of(books: IndexedBooks, records: R) -> KeptBooks<R>
+        requires terms { R.terms records ≡ books.books.terms }
         requires going { R.is_stopped records ≡ false }
-        requires kept { LeavesOnly books.terms (held_in books.rows) (R.may_leave records) }
-        ensures books { result.books ≡ books }
+        requires kept { LeavesOnly books.books.terms (held_in books.books.rows) (R.may_leave records) }
+        ensures books { result.books ≡ books.books }
         ensures records { result.records ≡ records }
     {
         KeptBooks { books, records }
@@ -60,7 +64,14 @@ impl<R: Records> KeptBooks<R> {
     pub(crate) fn books(&self) -> &Books
         ensures { result.now ≡ self.now.books }
     {
-        &self.books
+        self.books.books()
+    }
+
+    /// Who opened the session from the host, by what is held. It takes no memory.
+    pub(crate) fn find(&self, host: &Host, sid: &SessionId) -> Found
+        ensures { IsFound (λ sub. was_opened_from self.now.books.terms (held_in self.now.books.rows sub) host.now sid.now) result }
+    {
+        self.books.find(host, sid)
     }
 
     /// The records.
@@ -99,8 +110,9 @@ impl<R: Records> KeptBooks<R> {
         alloc: Global,
         sub: &Sub,
         act: Act,
-    ) -> Result<Pending, StoreFault>
-        ensures pending { IfOk result (IsPending self.new.books sub.now act) }
+    ) -> Result<Ready, StoreFault>
+        ensures pending { IfOk result (λ ready. IsPending self.new.books sub.now act ready.pending) }
+        ensures ready { IfOk result (λ ready. IsReady self.new.openers (opening (step_of ready.pending)) ready.opens) }
         ensures going { OnOk result (R.is_stopped self.old.records ≡ false) }
         ensures terms { self.new.books.terms ≡ self.old.books.terms }
         ensures rows { self.new.books.rows ≡ self.old.books.rows }
@@ -109,19 +121,20 @@ impl<R: Records> KeptBooks<R> {
         if self.records.is_stopped() {
             return Err(StoreFault::Stopped);
         }
-        let pending = self.books.prepare(alloc, sub, act)?;
-        Ok(pending)
+        let ready = self.books.prepare(alloc, sub, act)?;
+        Ok(ready)
     }
 
     /// Appends the act of a step that was prepared, where it is new, and installs the step. Refused, the books are as before.
-    pub(crate) fn commit(&mut self, sub: Sub, pending: Pending) -> Result<(), StoreFault>
-        requires pending { IsPending self.old.books sub (step_of pending).act pending }
+    pub(crate) fn commit(&mut self, sub: Sub, ready: Ready) -> Result<(), StoreFault>
+        requires pending { IsPending self.old.books sub (step_of ready.pending).act ready.pending }
+        requires ready { IsReady self.old.openers (opening (step_of ready.pending)) ready.opens }
         requires going { R.is_stopped self.old.records ≡ false }
-        ensures ok { OnOk result (IsStepOfBooks self.old.books self.new.books sub (step_of pending).act) }
+        ensures ok { OnOk result (IsStepOfBooks self.old.books self.new.books sub (step_of ready.pending).act) }
         ensures going { OnOk result (R.is_stopped self.new.records ≡ R.is_stopped self.old.records) }
         ensures err { OnErr result (self.new.books.rows ≡ self.old.books.rows) }
         ensures terms { self.new.books.terms ≡ self.old.books.terms }
-        ensures kept { IsKept self.old.books.terms (held_in self.old.books.rows) sub (step_of pending).act
+        ensures kept { IsKept self.old.books.terms (held_in self.old.books.rows) sub (step_of ready.pending).act
             (R.may_leave self.old.records) (R.may_leave self.new.records) (R.is_stopped self.old.records) (R.is_stopped self.new.records)
             (R.faults self.old.records) (R.faults self.new.records) }
     {
@@ -132,18 +145,18 @@ impl<R: Records> KeptBooks<R> {
         acts_stand_apart();
         content_has_one_book();
         self.books.acts_are_own();
-        let step = pending.step();
+        let step = ready.step();
         if step.is_new() {
             match self.records.append(sub, step.act(), step.entries()) {
                 Ok(()) => {}
                 Err(fault) => {
                     // By a call: a step that is let go in place is proved part by part.
-                    drop(pending);
+                    drop(ready);
                     return Err(fault);
                 }
             }
         }
-        self.books.install(sub, pending);
+        self.books.install(sub, ready);
         Ok(())
     }
 }

@@ -10,6 +10,7 @@
 
 mod answers;
 mod books;
+mod indexed;
 mod kept;
 mod memory;
 mod pending;
@@ -19,6 +20,7 @@ mod shard;
 mod shards;
 
 pub use answers::{ExpiryAnswer, RequestAnswer, TopUpAnswer};
+pub use dcc_openers::Found;
 pub use memory::shards_in_memory;
 pub use route::shard_of;
 pub use shard::Shard;

@@ -39,7 +39,7 @@ pub(crate) fn session_of_act(act: &Act) -> Option<&SessionId>
 {
     match &act.kind {
         Kind::TopUp(_) | Kind::Expiry => None,
-        Kind::Initial(request) | Kind::Update(request) | Kind::Termination(request) => {
+        Kind::Initial { request, .. } | Kind::Update(request) | Kind::Termination(request) => {
             Some(&request.key.sid)
         }
         Kind::Event(event) => Some(&event.key.sid),
@@ -78,15 +78,15 @@ pub(crate) fn answer<R: Records>(
     ensures terms { kept.new.books.terms ≡ kept.old.books.terms }
 {
     kept.acts_are_kept();
-    let pending = kept.prepare(alloc, &sub, act)?;
-    match write_answer(alloc, envelope, kept.books().terms(), pending.step()) {
+    let ready = kept.prepare(alloc, &sub, act)?;
+    match write_answer(alloc, envelope, kept.books().terms(), ready.step()) {
         Ok(answer) => {
-            kept.commit(sub, pending)?;
+            kept.commit(sub, ready)?;
             Ok(answer)
         }
         Err(_) => {
             // By a call: a step that is let go in place is proved part by part.
-            drop(pending);
+            drop(ready);
             Err(StoreFault::Memory)
         }
     }
@@ -189,11 +189,11 @@ pub(crate) fn tell<R: Records>(
     ensures terms { kept.new.books.terms ≡ kept.old.books.terms }
 {
     kept.acts_are_kept();
-    let pending = kept.prepare(alloc, &sub, act)?;
+    let ready = kept.prepare(alloc, &sub, act)?;
     acts_come_to_their_own();
     places_hold();
-    let answer = told_by(pending.step()).unwrap();
-    kept.commit(sub, pending)?;
+    let answer = told_by(ready.step()).unwrap();
+    kept.commit(sub, ready)?;
     Ok(answer)
 }
 
@@ -229,10 +229,10 @@ pub(crate) fn end<R: Records>(
     ensures terms { kept.new.books.terms ≡ kept.old.books.terms }
 {
     kept.acts_are_kept();
-    let pending = kept.prepare(alloc, &sub, act)?;
+    let ready = kept.prepare(alloc, &sub, act)?;
     acts_come_to_their_own();
-    let answer = ended_by(pending.step()).unwrap();
-    kept.commit(sub, pending)?;
+    let answer = ended_by(ready.step()).unwrap();
+    kept.commit(sub, ready)?;
     Ok(answer)
 }
 

@@ -8,6 +8,7 @@ ghost use Rattle.dcc_records.specs.Books.{sub_order};
 ghost use Rattle.dcc_records.specs.Contents.{Content};
 ghost use Rattle.dcc_records.specs.Stops.{LeavesOnly};
 ghost use Rattle.dcc_records.specs.declared.fault.StoreFault.TheVariants.{Device, Stopped};
+ghost use Rattle.dcc_shard.specs.Openers.{IsFound, opened};
 ghost use Rattle.dcc_shard.specs.Shards.{held, held_in, AreOwn, IsStep, is_among};
 ghost use Rattle.dcc_shard.specs.Stored.{IsKept, IsLeft, LeavesHeld, LeavesOneMore};
 ghost use Rattle.dcc_shard.specs.Routes.{shard_of};
@@ -15,13 +16,15 @@ ghost use Rattle.dcc_shard.specs.Answers.{IsAnswer, IsToldApart, IsTold, octets_
 ghost use Rattle.dcc_shard.specs.Answers.{IsExpired, is_judged_expiry, expiry_act};
 
 use crate::answers::{ExpiryAnswer, RequestAnswer, TopUpAnswer};
-use crate::books::Books;
+use crate::indexed::IndexedBooks;
 use crate::kept::KeptBooks;
 use crate::serve::{Envelope, answer, busy, copied, end, session_of_act, tell};
 use dcc_account::Account;
-use dcc_act::{Act, Kind, Moment, Sub, TopUp};
+use dcc_act::{Act, Kind, Moment, SessionId, Sub, TopUp};
 use dcc_answer::{MAX_ANSWER, Proxies};
 use dcc_message::{Header, Identity};
+use dcc_octets::Host;
+use dcc_openers::Found;
 use dcc_records::{Records, StoreFault, content_has_one_book};
 use std::alloc::{AllocError, Global};
 use std::hash::RandomState;
@@ -155,6 +158,14 @@ impl<R: Records> Shard<R> {
         self.kept.books().subs(alloc)
     }
 
+    /// Who opened the session from the host, by what is held: nobody, one subscriber, or several. It takes no memory, and its time doesn't
+    /// grow with what is held.
+    pub fn find(&self, host: &Host, sid: &SessionId) -> Found
+        ensures { IsFound (opened self.now.shard host.now sid.now) result }
+    {
+        self.kept.find(host, sid)
+    }
+
     /// Makes a request's act, and answers it under the request's header and with its proxies: with what the act comes to, or
     /// busy, or with nothing where memory was short for the busy answer too.
     pub fn step(
@@ -268,12 +279,12 @@ fn read<R: Records>(
     identity: &Identity,
     records: &mut R,
     hasher: RandomState,
-) -> Result<(Identity, Books), StoreFault>
+) -> Result<(Identity, IndexedBooks), StoreFault>
     ensures identity { IfOk result (λ read. read.0 ≡ identity.now) }
-    ensures terms { IfOk result (λ read. read.1.terms ≡ R.terms records.old) }
+    ensures terms { IfOk result (λ read. read.1.books.terms ≡ R.terms records.old) }
     ensures stays { R.terms records.new ≡ R.terms records.old }
-    ensures found { IfOk result (λ read. LeavesOnly read.1.terms (held_in read.1.rows) (R.may_leave records.new)) }
-    ensures there { IfOk result (λ read. R.is_honest records.new → IsLeft read.1.terms (held_in read.1.rows) (R.may_leave records.new)) }
+    ensures found { IfOk result (λ read. LeavesOnly read.1.books.terms (held_in read.1.books.rows) (R.may_leave records.new)) }
+    ensures there { IfOk result (λ read. R.is_honest records.new → IsLeft read.1.books.terms (held_in read.1.books.rows) (R.may_leave records.new)) }
     ensures same { (found : Content) → R.may_leave records.new found → R.may_leave records.old found }
     ensures going { OnOk result (R.is_stopped records.new ≡ R.is_stopped records.old) }
     ensures open { OnOk result (R.is_stopped records.new ≡ false) }
@@ -287,6 +298,6 @@ fn read<R: Records>(
     let book = records.load()?;
     let identity = identity.copy()?;
     content_has_one_book();
-    let books = Books::of_book(alloc, records.terms(), hasher, book)?;
+    let books = IndexedBooks::of_book(alloc, records.terms(), hasher, book)?;
     Ok((identity, books))
 }

@@ -4,6 +4,7 @@ ghost use Rattle.std.specs.Prelude.{◌≡◌, ◌≢◌, ◌≤◌, ◌<◌, �
 ghost use Rattle.std.specs.List.Sorted.{IsStrictlySortedBy};
 ghost use Rattle.dcc_act.specs.declared.sub.Sub.{Sub};
 ghost use Rattle.dcc_model.specs.Keys.{request_key};
+ghost use Rattle.dcc_shard.specs.Openers.{IsFound, opened};
 ghost use Rattle.dcc_shard.specs.Shards.{held, AreOwn, IsStep, is_among, are_apart};
 ghost use Rattle.dcc_shard.specs.Stored.{StoredView};
 ghost use Rattle.dcc_shard.specs.Routes.{shard_of, route_order, part_of, IsPartStep};
@@ -14,10 +15,12 @@ use crate::answers::{ExpiryAnswer, RequestAnswer, TopUpAnswer};
 use crate::route::shard_of;
 use crate::shard::Shard;
 use dcc_account::Account;
-use dcc_act::{Act, Moment, Sub, same_subscribers_are_equal};
+use dcc_act::{Act, Moment, SessionId, Sub, same_subscribers_are_equal};
 use dcc_answer::{MAX_ANSWER, Proxies};
 use dcc_message::{Header, Identity};
 use dcc_model::leaving_out_changes_nothing;
+use dcc_octets::Host;
+use dcc_openers::Found;
 use dcc_records::Records;
 use dcc_tariff::Terms;
 use std::alloc::{AllocError, Global};
@@ -129,6 +132,19 @@ impl<R: Records> Shards<R> {
             add_own(&mut all, &subs, i, count)?;
         }
         Ok(all)
+    }
+
+    /// Who opened the session from the host, by what is held in all shards: nobody, one subscriber, or several. It takes no memory, and
+    /// looks into each shard once.
+    pub fn find(&self, host: &Host, sid: &SessionId) -> Found
+        ensures { IsFound (opened self.now.shard host.now sid.now) result }
+    {
+        same_subscribers_are_equal();
+        let mut found = Found::None;
+        for shard in &self.shards {
+            found = found.join(shard.find(host, sid));
+        }
+        found
     }
 
     /// Makes a request's act in its subscriber's shard, and answers it as that does.

@@ -5,6 +5,7 @@ use Rattle.dcc_act.specs.declared.act.Act.{Act}
 use Rattle.dcc_act.specs.declared.sub.Sub.{Sub}
 use Rattle.dcc_account.specs.declared.account.Account.{Account}
 use Rattle.dcc_model.specs.Outcomes.{acts}
+use Rattle.dcc_openers.specs.Openers.{OpenersView}
 use Rattle.dcc_shard.specs.Shards.{account_in, held_in}
 
 -- by what terms accounts are judged, the accounts, and for how many more memory is there
@@ -13,9 +14,10 @@ pub record BooksView : Type 0 where
   pub rows : List (Sub × Account)
   pub room : ℕ
 
--- books with the records that keep them
+-- books with the index of who opened which session from which host, and the records that keep them
 pub record KeptView (R : Type 0) : Type 0 where
   pub books : BooksView
+  pub openers : OpenersView
   pub records : R
 
 -- each account is under the terms, has at least one act, and its acts are those that they themselves make

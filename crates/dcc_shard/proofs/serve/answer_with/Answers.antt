@@ -1,4 +1,4 @@
-use Rattle.std.proofs.Common.{ℕ, Bool, Option, ap, ◌∙◌}
+use Rattle.std.proofs.Common.{ℕ, Option, ap, ◌∙◌}
 use Rattle.dcc_shard.specs.Answers.{answer_at}
 use Rattle.dcc_shard.proofs.serve.answer_with.Goals as goal
 

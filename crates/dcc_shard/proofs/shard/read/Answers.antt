@@ -6,6 +6,6 @@ use Rattle.dcc_shard.proofs.shard.read.Goals as goal
 
 pub returns-clause-there : goal.returns-clause-there
 returns-clause-there g c = λ honest.
-    let books = c.in_ok-books.books in
+    let books = c.in_ok-books.books.books in
     let terms_are = sym (c.in_ok-books.ensures.terms ∙ c.terms.ensures ∙ c.in_ok-book.ensures.terms) in
     alike_left c.content_has_one_book.ensures.alike _ books.terms (acts_in c.in_ok-book.book) (held_in books.rows) _ terms_are (λ sub. sym (c.in_ok-books.ensures.held sub)) (c.in_ok-book.ensures.there honest)

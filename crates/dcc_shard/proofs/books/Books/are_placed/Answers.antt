@@ -1,4 +1,4 @@
-use Rattle.std.proofs.Common.{◌≡◌, ◌==◌, ◌∙◌, Bool, inl, inr, sym, subst}
+use Rattle.std.proofs.Common.{◌==◌, ◌∙◌, Bool, inl, inr, sym, subst}
 use Rattle.dcc_act.specs.declared.sub.Sub.{Sub}
 use Rattle.std.specs.Map.{keys_of}
 use Rattle.std.proofs.lemmas.Bool.{cases_Bool, eqb-true, eq-eqb}

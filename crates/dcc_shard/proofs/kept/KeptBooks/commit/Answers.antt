@@ -10,19 +10,19 @@ use Rattle.dcc_shard.proofs.kept.KeptBooks.commit.Goals as goal
 
 pub append-requires : goal.append-requires
 append-requires g c =
-    let books = c.self.inside.books in
-    let step = step_of c.args.pending in
-    let pending = subst (λ (v : KeptView g.row.R.Denot). IsPending v.books c.args.sub step.act c.args.pending) (sym c.self.view_is) c.requires.pending in
+    let books = c.self.inside.books.books in
+    let step = step_of c.args.ready.pending in
+    let pending = subst (λ (v : KeptView g.row.R.Denot). IsPending v.books c.args.sub step.act c.args.ready.pending) (sym c.self.view_is) c.requires.pending in
     let made : step.is_new ≡ true = sym (ap (λ s. s.is_new) c.step-step.ensures) ∙ sym c.is_new.ensures ∙ c.if-is_new.true in
-    let next = next_of c.new_acts_come_next.ensures.next books c.args.sub c.args.pending (c.acts_are_own.ensures c.args.sub) pending made in
+    let next = next_of c.new_acts_come_next.ensures.next books c.args.sub c.args.ready.pending (c.acts_are_own.ensures c.args.sub) pending made in
     λ going found left. rw (c.act.ensures, c.entries.ensures, c.step-step.ensures, c.self.invariant.0) (next_in_found c.new_acts_come_next.ensures.found books.terms (held_in books.rows) c.args.sub step.act step.entries
     (g.R.Records.may_leave c.self.inside.records) (c.self.invariant.1 going) next found left)
 
 pub invariant_of-self : goal.invariant_of-self
 invariant_of-self g c =
-    let books = c.self.inside.books in
-    let step = step_of c.args.pending in
-    let pending = subst (λ (v : KeptView g.row.R.Denot). IsPending v.books c.args.sub step.act c.args.pending) (sym c.self.view_is) c.requires.pending in
+    let books = c.self.inside.books.books in
+    let step = step_of c.args.ready.pending in
+    let pending = subst (λ (v : KeptView g.row.R.Denot). IsPending v.books c.args.sub step.act c.args.ready.pending) (sym c.self.view_is) c.requires.pending in
     let made : step.is_new ≡ true = sym (ap (λ s. s.is_new) c.step-step.ensures) ∙ sym c.is_new.ensures ∙ c.if-is_new.true in
     let act_is = c.act.ensures ∙ ap (λ s. s.act) c.step-step.ensures in
     let going = subst (λ (v : KeptView g.row.R.Denot). g.R.Records.is_stopped v.records ≡ false) (sym c.self.view_is) c.requires.going in
@@ -42,9 +42,9 @@ invariant_of-self g c =
 
 pub returns-in-Err-clause-kept : goal.returns-in-Err-clause-kept
 returns-in-Err-clause-kept g c =
-    let books = c.self.inside.books in
-    let step = step_of c.args.pending in
-    let pending = subst (λ (v : KeptView g.row.R.Denot). IsPending v.books c.args.sub step.act c.args.pending) (sym c.self.view_is) c.requires.pending in
+    let books = c.self.inside.books.books in
+    let step = step_of c.args.ready.pending in
+    let pending = subst (λ (v : KeptView g.row.R.Denot). IsPending v.books c.args.sub step.act c.args.ready.pending) (sym c.self.view_is) c.requires.pending in
     let made : step.is_new ≡ true = sym (ap (λ s. s.is_new) c.step-step.ensures) ∙ sym c.is_new.ensures ∙ c.if-is_new.true in
     let act_is = c.act.ensures ∙ ap (λ s. s.act) c.step-step.ensures in
     rw (← c.self.view_is) (kept_by_append books.terms (held_in books.rows) c.args.sub step.act c.append.result _ _ _ _ _ _
@@ -54,39 +54,39 @@ returns-in-Err-clause-kept g c =
 
 pub invariant_of-self-2 : goal.invariant_of-self-2
 invariant_of-self-2 g c =
-    let books = c.self.inside.books in
-    let step = step_of c.args.pending in
-    let pending = subst (λ (v : KeptView g.row.R.Denot). IsPending v.books c.args.sub step.act c.args.pending) (sym c.self.view_is) c.requires.pending in
+    let books = c.self.inside.books.books in
+    let step = step_of c.args.ready.pending in
+    let pending = subst (λ (v : KeptView g.row.R.Denot). IsPending v.books c.args.sub step.act c.args.ready.pending) (sym c.self.view_is) c.requires.pending in
     let going = subst (λ (v : KeptView g.row.R.Denot). g.R.Records.is_stopped v.records ≡ false) (sym c.self.view_is) c.requires.going in
     let before = c.self.invariant.1 going in
     elim c.if-is_new.branch [
       | then-is_new+in-Ok w ↦
           let act_is = w.act.ensures ∙ ap (λ s. s.act) c.step-step.ensures in
           let made : step.is_new ≡ true = sym (ap (λ s. s.is_new) c.step-step.ensures) ∙ sym c.is_new.ensures ∙ w.if-is_new.true in
-          let books_are : c.if-is_new.self-inside.books ≡ books = ap (λ i. i.books) w.self-inside-is in
+          let books_are : c.if-is_new.self-inside.books.books ≡ books = ap (λ i. i.books.books) w.self-inside-is in
           let records_are : c.if-is_new.self-inside.records ≡ w.append.new.self = ap (λ i. i.records) w.self-inside-is in
-          let done = subst (λ (b : BooksView). IsStepOfBooks b c.install.new.self c.args.sub step.act) books_are c.install.ensures in
-          let alike = held_with c.same_subscribers_are_equal.ensures c.one_more_act.ensures c.acts_stand_apart.ensures.own c.acts_stand_apart.ensures.others books c.install.new.self c.args.sub step.act
+          let done = subst (λ (b : BooksView). IsStepOfBooks b c.install.new.self.books c.args.sub step.act) books_are c.install.ensures in
+          let alike = held_with c.same_subscribers_are_equal.ensures c.one_more_act.ensures c.acts_stand_apart.ensures.own c.acts_stand_apart.ensures.others books c.install.new.self.books c.args.sub step.act
           (c.acts_are_own.ensures c.args.sub) (sym pending.new_is ∙ made) done in
           let only =
-          stored_only c.content_has_one_book.ensures.alike books.terms _ (held_in books.rows) (held_in c.install.new.self.rows) c.args.sub step.act w.act.result.now _ _ c.self.invariant.0 act_is
+          stored_only c.content_has_one_book.ensures.alike books.terms _ (held_in books.rows) (held_in c.install.new.self.books.rows) c.args.sub step.act w.act.result.now _ _ c.self.invariant.0 act_is
           w.in-Ok.ensures.stored alike before in
-          rw (records_are, done.terms) (w.append.ensures.terms ∙ c.self.invariant.0, λ _. only, λ _. only_left books.terms (held_in c.install.new.self.rows) c.args.sub step.act _ only)
+          rw (records_are, done.terms) (w.append.ensures.terms ∙ c.self.invariant.0, λ _. only, λ _. only_left books.terms (held_in c.install.new.self.books.rows) c.args.sub step.act _ only)
       | else-is_new w ↦
           let old : step.is_new ≡ false = sym (ap (λ s. s.is_new) c.step-step.ensures) ∙ sym c.is_new.ensures ∙ w.if-is_new.false in
-          let books_are : c.if-is_new.self-inside.books ≡ books = ap (λ i. i.books) w.self-inside-is in
+          let books_are : c.if-is_new.self-inside.books.books ≡ books = ap (λ i. i.books.books) w.self-inside-is in
           let records_are : c.if-is_new.self-inside.records ≡ c.self.inside.records = ap (λ i. i.records) w.self-inside-is in
-          let done = subst (λ (b : BooksView). IsStepOfBooks b c.install.new.self c.args.sub step.act) books_are c.install.ensures in
-          let alike = held_same c.same_subscribers_are_equal.ensures c.one_more_act.ensures books c.install.new.self c.args.sub step.act (c.acts_are_own.ensures c.args.sub) (sym pending.new_is ∙ old) done in
-          let only = alike_only c.content_has_one_book.ensures.alike books.terms (held_in books.rows) (held_in c.install.new.self.rows) _ alike before in
-          rw (records_are, done.terms) (c.self.invariant.0, λ _. only, λ _. only_left books.terms (held_in c.install.new.self.rows) c.args.sub step.act _ only)
+          let done = subst (λ (b : BooksView). IsStepOfBooks b c.install.new.self.books c.args.sub step.act) books_are c.install.ensures in
+          let alike = held_same c.same_subscribers_are_equal.ensures c.one_more_act.ensures books c.install.new.self.books c.args.sub step.act (c.acts_are_own.ensures c.args.sub) (sym pending.new_is ∙ old) done in
+          let only = alike_only c.content_has_one_book.ensures.alike books.terms (held_in books.rows) (held_in c.install.new.self.books.rows) _ alike before in
+          rw (records_are, done.terms) (c.self.invariant.0, λ _. only, λ _. only_left books.terms (held_in c.install.new.self.books.rows) c.args.sub step.act _ only)
     ]
 
 pub returns-clause-kept : goal.returns-clause-kept
 returns-clause-kept g c =
-    let books = c.self.inside.books in
-    let step = step_of c.args.pending in
-    let pending = subst (λ (v : KeptView g.row.R.Denot). IsPending v.books c.args.sub step.act c.args.pending) (sym c.self.view_is) c.requires.pending in
+    let books = c.self.inside.books.books in
+    let step = step_of c.args.ready.pending in
+    let pending = subst (λ (v : KeptView g.row.R.Denot). IsPending v.books c.args.sub step.act c.args.ready.pending) (sym c.self.view_is) c.requires.pending in
     elim c.if-is_new.branch [
       | then-is_new+in-Ok w ↦
           let made : step.is_new ≡ true = sym (ap (λ s. s.is_new) c.step-step.ensures) ∙ sym c.is_new.ensures ∙ w.if-is_new.true in

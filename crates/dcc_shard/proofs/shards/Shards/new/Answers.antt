@@ -14,6 +14,7 @@ invariant_of-result g c = record {
       let P = λ (items : List (StoredView g.row.R.Denot)). AreOwn (get_or items i none).shard in
       let many = ap length c.deref-shard-items.ensures.value in
       subst P c.deref-shard-items.ensures.value (c.loop-shard.invariant i none (omega (arith, below, many, c.loop-shard-test.false))));
+  placed = c.requires.placed;
 }
 
 pub returns-clause-held : goal.returns-clause-held

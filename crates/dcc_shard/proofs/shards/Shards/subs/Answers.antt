@@ -1,4 +1,4 @@
-use Rattle.std.proofs.Common.{List, length, sym, ap, subst, ◌∙◌, ◌≡◌, ◌≢◌, [], true, false}
+use Rattle.std.proofs.Common.{sym, ap, ◌∙◌, ◌≡◌, ◌≢◌, [], true, false}
 use Rattle.dcc_act.specs.declared.sub.Sub.{Sub}
 use Rattle.dcc_shard.specs.Shards.{held, is_among}
 use Rattle.dcc_shard.specs.Routes.{shard_of}

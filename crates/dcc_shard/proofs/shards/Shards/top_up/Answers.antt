@@ -1,6 +1,6 @@
 use Rattle.std.proofs.Common.{◌≡◌, ◌∙◌, true, ap, subst}
 use Rattle.dcc_shard.specs.Routes.{shard_of}
-use Rattle.dcc_shard.specs.Answers.{is_judged_top_up, top_up_act, expiry_act}
+use Rattle.dcc_shard.specs.Answers.{is_judged_top_up, top_up_act}
 use Rattle.dcc_shard.specs.Stored.{StoredView}
 use Rattle.dcc_shard.specs.inner.Routed.{as_one}
 use Rattle.dcc_shard.proofs.Routing.{at_shard, part_is, one_steps, told_of_one}
