@@ -42,8 +42,8 @@ pub data Received : Type 0 where
   Ignored : Received
   -- it is no message, and its connection is closed
   Broken : Received
-  -- it is a credit-control request
-  Charging : MessageView → Received
+  -- it is a credit-control request, from a peer of this host
+  Charging : (host : List ℕ) → MessageView → Received
   -- it is any other message, to this peer, of the base protocol
   Base : Peer → MessageView → Received
 
@@ -53,8 +53,14 @@ is_charging Wait header = false
 is_charging (Open host) header = is_request header && is_credit_control header
 is_charging Closed header = false
 
+-- the name of the host of a peer that is open; of any other there is none, but from that nothing is charged
+abbrev pub host_name : Peer → List ℕ
+host_name Wait = []
+host_name (Open host) = host
+host_name Closed = []
+
 abbrev pub received_by : Peer → MessageView → Received
-received_by peer message = if is_charging peer message.header then Charging message else Base peer message
+received_by peer message = if is_charging peer message.header then Charging (host_name peer) message else Base peer message
 
 abbrev pub received_with : Peer → Result HeaderView HeaderFault → List ℕ → Received
 received_with peer (Ok header) octets = received_by peer (message_view header octets)

@@ -1,22 +1,25 @@
 //! What a message to a peer comes to.
 
-ghost use Rattle.std.specs.Prelude.{◌≡◌, true, is_some};
+ghost use Rattle.std.specs.Prelude.{◌≡◌, true, Some, is_some};
+ghost use Rattle.dcc_base.specs.Peers.{host_of_peer};
 ghost use Rattle.dcc_model.specs.Keys.{request_key};
-ghost use Rattle.dcc_dispatch.specs.Dispatches.{IfAsked, IfReplied, IsAsked, IsRepliedTo};
-ghost use Rattle.dcc_dispatch.specs.Messages.{message_view, proxies, received};
+ghost use Rattle.dcc_dispatch.specs.Dispatches.{IfAsked, IfSought, IfCharging, IfReplied, IsAsked, IsSought, IsRepliedTo};
+ghost use Rattle.dcc_dispatch.specs.Verdicts.{verdict_of};
+ghost use Rattle.dcc_dispatch.specs.Sought.{is_report};
+ghost use Rattle.dcc_dispatch.specs.Messages.{host_name, message_view, proxies, received};
 ghost use Rattle.dcc_dispatch.specs.Messages.Received.{Charging};
-ghost use Rattle.dcc_dispatch.specs.declared.decide.Dispatched.TheVariants.{Asked};
 ghost use Rattle.dcc_dispatch.specs.inner.Headings.{IsWhole};
 ghost use Rattle.dcc_dispatch.specs.inner.Known.{IsCharged};
 
+use crate::asked::Asked;
 use crate::message::{Heading, Message, receive};
 use crate::reply::{closing, reply_to, staying};
+use crate::sought::Sought;
 use crate::verdict::Verdict;
 use dcc_act::{Act, Moment, Sub};
-use dcc_answer::Proxies;
 use dcc_base::{Peer, Reply};
 use dcc_message::{Header, Identity};
-use dcc_octets::OctetString;
+use dcc_octets::{Host, OctetString};
 use dcc_tariff::Plan;
 use std::alloc::Global;
 
@@ -25,21 +28,20 @@ use std::alloc::Global;
 pub enum Dispatched {
     /// It is answered with these octets, or by nothing, and the connection stays or is closed behind them.
     Replied(Reply),
-    /// Its subscriber's account is asked for an act; the answer is written under this header, with these proxies.
-    Asked {
-        sub: Sub,
-        act: Act,
-        header: Header,
-        proxies: Proxies,
-    },
+    /// Its subscriber's account is asked for an act.
+    Asked(Asked),
+    /// It names nobody: who opened its session from the host of its peer is sought, and then asked for an act.
+    Sought(Sought),
 }
 
 /// What a message to a peer comes to, of all its octets, at the moment at which it came (RFC 6733, section 3; RFC 8506, section 3).
 ///
 /// To a closed peer nothing is replied. What has no header closes the peer without an answer. A credit-control request to an open
-/// peer leaves the peer as it is: it asks its subscriber for the act that the plan makes of it, or it is replied the refusal of what it
-/// says. Any other message is replied as `Peer::take` says, and leaves the peer where that says. For want of memory the reply is the
-/// busy answer, or none where the busy answer finds no memory either; then the connection stays and the peer is as it was.
+/// peer leaves the peer as it is: it asks its subscriber for the act that the plan makes of it, which keeps the peer's host if it opens a
+/// session; or, as an update or a termination that names no subscriber, it asks for that act whoever opened its session from that host; or it
+/// is replied the refusal of what it says. Any other message is replied as `Peer::take` says, and leaves the peer where
+/// that says. For want of memory the reply is the busy answer, or none where the busy answer finds no memory either; then the connection
+/// stays and the peer is as it was.
 pub fn dispatch(
     alloc: Global,
     plan: &Plan,
@@ -48,16 +50,20 @@ pub fn dispatch(
     moment: Moment,
     octets: &[u8],
 ) -> Dispatched
-    // Only of a credit-control request to an open peer is an account asked.
-    ensures charging { IfAsked result (λ sub act header proxies.
-        received peer.old octets.now ≡ Charging (message_view header octets.now)) }
-    // It is asked for the request's act, which is answered under the request's header, with its proxies.
-    ensures asked { IfAsked result (λ sub act header proxies. IsAsked (record { plan = plan.now; identity = identity.now })
-        moment (message_view header octets.now) sub act header proxies) }
+    // Only of a credit-control request to an open peer is an account asked, or sought.
+    ensures charging { IfCharging result (λ header.
+        received peer.old octets.now ≡ Charging (host_name peer.old) (message_view header octets.now)) }
+    // It is asked for the request's act, from the peer's host, which is answered under the request's header, with its proxies.
+    ensures asked { IfAsked result (λ asked. IsAsked (message_view asked.header octets.now) (verdict_of
+        (record { plan = plan.now; identity = identity.now }) moment (host_name peer.old) (message_view asked.header octets.now)) asked) }
+    // And so is whoever is sought, where the request names nobody.
+    ensures sought { IfSought result (λ sought. IsSought (message_view sought.header octets.now) (verdict_of
+        (record { plan = plan.now; identity = identity.now }) moment (host_name peer.old) (message_view sought.header octets.now)) sought) }
     // The act is a request's.
-    ensures request { IfAsked result (λ sub act header proxies. is_some (request_key act.kind) ≡ true) }
-    // Then the peer is as it was.
-    ensures kept { IfAsked result (λ sub act header proxies. peer.new ≡ peer.old) }
+    ensures request { IfAsked result (λ asked. is_some (request_key asked.act.kind) ≡ true) }
+    // Then the peer is as it was, and has a host.
+    ensures kept { IfCharging result (λ header. peer.new ≡ peer.old) }
+    ensures open { IfCharging result (λ header. host_of_peer peer.old ≡ Some (host_name peer.old)) }
     // Each other message is replied by its definition, and leaves the peer where that says.
     ensures replied { IfReplied result (λ reply. IsRepliedTo (record { plan = plan.now; identity = identity.now })
         moment (received peer.old octets.now) peer.old peer.new reply) }
@@ -68,48 +74,72 @@ pub fn dispatch(
             *peer = Peer::Closed;
             Dispatched::Replied(closing(alloc))
         }
-        Heading::Charging(header) => charge(alloc, plan, identity, moment, header, octets),
+        Heading::Charging(header) => {
+            let Some(host) = peer.name() else {
+                unreachable!()
+            };
+            charge(alloc, plan, identity, moment, host, header, octets)
+        }
         Heading::Base(header) => {
             Dispatched::Replied(reply_to(alloc, identity, peer, header, octets))
         }
     }
 }
 
-/// What a credit-control request comes to, of all its octets.
+/// What a credit-control request from a peer of this host comes to, of all its octets.
 fn charge(
     alloc: Global,
     plan: &Plan,
     identity: &Identity,
     moment: Moment,
+    host: &Host,
     header: Header,
     octets: &[u8],
 ) -> Dispatched
     requires { IsWhole octets.now }
-    ensures { IsCharged (record { plan = plan.now; identity = identity.now }) moment (message_view header octets.now) result }
+    ensures { IsCharged (record { plan = plan.now; identity = identity.now }) moment host.now (message_view header octets.now) result }
 {
     let Ok(message) = Message::read(alloc, header, octets) else {
         return Dispatched::Replied(staying(OctetString::new(alloc)));
     };
-    let Ok(verdict) = message.verdict(alloc, plan, identity, moment) else {
+    let Ok(verdict) = message.verdict(alloc, plan, identity, moment, host) else {
         return Dispatched::Replied(staying(message.busy(alloc, identity)));
     };
     match verdict {
-        Verdict::Asks { sub, act } => ask(message, sub, act),
+        Verdict::Asks { sub, act } => Dispatched::Asked(ask(message, sub, act)),
+        Verdict::Seeks { act } => Dispatched::Sought(seek(message, act)),
         Verdict::Refused(refusal) => Dispatched::Replied(staying(refusal)),
     }
 }
 
 /// A message asks for this act of this subscriber.
-fn ask(message: Message<'_>, sub: Sub, act: Act) -> Dispatched
-    ensures { result ≡ Asked sub act message.entry.header (proxies message.entry) }
+fn ask(message: Message<'_>, sub: Sub, act: Act) -> Asked
+    ensures { result ≡ record { sub = sub; act = act; header = message.entry.header; proxies = proxies message.entry } }
 {
     let Message {
         header,
         list: _,
         proxies,
     } = message;
-    Dispatched::Asked {
+    Asked {
         sub,
+        act,
+        header,
+        proxies,
+    }
+}
+
+/// A message asks for this act of who opened its session.
+fn seek(message: Message<'_>, act: Act) -> Sought
+    requires { is_report act.kind ≡ true }
+    ensures { result ≡ record { act = act; header = message.entry.header; proxies = proxies message.entry } }
+{
+    let Message {
+        header,
+        list: _,
+        proxies,
+    } = message;
+    Sought {
         act,
         header,
         proxies,

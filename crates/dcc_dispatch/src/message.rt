@@ -9,7 +9,8 @@ ghost use Rattle.dcc_dispatch.specs.Messages.{message_view, session, received, i
 ghost use Rattle.dcc_request.specs.Layout.{layout_fault};
 ghost use Rattle.dcc_dispatch.specs.inner.Headings.{received_as, IsHeaded, IsWhole, fault_of};
 
-use dcc_answer::{Proxies, Session, session_id, write_busy};
+use crate::reply::busy_or_nothing;
+use dcc_answer::{Proxies, Session, session_id};
 use dcc_avp::{Avp, AvpFault, read_list};
 use dcc_base::{Peer, Reply};
 use dcc_message::{HEADER_LENGTH, Header, Identity, read_header};
@@ -33,7 +34,7 @@ pub(crate) enum Heading {
 #[tactic(auto, unfolding(crate::specs::Messages::received))]
 pub(crate) fn receive(peer: &Peer, octets: &[u8]) -> Heading
     ensures received { received peer.now octets.now ≡ received_as peer.now result octets.now }
-    ensures whole { IsHeaded result octets.now }
+    ensures headed { IsHeaded peer.now result octets.now }
 {
     if matches!(peer, Peer::Closed) {
         return Heading::Ignored;
@@ -126,11 +127,7 @@ impl<'a> Message<'a> {
         ensures busy { IsBusyOrNothing identity.now self.now result }
         ensures refused { is_refusal result ≡ true }
     {
-        let (session, proxies) = (self.session(), &self.proxies);
-        match write_busy(alloc, identity, session, &self.header, proxies) {
-            Ok(octets) => OctetString::from_vec(octets),
-            Err(_) => OctetString::new(alloc),
-        }
+        busy_or_nothing(alloc, identity, self.session(), &self.header, &self.proxies)
     }
 
     /// What a peer replies to it. The only error is want of memory, and then the peer is as it was.

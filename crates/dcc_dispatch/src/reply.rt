@@ -1,12 +1,14 @@
 //! What a peer is replied to a message of the base protocol.
 
-ghost use Rattle.std.specs.Prelude.{◌≡◌, false};
+ghost use Rattle.std.specs.Prelude.{◌≡◌, true, false};
+ghost use Rattle.dcc_dispatch.specs.Refusals.{IsBusyOrNothingUnder, is_refusal};
 ghost use Rattle.dcc_dispatch.specs.Messages.{message_view};
 ghost use Rattle.dcc_dispatch.specs.inner.Headings.{IsWhole};
 ghost use Rattle.dcc_base.specs.Peers.{shut};
 ghost use Rattle.dcc_dispatch.specs.Dispatches.{IsReplied};
 
 use crate::message::Message;
+use dcc_answer::{Proxies, Session, write_busy};
 use dcc_base::{Peer, Reply};
 use dcc_message::{Header, Identity};
 use dcc_octets::OctetString;
@@ -33,6 +35,23 @@ pub(crate) fn reply_to(
     match message.put_to(alloc, identity, peer) {
         Ok(reply) => reply,
         Err(_) => staying(message.busy(alloc, identity)),
+    }
+}
+
+/// The busy answer under a header, or nothing where memory is short for it too.
+pub(crate) fn busy_or_nothing(
+    alloc: Global,
+    identity: &Identity,
+    session: Option<Session<'_>>,
+    header: &Header,
+    proxies: &Proxies,
+) -> OctetString
+    ensures busy { IsBusyOrNothingUnder identity.now session.entry header.now proxies.now result }
+    ensures refused { is_refusal result ≡ true }
+{
+    match write_busy(alloc, identity, session, header, proxies) {
+        Ok(octets) => OctetString::from_vec(octets),
+        Err(_) => OctetString::new(alloc),
     }
 }
 

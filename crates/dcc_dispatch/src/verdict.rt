@@ -2,8 +2,7 @@
 
 ghost use Rattle.std.specs.Prelude.{◌≡◌, IfOk};
 ghost use Rattle.dcc_credit.specs.Acts.{act_of};
-ghost use Rattle.dcc_dispatch.specs.Verdicts.{verdict_of};
-ghost use Rattle.dcc_dispatch.specs.declared.verdict.Verdict.TheVariants.{Asks};
+ghost use Rattle.dcc_dispatch.specs.Verdicts.{verdict_of, asked_of};
 ghost use Rattle.dcc_dispatch.specs.inner.Known.{IsVerdict};
 
 use crate::message::Message;
@@ -11,7 +10,7 @@ use dcc_act::{Act, Moment, Sub};
 use dcc_ccr::{Request, read_ccr, subscriber};
 use dcc_credit::{to_act, write_refusal, write_unread};
 use dcc_message::Identity;
-use dcc_octets::OctetString;
+use dcc_octets::{Host, OctetString};
 use dcc_request::Stop;
 use dcc_tariff::Plan;
 use std::alloc::{AllocError, Global};
@@ -21,12 +20,14 @@ use std::alloc::{AllocError, Global};
 pub enum Verdict {
     /// Its subscriber's account is asked for an act.
     Asks { sub: Sub, act: Act },
+    /// It names nobody: who opened the act's session is asked for the act.
+    Seeks { act: Act },
     /// It is refused for what it says, by these octets.
     Refused(OctetString),
 }
 
 impl<'a> Message<'a> {
-    /// What a credit-control message comes to at a moment. The only error is want of memory.
+    /// What a credit-control message from a peer of this host comes to at a moment. The only error is want of memory.
     #[tactic(auto, unfolding(crate::specs::Verdicts::verdict_of))]
     pub(crate) fn verdict(
         &self,
@@ -34,8 +35,9 @@ impl<'a> Message<'a> {
         plan: &Plan,
         identity: &Identity,
         moment: Moment,
+        host: &Host,
     ) -> Result<Verdict, AllocError>
-        ensures value { IfOk result (λ verdict. verdict ≡ verdict_of (record { plan = plan.now; identity = identity.now }) moment self.now) }
+        ensures value { IfOk result (λ verdict. verdict ≡ verdict_of (record { plan = plan.now; identity = identity.now }) moment host.now self.now) }
         ensures known { IfOk result (λ verdict. IsVerdict self.now verdict) }
     {
         let avps = match &self.list {
@@ -46,7 +48,7 @@ impl<'a> Message<'a> {
             }
         };
         match read_ccr(alloc, avps) {
-            Ok(request) => asked(alloc, plan, &request, moment),
+            Ok(request) => asked(alloc, plan, &request, host, moment),
             Err(Stop::Refused(refused)) => {
                 let (header, proxies) = (&self.header, &self.proxies);
                 let refusal = write_refusal(alloc, identity, header, avps, proxies, &refused)?;
@@ -57,17 +59,19 @@ impl<'a> Message<'a> {
     }
 }
 
-/// What a request asks of its subscriber's account.
+/// What a request from a peer of this host asks, and of whom.
 fn asked(
     alloc: Global,
     plan: &Plan,
     request: &Request<'_>,
+    host: &Host,
     moment: Moment,
 ) -> Result<Verdict, AllocError>
-    ensures { IfOk result (λ verdict. verdict ≡ Asks request.now.sub (act_of plan.now request.now moment)) }
+    ensures { IfOk result (λ verdict. verdict ≡ asked_of request.now.sub (act_of plan.now host.now request.now moment)) }
 {
-    Ok(Verdict::Asks {
-        sub: subscriber(request),
-        act: to_act(alloc, plan, request, moment)?,
+    let act = to_act(alloc, plan, request, host, moment)?;
+    Ok(match subscriber(request) {
+        Some(sub) => Verdict::Asks { sub, act },
+        None => Verdict::Seeks { act },
     })
 }

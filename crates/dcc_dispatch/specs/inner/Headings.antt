@@ -8,8 +8,9 @@ use Rattle.dcc_avp.specs.declared.fault.AvpFault.{AvpFault}
 use Rattle.dcc_avp.specs.declared.fault.AvpFault.TheVariants as faults
 use Rattle.dcc_message.specs.declared.length.TheConstants.{HEADER_LENGTH, MAX_LENGTH}
 use Rattle.dcc_request.specs.Layout.{layout_fault}
+use Rattle.dcc_base.specs.Peers.{host_of_peer}
 use Rattle.dcc_base.specs.declared.peer.Peer.{Peer}
-use Rattle.dcc_dispatch.specs.Messages.{Received, message_view}
+use Rattle.dcc_dispatch.specs.Messages.{Received, message_view, host_name}
 use Rattle.dcc_dispatch.specs.Messages.Received.{Ignored, Broken, Charging, Base}
 use Rattle.dcc_dispatch.specs.declared.message.Heading.{Heading}
 use Rattle.dcc_dispatch.specs.declared.message.Heading.TheVariants as headings
@@ -18,7 +19,7 @@ use Rattle.dcc_dispatch.specs.declared.message.Heading.TheVariants as headings
 abbrev pub received_as : Peer → Heading → List ℕ → Received
 received_as peer headings.Ignored octets = Ignored
 received_as peer headings.Broken octets = Broken
-received_as peer (headings.Charging header) octets = Charging (message_view header octets)
+received_as peer (headings.Charging header) octets = Charging (host_name peer) (message_view header octets)
 received_as peer (headings.Base header) octets = Base peer (message_view header octets)
 
 -- a message has a header at least, no more octets than it may have, and whole words of four
@@ -27,12 +28,12 @@ pub record IsWhole (octets : List ℕ) : Type 0 where
   pub most : length octets ≤ MAX_LENGTH
   pub words : length octets % 4 ≡ 0
 
--- as one has that is headed
-abbrev pub IsHeaded : Heading → List ℕ → Type 0
-IsHeaded headings.Ignored octets = Unit {0}
-IsHeaded headings.Broken octets = Unit {0}
-IsHeaded (headings.Charging header) octets = IsWhole octets
-IsHeaded (headings.Base header) octets = IsWhole octets
+-- as one has that is headed; and a peer that charges has a host
+abbrev pub IsHeaded : Peer → Heading → List ℕ → Type 0
+IsHeaded peer headings.Ignored octets = Unit {0}
+IsHeaded peer headings.Broken octets = Unit {0}
+IsHeaded peer (headings.Charging header) octets = IsWhole octets × (host_of_peer peer ≡ Some (host_name peer))
+IsHeaded peer (headings.Base header) octets = IsWhole octets
 
 -- what a fault says of a list's layout; the last two say nothing, and no message has them
 abbrev pub fault_of : AvpFault → FaultView

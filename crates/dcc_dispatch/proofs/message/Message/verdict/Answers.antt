@@ -1,7 +1,7 @@
 use Rattle.std.proofs.Common.{◌≡◌, Ok, Some, sym, ap, subst, ◌∙◌}
 use Rattle.std.proofs.lemmas.Result.{IfOk-weaker}
 use Rattle.dcc_credit.specs.Acts.{act_of}
-use Rattle.dcc_dispatch.specs.declared.verdict.Verdict.TheVariants.{Asks}
+use Rattle.dcc_dispatch.specs.Verdicts.{asked_of}
 use Rattle.dcc_request.specs.Sessions.{session_of}
 use Rattle.dcc_dispatch.specs.Refusals.{is_refusal}
 use Rattle.dcc_dispatch.specs.Messages.{MessageView, session}
@@ -21,9 +21,10 @@ returns-in-Ok-read_ccr-clause-known c =
     let named : session message ≡ Some request.session = ap session_of (sym c.deref.ensures.value) ∙ c.in-Ok-read_ccr.ensures.session in
     let is_self : message ≡ c.args.self.now = rw c.in-Ok.is at c.self.view_is in
     let plan = c.args.plan.now in
+    let host = c.args.host.now in
     let moment = c.args.moment in
-    IfOk-weaker c.asked.result (λ verdict. verdict ≡ Asks request.sub (act_of plan request moment)) (λ verdict. IsVerdict c.args.self.now verdict)
-    (λ verdict is. subst (λ (m : MessageView). IsVerdict m verdict) is_self (subst (IsVerdict message) (sym is) (known_of plan moment message request named)))
+    IfOk-weaker c.asked.result (λ verdict. verdict ≡ asked_of request.sub (act_of plan host request moment)) (λ verdict. IsVerdict c.args.self.now verdict)
+    (λ verdict is. subst (λ (m : MessageView). IsVerdict m verdict) is_self (subst (IsVerdict message) (sym is) (known_of plan host moment message request named c.in-Ok-read_ccr.ensures.named)))
     c.asked.ensures
 
 pub returns-in_ok-refusal-in-Err-Refused-clause-known : goal.returns-in_ok-refusal-in-Err-Refused-clause-known
