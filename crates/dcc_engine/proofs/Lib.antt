@@ -1,13 +1,17 @@
 pub mod Tables
 pub mod Places
+pub mod Owners
+pub mod Covering
 pub mod Moves
 pub mod Pasts
 pub mod Runs
 pub mod OwnAnswers
+pub mod Alike
 pub mod InTurn
 pub mod Refusals
 pub mod Requests
 pub mod Hearing
+pub mod Seeking
 pub mod TopUps
 pub mod Sweeps
 pub mod Refusing

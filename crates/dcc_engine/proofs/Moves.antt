@@ -1,32 +1,51 @@
--- What is asked and told depends on what was before only so far: on the peer that is named, and on the acts that a
--- subscriber's own entries make.
-use Rattle.std.proofs.Common.{◌≡◌, ℕ, List, Option, Some, refl, sym, ap, subst, ◌∙◌, inl, inr}
+-- What is asked and told depends on what was before only so far: on the peer that is named, on the acts that subscribers' own
+-- entries make, and on who opened which session by these.
+use Rattle.std.proofs.Common.{◌≡◌, ℕ, List, Option, Some, None, option_and_then, refl, sym, ap, subst, ◌∙◌, inl, inr}
 use Rattle.std.proofs.lemmas.Bool.{cases_Bool}
 use Rattle.dcc_tariff.specs.Terms.{TermsView}
 use Rattle.dcc_act.specs.declared.act.Act.{Act}
 use Rattle.dcc_act.specs.declared.outcome.Outcome.{Outcome}
 use Rattle.dcc_act.specs.declared.sub.Sub.{Sub}
-use Rattle.dcc_model.specs.Laws.{AfterStays, NewStays, PlaceStays, ActsStay, ActsAreActs}
-use Rattle.dcc_model.specs.Outcomes.{acts, after, place, is_new}
+use Rattle.dcc_message.specs.declared.identity.Identity.{Identity}
+use Rattle.dcc_act.specs.Subs.{SameAreEqual}
+use Rattle.dcc_model.specs.Laws.{AfterStays, NewStays, PlaceStays, ActsStay, ActsAreActs, OpenersStay, OneMoreOpens}
+use Rattle.dcc_model.specs.Outcomes.{acts, after, place, is_new, was_opened_from}
 use Rattle.dcc_shard.specs.Answers.{told}
 use Rattle.dcc_dispatch.specs.Settings.{Setting}
-use Rattle.dcc_dispatch.specs.Messages.{received_on}
-use Rattle.dcc_engine.specs.Asks.{Turn, Before, Ask, Source, Said, ask_for, received_ask, is_refused_for, IsAnsweredFor, IsOut, IsMessageOut, said_from}
+use Rattle.dcc_dispatch.specs.Dispatches.{session_of_key}
+use Rattle.dcc_dispatch.specs.Messages.{MessageView, Received, received_on}
+use Rattle.dcc_dispatch.specs.Verdicts.{verdict_of, settled, found_or_refused}
+use Rattle.dcc_dispatch.specs.declared.verdict.Verdict.{Verdict}
+use Rattle.dcc_dispatch.specs.declared.verdict.Verdict.TheVariants as verdicts
+use Rattle.dcc_engine.specs.Asks.{Turn, Ask, Source, Said, ask_for, request_ask, received_ask, is_refused_for, IsAnsweredFor, IsOut, IsMessageOut, IsOfNobody, said_from}
 use Rattle.dcc_engine.specs.Asks.Said.{Told}
 use Rattle.dcc_engine.specs.Asks.Source.{Message, TopUp, Sweep}
+use Rattle.dcc_engine.specs.Openers.{Before, openers, the_one, opener_of, verdict_in}
 use Rattle.dcc_engine.specs.inner.Turns.{IsNext}
 use Rattle.dcc_engine.specs.declared.event.Event.{Event}
 use Rattle.dcc_engine.specs.declared.event.Event.TheVariants as events
 use Rattle.dcc_engine.specs.declared.event.Out.{Out}
 use Rattle.dcc_base.specs.declared.peer.Peer.{Peer}
+use Rattle.dcc_engine.proofs.Owners.{one_alike}
+use Rattle.dcc_engine.proofs.Covering.{Covers}
 
--- leaving out what isn't made changes nothing of one more act
+-- leaving out what isn't made changes nothing of one more act, nor who opened what
 pub record AreStable : Type 0 where
   pub after_stays : AfterStays
   pub new_stays : NewStays
   pub place_stays : PlaceStays
   pub acts_stay : ActsStay
   pub whole : ActsAreActs
+  pub openers_stay : OpenersStay
+  pub one_opens : OneMoreOpens
+  pub same_are_equal : SameAreEqual
+
+-- two that come to the same: the same peers, entries that make the same acts, and whoever opened something is listed in both
+pub record AreAlike (terms : TermsView) (a b : Before) : Type 0 where
+  pub peers_are : (id : ℕ) → a.peers id ≡ b.peers id
+  pub acts_are : (sub : Sub) → acts terms (a.own sub) ≡ acts terms (b.own sub)
+  pub first : Covers terms a
+  pub second : Covers terms b
 
 -- what is said of acts alone is the same of two lists that make the same acts
 same_of : {X : Type 0} (terms : TermsView) (f : List Act → X) → ((zs : List Act) → f (acts terms zs) ≡ f zs) → (xs ys : List Act) → acts terms xs ≡ acts terms ys → f xs ≡ f ys
@@ -54,29 +73,69 @@ answered_moved stable setting ask sub out xs ys e answered =
       | inr f ↦ let said = rw f at answered in rw f (said ∙ ap (λ (x : Said). Some x) (same_said stable setting ask.act ask.source xs ys e))
     ]
 
--- an ask is by the peer that is named
-pub ask_moved : (setting : Setting) (a b : Before) (sub : Sub) → ((id : ℕ) → a.peers id ≡ b.peers id) → (event : Event) → ask_for setting a event sub ≡ ask_for setting b event sub
-ask_moved setting a b sub same (events.Connect peer host) = refl
-ask_moved setting a b sub same (events.Disconnect peer) = refl
-ask_moved setting a b sub same (events.Message peer moment octets) = ap (λ (p : Option Peer). received_ask setting moment (received_on p octets) sub) (same peer)
-ask_moved setting a b sub same (events.TopUp moment owner ticket amount) = refl
-ask_moved setting a b sub same (events.Sweep moment) = refl
+-- the same one opened a session
+opener_same : AreStable → (terms : TermsView) (a b : Before) → AreAlike terms a b → (host : List ℕ) (session : Option (List ℕ))
+    → option_and_then (λ sid. the_one (openers terms a host sid)) session ≡ option_and_then (λ sid. the_one (openers terms b host sid)) session
+opener_same stable terms a b alike host None = refl
+opener_same stable terms a b alike host (Some sid) =
+    one_alike stable.same_are_equal (λ sub. was_opened_from terms (a.own sub) host sid) (λ sub. was_opened_from terms (b.own sub) host sid) a.subs b.subs (alike.first host sid)
+    (alike.second host sid) (λ sub. same_of terms (λ zs. was_opened_from terms zs host sid) (λ zs. stable.openers_stay terms zs host sid) (a.own sub) (b.own sub) (alike.acts_are sub))
 
-out_moved : (setting : Setting) (a b : Before) (out : Out) → ((id : ℕ) → a.peers id ≡ b.peers id)
-    → ((sub : Sub) → acts setting.plan.terms (a.own sub) ≡ acts setting.plan.terms (b.own sub)) → (event : Event) → IsOut setting a event out → IsOut setting b event out
-out_moved setting a b out same alike (events.Connect peer host) is = is
-out_moved setting a b out same alike (events.Disconnect peer) is = is
-out_moved setting a b out same alike (events.Message peer moment octets) is = subst (λ (p : Option Peer). IsMessageOut setting moment (received_on p octets) peer out) (same peer) is
-out_moved setting a b out same alike (events.TopUp moment owner ticket amount) is = is
-out_moved setting a b out same alike (events.Sweep moment) is = (is.0, is.1, is.2, λ sub there none. is.3 sub there (alike sub ∙ none))
+settled_same : (identity : Identity) (message : MessageView) (find other : Act → Option Sub) → ((act : Act) → find act ≡ other act) → (verdict : Verdict)
+    → settled identity message find verdict ≡ settled identity message other verdict
+settled_same identity message find other same (verdicts.Asks sub act) = refl
+settled_same identity message find other same (verdicts.Seeks act) = ap (found_or_refused identity message act) (same act)
+settled_same identity message find other same (verdicts.Refused octets) = refl
+
+verdict_moved : AreStable → (setting : Setting) (a b : Before) → AreAlike setting.plan.terms a b → (moment : ℕ) (host : List ℕ) (message : MessageView)
+    → verdict_in setting a moment host message ≡ verdict_in setting b moment host message
+verdict_moved stable setting a b alike moment host message =
+    let terms = setting.plan.terms in
+    settled_same setting.identity message (opener_of terms a host) (opener_of terms b host) (λ act. opener_same stable terms a b alike host (session_of_key act))
+    (verdict_of setting moment host message)
+
+received_moved : AreStable → (setting : Setting) (a b : Before) → AreAlike setting.plan.terms a b → (moment : ℕ) (what : Received) (sub : Sub)
+    → received_ask setting a moment what sub ≡ received_ask setting b moment what sub
+received_moved stable setting a b alike moment Received.Ignored sub = refl
+received_moved stable setting a b alike moment Received.Broken sub = refl
+received_moved stable setting a b alike moment (Received.Charging host message) sub =
+    ap (λ (v : Verdict). request_ask message v sub) (verdict_moved stable setting a b alike moment host message)
+received_moved stable setting a b alike moment (Received.Base peer message) sub = refl
+
+-- an ask is by the peer that is named, and by who opened what
+pub ask_moved : AreStable → (setting : Setting) (a b : Before) (sub : Sub) → AreAlike setting.plan.terms a b → (event : Event) → ask_for setting a event sub ≡ ask_for setting b event sub
+ask_moved stable setting a b sub alike (events.Connect peer host) = refl
+ask_moved stable setting a b sub alike (events.Disconnect peer) = refl
+ask_moved stable setting a b sub alike (events.Message peer moment octets) =
+    ap (λ (p : Option Peer). received_ask setting a moment (received_on p octets) sub) (alike.peers_are peer)
+    ∙ received_moved stable setting a b alike moment (received_on (b.peers peer) octets) sub
+ask_moved stable setting a b sub alike (events.TopUp moment owner ticket amount) = refl
+ask_moved stable setting a b sub alike (events.Sweep moment) = refl
+
+message_out_moved : AreStable → (setting : Setting) (a b : Before) → AreAlike setting.plan.terms a b → (moment : ℕ) (what : Received) (peer : ℕ) (out : Out)
+    → IsMessageOut setting a moment what peer out → IsMessageOut setting b moment what peer out
+message_out_moved stable setting a b alike moment Received.Ignored peer out is = is
+message_out_moved stable setting a b alike moment Received.Broken peer out is = is
+message_out_moved stable setting a b alike moment (Received.Charging host message) peer out is =
+    (is.0, subst (λ (v : Verdict). IsOfNobody setting.identity message v out.octets) (verdict_moved stable setting a b alike moment host message) is.1)
+message_out_moved stable setting a b alike moment (Received.Base from message) peer out is = is
+
+out_moved : AreStable → (setting : Setting) (a b : Before) (out : Out) → AreAlike setting.plan.terms a b → (event : Event) → IsOut setting a event out → IsOut setting b event out
+out_moved stable setting a b out alike (events.Connect peer host) is = is
+out_moved stable setting a b out alike (events.Disconnect peer) is = is
+out_moved stable setting a b out alike (events.Message peer moment octets) is =
+    message_out_moved stable setting a b alike moment (received_on (b.peers peer) octets) peer out
+    (subst (λ (p : Option Peer). IsMessageOut setting a moment (received_on p octets) peer out) (alike.peers_are peer) is)
+out_moved stable setting a b out alike (events.TopUp moment owner ticket amount) is = is
+out_moved stable setting a b out alike (events.Sweep moment) is = (is.0, is.1, is.2, λ sub there none. is.3 sub there (alike.acts_are sub ∙ none))
 
 -- the same turn, from what comes to the same
-pub next_moved : AreStable → (setting : Setting) (a b : Before) (turn : Turn) → ((id : ℕ) → a.peers id ≡ b.peers id)
-    → ((sub : Sub) → acts setting.plan.terms (a.own sub) ≡ acts setting.plan.terms (b.own sub)) → IsNext setting a turn → IsNext setting b turn
-next_moved stable setting a b turn same alike next =
+pub next_moved : AreStable → (setting : Setting) (a b : Before) (turn : Turn) → AreAlike setting.plan.terms a b → IsNext setting a turn → IsNext setting b turn
+next_moved stable setting a b turn alike next =
     record {
-      subscribers = λ sub ask is. answered_moved stable setting ask sub turn.out (a.own sub) (b.own sub) (alike sub) (next.subscribers sub ask (ask_moved setting a b sub same turn.event ∙ is));
-      whole = out_moved setting a b turn.out same alike turn.event next.whole;
+      subscribers = λ sub ask is. answered_moved stable setting ask sub turn.out (a.own sub) (b.own sub) (alike.acts_are sub)
+          (next.subscribers sub ask (ask_moved stable setting a b sub alike turn.event ∙ is));
+      whole = out_moved stable setting a b turn.out alike turn.event next.whole;
     }
 
 -- what is said is by who answers and by the terms

@@ -23,11 +23,11 @@ abbrev pub acts_of : List Ask → List Act
 acts_of asks = reverse (map (λ (ask : Ask). ask.act) asks)
 
 -- what is said of an ask that comes after these entries
-said_after : Setting → List Act → Ask → Said
+unfoldable pub said_after : Setting → List Act → Ask → Said
 said_after setting before ask = said_of setting before ask (after setting.plan.terms before ask.act)
 
 -- what asks are told, the latest first, where these acts were held before
-told_to : Setting → List Act → List Ask → List Said
+unfoldable pub told_to : Setting → List Act → List Ask → List Said
 told_to setting held [] = []
 told_to setting held (ask ∷ earlier) = said_after setting (held ++ acts_of earlier) ask ∷ told_to setting held earlier
 
@@ -78,7 +78,7 @@ answers_more engine past turn sub (Some ask) is before =
           rw f (ap (λ (x : Said). x ∷ answers_after engine past sub) here ∙ ap (λ (xs : List Said). said_after setting (held_of engine sub ++ acts_of asks) ask ∷ xs) before)
     ]
 
-answers_are : (engine : EngineView) (past : List Turn) (sub : Sub) → IsPast engine past → answers_after engine past sub ≡ told_to engine.setting (held_of engine sub) (asks_after engine past sub)
+pub answers_are : (engine : EngineView) (past : List Turn) (sub : Sub) → IsPast engine past → answers_after engine past sub ≡ told_to engine.setting (held_of engine sub) (asks_after engine past sub)
 unfolding told_to
 answers_are engine [] sub h = refl
 answers_are engine (turn ∷ past) sub h = answers_more engine past turn sub (asked engine past turn.event sub) (h.0.subscribers sub) (answers_are engine past sub h.1)
@@ -114,11 +114,11 @@ past_from law last engine all run later (turn ∷ past) e =
     let back : reverse (take k all) ≡ past = ap (λ (xs : List Turn). reverse (take k xs)) parts ∙ ap reverse (take_at (reverse past) (turn ∷ reverse later) k (length-reverse past)) ∙ reverse-reverse past in
     (next_from law last engine all later past turn k e back (run k turn at), past_from law last engine all run (later ++ turn ∷ []) past (e ∙ sym (append_assoc later (turn ∷ []) past)))
 
-reverse_same : {X : Type 0} (xs ys : List X) → reverse xs ≡ reverse ys → xs ≡ ys
+pub reverse_same : {X : Type 0} (xs ys : List X) → reverse xs ≡ reverse ys → xs ≡ ys
 reverse_same xs ys e = sym (reverse-reverse xs) ∙ ap reverse e ∙ reverse-reverse ys
 
 -- who answers and the terms are all that what is told takes of a setting
-told_setting : (a b : Setting) (held : List Act) (asks : List Ask) → a.identity ≡ b.identity → a.plan.terms ≡ b.plan.terms → told_to a held asks ≡ told_to b held asks
+pub told_setting : (a b : Setting) (held : List Act) (asks : List Ask) → a.identity ≡ b.identity → a.plan.terms ≡ b.plan.terms → told_to a held asks ≡ told_to b held asks
 unfolding told_to said_after
 told_setting a b held [] identity terms = refl
 told_setting a b held (ask ∷ earlier) identity terms =

@@ -17,7 +17,8 @@ use Rattle.dcc_engine.specs.Isolation.{turns, before_of, asked, own, entry_place
 use Rattle.dcc_engine.specs.inner.Turns.{IsNext, IsTurnDone, now_of}
 use Rattle.dcc_engine.specs.declared.event.Event.{Event}
 use Rattle.dcc_engine.specs.declared.event.Out.{Out}
-use Rattle.dcc_engine.proofs.Moves.{AreStable, ask_moved, next_moved}
+use Rattle.dcc_engine.proofs.Covering.{covers, now_covers}
+use Rattle.dcc_engine.proofs.Moves.{AreStable, AreAlike, ask_moved, next_moved}
 use Rattle.dcc_engine.proofs.Pasts.{IsPast}
 
 pub reverse_cons : {X : Type 0} (x : X) (xs : List X) → reverse (x ∷ xs) ≡ reverse xs ++ x ∷ []
@@ -59,13 +60,21 @@ pub record StandsAt (engine now : EngineView) (past : List Turn) : Type 0 where
   pub held : (sub : Sub) → held_of now sub ≡ acts engine.setting.plan.terms ((before_of engine past).own sub)
   pub peers_are : (id : ℕ) → peer_of now id ≡ (before_of engine past).peers id
 
+-- so what it holds is like what was before
+stands_alike : AreStable → (engine now : EngineView) (past : List Turn) → StandsAt engine now past → AreAlike engine.setting.plan.terms (now_of now) (before_of engine past)
+stands_alike stable engine now past stands =
+    let terms = engine.setting.plan.terms in
+    record {
+      peers_are = stands.peers_are;
+      acts_are = λ sub. ap (acts terms) (stands.held sub) ∙ stable.whole terms ((before_of engine past).own sub);
+      first = now_covers stable.same_are_equal terms (peer_of now) now.shard;
+      second = covers stable.same_are_equal stable.one_opens engine past;
+    }
+
 -- one turn from where a past has led
 pub turn_next : AreStable → (engine now new : EngineView) (past : List Turn) (turn : Turn) → StandsAt engine now past → IsTurnDone now new turn → IsNext engine.setting (before_of engine past) turn
 turn_next stable engine now new past turn stands done =
-    let terms = engine.setting.plan.terms in
-    let before = before_of engine past in
-    next_moved stable engine.setting (now_of now) before turn stands.peers_are
-    (λ sub. ap (acts terms) (stands.held sub) ∙ stable.whole terms (before.own sub))
+    next_moved stable engine.setting (now_of now) (before_of engine past) turn (stands_alike stable engine now past stands)
     (subst (λ (s : Setting). IsNext s (now_of now) turn) stands.setting done.judged.next)
 
 pub turn_stands : AreStable → (engine now new : EngineView) (past : List Turn) (turn : Turn) → StandsAt engine now past → IsTurnDone now new turn → StandsAt engine new (turn ∷ past)
@@ -76,7 +85,7 @@ turn_stands stable engine now new past turn stands done =
       setting = done.setting ∙ stands.setting;
       held = λ sub. done.judged.held sub
           ∙ ap (λ (s : Setting). acts s.plan.terms (own_with (ask_for s (now_of now) turn.event sub) turn.out sub (held_of now sub))) stands.setting
-          ∙ ap (λ (o : Option Ask). acts terms (own_with o turn.out sub (held_of now sub))) (ask_moved engine.setting (now_of now) before sub stands.peers_are turn.event)
+          ∙ ap (λ (o : Option Ask). acts terms (own_with o turn.out sub (held_of now sub))) (ask_moved stable engine.setting (now_of now) before sub (stands_alike stable engine now past stands) turn.event)
           ∙ ap (λ (xs : List Act). acts terms (own_with (asked engine past turn.event sub) turn.out sub xs)) (stands.held sub)
           ∙ own_acts stable terms (asked engine past turn.event sub) turn.out sub (before.own sub);
       peers_are = λ id. done.peers id ∙ ap (λ (s : Setting). moved_by s id turn (peer_of now id)) stands.setting ∙ ap (moved_by engine.setting id turn) (stands.peers_are id);

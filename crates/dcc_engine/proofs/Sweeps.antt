@@ -14,7 +14,7 @@ use Rattle.dcc_dispatch.specs.Settings.{Setting}
 use Rattle.dcc_engine.specs.Asks.{out_sweep}
 use Rattle.dcc_engine.specs.Asks.Source.{Sweep}
 use Rattle.dcc_engine.specs.inner.Sweeps.{IsSwept, IsOneSwept}
-use Rattle.dcc_engine.specs.inner.Turns.{IsJudged}
+use Rattle.dcc_engine.specs.inner.Turns.{IsJudged, now_with}
 use Rattle.dcc_engine.specs.declared.event.Event.TheVariants as events
 use Rattle.dcc_engine.proofs.Requests.{one_or_other}
 use Rattle.dcc_base.specs.declared.peer.Peer.{Peer}
@@ -156,7 +156,7 @@ nothing_expires terms moment = refl
 
 abbrev pub Judged : Setting → (ℕ → Option Peer) → ShardView → ShardView → ℕ → List Sub → Bool → Type 0
 Judged setting peers old new moment refused all =
-    IsJudged setting (record { peers = peers; own = held old }) (held new) (record { event = events.Sweep moment; out = out_sweep refused all })
+    IsJudged setting (now_with peers old) (held new) (record { event = events.Sweep moment; out = out_sweep refused all })
 
 own_acts : (setting : Setting) (old : ShardView) → old.terms ≡ setting.plan.terms → AreOwn old → (sub : Sub) → acts setting.plan.terms (held old sub) ≡ held old sub
 own_acts setting old terms own = subst (λ (t : TermsView). (s : Sub) → acts t (held old s) ≡ held old s) terms own

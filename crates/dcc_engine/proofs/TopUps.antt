@@ -17,7 +17,7 @@ use Rattle.dcc_dispatch.specs.Settings.{Setting}
 use Rattle.dcc_engine.specs.Asks.{Ask, out_top_up, is_refused_top_up}
 use Rattle.dcc_engine.specs.Asks.Said.{Told}
 use Rattle.dcc_engine.specs.Asks.Source.{TopUp}
-use Rattle.dcc_engine.specs.inner.Turns.{IsJudged}
+use Rattle.dcc_engine.specs.inner.Turns.{IsJudged, now_with}
 use Rattle.dcc_engine.specs.declared.event.Event.TheVariants as events
 use Rattle.dcc_base.specs.declared.peer.Peer.{Peer}
 
@@ -40,7 +40,7 @@ top_up_asks law owner sub asked ask is =
 
 abbrev pub Judged : Setting → (ℕ → Option Peer) → ShardView → ShardView → ℕ → Sub → ℕ → ℕ → TopUpAnswer → Type 0
 Judged setting peers old new moment sub ticket amount answer =
-    IsJudged setting (record { peers = peers; own = held old }) (held new) (record { event = events.TopUp moment sub ticket amount; out = out_top_up answer })
+    IsJudged setting (now_with peers old) (held new) (record { event = events.TopUp moment sub ticket amount; out = out_top_up answer })
 
 told_judged : SameAreEqual → (setting : Setting) (peers : ℕ → Option Peer) (old new : ShardView) (moment : ℕ) (sub : Sub) (ticket amount : ℕ) (answer : TopUpAnswer) → is_amount amount ≡ true
     → old.terms ≡ setting.plan.terms → ((s : Sub) → acts setting.plan.terms (held old s) ≡ held old s)

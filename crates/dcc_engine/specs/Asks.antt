@@ -22,22 +22,17 @@ use Rattle.dcc_dispatch.specs.Settings.{Setting}
 use Rattle.dcc_dispatch.specs.Refusals.{is_refusal, IsBusyOrNothing}
 use Rattle.dcc_dispatch.specs.Messages as messages
 use Rattle.dcc_dispatch.specs.Messages.{MessageView, Received, received_on}
-use Rattle.dcc_dispatch.specs.Verdicts.{verdict_of}
 use Rattle.dcc_dispatch.specs.declared.verdict.Verdict.{Verdict}
 use Rattle.dcc_dispatch.specs.declared.verdict.Verdict.TheVariants as verdicts
 use Rattle.dcc_engine.specs.declared.event.Event.{Event}
 use Rattle.dcc_engine.specs.declared.event.Event.TheVariants as events
 use Rattle.dcc_engine.specs.declared.event.Out.{Out}
+use Rattle.dcc_engine.specs.Openers.{Before, verdict_in}
 
 -- an event with its out
 pub record Turn : Type 0 where
   pub event : Event
   pub out : Out
-
--- What was before an event: the peers, and each subscriber's own entries.
-pub record Before : Type 0 where
-  pub peers : ℕ → Option Peer
-  pub own : Sub → List Act
 
 -- what brought an ask
 pub data Source : Type 0 where
@@ -54,21 +49,24 @@ pub record Ask : Type 0 where
 abbrev pub request_ask : MessageView → Verdict → Sub → Option Ask
 request_ask message (verdicts.Asks owner act) sub =
     if same_sub owner sub then Some (record { act = act; source = Message message }) else None
+request_ask message (verdicts.Seeks act) sub = None
 request_ask message (verdicts.Refused octets) sub = None
 
-abbrev pub received_ask : Setting → ℕ → Received → Sub → Option Ask
-received_ask setting moment Received.Ignored sub = None
-received_ask setting moment Received.Broken sub = None
-received_ask setting moment (Received.Charging message) sub = request_ask message (verdict_of setting moment message) sub
-received_ask setting moment (Received.Base peer message) sub = None
+abbrev pub received_ask : Setting → Before → ℕ → Received → Sub → Option Ask
+received_ask setting before moment Received.Ignored sub = None
+received_ask setting before moment Received.Broken sub = None
+received_ask setting before moment (Received.Charging host message) sub =
+    request_ask message (verdict_in setting before moment host message) sub
+received_ask setting before moment (Received.Base peer message) sub = None
 
--- What an event asks of a subscriber: a request on a peer that is open is its subscriber's, where what it says isn't refused, a
--- top-up of an amount that may be is its subscriber's, a sweep asks each subscriber's expiry, and all others are nobody's.
+-- What an event asks of a subscriber: a request on a peer that is open is that of the subscriber whom it names, or who is found for it,
+-- where it isn't refused; a top-up of an amount that may be is its subscriber's, a sweep asks each subscriber's expiry, and all others
+-- are nobody's.
 abbrev pub ask_for : Setting → Before → Event → Sub → Option Ask
 ask_for setting before (events.Connect peer host) sub = None
 ask_for setting before (events.Disconnect peer) sub = None
 ask_for setting before (events.Message peer moment octets) sub =
-    received_ask setting moment (received_on (before.peers peer) octets) sub
+    received_ask setting before moment (received_on (before.peers peer) octets) sub
 ask_for setting before (events.TopUp moment owner ticket amount) sub =
     if is_amount amount && same_sub owner sub then Some (record { act = top_up_act moment ticket amount; source = TopUp }) else None
 ask_for setting before (events.Sweep moment) sub = Some (record { act = expiry_act moment; source = Sweep })
@@ -156,22 +154,24 @@ reply_to setting peer message = replied setting.identity peer message.header mes
 abbrev pub is_refused_message : Received → Out → Bool
 is_refused_message Received.Ignored out = false
 is_refused_message Received.Broken out = false
-is_refused_message (Received.Charging message) out = is_refusal out.octets
+is_refused_message (Received.Charging host message) out = is_refusal out.octets
 is_refused_message (Received.Base peer message) out = hears peer message.header && is_refusal out.octets
 
 -- A credit-control message that is nobody's is answered by the refusal of what it says, or it is refused. What any other is answered,
--- its subscriber's clause says.
+-- its subscriber's clause says. None of them is sought any more.
 abbrev pub IsOfNobody : Identity → MessageView → Verdict → List ℕ → Type 0
 IsOfNobody identity message (verdicts.Asks sub act) octets = Unit {0}
+IsOfNobody identity message (verdicts.Seeks act) octets = Unit {0}
 IsOfNobody identity message (verdicts.Refused refusal) octets =
     MatchBool (is_refusal octets) (IsBusyOrNothing identity message octets) (octets ≡ refusal)
 
-abbrev pub IsMessageOut : Setting → ℕ → Received → ℕ → Out → Type 0
-IsMessageOut setting moment Received.Ignored peer out = out ≡ out_octets (Some peer) []
-IsMessageOut setting moment Received.Broken peer out = out ≡ out_close peer
-IsMessageOut setting moment (Received.Charging message) peer out =
-    (out ≡ out_octets (Some peer) out.octets) × IsOfNobody setting.identity message (verdict_of setting moment message) out.octets
-IsMessageOut setting moment (Received.Base from message) peer out =
+abbrev pub IsMessageOut : Setting → Before → ℕ → Received → ℕ → Out → Type 0
+IsMessageOut setting before moment Received.Ignored peer out = out ≡ out_octets (Some peer) []
+IsMessageOut setting before moment Received.Broken peer out = out ≡ out_close peer
+IsMessageOut setting before moment (Received.Charging host message) peer out =
+    (out ≡ out_octets (Some peer) out.octets)
+    × IsOfNobody setting.identity message (verdict_in setting before moment host message) out.octets
+IsMessageOut setting before moment (Received.Base from message) peer out =
     MatchBool (is_refused_message (Received.Base from message) out)
     ((out ≡ out_octets (Some peer) out.octets) × IsBusyOrNothing setting.identity message out.octets)
     (out ≡ out_reply peer (reply_to setting from message).0)
@@ -185,7 +185,7 @@ abbrev pub IsOut : Setting → Before → Event → Out → Type 0
 IsOut setting before (events.Connect peer host) out = out ≡ out_octets (Some peer) []
 IsOut setting before (events.Disconnect peer) out = out ≡ out_octets (Some peer) []
 IsOut setting before (events.Message peer moment octets) out =
-    IsMessageOut setting moment (received_on (before.peers peer) octets) peer out
+    IsMessageOut setting before moment (received_on (before.peers peer) octets) peer out
 IsOut setting before (events.TopUp moment sub ticket amount) out =
     (answer : TopUpAnswer) × (out ≡ out_top_up answer) × (is_amount amount ≡ false → answer ≡ BadAmount)
 IsOut setting before (events.Sweep moment) out =
@@ -209,7 +209,7 @@ connected (Some host) = Open host
 abbrev pub left_by : Setting → Received → Option Peer → Option Peer
 left_by setting Received.Ignored peer = peer
 left_by setting Received.Broken peer = Some Closed
-left_by setting (Received.Charging message) peer = peer
+left_by setting (Received.Charging host message) peer = peer
 left_by setting (Received.Base from message) peer = Some (reply_to setting from message).1
 
 abbrev pub left_with : Setting → Received → Out → Option Peer → Option Peer
@@ -231,10 +231,32 @@ abbrev pub own_with : Option Ask → Out → Sub → List Act → List Act
 own_with None out sub before = before
 own_with (Some ask) out sub before = if is_refused_for ask out sub then before else before ++ ask.act ∷ []
 
+-- whom an event names, or who is found for it; what a sweep asks of each opens no session
+abbrev pub verdict_owners : Verdict → List Sub
+verdict_owners (verdicts.Asks sub act) = sub ∷ []
+verdict_owners (verdicts.Seeks act) = []
+verdict_owners (verdicts.Refused octets) = []
+
+abbrev pub received_owners : Setting → Before → ℕ → Received → List Sub
+received_owners setting before moment Received.Ignored = []
+received_owners setting before moment Received.Broken = []
+received_owners setting before moment (Received.Charging host message) =
+    verdict_owners (verdict_in setting before moment host message)
+received_owners setting before moment (Received.Base peer message) = []
+
+abbrev pub owners_of : Setting → Before → Event → List Sub
+owners_of setting before (events.Connect peer host) = []
+owners_of setting before (events.Disconnect peer) = []
+owners_of setting before (events.Message peer moment octets) =
+    received_owners setting before moment (received_on (before.peers peer) octets)
+owners_of setting before (events.TopUp moment sub ticket amount) = sub ∷ []
+owners_of setting before (events.Sweep moment) = []
+
 -- what is before the next event
 abbrev pub after_turn : Setting → Turn → Before → Before
 after_turn setting turn before =
     record {
       peers = λ id. moved_by setting id turn (before.peers id);
       own = λ sub. own_with (ask_for setting before turn.event sub) turn.out sub (before.own sub);
+      subs = owners_of setting before turn.event ++ before.subs;
     }

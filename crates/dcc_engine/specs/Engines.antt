@@ -1,5 +1,5 @@
 -- What an engine holds: by what events are answered, its peers, and the accounts.
-use Rattle.std.specs.Prelude.{◌≡◌, ℕ, ◌==◌, ◌∷◌, List, [], Option, Some, None, if◌then◌else◌}
+use Rattle.std.specs.Prelude.{◌≡◌, ℕ, ◌==◌, ◌∷◌, List, [], map, Option, Some, None, if◌then◌else◌}
 use Rattle.dcc_base.specs.declared.peer.Peer.{Peer}
 use Rattle.dcc_act.specs.declared.act.Act.{Act}
 use Rattle.dcc_act.specs.declared.sub.Sub.{Sub}
@@ -30,6 +30,13 @@ peer_of engine id = peer_in engine.peers.rows id
 -- the acts that are held for a subscriber, in order
 abbrev pub held_of : EngineView → Sub → List Act
 held_of engine sub = held engine.shard sub
+
+-- the subscribers of whom a shard, or an engine, holds anything
+abbrev pub subs_in : ShardView → List Sub
+subs_in shard = map (λ row. row.0) shard.rows
+
+abbrev pub subs_of : EngineView → List Sub
+subs_of engine = subs_in engine.shard
 
 -- nothing that a peer or a subscriber could notice has changed
 pub record IsUnchanged (old new : EngineView) : Type 0 where

@@ -1,11 +1,13 @@
 -- A subscriber's own entries, and what a whole run answers.
-use Rattle.std.specs.Prelude.{◌≡◌, ℕ, ◌+◌, if◌then◌else◌, List, [], ◌∷◌, length, take, reverse, slice_get, Option, Some, None}
+use Rattle.std.specs.Prelude.{◌≡◌, ℕ, ◌+◌, if◌then◌else◌, List, [], ◌∷◌, length, map, take, reverse, slice_get, Option, Some, None}
 use Rattle.dcc_base.specs.declared.peer.Peer.{Peer}
 use Rattle.dcc_act.specs.declared.act.Act.{Act}
 use Rattle.dcc_act.specs.declared.sub.Sub.{Sub}
 use Rattle.dcc_model.specs.Outcomes.{outcome, acts}
-use Rattle.dcc_engine.specs.Engines.{EngineView, held_of, peer_of}
-use Rattle.dcc_engine.specs.Asks.{Turn, Before, Ask, Said, ask_for, is_refused_for, said_by, IsAnsweredFor, IsOut, after_turn}
+use Rattle.dcc_hosts.specs.Hosts.{unhosted}
+use Rattle.dcc_engine.specs.Engines.{EngineView, held_of, peer_of, subs_of}
+use Rattle.dcc_engine.specs.Openers.{Before}
+use Rattle.dcc_engine.specs.Asks.{Turn, Ask, Said, ask_for, is_refused_for, said_by, IsAnsweredFor, IsOut, after_turn}
 use Rattle.dcc_engine.specs.declared.event.Event.{Event}
 use Rattle.dcc_engine.specs.declared.event.Out.{Out}
 
@@ -20,7 +22,7 @@ turns (event ∷ events) (out ∷ outs) = record { event = event; out = out } �
 -- where a past has led: each peer by its own events alone; of each subscriber the acts held before, and those of its
 -- events, in order, without the refused
 abbrev pub before_of : EngineView → List Turn → Before
-before_of engine [] = record { peers = peer_of engine; own = held_of engine }
+before_of engine [] = record { peers = peer_of engine; own = held_of engine; subs = subs_of engine }
 before_of engine (turn ∷ past) = after_turn engine.setting turn (before_of engine past)
 
 -- what an event asks of a subscriber at that moment
@@ -75,6 +77,14 @@ own_asks engine all sub = reverse (asks_after engine (reverse all) sub)
 
 abbrev pub answers : EngineView → List Turn → Sub → List Said
 answers engine all sub = reverse (answers_after engine (reverse all) sub)
+
+-- an ask whose act has no host of its peer
+abbrev pub unhosted_ask : Ask → Ask
+unhosted_ask ask = record ask { act = unhosted ask.act }
+
+-- two lists of asks that differ in hosts alone
+abbrev pub AsksAreAlike : List Ask → List Ask → Type 0
+AsksAreAlike first second = map unhosted_ask first ≡ map unhosted_ask second
 
 -- one run begins as another left off
 pub record Follows (a b : EngineView) (xs : List Turn) : Type 0 where

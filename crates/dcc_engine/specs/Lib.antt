@@ -1,4 +1,5 @@
 pub mod Engines
+pub mod Openers
 pub mod Asks
 pub mod Isolation
 pub mod inner

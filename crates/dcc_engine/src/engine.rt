@@ -1,17 +1,23 @@
 //! The engine.
 
-ghost use Rattle.std.specs.Prelude.{◌≡◌, ◌≢◌, ◌+◌, ◌<◌, ◌≤◌, ℕ, [], map, length, None, All};
+ghost use Rattle.std.specs.Prelude.{◌≡◌, ◌≢◌, ◌+◌, ◌<◌, ◌≤◌, ℕ, [], List, map, length, Some, None, All, true, is_some};
 ghost use Rattle.std.specs.List.Sorted.{IsStrictlySortedBy};
 ghost use Rattle.dcc_shard.specs.Routes.{route_order};
 ghost use Rattle.std.specs.Prelude.{IfOk, IfSome, IfNone, OnErr};
 ghost use Rattle.dcc_act.specs.declared.sub.Sub.{Sub};
+ghost use Rattle.dcc_model.specs.Keys.{request_key};
 ghost use Rattle.dcc_model.specs.Outcomes.{acts, funds, free, overrun};
 ghost use Rattle.dcc_shard.specs.Shards.{held, AreOwn};
+ghost use Rattle.dcc_dispatch.specs.Dispatches.{IsSought, IsSettled};
+ghost use Rattle.dcc_dispatch.specs.Messages.{MessageView};
+ghost use Rattle.dcc_dispatch.specs.Verdicts.{settled};
+ghost use Rattle.dcc_dispatch.specs.declared.verdict.Verdict.{Verdict};
 ghost use Rattle.dcc_engine.specs.Engines.{held_of, peer_of, IsUnchanged};
+ghost use Rattle.dcc_engine.specs.Openers.{opener_of};
 ghost use Rattle.dcc_engine.specs.Asks.{connected};
 ghost use Rattle.dcc_engine.specs.inner.Hosts.{host_of as host_in};
 ghost use Rattle.dcc_engine.specs.Isolation.{turns, own, peers, IsRun};
-ghost use Rattle.dcc_engine.specs.inner.Turns.{IsTurnDone};
+ghost use Rattle.dcc_engine.specs.inner.Turns.{IsTurnDone, IsHandedOn, host_on, now_of};
 ghost use Rattle.dcc_engine.specs.declared.event.Event.TheVariants.{Message};
 
 use crate::event::{Event, Out};
@@ -20,10 +26,11 @@ use crate::peers::Peers;
 use dcc_account::Account;
 use dcc_act::{Moment, Sub, same_subscribers_are_equal};
 use dcc_base::{Host, Peer};
-use dcc_dispatch::Dispatched;
+use dcc_dispatch::{Asked, Dispatched, Settled, Sought};
 use dcc_message::Identity;
 use dcc_model::{
     acts_come_to_their_own, later_acts_change_no_outcome, leaving_out_changes_nothing,
+    one_more_act_opens,
 };
 use dcc_octets::OctetString;
 use dcc_records::Records;
@@ -110,7 +117,7 @@ impl<R: Records> Engine<R> {
         // One out for each event.
         ensures count { IfOk result (λ outs. length outs.items ≡ length events.now) }
         // A subscriber's event is answered by its outcome at its place in that subscriber's own entries, or is refused; an
-        // event of nobody is answered by its peer's own events.
+        // event of nobody is answered by its peer's own events, and, where it names nobody, by who opened its session.
         ensures answers { IfOk result (λ outs. IsRun self.old (turns events.now outs.items)) }
         // Of each subscriber the acts of the own entries are held, and the money is theirs.
         ensures acts { IfOk result (λ outs. (sub : Sub) →
@@ -130,6 +137,8 @@ impl<R: Records> Engine<R> {
         ensures err { OnErr result (IsUnchanged self.old self.new) }
     {
         leaving_out_changes_nothing();
+        one_more_act_opens();
+        same_subscribers_are_equal();
         acts_come_to_their_own();
         later_acts_change_no_outcome();
         let mut outs = Vec::with_capacity(alloc, events.len())?;
@@ -194,17 +203,46 @@ impl<R: Records> Engine<R> {
         };
         match made {
             Dispatched::Replied(reply) => replying(alloc, peer, reply),
-            Dispatched::Asked {
-                sub,
-                act,
-                header,
-                proxies,
-            } => {
-                let answer = self.shards.step(alloc, sub, act, &header, &proxies);
-                sending(alloc, peer, octets_of(alloc, answer))
-            }
+            Dispatched::Asked(asked) => sending(alloc, peer, ask(&mut self.shards, alloc, asked)),
+            Dispatched::Sought(sought) => match self.settle(alloc, peer, sought) {
+                Settled::Replied(reply) => replying(alloc, peer, reply),
+                Settled::Asked(asked) => sending(alloc, peer, ask(&mut self.shards, alloc, asked)),
+            },
         }
     }
+
+    /// What a message of an open peer comes to that names nobody: of all shards it is found out who opened its session from the peer's
+    /// host.
+    fn settle(&self, alloc: Global, peer: u32, sought: Sought) -> Settled
+        requires { is_some (host_on (peer_of self.now peer)) ≡ true }
+        ensures { (host : List ℕ) (message : MessageView) (verdict : Verdict) → host_on (peer_of self.now peer) ≡ Some host
+            → IsSought message verdict sought → IsSettled self.now.setting.identity message
+            (settled self.now.setting.identity message (opener_of self.now.setting.plan.terms (now_of self.now) host) verdict) result }
+    {
+        same_subscribers_are_equal();
+        let Some(host) = self.peers.host(peer) else {
+            unreachable!()
+        };
+        let found = self.shards.find(host, sought.session());
+        sought.settle(alloc, &self.identity, found.one())
+    }
+}
+
+/// Asks a subscriber's account for an act. These are the octets of its answer, none where it is silent.
+fn ask<R: Records>(shards: &mut Shards<R>, alloc: Global, asked: Asked) -> OctetString
+    requires { is_some (request_key asked.act.kind) ≡ true }
+    ensures handed { IsHandedOn shards.old.shard shards.new.shard asked result }
+    ensures own { AreOwn shards.new.shard }
+    ensures count { length shards.new.parts ≡ length shards.old.parts }
+{
+    let Asked {
+        sub,
+        act,
+        header,
+        proxies,
+    } = asked;
+    let answer = shards.step(alloc, sub, act, &header, &proxies);
+    octets_of(alloc, answer)
 }
 
 /// A peer whose connection is made.

@@ -1,14 +1,19 @@
-//! The law of isolation, and of runs in turn. Neither function does anything: each has a law as its contract.
+//! The laws of isolation, of runs in turn, and of whose a request is that names nobody. No function does anything: each has a law as its contract.
 
-ghost use Rattle.std.specs.Prelude.{◌≡◌, ◌++◌, ℕ, List, map};
+ghost use Rattle.std.specs.Prelude.{◌≡◌, ◌↔◌, ◌++◌, ℕ, true, List, map, Some};
 ghost use Rattle.dcc_act.specs.declared.sub.Sub.{Sub};
-ghost use Rattle.dcc_model.specs.Outcomes.{acts};
+ghost use Rattle.dcc_model.specs.Outcomes.{acts, was_opened_from};
+ghost use Rattle.dcc_hosts.specs.Hosts.{AreAlike};
 ghost use Rattle.dcc_engine.specs.Engines.{EngineView, held_of};
 ghost use Rattle.dcc_engine.specs.Asks.{Turn};
-ghost use Rattle.dcc_engine.specs.Isolation.{IsRun, Follows, own, own_asks, answers, peers};
+ghost use Rattle.dcc_engine.specs.Isolation.{IsRun, Follows, AsksAreAlike, before_of, own, own_asks, answers, peers};
+ghost use Rattle.dcc_engine.specs.Openers.{openers, the_one};
 
+use dcc_act::same_subscribers_are_equal;
+use dcc_hosts::hosts_change_nothing;
 use dcc_model::{
     acts_come_to_their_own, later_acts_change_no_outcome, leaving_out_changes_nothing,
+    one_more_act_opens,
 };
 
 /// Two runs that agree on a subscriber's own events, with which of them were refused, and on the acts held for it before,
@@ -21,12 +26,19 @@ pub fn isolation()
         → held_of a sub ≡ held_of b sub → own_asks a xs sub ≡ own_asks b ys sub → answers a xs sub ≡ answers b ys sub }
     ensures own { (sub : Sub) (a b : EngineView) (xs ys : List Turn)
         → held_of a sub ≡ held_of b sub → own_asks a xs sub ≡ own_asks b ys sub → own a xs sub ≡ own b ys sub }
+    // The hosts of peers, which initial acts keep, make no difference.
+    ensures alike { (sub : Sub) (a b : EngineView) (xs ys : List Turn) → IsRun a xs → IsRun b ys
+        → a.setting.identity ≡ b.setting.identity → a.setting.plan.terms ≡ b.setting.plan.terms
+        → AreAlike (held_of a sub) (held_of b sub) → AsksAreAlike (own_asks a xs sub) (own_asks b ys sub) → answers a xs sub ≡ answers b ys sub }
+    ensures alike_own { (sub : Sub) (a b : EngineView) (xs ys : List Turn)
+        → AreAlike (held_of a sub) (held_of b sub) → AsksAreAlike (own_asks a xs sub) (own_asks b ys sub) → AreAlike (own a xs sub) (own b ys sub) }
     // The acts that its events asked are those that it owns beyond the ones held before.
     ensures asks { (sub : Sub) (a : EngineView) (xs : List Turn)
         → own a xs sub ≡ held_of a sub ++ map (λ ask. ask.act) (own_asks a xs sub) }
 {
     acts_come_to_their_own();
     later_acts_change_no_outcome();
+    hosts_change_nothing();
 }
 
 /// Two runs in turn are one run of both lists, where the second begins as the first left off: with the same answers, the
@@ -45,6 +57,20 @@ pub fn runs_in_turn()
         → (sub : Sub) → own a (xs ++ ys) sub ≡ own a xs sub ++ map (λ ask. ask.act) (own_asks b ys sub) }
 {
     leaving_out_changes_nothing();
+    one_more_act_opens();
+    same_subscribers_are_equal();
     acts_come_to_their_own();
     later_acts_change_no_outcome();
+}
+
+/// A request that names nobody is that of the only subscriber whose own entries opened its session from the host of its peer. If
+/// nobody's did, or several's, nobody is found.
+pub fn openers_are_found()
+    ensures { (engine : EngineView) (past : List Turn) (host sid : List ℕ) (sub : Sub)
+        → (the_one (openers engine.setting.plan.terms (before_of engine past) host sid) ≡ Some sub)
+        ↔ ((was_opened_from engine.setting.plan.terms ((before_of engine past).own sub) host sid ≡ true)
+        × ((other : Sub) → was_opened_from engine.setting.plan.terms ((before_of engine past).own other) host sid ≡ true → other ≡ sub)) }
+{
+    one_more_act_opens();
+    same_subscribers_are_equal();
 }

@@ -3,7 +3,8 @@
 //! Stands on `dcc_dispatch` for what a message to a peer comes to, on `dcc_shard` for a subscriber's step, and on the crates below
 //! them. The contract that it gives is that of `Engine::run`: for every list of
 //! events, a subscriber's request is answered with the octets of the outcome at its place in that subscriber's own entries, or
-//! refused with nothing changed; afterwards the subscriber's acts and money are those of the own entries. A message of no
+//! refused with nothing changed; afterwards the subscriber's acts and money are those of the own entries. A request that names nobody
+//! is that of the only subscriber who opened its session from the host of its peer, as the law `openers_are_found` says. A message of no
 //! subscriber is answered by its definition, from the message and its peer's own events, or refused with nothing changed. A
 //! sweep is one expiry of each subscriber, each by itself, and what memory or a shard's records refused of it is told subscriber by subscriber. The
 //! law `isolation` follows: two runs that agree on a subscriber's own events agree on its answers, octet for octet.
@@ -19,6 +20,6 @@ mod sweep;
 
 pub use engine::Engine;
 pub use event::{Event, Out};
-pub use laws::{isolation, runs_in_turn};
+pub use laws::{isolation, openers_are_found, runs_in_turn};
 pub use peers::PeerRow;
 pub use subs::Subs;

@@ -1,12 +1,12 @@
 //! The peers that are connected.
 
-ghost use Rattle.std.specs.Prelude.{◌≡◌, ◌==◌, ◌+◌, ◌<◌, ◌≤◌, ℕ, [], OnOk, IfSome, IfNone, if◌then◌else◌};
+ghost use Rattle.std.specs.Prelude.{◌≡◌, ◌==◌, ◌+◌, ◌<◌, ◌≤◌, ℕ, [], OnOk, IfSome, IfNone, option_map, if◌then◌else◌};
 ghost use Rattle.dcc_engine.specs.Engines.{peer_in};
 ghost use Rattle.dcc_engine.specs.inner.Rows.{IsAt};
-ghost use Rattle.dcc_engine.specs.inner.Turns.{IsHeard};
+ghost use Rattle.dcc_engine.specs.inner.Turns.{IsHeard, host_on};
 
 use dcc_act::Moment;
-use dcc_base::Peer;
+use dcc_base::{Host, Peer};
 use dcc_dispatch::{Dispatched, dispatch};
 use dcc_message::Identity;
 use dcc_tariff::Plan;
@@ -90,6 +90,14 @@ impl Peers {
         let i = find(&self.rows, id)?;
         let row = &mut self.rows[i];
         Some(dispatch(alloc, plan, identity, &mut row.peer, moment, octets))
+    }
+
+    /// The name of the host of a peer, where it is connected and open.
+    pub(crate) fn host(&self, id: u32) -> Option<&Host>
+        ensures { option_map (λ host. host.now) result ≡ host_on (peer_in self.now.rows id) }
+    {
+        let i = find(&self.rows, id)?;
+        self.rows[i].peer.name()
     }
 }
 

@@ -21,7 +21,8 @@ returns-clause-answers g c =
 pub loop-i-preserved : goal.loop-i-preserved
 loop-i-preserved g c =
     let e = c.leaving_out_changes_nothing.ensures in
-    let stable : AreStable = record { after_stays = e.after; new_stays = e.is_new; place_stays = e.place; acts_stay = e.acts; whole = e.whole } in
+    let stable : AreStable =
+    record { after_stays = e.after; new_stays = e.is_new; place_stays = e.place; acts_stay = e.acts; whole = e.whole; openers_stay = e.openers; one_opens = c.one_more_act_opens.ensures; same_are_equal = c.same_subscribers_are_equal.ensures } in
     let i = c.loop-i.i in
     let start = c.args.self.now in
     let now = c.loop-i.self in

@@ -22,7 +22,9 @@ returns-clause-heard c =
       from_is = ap (λ (rows : List PeerRow). peer_in rows id) (sym rows_are) ∙ there inside id i row at reads;
       charging = given.charging;
       asked = given.asked;
+      sought = given.sought;
       kept = given.kept;
+      named = given.«open»;
       replied = given.replied;
       rows = λ q. written inside id i row to at reads q ∙ ap (λ (rows : List PeerRow). cond (id == q) (Some to) (peer_in rows q)) rows_are;
     }
