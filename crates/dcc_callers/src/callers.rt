@@ -60,7 +60,7 @@ impl Caller {
         shards: &Shards<R>,
         job: Job,
     ) -> RequestAnswer {
-        if !matches!(job.act.kind, Kind::Event(_) | Kind::Initial(_)) {
+        if !matches!(job.act.kind, Kind::Event(_) | Kind::Initial { .. }) {
             return RequestAnswer::Silent;
         }
         shards.submit(rt, alloc, &mut self.seat, job)

@@ -4,7 +4,7 @@ ghost use Rattle.std.specs.Prelude.{◌≡◌, true, is_some};
 
 use dcc_act::{
     Act, Action, Form, Kind, Moment, OneTimeEvent, RequestKey, Service, ServiceIds, Services,
-    SessionId, SessionRequest, Sub,
+    SessionId, SessionLimit, SessionRequest, Sub,
 };
 use dcc_answer::Proxies;
 use dcc_message::Header;
@@ -95,6 +95,10 @@ pub(crate) fn opening(alloc: Global, sub: Sub, name: &[u8]) -> Option<Job> {
     let moment = after(0)?;
     let key = key(alloc, name, 0)?;
     let services = services(alloc)?;
-    let kind = Kind::Initial(SessionRequest { key, services });
+    let kind = Kind::Initial {
+        request: SessionRequest { key, services },
+        limit: SessionLimit::Few,
+        host: None,
+    };
     Some(job(alloc, sub, Act { moment, kind }, 0))
 }

@@ -8,3 +8,4 @@ pub mod Placing
 pub mod Subscribers
 pub mod TopUps
 pub mod Walks
+pub mod Resolved

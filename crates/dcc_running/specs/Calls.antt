@@ -1,5 +1,6 @@
 -- What a call under a lock answers, and the receipt that it gives.
-use Rattle.std.specs.Prelude.{◌≡◌, ◌≢◌, ◌↔◌, ℕ, Bool, true, false, List, [], ◌∷◌}
+use Rattle.std.specs.Prelude.{◌≡◌, ◌≢◌, ◌↔◌, ℕ, Bool, true, false, List, [], ◌∷◌, length}
+use Rattle.std.specs.List.{AllByRecursion}
 use Rattle.dcc_message.specs.HeaderView.{HeaderView}
 use Rattle.dcc_act.specs.declared.act.Act.{Act}
 use Rattle.dcc_act.specs.declared.sub.Sub.{Sub}
@@ -8,6 +9,10 @@ use Rattle.dcc_receipts.specs.declared.receipt.Told.{Told}
 use Rattle.dcc_receipts.specs.declared.receipt.Told.TheVariants.{Octets, Added, Ceiling, Closed}
 use Rattle.dcc_running.specs.declared.job.Job.{Job}
 use Rattle.dcc_shard.specs.Answers.{IsAnswer, IsTold, IsExpired, top_up_act, expiry_act}
+use Rattle.dcc_openers.specs.Found.{joined}
+use Rattle.dcc_openers.specs.declared.found.Found.{Found}
+use Rattle.dcc_openers.specs.declared.found.Found.TheVariants as found
+use Rattle.dcc_shard.specs.Openers.{IsFound, opened}
 use Rattle.dcc_shard.specs.Shards.{ShardView, held, is_among}
 use Rattle.dcc_shard.specs.declared.answers.RequestAnswer.{RequestAnswer}
 use Rattle.dcc_shard.specs.declared.answers.RequestAnswer.TheVariants as answers
@@ -30,6 +35,19 @@ IsEndOf sub moment answer = (shard : ShardView) × IsExpired shard sub moment an
 -- the subscribers of some shard that have acts
 abbrev pub AreSubs : List Sub → Type 0
 AreSubs subs = (shard : ShardView) × ((sub : Sub) → is_among sub subs ≡ true ↔ held shard sub ≢ [])
+
+-- who opened the session from the host, by what some shard holds
+abbrev pub IsFoundBy : (host sid : List ℕ) → Found → Type 0
+IsFoundBy host sid who = (shard : ShardView) × IsFound (opened shard host sid) who
+
+abbrev pub joined_with : Found → List Found → Found
+joined_with who [] = who
+joined_with who (part ∷ parts) = joined_with (joined who part) parts
+
+-- so many shards were asked, each once, and who they found is joined; so of one subscriber alone some shard held that it opened the session
+abbrev pub IsResolved : (count : ℕ) → (host sid : List ℕ) → Found → Type 0
+IsResolved count host sid who =
+    (parts : List Found) × (length parts ≡ count) × AllByRecursion (IsFoundBy host sid) parts × (who ≡ joined_with found.None parts)
 
 -- the receipt of a job, of an answer at a place; 0 is that of an unknown subscriber
 abbrev pub receipt : Job → List ℕ → ℕ → Bool → Receipt

@@ -5,7 +5,7 @@ ghost use Rattle.std.specs.List.Sorted.{IsStrictlySortedBy};
 ghost use Rattle.dcc_act.specs.declared.sub.Sub.{Sub};
 ghost use Rattle.dcc_records.specs.Books.{sub_order};
 ghost use Rattle.dcc_running.specs.Books.{at_opening, book};
-ghost use Rattle.dcc_running.specs.Calls.{AreSubs};
+ghost use Rattle.dcc_running.specs.Calls.{AreSubs, IsResolved};
 ghost use Rattle.dcc_running.specs.inner.Locks.{AreOf};
 ghost use Rattle.dcc_shard.specs.Routes.{shard_of};
 ghost use Rattle.dcc_shard.specs.Shards.{held};
@@ -14,10 +14,11 @@ ghost use Rattle.dcc_shard.specs.Stored.{StoredView};
 use crate::lock::{Lock, Place};
 use crate::opening::{Opening, copied};
 use crate::seat::Seat;
-use dcc_act::Sub;
+use dcc_act::{SessionId, Sub};
 use dcc_message::Identity;
+use dcc_octets::Host;
 use dcc_records::Records;
-use dcc_shard::{Shard, shard_of};
+use dcc_shard::{Found, Shard, shard_of};
 use dcc_tariff::Terms;
 use std::alloc::{AllocError, Global};
 use std::hash::RandomState;
@@ -102,6 +103,18 @@ impl<R: Records> Shards<R> {
         ensures held { IfOk result (λ subs. AreSubs subs.items) }
     {
         self.locks[shard].lock_as(rt, shard).subs(alloc)
+    }
+
+    /// Who opened the session from the host, by what each shard holds when its lock is taken: nobody, one subscriber, or several. It
+    /// waits for each lock in turn, one at a time, and takes no memory.
+    pub fn resolve<W: Wait>(&self, rt: &W, host: &Host, sid: &SessionId) -> Found
+        ensures { IsResolved self.now.count host.now sid.now result }
+    {
+        let mut found = Found::None;
+        for shard in 0..self.locks.len() {
+            found = found.join(self.locks[shard].lock_as(rt, shard).find(host, sid));
+        }
+        found
     }
 
     /// Waits for the lock of the shard that keeps a subscriber.
