@@ -15,14 +15,17 @@ use Rattle.dcc_connect.specs.declared.writing.Item.{Item}
 use Rattle.dcc_connect.specs.declared.writing.Item.TheVariants.{Octets, End}
 use Rattle.dcc_dispatch.specs.Settings.{Setting}
 use Rattle.dcc_dispatch.specs.declared.decide.Dispatched.{Dispatched}
-use Rattle.dcc_dispatch.specs.declared.decide.Dispatched.TheVariants.{Replied, Asked}
+use Rattle.dcc_dispatch.specs.Messages.{host_name}
+use Rattle.dcc_dispatch.specs.declared.asked.Asked.{Asked as AskedView}
+use Rattle.dcc_dispatch.specs.declared.settled.Settled.{Settled}
+use Rattle.dcc_dispatch.specs.declared.settled.Settled.TheVariants.{Replied, Asked}
 use Rattle.dcc_lane.specs.Rule.{IsIn}
 use Rattle.dcc_message.specs.Streams.{messages}
 use Rattle.dcc_message.specs.declared.header.HeaderFault.{HeaderFault}
 use Rattle.dcc_running.specs.Calls.{IsAnswerTo}
 use Rattle.dcc_running.specs.declared.job.Job.{Job}
 use Rattle.dcc_serve.specs.Answering.{IsAnswerOf}
-use Rattle.dcc_serve.specs.Handing.{AsksSweep, Ends, HandsUnder, IsDispatched, Passes, Reading, is_due, reading_of, replies}
+use Rattle.dcc_serve.specs.Handing.{AsksSweep, Ends, HandsUnder, IsDispatched, IsSettledBy, job_of, Passes, Reading, is_due, reading_of, replies}
 use Rattle.dcc_serve.specs.Lanes.{put_all, put_into}
 use Rattle.dcc_serve.specs.Working.{Does, Doing, octets_in, put_answer}
 use Rattle.dcc_serve.specs.declared.reader.Reader.{Reader}
@@ -80,16 +83,16 @@ reply_by true o octets n = absurd n
 reply_by false o octets (inl e) = let is : Octets octets ≡ Octets o = e in let same : o ≡ octets = cc in same
 reply_by false o octets (inr n) = absurd n
 
-module _ (setting : Setting) where
+module _ (setting : Setting) (count : ℕ) where
   -- a message asks for what a request is of
   unfoldable pub AsksFor : List ℕ → Request → Type 0
   AsksFor message request =
-      (moment : ℕ) × (old : Peer) × (new : Peer)
-      × IsDispatched setting moment message old new (Asked request.job.sub request.job.act request.job.header request.job.proxies)
+      (moment : ℕ) × (old : Peer) × (new : Peer) × (word : Dispatched) × (asked : AskedView) × IsDispatched setting moment message old new word
+      × IsSettledBy setting count (host_name old) message word (Asked asked) × (request.job ≡ job_of asked)
 
   -- what was put comes of these messages
   pub record Came (ms : List (List ℕ)) (reading : Reading) : Type 0 where
-    pub replied : (octets : List ℕ) → IsIn (Octets octets) reading.replied → (message : List ℕ) × IsIn message ms × IsAnswerOf setting message octets
+    pub replied : (octets : List ℕ) → IsIn (Octets octets) reading.replied → (message : List ℕ) × IsIn message ms × IsAnswerOf setting count message octets
     pub asked : (request : Request) → IsAmong (work.Request request) reading.asked → (message : List ℕ) × IsIn message ms × AsksFor message request
 
   wider : (ms ns : List (List ℕ)) (reading : Reading) → ((m : List ℕ) → IsIn m ms → IsIn m ns) → Came ms reading → Came ns reading
@@ -101,34 +104,28 @@ module _ (setting : Setting) where
   last_in : (m : List ℕ) (ms : List (List ℕ)) → IsIn m (ms ++ m ∷ [])
   last_in m ms = in_right m ms (m ∷ []) (inl refl)
 
-  asked_of : (moment : ℕ) (m : List ℕ) (p q : Peer) (job : Job) (request : Request) → request.job ≡ job
-      → IsDispatched setting moment m p q (Asked job.sub job.act job.header job.proxies) → AsksFor m request
+  passes_on : (gate moment : ℕ) (m : List ℕ) (ms : List (List ℕ)) (p q : Peer) (word : Dispatched) (settled : Settled) (handed : Handed) (old new : Reading) → Came ms old
+      → IsDispatched setting moment m p q word → IsSettledBy setting count (host_name p) m word settled → Passes gate settled handed old new → Came (ms ++ m ∷ []) new
   unfolding AsksFor
-  asked_of moment m p q job request of_job is =
-      (moment, p, q, subst (λ (j : Job). IsDispatched setting moment m p q (Asked j.sub j.act j.header j.proxies)) (sym of_job) is)
-
-  passes_on : (gate moment : ℕ) (m : List ℕ) (ms : List (List ℕ)) (p q : Peer) (word : Dispatched) (handed : Handed) (old new : Reading) → Came ms old
-      → IsDispatched setting moment m p q word → Passes gate word handed old new → Came (ms ++ m ∷ []) new
-  passes_on gate moment m ms p q (Replied reply) handed old new was is h =
+  passes_on gate moment m ms p q word (Replied reply) handed old new was is by h =
       let on = wider ms (ms ++ m ∷ []) old (λ k i. in_left k ms (m ∷ []) i) was in
       subst (Came (ms ++ m ∷ [])) (sym h.1)
       (record {
         replied = λ octets i. elim (in_either (Octets octets) old.replied (replies reply.octets) i) [
           | inl j ↦ on.replied octets j
-          | inr j ↦ (m, last_in m ms, (moment, p, q, Replied reply, is, reply_by (length reply.octets == 0) octets reply.octets j))
+          | inr j ↦ (m, last_in m ms, (moment, p, q, word, Replied reply, is, by, reply_by (length reply.octets == 0) octets reply.octets j))
         ];
         asked = on.asked;
       })
-  passes_on gate moment m ms p q (Asked sub act header proxies) handed old new was is h =
+  passes_on gate moment m ms p q word (Asked asked) handed old new was is by h =
       let on = wider ms (ms ++ m ∷ []) old (λ k i. in_left k ms (m ∷ []) i) was in
       let request = h.1.0 in
-      let job : Job = record { sub = sub; act = act; header = header; proxies = proxies } in
       subst (Came (ms ++ m ∷ [])) (sym h.1.3)
       (record {
         replied = on.replied;
-        asked = λ r i. elim (among_into (work.Request r) (work.Request request) (shard_of sub (length old.asked)) old.asked i) [
+        asked = λ r i. elim (among_into (work.Request r) (work.Request request) (shard_of asked.sub (length old.asked)) old.asked i) [
           | inl j ↦ on.asked r j
-          | inr e ↦ (let same : request ≡ r = cc in (m, last_in m ms, subst (AsksFor m) same (asked_of moment m p q job request h.1.2 is)))
+          | inr e ↦ (let same : request ≡ r = cc in (m, last_in m ms, subst (AsksFor m) same (moment, p, q, word, asked, is, by, h.1.2)))
         ];
       })
 
@@ -154,15 +151,15 @@ module _ (setting : Setting) where
 
   module _ {C : Type 0} (tells : C → ℕ → C → Type 0) where
     came_one : (ms : List (List ℕ)) (q : Reader × C) (moment : ℕ) (m : List ℕ) (handed : Handed) (v : Reader × C) → Came ms (reading_of q.0)
-        → timed tells (HandsUnder setting) q moment m handed v → Came (ms ++ m ∷ []) (reading_of v.0)
+        → timed tells (HandsUnder setting count) q moment m handed v → Came (ms ++ m ∷ []) (reading_of v.0)
     came_one ms q moment m handed v was h =
         let hands = h.1 in
-        sweeps_on moment (ms ++ m ∷ []) hands.1 (reading_of v.0)
-        (passes_on q.0.gate moment m ms q.0.peer v.0.peer hands.0 handed (reading_of q.0) hands.1 was hands.2 hands.3) hands.4
+        sweeps_on moment (ms ++ m ∷ []) hands.2 (reading_of v.0)
+        (passes_on q.0.gate moment m ms q.0.peer v.0.peer hands.0 hands.1 handed (reading_of q.0) hands.2 was hands.3 hands.4 hands.5) hands.6
 
-    came_all : (ms : List (List ℕ)) (p q : Reader × C) → Came [] (reading_of p.0) → FoldsTo (HandsOn (timed tells (HandsUnder setting))) p ms q → Came ms (reading_of q.0)
+    came_all : (ms : List (List ℕ)) (p q : Reader × C) → Came [] (reading_of p.0) → FoldsTo (HandsOn (timed tells (HandsUnder setting count))) p ms q → Came ms (reading_of q.0)
     came_all ms p q was all =
-        chained_keeps (HandsOn (timed tells (HandsUnder setting))) (λ (xs : List (List ℕ)) (s : Reader × C). Came xs (reading_of s.0))
+        chained_keeps (HandsOn (timed tells (HandsUnder setting count))) (λ (xs : List (List ℕ)) (s : Reader × C). Came xs (reading_of s.0))
         (λ xs s m v h step. came_one xs s step.0 m Stays v h step.1) ms p q was all
 
     -- what a reader put comes of the messages of a beginning of what it read
@@ -173,7 +170,7 @@ module _ (setting : Setting) where
     unfolding Comes
     whole read r h = (read, [], sym (append-nil read), h)
 
-    pub read_came : (e : ConnectionEnd) (read : List ℕ) (p q : Reader × C) → Came [] (reading_of p.0) → Hands (timed tells (HandsUnder setting)) e read p q → Comes read q.0
+    pub read_came : (e : ConnectionEnd) (read : List ℕ) (p q : Reader × C) → Came [] (reading_of p.0) → Hands (timed tells (HandsUnder setting count)) e read p q → Comes read q.0
     unfolding Comes
     read_came end.End read p q was h = whole read q.0 (came_all (messages read) p q was h.1)
     read_came end.Closed read p q was h =

@@ -9,7 +9,8 @@ use Rattle.dcc_connect.specs.declared.fault.ConnectFault.TheVariants as fault
 use Rattle.dcc_connect.specs.declared.writing.Item.{Item}
 use Rattle.dcc_connect.specs.declared.writing.Item.TheVariants.{Octets}
 use Rattle.dcc_dispatch.specs.Settings.{Setting}
-use Rattle.dcc_dispatch.specs.declared.decide.Dispatched.TheVariants.{Asked}
+use Rattle.dcc_dispatch.specs.declared.settled.Settled.TheVariants.{Asked}
+use Rattle.dcc_running.specs.declared.job.Job.{Job}
 use Rattle.dcc_lane.specs.Ends.{put_of, taken_of}
 use Rattle.dcc_lane.specs.Rule.{IsIn}
 use Rattle.dcc_lane.specs.declared.receiver.Receiver.{Receiver}
@@ -21,7 +22,7 @@ use Rattle.dcc_serve.specs.Answering.{AllAnswer, CameIn, HasRead, IsAnswerOf, Wr
 use Rattle.dcc_serve.specs.Finishing.{AreFinished, answers_of, asks_of, items_in, reply_of, work_in}
 use Rattle.dcc_serve.specs.Gathering.{AreGathered, gates_from, workers_from}
 use Rattle.dcc_serve.specs.Lanes.{AreAllHeard, AreDealt, IsHeard, IsNewReceiver, IsNewSender, all_put, firsts, lists_of, rests}
-use Rattle.dcc_serve.specs.Handing.{reading_of}
+use Rattle.dcc_serve.specs.Handing.{job_of, reading_of}
 use Rattle.dcc_serve.specs.Tasks.{AllRun, Runs}
 use Rattle.dcc_serve.specs.Working.{doing_of}
 use Rattle.dcc_serve.specs.Working as working
@@ -151,24 +152,24 @@ module _ {I O C : Type 0} (remaining : I → Option (List ℕ)) (contents : O �
 
   -- a reader put what comes of the messages that it read
   reader_came : (t u : Task I O) → Fresh count t → Runs remaining contents tells clock setting count t u
-      → ((request : Request) → SomePut (works.Request request) (lists_of (filter_map asks_of (u ∷ []))) → (message : List ℕ) × HasRead remaining contents t u message × AsksFor setting message request)
-      × ((octets : List ℕ) → IsAmong (Octets octets) (all_put (filter_map reply_of (u ∷ []))) → (message : List ℕ) × HasRead remaining contents t u message × IsAnswerOf setting message octets)
+      → ((request : Request) → SomePut (works.Request request) (lists_of (filter_map asks_of (u ∷ []))) → (message : List ℕ) × HasRead remaining contents t u message × AsksFor setting count message request)
+      × ((octets : List ℕ) → IsAmong (Octets octets) (all_put (filter_map reply_of (u ∷ []))) → (message : List ℕ) × HasRead remaining contents t u message × IsAnswerOf setting count message octets)
   unfolding Fresh Comes
   reader_came (Read input reader) u fresh h =
       let later = h.1 in
       let ended = h.2 in
       let reads = h.4 in
       let handed = reads.2 in
-      let none : Came setting [] (reading_of reader) = record {
+      let none : Came setting count [] (reading_of reader) = record {
         replied = λ octets i. absurd (subst (IsIn (Octets octets)) fresh.1 i);
         asked = λ request i. absurd (none_put (works.Request request) reader.workers.items fresh.0 i);
       } in
-      let c = read_came setting tells h.0 (concat handed.0) (reader, clock) (reads.0, reads.1) none handed.3 in
-      let on = ends_on setting reader.gate (messages c.0) (reading_of reads.0) (reading_of ended) c.3 reads.4 in
+      let c = read_came setting count tells h.0 (concat handed.0) (reader, clock) (reads.0, reads.1) none handed.3 in
+      let on = ends_on setting count reader.gate (messages c.0) (reading_of reads.0) (reading_of ended) c.3 reads.4 in
       subst
       (λ (v : Task I O). ((request : Request) → SomePut (works.Request request) (lists_of (filter_map asks_of (v ∷ [])))
-      → (message : List ℕ) × HasRead remaining contents (Read input reader) v message × AsksFor setting message request)
-      × ((octets : List ℕ) → IsAmong (Octets octets) (all_put (filter_map reply_of (v ∷ []))) → (message : List ℕ) × HasRead remaining contents (Read input reader) v message × IsAnswerOf setting message octets))
+      → (message : List ℕ) × HasRead remaining contents (Read input reader) v message × AsksFor setting count message request)
+      × ((octets : List ℕ) → IsAmong (Octets octets) (all_put (filter_map reply_of (v ∷ []))) → (message : List ℕ) × HasRead remaining contents (Read input reader) v message × IsAnswerOf setting count message octets))
       (sym h.3) (
         λ request i. elim i [
           | inl j ↦ (let t = on.asked request j in (t.0, (handed.0, c.0, c.1, handed.1, c.2, t.1), t.2))
@@ -182,15 +183,15 @@ module _ {I O C : Type 0} (remaining : I → Option (List ℕ)) (contents : O �
   reader_came (Write gate output from answers) u fresh h =
       subst
       (λ (v : Task I O). ((request : Request) → SomePut (works.Request request) (lists_of (filter_map asks_of (v ∷ [])))
-      → (message : List ℕ) × HasRead remaining contents (Write gate output from answers) v message × AsksFor setting message request)
+      → (message : List ℕ) × HasRead remaining contents (Write gate output from answers) v message × AsksFor setting count message request)
       × ((octets : List ℕ) → IsAmong (Octets octets) (all_put (filter_map reply_of (v ∷ [])))
-      → (message : List ℕ) × HasRead remaining contents (Write gate output from answers) v message × IsAnswerOf setting message octets))
+      → (message : List ℕ) × HasRead remaining contents (Write gate output from answers) v message × IsAnswerOf setting count message octets))
       (sym h.3) (λ request n. absurd n, λ octets n. absurd n)
   reader_came (Work worker) u fresh h =
       subst
       (λ (v : Task I O). ((request : Request) → SomePut (works.Request request) (lists_of (filter_map asks_of (v ∷ [])))
-      → (message : List ℕ) × HasRead remaining contents (Work worker) v message × AsksFor setting message request)
-      × ((octets : List ℕ) → IsAmong (Octets octets) (all_put (filter_map reply_of (v ∷ []))) → (message : List ℕ) × HasRead remaining contents (Work worker) v message × IsAnswerOf setting message octets))
+      → (message : List ℕ) × HasRead remaining contents (Work worker) v message × AsksFor setting count message request)
+      × ((octets : List ℕ) → IsAmong (Octets octets) (all_put (filter_map reply_of (v ∷ []))) → (message : List ℕ) × HasRead remaining contents (Work worker) v message × IsAnswerOf setting count message octets))
       (sym h.1) (λ request n. absurd n, λ octets n. absurd n)
 
   put_split : {T : Type 0} (x : T) (o : Option (Vec (Sender T))) (vs : List (Vec (Sender T))) → SomePut x (lists_of (cons_option o vs))
@@ -207,7 +208,7 @@ module _ {I O C : Type 0} (remaining : I → Option (List ℕ)) (contents : O �
 
   -- a request that was put asks for what a message does that came in
   request_came : (olds news : List (Task I O)) → AllByRecursion (Fresh count) olds → AllTwo olds news → (request : Request)
-      → SomePut (works.Request request) (lists_of (filter_map asks_of news)) → (message : List ℕ) × CameIn remaining contents olds news message × AsksFor setting message request
+      → SomePut (works.Request request) (lists_of (filter_map asks_of news)) → (message : List ℕ) × CameIn remaining contents olds news message × AsksFor setting count message request
   request_came [] [] fresh ran request n = absurd n
   request_came [] (u ∷ us) fresh ran request i = absurd (cc)
   request_came (t ∷ ts) [] fresh ran request i = absurd ran
@@ -218,7 +219,7 @@ module _ {I O C : Type 0} (remaining : I → Option (List ℕ)) (contents : O �
 
   -- a reply that was put answers one
   reply_came : (olds news : List (Task I O)) → AllByRecursion (Fresh count) olds → AllTwo olds news → (octets : List ℕ)
-      → IsAmong (Octets octets) (all_put (filter_map reply_of news)) → (message : List ℕ) × CameIn remaining contents olds news message × IsAnswerOf setting message octets
+      → IsAmong (Octets octets) (all_put (filter_map reply_of news)) → (message : List ℕ) × CameIn remaining contents olds news message × IsAnswerOf setting count message octets
   reply_came [] [] fresh ran octets n = absurd n
   reply_came [] (u ∷ us) fresh ran octets i = absurd (cc)
   reply_came (t ∷ ts) [] fresh ran octets i = absurd ran
@@ -285,16 +286,17 @@ module _ {I O C : Type 0} (remaining : I → Option (List ℕ)) (contents : O �
     })
   ]
 
-  answer_of : (message octets : List ℕ) (request : Request) (answer : RequestAnswer) → AsksFor setting message request → IsAnswerTo request.job answer
-      → working.octets_in answer ≡ Some octets → IsAnswerOf setting message octets
+  answer_of : (message octets : List ℕ) (request : Request) (answer : RequestAnswer) → AsksFor setting count message request → IsAnswerTo request.job answer
+      → working.octets_in answer ≡ Some octets → IsAnswerOf setting count message octets
   unfolding AsksFor
   answer_of message octets request answer asks told is =
-      (asks.0, asks.1, asks.2, Asked request.job.sub request.job.act request.job.header request.job.proxies, asks.3, (answer, told, is))
+      let told_so : IsAnswerTo (job_of asks.4) answer = subst (λ (job : Job). IsAnswerTo job answer) asks.7 told in
+      (asks.0, asks.1, asks.2, asks.3, Asked asks.4, asks.5, asks.6, (answer, told_so, is))
 
   -- octets that were put for a writer answer a message that came in
   octets_came : (olds news : List (Task I O)) → AllByRecursion (Fresh count) olds → AllTwo olds news → AreFinished news → (octets : List ℕ)
       → SomePut (Octets octets) (filter_map reply_of news ∷ lists_of (filter_map answers_of news))
-      → (message : List ℕ) × CameIn remaining contents olds news message × IsAnswerOf setting message octets
+      → (message : List ℕ) × CameIn remaining contents olds news message × IsAnswerOf setting count message octets
   octets_came olds news fresh ran finished octets (inl i) = reply_came olds news fresh ran octets i
   octets_came olds news fresh ran finished octets (inr i) =
       let w = all_took olds news fresh ran octets i in
@@ -309,8 +311,8 @@ module _ {I O C : Type 0} (remaining : I → Option (List ℕ)) (contents : O �
   -- what a writer wrote answers messages that came in
   writer_answers : (came : List ℕ → Type 0) (t u : Task I O) → Fresh count t → Runs remaining contents tells clock setting count t u
       → ((r : Receiver Item) → IsIn r (filter_map items_in (u ∷ [])) → (octets : List ℕ) → IsIn (Octets octets) (items_of (taken_of r))
-      → (message : List ℕ) × came message × IsAnswerOf setting message octets)
-      → WritesAnswers remaining contents came setting t u
+      → (message : List ℕ) × came message × IsAnswerOf setting count message octets)
+      → WritesAnswers remaining contents came setting count t u
   unfolding Fresh
   writer_answers came (Read input reader) u fresh h all = tt
   writer_answers came (Work worker) u fresh h all = tt
@@ -325,12 +327,12 @@ module _ {I O C : Type 0} (remaining : I → Option (List ℕ)) (contents : O �
       let took : items_of (taken_of taken) ≡ items ++ items_of rest.0 =
       ap items_of rest.1 ∙ items_both w.0 rest.0 ∙ ap (λ l. l ++ items_of rest.0) (ap items_of written.2 ∙ items_both (taken_of from) written.0 ∙ ap (λ l. l ++ items) none) in
       let given : (r : Receiver Item) → IsIn r (taken ∷ []) → (octets : List ℕ) → IsIn (Octets octets) (items_of (taken_of r))
-      → (message : List ℕ) × came message × IsAnswerOf setting message octets =
+      → (message : List ℕ) × came message × IsAnswerOf setting count message octets =
       subst
       (λ (v : Task I O). (r : Receiver Item) → IsIn r (filter_map items_in (v ∷ [])) → (octets : List ℕ) → IsIn (Octets octets) (items_of (taken_of r))
-      → (message : List ℕ) × came message × IsAnswerOf setting message octets)
+      → (message : List ℕ) × came message × IsAnswerOf setting count message octets)
       h.3 all in
-      subst (WritesAnswers remaining contents came setting (Write gate output from answers)) (sym h.3) (
+      subst (WritesAnswers remaining contents came setting count (Write gate output from answers)) (sym h.3) (
         items,
         written.1,
         written.3,
@@ -346,8 +348,8 @@ module _ {I O C : Type 0} (remaining : I → Option (List ℕ)) (contents : O �
 
   all_write : (came : List ℕ → Type 0) (olds news : List (Task I O)) → AllByRecursion (Fresh count) olds → AllTwo olds news
       → ((r : Receiver Item) → IsIn r (filter_map items_in news) → (octets : List ℕ) → IsIn (Octets octets) (items_of (taken_of r))
-      → (message : List ℕ) × came message × IsAnswerOf setting message octets)
-      → AllAnswer remaining contents came setting olds news
+      → (message : List ℕ) × came message × IsAnswerOf setting count message octets)
+      → AllAnswer remaining contents came setting count olds news
   all_write came [] news fresh ran all = tt
   all_write came (t ∷ ts) [] fresh ran all = absurd ran
   all_write came (t ∷ ts) (u ∷ us) fresh ran all = (
@@ -357,7 +359,7 @@ module _ {I O C : Type 0} (remaining : I → Option (List ℕ)) (contents : O �
 
   -- what goes out of a round answers what came in
   pub round_answers : (gates every : ℕ) (olds news : List (Task I O)) → AreGathered count gates every olds → AllRun remaining contents tells clock setting count olds news
-      → length news ≡ length olds → AreFinished news → AllAnswer remaining contents (CameIn remaining contents olds news) setting olds news
+      → length news ≡ length olds → AreFinished news → AllAnswer remaining contents (CameIn remaining contents olds news) setting count olds news
   round_answers gates every olds news gathered ran same finished =
       let fresh = gathered_fresh count gates every olds gathered in
       let two = all_two olds news ran same in

@@ -11,3 +11,4 @@ pub mod LaneEnds
 pub mod Coming
 pub mod Going
 pub mod Ends
+pub mod Settling

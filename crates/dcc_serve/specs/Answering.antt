@@ -10,26 +10,28 @@ use Rattle.dcc_connect.specs.declared.writing.Item.{Item}
 use Rattle.dcc_connect.specs.declared.writing.Item.TheVariants.{Octets}
 use Rattle.dcc_dispatch.specs.Settings.{Setting}
 use Rattle.dcc_dispatch.specs.declared.decide.Dispatched.{Dispatched}
-use Rattle.dcc_dispatch.specs.declared.decide.Dispatched.TheVariants.{Replied, Asked}
+use Rattle.dcc_dispatch.specs.Messages.{host_name}
+use Rattle.dcc_dispatch.specs.declared.settled.Settled.{Settled}
+use Rattle.dcc_dispatch.specs.declared.settled.Settled.TheVariants.{Replied, Asked}
 use Rattle.dcc_lane.specs.Rule.{IsIn}
 use Rattle.dcc_message.specs.Streams.{messages}
 use Rattle.dcc_running.specs.Calls.{IsAnswerTo}
-use Rattle.dcc_serve.specs.Handing.{IsDispatched}
+use Rattle.dcc_serve.specs.Handing.{IsDispatched, IsSettledBy, job_of}
 use Rattle.dcc_serve.specs.Working as working
 use Rattle.dcc_serve.specs.declared.tasks.Task.{Task}
 use Rattle.dcc_serve.specs.declared.tasks.Task.TheVariants.{Read, Write, Work}
 use Rattle.dcc_shard.specs.declared.answers.RequestAnswer.{RequestAnswer}
 
 -- the octets of a reply, or of what some shard answers to the job that a message asks for
-abbrev pub Says : Dispatched → List ℕ → Type 0
+abbrev pub Says : Settled → List ℕ → Type 0
 Says (Replied reply) octets = octets ≡ reply.octets
-Says (Asked sub act header proxies) octets =
-    (answer : RequestAnswer) × IsAnswerTo (record { sub = sub; act = act; header = header; proxies = proxies }) answer × (working.octets_in answer ≡ Some octets)
+Says (Asked asked) octets = (answer : RequestAnswer) × IsAnswerTo (job_of asked) answer × (working.octets_in answer ≡ Some octets)
 
--- octets answer a message: they are those of what it comes to, at some moment, to a peer
-abbrev pub IsAnswerOf : Setting → (message octets : List ℕ) → Type 0
-IsAnswerOf setting message octets =
-    (moment : ℕ) × (old : Peer) × (new : Peer) × (word : Dispatched) × IsDispatched setting moment message old new word × Says word octets
+-- octets answer a message: they are those of what it comes to, at some moment, to a peer, of one who is found by so many shards where it names nobody
+abbrev pub IsAnswerOf : Setting → (count : ℕ) → (message octets : List ℕ) → Type 0
+IsAnswerOf setting count message octets =
+    (moment : ℕ) × (old : Peer) × (new : Peer) × (word : Dispatched) × (settled : Settled) × IsDispatched setting moment message old new word
+    × IsSettledBy setting count (host_name old) message word settled × Says settled octets
 
 module _ {I O : Type 0} (remaining : I → Option (List ℕ)) (contents : O → Option (List ℕ)) where
   -- a message stands whole in what a gateway's reader read
@@ -49,17 +51,17 @@ module _ {I O : Type 0} (remaining : I → Option (List ℕ)) (contents : O → 
   CameIn (old ∷ olds) (new ∷ news) message = HasRead old new message ⊎ CameIn olds news message
 
   -- what went out to a gateway is a beginning of some octets, item by item, each of which answers a message that came in
-  abbrev pub WritesAnswers : (List ℕ → Type 0) → Setting → Task I O → Task I O → Type 0
-  WritesAnswers came setting (Write gate output from answers) (Write same later taken whole) =
+  abbrev pub WritesAnswers : (List ℕ → Type 0) → Setting → (count : ℕ) → Task I O → Task I O → Type 0
+  WritesAnswers came setting count (Write gate output from answers) (Write same later taken whole) =
       (items : List Item) × (out : List ℕ) × Appends (contents output.output) (contents later.output) out × IsPrefix out (octets_in items)
-      × ((octets : List ℕ) → IsIn (Octets octets) items → (message : List ℕ) × came message × IsAnswerOf setting message octets)
-  WritesAnswers came setting (Write gate output from answers) (Read later ended) = ⊥
-  WritesAnswers came setting (Write gate output from answers) (Work worker) = ⊥
-  WritesAnswers came setting (Read input reader) new = Unit {0}
-  WritesAnswers came setting (Work worker) new = Unit {0}
+      × ((octets : List ℕ) → IsIn (Octets octets) items → (message : List ℕ) × came message × IsAnswerOf setting count message octets)
+  WritesAnswers came setting count (Write gate output from answers) (Read later ended) = ⊥
+  WritesAnswers came setting count (Write gate output from answers) (Work worker) = ⊥
+  WritesAnswers came setting count (Read input reader) new = Unit {0}
+  WritesAnswers came setting count (Work worker) new = Unit {0}
 
   -- so it is of each of a round's threads
-  abbrev pub AllAnswer : (List ℕ → Type 0) → Setting → (begun ended : List (Task I O)) → Type 0
-  AllAnswer came setting [] ended = Unit {0}
-  AllAnswer came setting (old ∷ olds) [] = ⊥
-  AllAnswer came setting (old ∷ olds) (new ∷ news) = WritesAnswers came setting old new × AllAnswer came setting olds news
+  abbrev pub AllAnswer : (List ℕ → Type 0) → Setting → (count : ℕ) → (begun ended : List (Task I O)) → Type 0
+  AllAnswer came setting count [] ended = Unit {0}
+  AllAnswer came setting count (old ∷ olds) [] = ⊥
+  AllAnswer came setting count (old ∷ olds) (new ∷ news) = WritesAnswers came setting count old new × AllAnswer came setting count olds news

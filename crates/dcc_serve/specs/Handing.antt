@@ -1,5 +1,5 @@
 -- What the reader of a gateway does with its messages.
-use Rattle.std.specs.Prelude.{◌≡◌, ℕ, ◌+◌, ◌-◌, ◌^◌, min, Bool, ◌==◌, ◌&&◌, nat_le, nat_lt, if◌then◌else◌, List, [], ◌∷◌, ◌++◌, length, Option}
+use Rattle.std.specs.Prelude.{◌≡◌, ℕ, ◌+◌, ◌-◌, ◌^◌, min, Bool, ◌==◌, ◌&&◌, nat_le, nat_lt, if◌then◌else◌, List, [], ◌∷◌, ◌++◌, length, Option, Some}
 use Rattle.dcc_base.specs.declared.peer.Peer.{Peer}
 use Rattle.dcc_connect.specs.Clocks.{timed}
 use Rattle.dcc_connect.specs.Reading.{ReadsAndHands, EndsAtEnd}
@@ -8,13 +8,21 @@ use Rattle.dcc_connect.specs.declared.handing.Handed.{Handed}
 use Rattle.dcc_connect.specs.declared.handing.Handed.TheVariants.{Stays, Closes}
 use Rattle.dcc_connect.specs.declared.writing.Item.{Item}
 use Rattle.dcc_connect.specs.declared.writing.Item.TheVariants.{Octets, End}
-use Rattle.dcc_dispatch.specs.Dispatches.{IfAsked, IfReplied, IsAsked, IsRepliedTo}
-use Rattle.dcc_dispatch.specs.Messages.{message_view, received}
+use Rattle.dcc_dispatch.specs.Dispatches.{IfAsked, IfSought, IfCharging, IfReplied, IsAsked, IsSought, IsSettled, IsRepliedTo, session_of_key}
+use Rattle.dcc_dispatch.specs.Messages.{message_view, received, host_name}
 use Rattle.dcc_dispatch.specs.Messages.Received.{Charging}
 use Rattle.dcc_dispatch.specs.Settings.{Setting}
 use Rattle.dcc_dispatch.specs.declared.decide.Dispatched.{Dispatched}
-use Rattle.dcc_dispatch.specs.declared.decide.Dispatched.TheVariants.{Replied, Asked}
+use Rattle.dcc_dispatch.specs.declared.decide.Dispatched.TheVariants as words
+use Rattle.dcc_dispatch.specs.declared.asked.Asked.{Asked as AskedView}
+use Rattle.dcc_dispatch.specs.declared.settled.Settled.{Settled}
+use Rattle.dcc_dispatch.specs.declared.settled.Settled.TheVariants.{Replied, Asked}
+use Rattle.dcc_dispatch.specs.Verdicts.{verdict_of, found_or_refused}
 use Rattle.dcc_lane.specs.Ends.{lane_of_sender, put_of}
+use Rattle.dcc_openers.specs.Found.{one_of}
+use Rattle.dcc_openers.specs.declared.found.Found.{Found}
+use Rattle.dcc_running.specs.Calls.{IsResolved}
+use Rattle.dcc_running.specs.declared.job.Job.{Job}
 use Rattle.dcc_serve.specs.Lanes.{all_put, lanes_of, put_into, put_all}
 use Rattle.dcc_serve.specs.declared.reader.Reader.{Reader}
 use Rattle.dcc_serve.specs.declared.reader.Sweeps.{Sweeps}
@@ -42,29 +50,49 @@ pub record IsSameReader (old new : Reader) : Type 0 where
 -- one of what a message to a peer may come to, and where it leaves the peer
 abbrev pub IsDispatched : Setting → ℕ → List ℕ → (old new : Peer) → Dispatched → Type 0
 IsDispatched setting moment message old new word =
-    IfAsked word (λ sub act header proxies. received old message ≡ Charging (message_view header message))
-    × IfAsked word (λ sub act header proxies. IsAsked setting moment (message_view header message) sub act header proxies)
-    × IfAsked word (λ sub act header proxies. new ≡ old)
+    IfCharging word (λ header. received old message ≡ Charging (host_name old) (message_view header message))
+    × IfAsked word (λ asked. IsAsked (message_view asked.header message) (verdict_of setting moment (host_name old) (message_view asked.header message)) asked)
+    × IfSought word (λ sought. IsSought (message_view sought.header message) (verdict_of setting moment (host_name old) (message_view sought.header message)) sought)
+    × IfCharging word (λ header. new ≡ old)
     × IfReplied word (λ reply. IsRepliedTo setting moment (received old message) old new reply)
+
+-- What it comes to once nobody is sought any more. Who opened the session of a request that names nobody is asked of each of so many shards, by the host of
+-- the request's peer; it is asked of the one who did, and refused where nobody or several did.
+abbrev pub IsSettledBy : Setting → (count : ℕ) → (host message : List ℕ) → Dispatched → Settled → Type 0
+IsSettledBy setting count host message (words.Replied reply) settled = settled ≡ Replied reply
+IsSettledBy setting count host message (words.Asked asked) settled = settled ≡ Asked asked
+IsSettledBy setting count host message (words.Sought sought) settled =
+    (sid : List ℕ) × (who : Found) × (session_of_key sought.act ≡ Some sid) × IsResolved count host sid who
+    × IsSettled setting.identity (message_view sought.header message)
+    (found_or_refused setting.identity (message_view sought.header message) sought.act (one_of who)) settled
+
+-- what holds of what is asked of a subscriber
+abbrev pub IfSettled : Settled → (AskedView → Type 0) → Type 0
+IfSettled (Replied reply) P = Unit {0}
+IfSettled (Asked asked) P = P asked
 
 -- the octets of a reply, where there are any
 abbrev pub replies : List ℕ → List Item
 replies octets = if length octets == 0 then [] else Octets octets ∷ []
+
+-- the job of what is asked of a subscriber
+abbrev pub job_of : AskedView → Job
+job_of asked = record { sub = asked.sub; act = asked.act; header = asked.header; proxies = asked.proxies }
 
 abbrev pub one_more : ℕ → ℕ
 one_more count = min (count + 1) (2 ^ 64 - 1)
 
 -- A reply goes to the gateway's own writer, and the connection stays or closes as it says. What asks for an act goes to the shard that
 -- keeps its subscriber, as this gateway's, and the connection stays.
-abbrev pub Passes : ℕ → Dispatched → Handed → Reading → Reading → Type 0
+abbrev pub Passes : ℕ → Settled → Handed → Reading → Reading → Type 0
 Passes gate (Replied reply) handed old new =
     (handed ≡ (if reply.close then Closes else Stays))
     × (new ≡ record { asked = old.asked; replied = old.replied ++ replies reply.octets; requests = old.requests; sweeps = old.sweeps })
-Passes gate (Asked sub act header proxies) handed old new =
+Passes gate (Asked asked) handed old new =
     (handed ≡ Stays)
-    × ((request : Request) × (request.gate ≡ gate) × (request.job ≡ record { sub = sub; act = act; header = header; proxies = proxies })
+    × ((request : Request) × (request.gate ≡ gate) × (request.job ≡ job_of asked)
     × (new ≡ record {
-      asked = put_into (shard_of sub (length old.asked)) (work.Request request) old.asked;
+      asked = put_into (shard_of asked.sub (length old.asked)) (work.Request request) old.asked;
       replied = old.replied;
       requests = one_more old.requests;
       sweeps = old.sweeps;
@@ -87,14 +115,15 @@ AsksSweep moment old new =
       sweeps = record { every = old.sweeps.every; since = since_then old.sweeps };
     }
 
--- a message comes to what is dispatched, and that is passed on; then a sweep is asked for where it is due
-abbrev pub Hands : Setting → ℕ → List ℕ → Handed → Reader → Reader → Type 0
-Hands setting moment message handed old new =
-    (word : Dispatched) × (between : Reading) × IsDispatched setting moment message old.peer new.peer word
-    × Passes old.gate word handed (reading_of old) between × AsksSweep moment between (reading_of new) × IsSameReader old new
+-- a message comes to what is dispatched, that is settled and passed on; then a sweep is asked for where it is due
+abbrev pub Hands : Setting → (count : ℕ) → ℕ → List ℕ → Handed → Reader → Reader → Type 0
+Hands setting count moment message handed old new =
+    (word : Dispatched) × (settled : Settled) × (between : Reading) × IsDispatched setting moment message old.peer new.peer word
+    × IsSettledBy setting count (host_name old.peer) message word settled
+    × Passes old.gate settled handed (reading_of old) between × AsksSweep moment between (reading_of new) × IsSameReader old new
 
-abbrev pub HandsUnder : Setting → Reader → ℕ → List ℕ → Handed → Reader → Type 0
-HandsUnder setting old moment message handed new = Hands setting moment message handed old new
+abbrev pub HandsUnder : Setting → (count : ℕ) → Reader → ℕ → List ℕ → Handed → Reader → Type 0
+HandsUnder setting count old moment message handed new = Hands setting count moment message handed old new
 
 -- a reader that ends says so once, to each shard as its gateway's, and to its writer
 abbrev pub Ends : ℕ → Reading → Reading → Type 0
@@ -103,7 +132,7 @@ Ends gate old new =
 
 -- Pieces were read, and of their octets the messages were handed on, each at the moment of a reading of the clock that is its own; behind the last
 -- the reader says that it ends.
-abbrev pub ReadsOut : {C : Type 0} → (C → ℕ → C → Type 0) → C → Setting → ConnectionEnd → Option (List ℕ) → Option (List ℕ) → Reader → Reader → Type 0
-ReadsOut {C} tells clock setting end before after old new =
-    (last : Reader) × (later : C) × ReadsAndHands (timed tells (HandsUnder setting)) end (2 ^ 32 - 1) before after (old, clock) (last, later)
+abbrev pub ReadsOut : {C : Type 0} → (C → ℕ → C → Type 0) → C → Setting → (count : ℕ) → ConnectionEnd → Option (List ℕ) → Option (List ℕ) → Reader → Reader → Type 0
+ReadsOut {C} tells clock setting count end before after old new =
+    (last : Reader) × (later : C) × ReadsAndHands (timed tells (HandsUnder setting count)) end (2 ^ 32 - 1) before after (old, clock) (last, later)
     × EndsAtEnd end after × Ends old.gate (reading_of last) (reading_of new) × IsSameReader old new

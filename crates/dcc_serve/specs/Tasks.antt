@@ -23,7 +23,7 @@ module _ {I O C : Type 0} (remaining : I → Option (List ℕ)) (contents : O �
   abbrev pub Runs : Task I O → Task I O → Type 0
   Runs (Read input reader) new =
       (end : ConnectionEnd) × (later : I) × (ended : Reader) × (new ≡ Read later ended)
-      × ReadsOut tells clock setting end (remaining input) (remaining later) reader ended
+      × ReadsOut tells clock setting count end (remaining input) (remaining later) reader ended
   Runs (Write gate output from answers) new =
       (end : WriteEnd) × (later : Ending O) × (taken : Receiver Item) × (new ≡ Write gate later taken end.answers)
       × WritesOut end from taken (contents output.output) (contents later.output)

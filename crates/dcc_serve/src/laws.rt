@@ -1,6 +1,6 @@
 //! The laws of rounds. Each is the contract of a function that does nothing.
 
-ghost use Rattle.std.specs.Prelude.{◌≡◌, ℕ, List};
+ghost use Rattle.std.specs.Prelude.{◌≡◌, ℕ, List, length};
 ghost use Rattle.dcc_dispatch.specs.Settings.{Setting};
 ghost use Rattle.dcc_serve.specs.Answering.{AllAnswer, CameIn};
 ghost use Rattle.dcc_serve.specs.Served.{IsRound};
@@ -23,5 +23,5 @@ pub fn numbers_are_given()
 pub fn answers_are_to_what_came<R: Records, I: Read, O: Shut, C: Clock>()
     ensures { (clock : C) (setting : Setting) (gates every : ℕ) (old new : List (StoredView R)) (counts : Counts)
         (round : IsRound I.remaining O.contents C.tells clock setting R.is_stopped R.may_leave gates every old counts new)
-        → AllAnswer I.remaining O.contents (CameIn I.remaining O.contents round.begun round.ended) setting round.begun round.ended }
+        → AllAnswer I.remaining O.contents (CameIn I.remaining O.contents round.begun round.ended) setting (length old) round.begun round.ended }
 {}

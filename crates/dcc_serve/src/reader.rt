@@ -1,11 +1,15 @@
 //! The reader of a gateway.
 
-ghost use Rattle.std.specs.Prelude.{◌≡◌, ◌++◌, true, is_some, length};
-ghost use Rattle.dcc_dispatch.specs.Dispatches.{IfAsked};
-ghost use Rattle.dcc_dispatch.specs.declared.decide.Dispatched.TheVariants.{Replied};
+ghost use Rattle.std.specs.Prelude.{◌≡◌, ℕ, ◌++◌, List, Some, true, is_some, length};
+ghost use Rattle.dcc_base.specs.Peers.{host_of_peer};
+ghost use Rattle.dcc_dispatch.specs.Dispatches.{IfAsked, IfCharging, IfSought, IsAsked, IsSought};
+ghost use Rattle.dcc_dispatch.specs.Messages.{MessageView, host_name, message_view};
+ghost use Rattle.dcc_dispatch.specs.Settings.{Setting};
+ghost use Rattle.dcc_dispatch.specs.declared.settled.Settled.TheVariants.{Replied};
+ghost use Rattle.dcc_dispatch.specs.declared.verdict.Verdict.{Verdict};
 ghost use Rattle.dcc_lane.specs.Ends.{lane_of_sender, put_of};
 ghost use Rattle.dcc_model.specs.Keys.{request_key};
-ghost use Rattle.dcc_serve.specs.Handing.{AsksSweep, Ends, IsSameReader, Passes, ReadsOut, reading_of, replies, one_more, is_due, since_then};
+ghost use Rattle.dcc_serve.specs.Handing.{AsksSweep, Ends, IfSettled, IsSameReader, IsSettledBy, Passes, ReadsOut, reading_of, replies, one_more, is_due, since_then};
 ghost use Rattle.dcc_serve.specs.Lanes.{all_put, put_into};
 ghost use Rattle.dcc_serve.specs.declared.work.Work.TheVariants as work;
 ghost use Rattle.dcc_shard.specs.Routes.{shard_of};
@@ -16,11 +20,12 @@ use crate::work::{Request, Work};
 use dcc_act::Moment;
 use dcc_base::{Peer, Reply};
 use dcc_connect::{Clock, ConnectionEnd, Handed, Item, Submitter, read_side};
-use dcc_dispatch::{Dispatched, dispatch};
+use dcc_dispatch::{Asked, Dispatched, Settled, dispatch};
 use dcc_lane::Sender;
 use dcc_message::Identity;
 use dcc_octets::OctetString;
-use dcc_running::Job;
+use dcc_records::Records;
+use dcc_running::{Job, Shards};
 use dcc_shard::shard_of;
 use dcc_tariff::Plan;
 use std::alloc::Global;
@@ -74,20 +79,22 @@ impl Sweeps {
 
 /// Who judges a gateway's messages.
 #[derive(Drop)]
-pub(crate) struct Judge<'a, N> {
+pub(crate) struct Judge<'a, R: Records, N> {
     pub alloc: Global,
     pub plan: &'a Plan,
     pub identity: &'a Identity,
+    pub shards: &'a Shards<R>,
     pub notices: &'a N,
     pub reader: &'a mut Reader,
 }
 
-impl<'a, N: Notices> Submitter for Judge<'a, N> {
+impl<'a, R: Records, N: Notices> Submitter for Judge<'a, R, N> {
     ghost use Rattle.std.specs.Prelude.{◌≡◌};
     ghost use Rattle.dcc_serve.specs.Handing.{Hands};
 
-    ghost hands = { λ old moment message handed new. Hands (record { plan = old.plan.now; identity = old.identity.now }) moment message handed
-        old.reader.now new.reader.now × (new.plan ≡ old.plan) × (new.identity ≡ old.identity) × (new.reader.ghost_name ≡ old.reader.ghost_name) };
+    ghost hands = { λ old moment message handed new. Hands (record { plan = old.plan.now; identity = old.identity.now }) old.shards.now.count
+        moment message handed old.reader.now new.reader.now × (new.plan ≡ old.plan) × (new.identity ≡ old.identity) × (new.shards ≡ old.shards)
+        × (new.reader.ghost_name ≡ old.reader.ghost_name) };
 
     fn hand<W: Wait>(&mut self, rt: &W, moment: Moment, message: &[u8]) -> Handed {
         let was_open = self.reader.peer.host().is_some();
@@ -102,13 +109,21 @@ impl<'a, N: Notices> Submitter for Judge<'a, N> {
         if !was_open {
             self.tell_host(rt);
         }
-        let handed = self.reader.pass_on(rt, dispatched);
+        let settled = settle(
+            rt,
+            self.alloc,
+            self.identity,
+            self.shards,
+            &self.reader.peer,
+            dispatched,
+        );
+        let handed = self.reader.pass_on(rt, settled);
         self.reader.sweep(rt, moment);
         handed
     }
 }
 
-impl<'a, N: Notices> Judge<'a, N> {
+impl<'a, R: Records, N: Notices> Judge<'a, R, N> {
     /// Tells the name of the peer's host, where it is open.
     fn tell_host<W: Wait>(&self, rt: &W) {
         if let Some(host) = self.reader.peer.host() {
@@ -118,22 +133,55 @@ impl<'a, N: Notices> Judge<'a, N> {
     }
 }
 
+/// What a message comes to once nobody is sought any more. Who opened the session of a request that names nobody, from the host of the
+/// request's peer, is asked of each shard in turn.
+fn settle<W: Wait, R: Records>(
+    rt: &W,
+    alloc: Global,
+    identity: &Identity,
+    shards: &Shards<R>,
+    peer: &Peer,
+    word: Dispatched,
+) -> Settled
+    requires { IfCharging word (λ header. host_of_peer peer.now ≡ Some (host_name peer.now)) }
+    ensures settled { (setting : Setting) (message : List ℕ) (verdict : MessageView → Verdict) → setting.identity ≡ identity.now
+        → IfSought word (λ sought. IsSought (message_view sought.header message) (verdict (message_view sought.header message)) sought)
+        → IsSettledBy setting shards.now.count (host_name peer.now) message word result }
+    ensures request { (message : List ℕ) (verdict : MessageView → Verdict)
+        → IfAsked word (λ asked. IsAsked (message_view asked.header message) (verdict (message_view asked.header message)) asked)
+        → IfSought word (λ sought. IsSought (message_view sought.header message) (verdict (message_view sought.header message)) sought)
+        → IfSettled result (λ asked. is_some (request_key asked.act.kind) ≡ true) }
+{
+    match word {
+        Dispatched::Replied(reply) => Settled::Replied(reply),
+        Dispatched::Asked(asked) => Settled::Asked(asked),
+        Dispatched::Sought(sought) => {
+            let Some(host) = peer.name() else {
+                unreachable!()
+            };
+            let found = shards.resolve(rt, host, sought.session());
+            sought.settle(alloc, identity, found.one())
+        }
+    }
+}
+
 impl Reader {
     /// Passes on what a message comes to.
-    fn pass_on<W: Wait>(&mut self, rt: &W, word: Dispatched) -> Handed
-        requires { IfAsked word (λ sub act header proxies. is_some (request_key act.kind) ≡ true) }
+    fn pass_on<W: Wait>(&mut self, rt: &W, word: Settled) -> Handed
+        requires { IfSettled word (λ asked. is_some (request_key asked.act.kind) ≡ true) }
         ensures passed { Passes self.old.gate word result (reading_of self.old) (reading_of self.new) }
         ensures peer { self.new.peer ≡ self.old.peer }
         ensures same { IsSameReader self.old self.new }
     {
         match word {
-            Dispatched::Replied(reply) => self.reply(rt, reply),
-            Dispatched::Asked {
-                sub,
-                act,
-                header,
-                proxies,
-            } => {
+            Settled::Replied(reply) => self.reply(rt, reply),
+            Settled::Asked(asked) => {
+                let Asked {
+                    sub,
+                    act,
+                    header,
+                    proxies,
+                } = asked;
                 let job = Job {
                     sub,
                     act,
@@ -210,17 +258,18 @@ fn put_reply<W: Wait>(rt: &W, writer: &mut Sender<Item>, octets: OctetString)
 }
 
 /// Reads a gateway's messages and hands each on, until it ends, and says so.
-pub(crate) fn read_gate<W: Wait, I: Read, C: Clock + Copy, N: Notices>(
+pub(crate) fn read_gate<W: Wait, R: Records, I: Read, C: Clock + Copy, N: Notices>(
     rt: &W,
     alloc: Global,
     plan: &Plan,
     identity: &Identity,
+    shards: &Shards<R>,
     clock: &C,
     notices: &N,
     input: &mut I,
     reader: &mut Reader,
 ) -> ConnectionEnd
-    ensures { ReadsOut C.tells clock.now (record { plan = plan.now; identity = identity.now }) result (I.remaining input.old) (I.remaining input.new)
+    ensures { ReadsOut C.tells clock.now (record { plan = plan.now; identity = identity.now }) shards.now.count result (I.remaining input.old) (I.remaining input.new)
         reader.old reader.new }
 {
     let gate = reader.gate.saturating_add(1);
@@ -228,6 +277,7 @@ pub(crate) fn read_gate<W: Wait, I: Read, C: Clock + Copy, N: Notices>(
         alloc,
         plan,
         identity,
+        shards,
         notices,
         reader,
     };

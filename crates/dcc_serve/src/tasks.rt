@@ -65,6 +65,7 @@ impl<I: Read, O: Shut> Task<I, O> {
                     shared.alloc,
                     shared.plan,
                     shared.identity,
+                    shared.shards,
                     shared.clock,
                     shared.notices,
                     input,

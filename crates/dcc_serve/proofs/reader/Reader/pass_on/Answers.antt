@@ -9,5 +9,5 @@ use Rattle.dcc_serve.proofs.reader.Reader.pass_on.Goals as goal
 pub returns-in-Asked-clause-passed : goal.returns-in-Asked-clause-passed
 returns-in-Asked-clause-passed g c =
     subst (λ word. Passes c.args.self.now.gate word Stays (reading_of c.args.self.now) (reading_of c.ask.new.self)) (sym c.in-Asked.is)
-    (passed_as c.args.self.now.gate _ (reading_of c.args.self.now) (reading_of c.ask.new.self) c.in-Asked.sub c.in-Asked.act c.in-Asked.header c.in-Asked.proxies _
+    (passed_as c.args.self.now.gate _ (reading_of c.args.self.now) (reading_of c.ask.new.self) c.in-Asked.asked _
     refl refl (length-map c.args.self.now.workers.items put_of) c.ask.ensures.asked (ap put_of c.ask.ensures.writer) c.ask.ensures.requests c.ask.ensures.sweeps)

@@ -1,4 +1,5 @@
-use Rattle.std.proofs.Common.{refl, sym, subst, arith}
+use Rattle.std.proofs.Common.{ℕ, refl, sym, subst, arith}
+use Rattle.dcc_serve.specs.Handing.{ReadsOut}
 use Rattle.dcc_serve.specs.Tasks.{Runs}
 use Rattle.dcc_serve.specs.declared.tasks.Task.{Task}
 use Rattle.dcc_serve.specs.declared.tasks.Task.TheVariants as task
@@ -10,7 +11,16 @@ returns-in-Read g c =
     subst
     (λ (old : Task g.row.I.Denot g.row.O.Denot). Runs g.I.Read.remaining g.O.Write.contents g.C.Clock.tells shared.clock.now
     (record { plan = shared.plan.now; identity = shared.identity.now }) shared.count old (task.Read c.read_gate-end.new.input c.read_gate-end.new.reader))
-    (sym c.in-Read.is) (c.read_gate-end.result, c.read_gate-end.new.input, c.read_gate-end.new.reader, refl, c.read_gate-end.ensures)
+    (sym c.in-Read.is) (
+      c.read_gate-end.result,
+      c.read_gate-end.new.input,
+      c.read_gate-end.new.reader,
+      refl,
+      subst
+          (λ (count : ℕ). ReadsOut g.C.Clock.tells shared.clock.now (record { plan = shared.plan.now; identity = shared.identity.now }) count c.read_gate-end.result
+          (g.I.Read.remaining c.in-Read.input) (g.I.Read.remaining c.read_gate-end.new.input) c.in-Read.reader c.read_gate-end.new.reader)
+          (sym shared.counted) c.read_gate-end.ensures,
+    )
 
 pub returns-in-Write : goal.returns-in-Write
 returns-in-Write g c =
