@@ -73,16 +73,16 @@ module _ (shard shards : ℤ) (host realm : List ℕ) (validity hold currency ex
   setting_params = Int shard ∷ Int shards ∷ Text host ∷ Text realm ∷ Int validity ∷ Int hold ∷ Int currency ∷ Int exponent ∷ []
 
   abbrev stored_setting : Row
-  stored_setting = Int (pos 1) ∷ Null ∷ Int (pos 1) ∷ setting_params
+  stored_setting = Int (pos 1) ∷ Null ∷ Int (pos 2) ∷ setting_params
 
   -- the tables of a store, with no acts, entries and accounts, and this row of the setting
   abbrev pub HasSetting : Trees → Type 0
-  HasSetting db = AreEmpty db × (setting_rows db ≡ (Int (pos 1) ∷ Int (pos 1) ∷ setting_params) ∷ []) × IsStore db
+  HasSetting db = AreEmpty db × (setting_rows db ≡ (Int (pos 1) ∷ Int (pos 2) ∷ setting_params) ∷ []) × IsStore db
 
   setting_news : (db : Trees) (given : List Row) → given ≡ stored_setting ∷ [] → (edit_of db setting_here [] Chosen 0 given).news ≡ stored_setting ∷ []
   setting_news db given is =
       ap (λ (all : List Row). (edit_of db setting_here [] Chosen 0 all).news) is
-      ∙ rw (cast_null, cast_int (pos 1), cast_int shard, cast_int shards, cast_int validity, cast_int hold, cast_int currency, cast_int exponent) refl
+      ∙ rw (cast_null, cast_int (pos 1), cast_int (pos 2), cast_int shard, cast_int shards, cast_int validity, cast_int hold, cast_int currency, cast_int exponent) refl
 
   setting_put : (db next : Trees) (given : List Row) → given ≡ stored_setting ∷ [] → Applies layout Enforced db (edit_of db setting_here [] Chosen 0 given) next → NoRows db → IsStore next → HasSetting next
   setting_put db next given is applied none store =

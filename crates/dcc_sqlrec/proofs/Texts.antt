@@ -57,10 +57,10 @@ account_plain = (refl, refl)
 -- ---- what is written
 
 abbrev pub new_setting : List ℕ
-new_setting = codes "INSERT INTO setting VALUES (1, 1, ?1, ?2, ?3, ?4, ?5, ?6, ?7, ?8)"
+new_setting = codes "INSERT INTO setting VALUES (1, 2, ?1, ?2, ?3, ?4, ?5, ?6, ?7, ?8)"
 
 abbrev pub setting_terms : List Term
-setting_terms = lit (Int (pos 1)) ∷ lit Null ∷ lit (Int (pos 1)) ∷ col 0 0 ∷ col 0 1 ∷ col 0 2 ∷ col 0 3 ∷ col 0 4 ∷ col 0 5 ∷ col 0 6 ∷ col 0 7 ∷ []
+setting_terms = lit (Int (pos 1)) ∷ lit Null ∷ lit (Int (pos 2)) ∷ col 0 0 ∷ col 0 1 ∷ col 0 2 ∷ col 0 3 ∷ col 0 4 ∷ col 0 5 ∷ col 0 6 ∷ col 0 7 ∷ []
 
 pub new_setting_is : command_of (understood layout new_setting) ≡ Insert 0 (Values setting_terms 11)
 unfolding understood everything

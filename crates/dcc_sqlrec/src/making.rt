@@ -159,7 +159,7 @@ fn make_account<S: Alter>(tx: &mut Transaction<'_, S>) -> Result<(), Error>
     Ok(())
 }
 
-/// The row of the setting is written: layout 1.
+/// The row of the setting is written: layout 2.
 fn add_setting<S: Alter>(tx: &mut Transaction<'_, S>, setting: &Setting<'_>) -> Result<(), Error>
     ensures same_reference { tx.new.conn.ghost_name ≡ tx.old.conn.ghost_name }
     ensures made { HasCleanDisk (state S.Store tx.new.conn.now) → IsTrue (state S.Store tx.old.conn.now).in_transaction
@@ -174,7 +174,7 @@ fn add_setting<S: Alter>(tx: &mut Transaction<'_, S>, setting: &Setting<'_>) -> 
 {
     let terms = &setting.terms;
     tx.execute(
-        "INSERT INTO setting VALUES (1, 1, ?1, ?2, ?3, ?4, ?5, ?6, ?7, ?8)",
+        "INSERT INTO setting VALUES (1, 2, ?1, ?2, ?3, ?4, ?5, ?6, ?7, ?8)",
         params![
             setting.shard,
             setting.shards,

@@ -44,12 +44,12 @@ fn is_setting_row(row: &Row, setting: &Setting<'_>) -> bool
 
 /// Whether a row begins with the one row's number, the layout's, and the shard and the names of the server.
 fn is_of_server(row: &Row, setting: &Setting<'_>) -> bool
-    ensures { result ≡ true ↔ (column row.now 0 ≡ Int (pos 1)) × (column row.now 1 ≡ Int (pos 1))
+    ensures { result ≡ true ↔ (column row.now 0 ≡ Int (pos 1)) × (column row.now 1 ≡ Int (pos 2))
         × (column row.now 2 ≡ Int (pos setting.now.shard)) × (column row.now 3 ≡ Int (pos setting.now.shards))
         × (column row.now 4 ≡ Text setting.now.host.now) × (column row.now 5 ≡ Text setting.now.realm.now) }
 {
     has_count(row, 0, 1)
-        && has_count(row, 1, 1)
+        && has_count(row, 1, 2)
         && has_count(row, 2, u64::from(setting.shard))
         && has_count(row, 3, u64::from(setting.shards))
         && has_text(row, 4, setting.host)

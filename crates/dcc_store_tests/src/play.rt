@@ -94,7 +94,7 @@ fn answered<R: Records>(
 ) -> Result<RequestAnswer, Fail> {
     if !matches!(
         act.kind,
-        Kind::Initial(_) | Kind::Update(_) | Kind::Termination(_)
+        Kind::Initial { .. } | Kind::Update(_) | Kind::Termination(_)
     ) {
         return Err("a request".into());
     }

@@ -6,8 +6,10 @@ ghost use Rattle.dcc_act.specs.declared.limits.TheConstants.{MAX_SECONDS};
 ghost use Rattle.dcc_tariff.specs.declared.limits.TheConstants.{MAX_UNITS};
 
 use dcc_act::{
-    Form, Kind, MAX_SECONDS, RequestKey, Service, ServiceIds, Services, SessionId, SessionRequest,
+    Form, Kind, MAX_SECONDS, RequestKey, Service, ServiceIds, Services, SessionId, SessionLimit,
+    SessionRequest,
 };
+use dcc_octets::{Host, OctetString};
 use dcc_tariff::{MAX_UNITS, Tariff, UnitKind};
 use std::alloc::Global;
 use std::test::Fail;
@@ -189,12 +191,22 @@ fn request(
     })
 }
 
+/// An initial request by way of a gateway.
+fn opening(alloc: Global, request: SessionRequest) -> Result<Kind, Fail> {
+    let name = OctetString::from_vec(b"gateway.example".to_vec(alloc)?);
+    Ok(Kind::Initial {
+        request,
+        limit: SessionLimit::Few,
+        host: Some(Host::from_octets(name).ok_or("a host")?),
+    })
+}
+
 /// What happens by a request in short.
 pub(crate) fn kind(alloc: Global, ask: Ask) -> Result<Kind, Fail> {
     Ok(match ask {
         Ask::TopUp(_) => return Err("a top-up is no request".into()),
         Ask::Initial(session, number, wants) => {
-            Kind::Initial(request(alloc, session, number, wants)?)
+            opening(alloc, request(alloc, session, number, wants)?)?
         }
         Ask::Update(session, number, wants) => {
             Kind::Update(request(alloc, session, number, wants)?)
