@@ -14,7 +14,7 @@ use crate::acts::{TERMS, key, moment};
 use dcc_account::{Account, Step};
 use dcc_act::{
     Act, Action, Answer, Entry, Form, Kind, MAX_SECONDS, OneTimeEvent, Outcome, Service,
-    ServiceAnswer, ServiceIds, Services, SessionRequest, TopUp,
+    ServiceAnswer, ServiceIds, Services, SessionLimit, SessionRequest, TopUp,
 };
 use dcc_model::{Done, Judgement, Standing, judge, plain_answer};
 use dcc_tariff::{MAX_UNITS, Tariff, UnitKind};
@@ -52,6 +52,8 @@ enum Ask {
     /// Ticket and amount.
     TopUp(u64, u64),
     Initial(u8, u32, &'static [Want]),
+    /// An initial request that is judged by the greater limit of sessions.
+    InitialOfMany(u8),
     Update(u8, u32, &'static [Want]),
     Termination(u8, u32, &'static [Want]),
     /// Action, number, and the service that asks.
@@ -200,12 +202,24 @@ fn event(alloc: Global, action: Action, number: u32, want: Want) -> Result<OneTi
     })
 }
 
+/// An initial request from a host that isn't known.
+fn opening(request: SessionRequest, limit: SessionLimit) -> Kind {
+    Kind::Initial {
+        request,
+        limit,
+        host: None,
+    }
+}
+
 /// What happens by an act in short.
 fn kind(alloc: Global, ask: Ask) -> Result<Kind, Fail> {
     Ok(match ask {
         Ask::TopUp(ticket, amount) => Kind::TopUp(TopUp::new(ticket, amount).ok_or("an amount")?),
         Ask::Initial(session, number, wants) => {
-            Kind::Initial(request(alloc, session, number, wants)?)
+            opening(request(alloc, session, number, wants)?, SessionLimit::Few)
+        }
+        Ask::InitialOfMany(session) => {
+            opening(request(alloc, session, 0, &[])?, SessionLimit::Many)
         }
         Ask::Update(session, number, wants) => {
             Kind::Update(request(alloc, session, number, wants)?)
@@ -481,14 +495,19 @@ fn open_65(rt: &impl Abort, alloc: Global, book: &mut Book) -> Result<(), Fail> 
     book.check(rt, alloc, 64, &BEYOND)
 }
 
-/// One session more than may be open, and again when one has ended.
-const BEYOND: [Line; 3] = [
+/// One session more than may be open, and again when one has ended; and one more by the greater limit, whose acts leave the
+/// lesser limit to others.
+const BEYOND: [Line; 7] = [
     (0, Ask::Initial(64, 0, &[]), &[(5006, 0)]),
     (0, Ask::Termination(7, 1, &[]), OK),
     (0, Ask::Initial(65, 0, &[]), OK),
+    (0, Ask::InitialOfMany(66), OK),
+    (0, Ask::Termination(8, 1, &[]), OK),
+    (0, Ask::Initial(67, 0, &[]), &[(5006, 0)]),
+    (0, Ask::Initial(64, 0, &[]), &[(5006, 0)]),
 ];
 
-/// A subscriber has at most 64 sessions open.
+/// A subscriber has at most 64 sessions open, or more by acts of the greater limit; a refusal stays a refusal.
 #[test]
 fn open_sessions(rt: HostRuntime) -> Result<(), Fail> {
     let mut book = Book::new(rt.alloc(), RandomState::new(&rt)?);

@@ -41,7 +41,7 @@ fn push_numbers(
     shard: usize,
 ) -> Result<(), AllocError> {
     let terms = plan.terms();
-    push_number(words, row, 0, "layout", 1)?;
+    push_number(words, row, 0, "layout", 2)?;
     push_number(
         words,
         row,

@@ -4,11 +4,11 @@ use crate::messages::decoded;
 use crate::peers::{Sink, Source, Stopped};
 use crate::rows::{self, Row};
 use crate::server::{Server, after, top_up_each};
-use dcc_act::Moment;
+use dcc_act::{Kind, Moment};
 use dcc_base::{Peer, Reply};
 use dcc_callers::{in_memory, shard_over};
 use dcc_connect::{Answerer, ConnectFault, ConnectionEnd, serve_connection};
-use dcc_dispatch::{Dispatched, dispatch};
+use dcc_dispatch::{Asked, Dispatched, Settled, dispatch};
 use dcc_message::HeaderFault;
 use dcc_octets::OctetString;
 use dcc_records::Records;
@@ -48,16 +48,35 @@ impl<R: Records> Answerer for Node<'_, R> {
         );
         match word {
             Dispatched::Replied(reply) => reply,
-            Dispatched::Asked {
-                sub,
-                act,
-                header,
-                proxies,
-            } => {
-                let answer = self.shard.step(self.alloc, sub, act, &header, &proxies);
-                staying(self.alloc, answer)
+            Dispatched::Asked(asked) => self.ask(asked),
+            Dispatched::Sought(sought) => {
+                let found = match self.peer.name() {
+                    Some(host) => self.shard.find(host, sought.session()).one(),
+                    None => None,
+                };
+                match sought.settle(self.alloc, self.server.identity, found) {
+                    Settled::Replied(reply) => reply,
+                    Settled::Asked(asked) => self.ask(asked),
+                }
             }
         }
+    }
+}
+
+impl<R: Records> Node<'_, R> {
+    /// The answer of the shard.
+    fn ask(&mut self, asked: Asked) -> Reply {
+        if matches!(asked.act.kind, Kind::TopUp(_) | Kind::Expiry) {
+            return staying(self.alloc, RequestAnswer::Silent);
+        }
+        let Asked {
+            sub,
+            act,
+            header,
+            proxies,
+        } = asked;
+        let answer = self.shard.step(self.alloc, sub, act, &header, &proxies);
+        staying(self.alloc, answer)
     }
 }
 

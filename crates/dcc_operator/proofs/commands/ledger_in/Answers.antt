@@ -5,20 +5,20 @@ use Rattle.dcc_operator.specs.declared.fault.OperatorFault.TheVariants.{Memory, 
 use Rattle.dcc_operator.specs.Commands.{IsOpenedFor}
 use Rattle.dcc_operator.specs.Ledgers.{page_of}
 use Rattle.dcc_operator.specs.Texts.{IsBegun}
-use Rattle.dcc_operator.proofs.Begun.{weaker}
+use Rattle.dcc_operator.proofs.Begun.{weaker, handed_on}
 use Rattle.dcc_operator.proofs.Opened.{of_found, opened_for, moved, no_store, same_number}
 use Rattle.dcc_operator.proofs.commands.ledger_in.Goals as goal
 
 pub returns-in_err-ledger_run-clause-part : goal.returns-in_err-ledger_run-clause-part
 returns-in_err-ledger_run-clause-part g c =
+    let said =
+    handed_on (λ fault. fault ≡ Output → IsBegun (page_of c.in_ok-shard.shard.shard.terms c.args.sub (held c.in_ok-shard.shard.shard c.args.sub)) (g.W.Write.contents c.args.output.now) (g.W.Write.contents c.ledger_run.new.output))
+    c.from_residual-in_err-ledger_run.result c.in_err-ledger_run.field-0.0 c.from_residual-in_err-ledger_run.ensures.1 c.in_err-ledger_run.ensures.part in
     let shard = c.in_ok-shard.shard.shard in
     let opened : IsOpenedFor c.args.plan.now c.args.identity.now c.args.sub shard = opened_for c.args.plan.now c.args.identity.now c.args.sub shard
     c.from-count.result c.shard_of-index.result
     (c.in_ok-shard.ensures.terms ∙ of_found _ _ _ c.in-Some.is c.in_ok-records.ensures.terms) c.in_ok-shard.ensures.identity c.in_ok-shard.ensures.own
     (c.from-count.ensures ∙ c.shards.ensures.value) c.shard_of-index.ensures.value c.in_ok-shard.ensures.placed in
-    let said : IfErr c.from_residual-in_err-ledger_run.result (λ fault. fault ≡ Output
-    → IsBegun (page_of shard.terms c.args.sub (held shard c.args.sub)) (g.W.Write.contents c.args.output.now) (g.W.Write.contents c.ledger_run.new.output)) =
-    search rules in
     weaker c.from_residual-in_err-ledger_run.result (λ fault part output. (Some shard, opened, part output)) said
 
 pub returns-clause-done : goal.returns-clause-done
