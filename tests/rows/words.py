@@ -74,9 +74,11 @@ NAMES = {
     "debit": "Requested-Action=0", "refund": "Requested-Action=1", "check": "Requested-Action=2", "enquiry": "Requested-Action=3",
     "sub": "Subscription-Id{Subscription-Id-Type=0+Subscription-Id-Data='491700000001'}",
     "other": "Subscription-Id{Subscription-Id-Type=0+Subscription-Id-Data='491700000003'}",
+    "third": "Subscription-Id{Subscription-Id-Type=0+Subscription-Id-Data='491700000002'}",
+    "nobody": "Failed-AVP{Subscription-Id}",
     "final": "Final-Unit-Indication{Final-Unit-Action=0}",
     "valid": "Validity-Time=600",
-    "sixteen": "+".join(f"Multiple-Services-Credit-Control{{Rating-Group={group}}}" for group in range(1, 17)),
+    "thirtytwo": "+".join(f"Multiple-Services-Credit-Control{{Rating-Group={group}}}" for group in range(1, 33)),
 }
 SERVICE = re.compile(r"(?P<group>\d+|x)?(?:n(?P<ids>[\d,]+))?(?:u(?P<used>\d+))?(?:a(?P<asked>\d+))?")
 TOLD = re.compile(r"(?P<group>\d+|x)?(?:n(?P<ids>[\d,]+))?(?P<what>[gfr])(?P<amount>\d+)")

@@ -13,17 +13,14 @@ SUCCESS, CREDIT_LIMIT_REACHED, UNKNOWN_SESSION, RESOURCES_EXCEEDED = 2001, 4012,
 UNABLE_TO_COMPLY, USER_UNKNOWN, RATING_FAILED = 5012, 5030, 5031
 DIRECT_DEBITING, REFUND, CHECK_BALANCE, PRICE_ENQUIRY = range(4)
 MOST_FUNDS = 10**18
-MOST_SESSIONS = 64
+MOST_SESSIONS = 1024
 
 
 class Grant(NamedTuple):
-    """Units that were granted, and the tariff at which they are reserved."""
+    """What is reserved for the units that were granted, and at which tariff."""
 
-    units: int
+    price: int
     tariff: Tariff
-
-    def price(self):
-        return self.tariff.price_of(self.units)
 
 
 class ServiceOutcome(NamedTuple):
@@ -55,7 +52,7 @@ class Account:
 
     def free(self):
         """What no live grant has reserved."""
-        return self.funds - sum(grant.price() for session in self.open.values() for grant in session.live.values())
+        return self.funds - sum(grant.price for session in self.open.values() for grant in session.live.values())
 
     def top_up(self, ticket, amount):
         """Whether the amount was added, now or when its ticket came first."""
@@ -130,7 +127,7 @@ class Account:
         units = service.tariff.most_units(service.requested, self.free())
         if units == 0:
             return ServiceOutcome(service, CREDIT_LIMIT_REACHED)
-        session.live[service.key()] = Grant(units, service.tariff)
+        session.live[service.key()] = Grant(service.tariff.price_of(units), service.tariff)
         return ServiceOutcome(service, SUCCESS, units, units < service.requested)
 
     def event(self, action, service):

@@ -1,4 +1,6 @@
-"""Scripts of hostile input: messages cut and falsified at each place, messages as great as they may be, groups in groups, and money at its bounds."""
+"""Scripts of hostile input: messages cut and falsified at each place, messages as great as they may be, groups in groups, requests that name
+nobody, and money at its bounds.
+"""
 
 from functools import partial
 from itertools import combinations, permutations
@@ -32,7 +34,6 @@ tariff = [
 UNIT_OF = {10: "octets", 20: "time", 30: "units", 40: "octets", 50: "time", 60: "units"}
 NOW = 1_748_736_000
 SUBSCRIBER = 0, b"491700000001"
-INITIAL = 1
 MOST_BODY = MOST_OCTETS - HEADER_OCTETS
 
 
@@ -69,8 +70,8 @@ class Hostile(Writer):
     def event(self, action, *rest):
         self.put(event(SUBSCRIBER, b"event", self.fresh(), action, *rest))
 
-    def session(self, name, kind, *rest):
-        self.put(credit_control(SUBSCRIBER, name, self.fresh(), kind, *rest))
+    def session(self, name, kind, *rest, subscriber=SUBSCRIBER, peer=1):
+        self.put(credit_control(subscriber, name, self.fresh(), kind, *rest), peer)
 
     def look_at_free(self):
         """What is free, by peer 1, which a message may have closed."""
@@ -109,6 +110,12 @@ def update(writer):
     return credit_control(SUBSCRIBER, b"s", writer.fresh(), UPDATE, *services)
 
 
+def nameless(writer):
+    message = update(writer)
+    message.trees = [tree for tree in message.trees if tree.code != SUBSCRIPTION_ID]
+    return message
+
+
 def exchange(_writer):
     vendors = group(VENDOR_SPECIFIC_APPLICATION_ID, number(VENDOR_ID, 10415), number(AUTH_APPLICATION_ID, 4))
     return capabilities(vendors, number(INBAND_SECURITY_ID, 0))
@@ -138,7 +145,7 @@ def plain_exchange(_writer):
 
 
 EXCHANGES = exchange, plain_exchange
-WHOLE = {"debit": debit, "refund": refund, "update": update, "exchange": exchange}
+WHOLE = {"debit": debit, "refund": refund, "update": update, "nameless": nameless, "exchange": exchange}
 WHOLE |= {"plain debit": plain_debit, "final grant": final_grant, "plain exchange": plain_exchange}
 
 
@@ -312,9 +319,9 @@ def great():
 
 
 def many_identifiers():
-    """As many Service-Identifiers as fit, of one service and of sixteen."""
+    """As many Service-Identifiers as fit, of one service and of thirty-two."""
     writer = Hostile()
-    for kind, count in [(EVENT, 1), (INITIAL, 1), (INITIAL, 16), (INITIAL, 17)]:
+    for kind, count in [(EVENT, 1), (INITIAL, 1), (INITIAL, 32), (INITIAL, 33)]:
         action = [number(REQUESTED_ACTION, PRICE_ENQUIRY)] if kind == EVENT else []
         groups = [group(SERVICES, number(SERVICE_IDENTIFIER, it), units_of(REQUESTED, "octets", 1)) for it in range(count)]
         message = credit_control(SUBSCRIBER, b"s%d" % writer.fresh(), 1, kind, *action, *groups)
@@ -349,11 +356,11 @@ def deep():
 
 
 def many_services():
-    """Up to seventeen services, with keys of their own or not, and beside units of the message's level."""
+    """Up to thirty-three services, and many more, with keys of their own or not, and beside units of the message's level."""
     writer = Hostile()
-    for count in [15, 16, 17, 18, 100]:
+    for count in [16, 17, 31, 32, 33, 34, 100]:
         keys = [service(10, number(SERVICE_IDENTIFIER, it), units_of(REQUESTED, "octets", 1)) for it in range(count)]
-        alike = [service(10, number(SERVICE_IDENTIFIER, it % 14), units_of(REQUESTED, "octets", 1)) for it in range(count)]
+        alike = [service(10, number(SERVICE_IDENTIFIER, it % 15), units_of(REQUESTED, "octets", 1)) for it in range(count)]
         for services in [keys, alike]:
             for kind in [INITIAL, UPDATE, TERMINATION]:
                 writer.session(b"s%d" % count, kind, *services)
@@ -369,6 +376,161 @@ def many_services():
 def of_key(rating_group, identifier):
     trees = [number(RATING_GROUP, rating_group)] if rating_group else []
     return group(SERVICES, *trees, *([number(SERVICE_IDENTIFIER, identifier)] if identifier else []))
+
+
+# Requests that name nobody.
+
+
+OTHER = 4, b"other"
+
+
+def seek(writer, name, peers=(1, 2, 3)):
+    """Requests of a session that name nobody, of each type, by each of these peers."""
+    for kind in [UPDATE, INITIAL, EVENT, TERMINATION, UPDATE]:
+        for peer in peers:
+            writer.session(name, kind, *([number(REQUESTED_ACTION, CHECK_BALANCE)] if kind == EVENT else []), subscriber=None, peer=peer)
+
+
+def openers():
+    """Sessions that nobody opened, or one, or several, from one host or from two, in each way in which a session may be opened or not."""
+    writer = Hostile()
+    writer.say(f"topup {NOW} 4:other 1 10")
+    writer.say("open 3 gw1.example")
+    # By whom, and by which peer, a session is to be opened.
+    opened = {
+        b"none": [],
+        b"one": [(SUBSCRIBER, 1)],
+        b"both": [(SUBSCRIBER, 1), (OTHER, 1)],
+        b"apart": [(SUBSCRIBER, 1), (OTHER, 2)],
+        b"beside": [(SUBSCRIBER, 1), (OTHER, 3)],
+        b"twice": [(SUBSCRIBER, 1), (SUBSCRIBER, 2)],
+        b"unknown": [((0, b"nobody"), 1)],
+    }
+    for name, pairs in opened.items():
+        for subscriber, peer in pairs:
+            writer.session(name, INITIAL, asks(60, 1), subscriber=subscriber, peer=peer)
+        seek(writer, name)
+    # What opens no session: a service in single form that is refused, a request that is refused for its content, an event, an update.
+    wanted = {
+        b"dear": (INITIAL, [units_of(REQUESTED, "octets", 10**6)]),
+        b"wrong": (INITIAL, [units_of(REQUESTED, "octets", MOST_UNITS + 1)]),
+        b"event": (EVENT, [number(REQUESTED_ACTION, DIRECT_DEBITING)]),
+        b"later": (UPDATE, []),
+    }
+    for name, (kind, rest) in wanted.items():
+        writer.session(name, kind, *rest, subscriber=OTHER)
+        seek(writer, name)
+        # From another host it is then opened, by one of the two or by both.
+        for subscriber in [OTHER, SUBSCRIBER]:
+            writer.session(name, INITIAL, subscriber=subscriber, peer=2)
+            seek(writer, name)
+    # A repeat of what opened a session opens nothing, from wherever it comes, and a session that was swept is found.
+    for peer in [1, 2, 3]:
+        writer.put(credit_control(SUBSCRIBER, b"again", 1, INITIAL, asks(60, 1)), peer)
+        writer.put(credit_control(None, b"again", 1, UPDATE), peer)
+    writer.say(f"sweep {NOW + 1200}")
+    seek(writer, b"again")
+    writer.look_at_free()
+    return writer
+
+
+def repeats():
+    """A request that names nobody and one of its key that names its subscriber are repeats of one another."""
+    writer = Hostile()
+    writer.session(b"s", INITIAL, asks(60, 10))
+    for kind in [UPDATE, TERMINATION]:
+        for named in [None, SUBSCRIBER]:
+            key = writer.fresh()
+            for subscriber in [named, SUBSCRIBER, None, OTHER]:
+                for peer in [1, 2]:
+                    writer.put(credit_control(subscriber, b"s", key, kind, service(60, units_of(USED, "units", 3))), peer)
+            writer.look_at_free()
+    return writer
+
+
+def hosts():
+    """Hosts and sessions that are alike, and peers whose host becomes another."""
+    writer = Hostile()
+    names = ["a", "ab", "A", "a\0", "a.", "b", "\x7f", "\xff", "a" * 254, "a" * 255]
+    sessions = [b"c", b"bc", b"C", b"c\0", b"\0c", b"c" * 254, b"c" * 255]
+    for it, name in enumerate(names):
+        subscriber = 3, b"%d" % it
+        writer.say(f"topup {NOW} 3:{it} 1 100")
+        writer.say(f"open {it + 10} {name}")
+        # Each opens another of the sessions, and the next one.
+        for session in [sessions[it % len(sessions)], sessions[(it + 1) % len(sessions)]]:
+            writer.session(session, INITIAL, asks(60, 1), subscriber=subscriber, peer=it + 10)
+    for it in range(len(names)):
+        for session in sessions:
+            writer.session(session, UPDATE, subscriber=None, peer=it + 10)
+    writer.session(b"s", INITIAL, subscriber=SUBSCRIBER)
+    # Exchanges that are accepted give peer 3 another host, those that are refused close it, and so does a disconnection.
+    for host in [b"gw2.example", b"gw1.example", b"GW1.example", b"gw1.example\0", b"gw1.example", b"", b"gw1.example", b"g" * 256, b"gw1.example"]:
+        for application in [4, 3, 4]:
+            if writer.judge.peers.get(3) != "open":
+                writer.say("connect 3")
+            message = capabilities(number(AUTH_APPLICATION_ID, application))
+            message.trees[0].data = host
+            writer.put(message, 3)
+            writer.session(b"s", UPDATE, subscriber=None, peer=3)
+    for way in ["disconnect 3", "connect 3", "open 3 gw2.example", "open 3 gw1.example"]:
+        writer.say(way)
+        writer.session(b"s", UPDATE, subscriber=None, peer=3)
+    writer.put(base_request(DISCONNECT, number(DISCONNECT_CAUSE, 0)), 3)
+    writer.session(b"s", UPDATE, subscriber=None, peer=3)
+    # The Origin-Host of a request, or of a watchdog, is not that of its peer.
+    for peer in [1, 2]:
+        for host in [b"gw1.example", b"gw2.example"]:
+            for message in [base_request(WATCHDOG), credit_control(None, b"s", writer.fresh(), UPDATE)]:
+                next(tree for tree in message.trees if tree.code == ORIGIN_HOST).data = host
+                writer.put(message, peer)
+    return writer
+
+
+def nobody():
+    """Requests that name nobody and have another fault, whose session was opened by one subscriber, by two, or by none."""
+    writer = Hostile()
+    writer.say(f"topup {NOW} 4:other 1 10")
+    for name, subscribers in [(b"one", [SUBSCRIBER]), (b"two", [SUBSCRIBER, OTHER])]:
+        for subscriber in subscribers:
+            writer.session(name, INITIAL, asks(60, 1), subscriber=subscriber)
+    for name in [b"none", b"one", b"two"]:
+        for kind in [UPDATE, TERMINATION]:
+            for fault in FAULTS:
+                message = credit_control(None, name, writer.fresh(), kind)
+                message.trees = [tree for tree in message.trees if tree.code != fault.code] + [fault.copy(), Tree(PROXY_INFO, b"p")]
+                writer.put(message)
+                # A second fault of the one kind, in front.
+                message.trees.insert(0, fault.copy())
+                writer.put(message)
+    writer.look_at_free()
+    return writer
+
+
+FAULTS = [
+    *(Tree(SUBSCRIPTION_ID, b"", flags) for flags in [0, MANDATORY, 0xFF]),
+    Tree(SUBSCRIPTION_ID, number(SUBSCRIPTION_TYPE, 0).octets(), VENDOR, 10415),
+    group(SUBSCRIPTION_ID, Tree(SUBSCRIPTION_DATA, b"other")),
+    group(SUBSCRIPTION_ID, number(SUBSCRIPTION_TYPE, 4)),
+    group(SUBSCRIPTION_ID, number(SUBSCRIPTION_TYPE, 5), Tree(SUBSCRIPTION_DATA, b"other")),
+    group(SUBSCRIPTION_ID, number(SUBSCRIPTION_TYPE, 4), Tree(SUBSCRIPTION_DATA, b"")),
+    Tree(SUBSCRIPTION_DATA, b"other"),
+    Tree(999, b"", MANDATORY),
+    Tree(SESSION_ID, b""),
+    Tree(SESSION_ID, b"x" * 256),
+    number(AUTH_APPLICATION_ID, 3),
+    *(number(REQUEST_TYPE, kind) for kind in [0, INITIAL, UPDATE, TERMINATION, EVENT, 5, 2**32 - 1]),
+    *(Tree(REQUEST_TYPE, data) for data in [b"", b"\2", b"\0\0\0", b"\0\0\0\2\0"]),
+    Tree(REQUEST_NUMBER, b"\1"),
+    number(REQUESTED_ACTION, 9),
+    Tree(SERVICE_IDENTIFIER, b"\1"),
+    group(REQUESTED, long(TOTAL_OCTETS, MOST_UNITS + 1)),
+    group(USED, Tree(TIME, b"")),
+    group(SERVICES, Tree(RATING_GROUP, b"")),
+    group(SERVICES),
+    Tree(SERVICES, b"\0"),
+    Tree(SERVICE_CONTEXT_ID, b"", length=7),
+]
 
 
 # Amounts and money at their bounds.
@@ -438,7 +600,7 @@ def ceiling():
 def floor():
     """Funds at the least amount: reports that just fit and that don't, of one service and of many."""
     writer = Hostile(1)
-    identified = [service(40, number(SERVICE_IDENTIFIER, it), units_of(USED, "octets", 10**12)) for it in range(16)]
+    identified = [service(40, number(SERVICE_IDENTIFIER, it), units_of(USED, "octets", 10**12)) for it in range(32)]
     writer.session(b"s", INITIAL, asks(40, 1))
     writer.session(b"t", INITIAL)
     writer.session(b"s", UPDATE, *identified)
@@ -479,30 +641,33 @@ def floor():
 
 
 def crowd():
-    """Sixty-four sessions over their limits at once, and more than may be open."""
+    """A thousand and twenty-four sessions over their limits at once, and more than may be open."""
     writer = Hostile(10**6)
-    for it in range(66):
+    for it in range(1026):
         writer.session(b"s%d" % it, INITIAL, asks(60, 10))
+    # How many another subscriber has open has nothing to do with it.
+    writer.say(f"topup {NOW} 4:other 1 10")
+    writer.session(b"s0", INITIAL, subscriber=(4, b"other"))
     writer.session(b"s5", TERMINATION, reports(60, 20_000))
-    writer.session(b"s66", INITIAL, asks(60, 10))
-    writer.session(b"s67", INITIAL, asks(60, 10))
-    for it in range(68):
-        writer.session(b"s%d" % it, UPDATE, service(60, units_of(USED, "units", 20_000), units_of(REQUESTED, "units", 10)))
+    writer.session(b"s1026", INITIAL, asks(60, 10))
+    writer.session(b"s1027", INITIAL, asks(60, 10))
+    for it in range(1028):
+        writer.session(b"s%d" % it, UPDATE, service(60, units_of(USED, "units", 2000), units_of(REQUESTED, "units", 10)))
     writer.say(f"sweep {NOW + 1199}")
-    writer.session(b"s68", INITIAL)
+    writer.session(b"s1028", INITIAL)
     writer.say(f"sweep {NOW + 1200}")
-    writer.session(b"s69", INITIAL)
+    writer.session(b"s1029", INITIAL)
     writer.session(b"s0", INITIAL)
     writer.session(b"s0", UPDATE)
     return writer
 
 
 def full_house():
-    """Sixty-four sessions of sixteen live grants each, all of which report and ask anew, and end."""
+    """Sixty-four sessions of thirty-two live grants each, all of which report and ask anew, and end."""
     writer = Hostile(10**6)
     for kind in [INITIAL, UPDATE, TERMINATION]:
         for name in range(65):
-            services = [service(60, number(SERVICE_IDENTIFIER, it)) for it in range(16)]
+            services = [service(60, number(SERVICE_IDENTIFIER, it)) for it in range(32)]
             for it in services:
                 it.data.append(units_of(REQUESTED, "units", name))
                 if kind != INITIAL:
@@ -568,8 +733,8 @@ def shown():
 
 
 MADE = [
-    dictionary, places, values, great, many_identifiers, deep, many_services, amounts, ceiling, floor, crowd, full_house, many_names,
-    many_versions, shown,
+    dictionary, places, values, great, many_identifiers, deep, many_services, openers, repeats, hosts, nobody, amounts, ceiling, floor, crowd,
+    full_house, many_names, many_versions, shown,
 ]  # fmt: skip
 SCRIPTS = {make.__name__: make for make in MADE}
 SCRIPTS |= {f"{name} {way.__name__}": partial(way, make) for name, make in WHOLE.items() for way in [cut, short, falsified]}

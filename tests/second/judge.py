@@ -86,10 +86,13 @@ FORMS = {
 
 
 class Judge:
-    """A server under a plan: its peers and accounts, and how many events it took."""
+    """A server under a plan: its peers, the hosts of those that are open, its accounts, who opened which session from which host, and how many
+    events it took.
+    """
 
     def __init__(self, plan):
-        self.plan, self.accounts, self.peers, self.events = plan, {}, {}, 0
+        self.plan, self.accounts, self.openers = plan, {}, {}
+        self.peers, self.hosts, self.events = {}, {}, 0
         self.origin = spell(ORIGIN_HOST, plan.host) + spell(ORIGIN_REALM, plan.realm)
 
     def take(self, event):
@@ -102,8 +105,8 @@ class Judge:
     def connect(self, peer):
         self.peers[peer] = WAITING
 
-    def open(self, peer, _host):
-        self.peers[peer] = OPEN
+    def open(self, peer, host):
+        self.peers[peer], self.hosts[peer] = OPEN, host
 
     def disconnect(self, peer):
         self.peers.pop(peer, None)
@@ -122,11 +125,11 @@ class Judge:
         state = self.peers.get(peer, CLOSED)
         if state == CLOSED:
             return []
-        answer, closes = self.reply(state, moment, octets)
+        answer, closes = self.reply(peer, state, moment, octets)
         self.peers[peer] = CLOSED if closes else OPEN
         return ([f"answer {peer} {answer.hex()}"] if answer else []) + ([f"close {peer}"] if closes else [])
 
-    def reply(self, state, moment, octets):
+    def reply(self, peer, state, moment, octets):
         """The answer to a message, and whether its connection is closed behind it."""
         try:
             header = read_header(octets)
@@ -147,7 +150,7 @@ class Judge:
             check_header(header)
             if unread:
                 raise unread
-            result, body = SUCCESS, self.accepted(header.command, avps, moment)
+            result, body = SUCCESS, self.accepted(peer, header.command, avps, moment)
         except Refusal as refusal:
             result, body = refusal.result, self.refused(header.command, avps, refusal)
         is_error = 3000 <= result < 4000
@@ -156,10 +159,12 @@ class Judge:
         is_left = header.command == DISCONNECT and result == SUCCESS
         return answer, is_left or is_exchange and result != SUCCESS
 
-    def accepted(self, command, avps, moment):
+    def accepted(self, peer, command, avps, moment):
         if command == CREDIT_CONTROL:
-            return self.credit_control(read_credit_control(avps), moment)
-        CHECKS[command](avps)
+            return self.credit_control(read_credit_control(avps), self.hosts[peer], moment)
+        host = CHECKS[command](avps)
+        if command == CAPABILITIES:
+            self.hosts[peer] = host
         return self.base(command, SUCCESS)
 
     def refused(self, command, avps, refusal):
@@ -186,14 +191,26 @@ class Judge:
     def credit_control_head(self, result):
         return spell_number(RESULT_CODE, result) + self.origin + spell_number(AUTH_APPLICATION_ID, 4)
 
-    def credit_control(self, request, moment):
+    def opener(self, session, host):
+        """The only subscriber who opened a session from a host, be it open or ended."""
+        openers = self.openers.get((session, host), [])
+        if len(openers) != 1:
+            raise Refusal(MISSING_AVP, empty(SUBSCRIPTION_ID))
+        return openers[0]
+
+    def credit_control(self, request, host, moment):
         """A Credit-Control-Answer up to its Proxy-Info: a repeat gets that of the first request of its key."""
+        if request.subscriber is None:
+            request = request._replace(subscriber=self.opener(request.session, host))
         account = self.accounts.get(request.subscriber)
         if account is None:
             return self.told(request, Outcome(USER_UNKNOWN))
         key = request.session, request.number
         if key not in account.kept:
-            account.kept[key] = self.told(request, account.answer(request, moment))
+            outcome = account.answer(request, moment)
+            account.kept[key] = self.told(request, outcome)
+            if request.kind == INITIAL and outcome.result == SUCCESS:
+                self.openers.setdefault((request.session, host), []).append(request.subscriber)
         return account.kept[key]
 
     def told(self, request, outcome):

@@ -119,6 +119,7 @@ def subscription(subscriber):
 
 
 def credit_control(subscriber, session, request_number, kind, *rest):
+    """A request of a subscriber, or of one whom it doesn't name."""
     trees = [
         Tree(SESSION_ID, session),
         Tree(ORIGIN_HOST, b"gw1.example"),
@@ -128,7 +129,7 @@ def credit_control(subscriber, session, request_number, kind, *rest):
         Tree(SERVICE_CONTEXT_ID, b"data@example"),
         number(REQUEST_TYPE, kind),
         number(REQUEST_NUMBER, request_number),
-        subscription(subscriber),
+        *([subscription(subscriber)] if subscriber else []),
         *rest,
     ]
     return Message(272, trees, 4)

@@ -1,4 +1,6 @@
-"""A script of as many lines as are wanted, in ten turns: debits of one account and their repeats, sessions, top-ups, and accounts without end."""
+"""A script of as many lines as are wanted, in ten turns: debits of one account and their repeats, sessions whose updates name nobody, top-ups, and
+accounts without end.
+"""
 
 from charging import DIRECT_DEBITING
 from hostile import INITIAL, NOW, SUBSCRIBER, Hostile, asks, reports
@@ -11,7 +13,7 @@ NEWCOMER = 4, MARK
 # Each is spelled once, and then only what stands at its marks is another.
 DEBIT = event(SUBSCRIBER, MARK, 0, DIRECT_DEBITING, units_of(REQUESTED, "octets", 1001)).octets()
 BEGIN = credit_control(SUBSCRIBER, MARK, 1, INITIAL, asks(10, 1000)).octets()
-GO_ON = credit_control(SUBSCRIBER, MARK, 2, UPDATE, reports(10, 999)).octets()
+GO_ON = credit_control(None, MARK, 2, UPDATE, reports(10, 999)).octets()
 END = credit_control(SUBSCRIBER, MARK, 3, TERMINATION).octets()
 FIRST_DEBIT = event(NEWCOMER, b"x", 1, DIRECT_DEBITING).octets()
 ALIVE = base_request(WATCHDOG).octets()

@@ -11,8 +11,8 @@ TOO_MANY_AVPS, NO_COMMON_APPLICATION, INVALID_LENGTH, NO_COMMON_SECURITY = 5009,
 CREDIT_CONTROL, CAPABILITIES, WATCHDOG, DISCONNECT = 272, 257, 280, 282
 COMMANDS = {(0, CAPABILITIES), (0, WATCHDOG), (0, DISCONNECT), (4, CREDIT_CONTROL)}
 CREDIT_CONTROL_APPLICATION, RELAY = 4, 0xFFFFFFFF
-UPDATE, TERMINATION, EVENT = 2, 3, 4
-MOST_SERVICES = 16
+INITIAL, UPDATE, TERMINATION, EVENT = 1, 2, 3, 4
+MOST_SERVICES = 32
 MOST_UNITS = 10**12
 
 # The groups that are looked into, and the groups inside these.
@@ -61,6 +61,8 @@ SESSION_NEEDS = Needs(
     [(SERVICE_IDENTIFIER, 1), (REQUESTED_ACTION, 1), (REQUESTED, 1), (SERVICES, MOST_SERVICES)],
 )
 EVENT_NEEDS = SESSION_NEEDS._replace(last=[REQUESTED_ACTION])
+# Updates and terminations may name nobody.
+REPORT_NEEDS = SESSION_NEEDS._replace(several=[])
 
 
 def copy(avp):
@@ -146,7 +148,7 @@ def check_there(avps, code):
 
 def check_shape(command, avps):
     """The walked groups of a message whose layout, AVPs and their numbers are right."""
-    needs = NEEDS.get(command) or (EVENT_NEEDS if is_event(avps) else SESSION_NEEDS)
+    needs = NEEDS.get(command) or needs_by_type(avps)
     groups = walk(avps, WALKED[command])
     check_known(avps)
     for group in flat(groups):
@@ -165,9 +167,12 @@ def check_shape(command, avps):
     return groups
 
 
-def is_event(avps):
+def needs_by_type(avps):
+    """What a Credit-Control-Request needs, by the four octets of its first CC-Request-Type."""
     kind = first_of(avps, REQUEST_TYPE)
-    return kind is not None and kind.data == bytes([0, 0, 0, EVENT])
+    if kind is None or len(kind.data) != 4:
+        return SESSION_NEEDS
+    return {EVENT: EVENT_NEEDS, UPDATE: REPORT_NEEDS, TERMINATION: REPORT_NEEDS}.get(kind.number(), SESSION_NEEDS)
 
 
 def check_size(avp, size):
@@ -243,9 +248,9 @@ class Asked(NamedTuple):
 
 
 class Request(NamedTuple):
-    """A Credit-Control-Request that passed its checks."""
+    """A Credit-Control-Request that passed its checks. An update or a termination may name no subscriber."""
 
-    subscriber: tuple
+    subscriber: tuple | None
     session: bytes
     number: int
     kind: int
@@ -255,9 +260,11 @@ class Request(NamedTuple):
 
 
 def read_subscriber(groups):
-    """The type and the data of the first Subscription-Id of type E.164, or else of the first."""
+    """The type and the data of the first Subscription-Id of type E.164, or else of the first, if there is one."""
     for group in groups:
         check_size(first_of(group.members, SUBSCRIPTION_TYPE), 4)
+    if not groups:
+        return None
     of_e164 = [group for group in groups if first_of(group.members, SUBSCRIPTION_TYPE).number() == 0]
     chosen = (of_e164 or groups)[0].members
     kind = check_number(first_of(chosen, SUBSCRIPTION_TYPE), 0, 4)

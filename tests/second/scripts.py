@@ -10,8 +10,9 @@ from plans import LAST_MOMENT, MOST_TIME
 from refusals import *
 from writer import Writer
 
-INITIAL = 1
 BEGIN = 1_748_736_000
+# The hosts of the peers by their numbers: two have one host, and one has another in large letters alone.
+HOSTS = {1: "gw1.example", 2: "gw2.example", 3: "gw1.example", 2**32 - 1: "GW1.example"}
 VISIBLE = [chr(octet) for octet in range(0x21, 0x7F)]
 PLAIN = string.ascii_letters + string.digits + ".-"
 
@@ -41,6 +42,7 @@ class Maker(Writer):
         words = ["491700000001", "491700000003", "491700000002", "!", "~" * 64, ":a:", self.text(VISIBLE, 64)]
         self.subscribers = [(self.dice.choice(types), self.dice.choice(words).encode()) for _ in range(self.dice.randint(1, 6))]
         self.names = [b"x", b"gw1.example;1;1", b"\0", b"hex: \xff", b"s" * 255]
+        self.crowded = self.dice.choice(self.subscribers)
 
     def text(self, letters, most):
         return "".join(self.dice.choices(letters, k=self.dice.choice([1, 11, most, self.dice.randint(1, most)])))
@@ -77,14 +79,14 @@ class Maker(Writer):
 
     def make(self, count):
         """A script of about so many events, and a last look at each account."""
-        self.say("open 1 gw1.example")
-        self.say("open 2 gw2.example")
+        self.say(f"open 1 {HOSTS[1]}")
+        self.say(f"open 2 {HOSTS[2]}")
         for subscriber in self.subscribers:
             if self.dice.random() < 0.9:
                 self.top_up_by(subscriber, self.dice.choice([1000, 10**5, 10**7, 10**18]))
         weights = TEMPERS[self.temper]
-        while len(self.lines) < count:
-            getattr(self, self.dice.choices(list(weights), weights.values())[0])()
+        for event in self.dice.choices(list(weights), weights.values(), k=count):
+            getattr(self, event)()
         self.look_at_all()
         self.say(f"sweep {LAST_MOMENT}")
         self.look_at_all()
@@ -97,13 +99,13 @@ class Maker(Writer):
     # Peers and moments.
 
     def peer_number(self):
-        return self.dice.choice([1, 1, 1, 2, 2, 3, 2**32 - 1])
+        return self.dice.choices(list(HOSTS), [3, 2, 1, 1])[0]
 
     def open_peer(self):
         """A peer that is open, mostly."""
         peer = self.peer_number()
         if self.judge.peers.get(peer) != "open" and self.dice.random() < 0.9:
-            self.say(f"open {peer} gw{peer}.example")
+            self.say(f"open {peer} {HOSTS[peer]}")
         return peer
 
     def peer(self):
@@ -241,11 +243,12 @@ class Maker(Writer):
         return [subscription(it) for it in chosen]
 
     def request(self, subscriber, name, kind, rest):
-        """A request, and AVPs that don't count."""
+        """A request, and AVPs that don't count. One in five of an open session names nobody, and few others."""
         dice = self.dice
         message = credit_control(subscriber, name, self.request_number(), kind, *rest)
         trees = message.trees
-        trees[8:9] = self.subscriptions(subscriber)
+        is_nameless = dice.random() < (0.2 if kind in (UPDATE, TERMINATION) else 0.01)
+        trees[8:9] = [] if is_nameless else self.subscriptions(subscriber)
         if dice.random() < 0.2:
             trees.append(group(PROXY_INFO, Tree(280, b"proxy"), Tree(33, dice.randbytes(3))))
         if dice.random() < 0.1:
@@ -286,7 +289,7 @@ class Maker(Writer):
         session = account.open.get(name) if account else None
         kind = dice.choice([UPDATE] * 8 + [TERMINATION] * 2 + [INITIAL]) if session else dice.choice([INITIAL] * 8 + [UPDATE, TERMINATION])
         live = list(session.live) if session else []
-        count = dice.choice([0, 1, 1, 1, 2, 2, 3, dice.randint(4, 16)] + [17] * (dice.random() < 0.02))
+        count = dice.choice([0, 1, 1, 1, 2, 2, 3, dice.randint(4, MOST_SERVICES)] + [MOST_SERVICES + 1] * (dice.random() < 0.02))
         single = dice.random() < 0.35
         rest = self.single_service(subscriber) if single else self.multi_services(subscriber, live, count)
         if dice.random() < 0.05:
@@ -302,23 +305,34 @@ class Maker(Writer):
         name = self.name(self.account(subscriber))
         return self.request(subscriber, name, EVENT, rest)
 
-    def send_new(self, message):
+    def send_new(self, message, peer=None):
         self.sent.append(message)
-        self.put(message)
+        self.put(message, peer)
 
     def session(self):
-        self.send_new(self.session_request())
+        message = self.session_request()
+        self.send_new(message, self.opener_peer(message))
+
+    def opener_peer(self, message):
+        """For a request that names nobody a peer of a host from which its session was opened, mostly; else none."""
+        plain = {tree.code: tree.data for tree in message.trees if tree.vendor is None}
+        peers = [peer for peer, host in HOSTS.items() if (plain[SESSION_ID], host.encode()) in self.judge.openers]
+        if SUBSCRIPTION_ID in plain or not peers or self.dice.random() < 0.2:
+            return None
+        peer = self.dice.choice(peers)
+        if (self.judge.peers.get(peer), self.judge.hosts.get(peer)) != ("open", HOSTS[peer].encode()):
+            self.say(f"open {peer} {HOSTS[peer]}")
+        return peer
 
     def event(self):
         self.send_new(self.event_request())
 
     def crowd(self):
-        """One subscriber opens as many sessions as it may, and one or two more."""
-        subscriber = self.dice.choice(self.subscribers)
-        account = self.account(subscriber)
+        """One subscriber, of all always the same, opens as many sessions as it may, and one or two more."""
+        account = self.account(self.crowded)
         for _ in range(MOST_SESSIONS + 2 - len(account.open) if account else 0):
             self.next_name += 1
-            self.send_new(credit_control(subscriber, b"crowd %d" % self.next_name, 0, INITIAL))
+            self.send_new(credit_control(self.crowded, b"crowd %d" % self.next_name, 0, INITIAL))
 
     def repeat(self):
         """A request that was sent: as it was, under other identifiers, or with other AVPs under its key."""
@@ -333,6 +347,8 @@ class Maker(Writer):
             message.trees = [it for it in message.trees if it.code in kept] + [it for it in other.trees if it.code not in kept]
         if self.dice.random() < 0.2:
             message.trees.append(Tree(PROXY_INFO, self.dice.randbytes(4)))
+        if self.dice.random() < 0.1:
+            message.trees = [it for it in message.trees if it.code != SUBSCRIPTION_ID]
         self.put(message)
 
     def spoiled(self):
@@ -362,6 +378,8 @@ class Maker(Writer):
         message = capabilities() if command == CAPABILITIES else base_request(command)
         trees = message.trees
         if command == CAPABILITIES:
+            # A later exchange may give its peer another host.
+            trees[0].data = dice.choice([*HOSTS.values(), self.text(VISIBLE, 255)]).encode()
             trees += [number(INBAND_SECURITY_ID, dice.randrange(2)) for _ in range(dice.choice([0, 0, 0, 1, 2]))]
             for application in dice.choices([4, 4, 4, 2**32 - 1, 3], k=dice.choice([0, 1, 1, 1, 2])):
                 inside = number(AUTH_APPLICATION_ID, application)
