@@ -2,7 +2,7 @@
 
 use crate::play::{Told, ledger, standing, tell};
 use crate::script::{Line, Who};
-use dcc_disks::{Server, TERMS};
+use crate::server::{Server, TERMS};
 use dcc_octets::OctetString;
 use dcc_records::{MemoryRecords, Records};
 use dcc_shard::Shard;

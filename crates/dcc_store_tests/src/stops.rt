@@ -2,9 +2,10 @@
 
 ghost use Rattle.std.specs.Prelude.{IsTrue};
 
+use crate::disks::{FileShard, left, opened, reopened, still_answer};
 use crate::known::Known;
 use crate::script::{CHARGED, Line, TWO_SERVICES};
-use dcc_disks::{FileShard, Server, left, opened, reopened, still_answer};
+use crate::server::Server;
 use dcc_records::Records;
 use dcc_shard::Shard;
 use sqlite::Files;

@@ -8,7 +8,7 @@ use std::hash::RandomState;
 use std::test::Fail;
 
 /// The terms of its plan.
-pub const TERMS: Terms = Terms {
+pub(crate) const TERMS: Terms = Terms {
     validity: 600,
     hold: 1200,
     currency: 978,
@@ -16,7 +16,7 @@ pub const TERMS: Terms = Terms {
 };
 
 /// The setting of its store.
-pub const SETTING: Setting<'static> = Setting {
+pub(crate) const SETTING: Setting<'static> = Setting {
     shard: 0,
     shards: 1,
     host: "ocs.example",
@@ -31,14 +31,14 @@ fn named(alloc: Global, name: &[u8]) -> Result<DiameterIdentity, Fail> {
 
 /// The server's names, and the state of the hashes by which accounts are found.
 #[derive(Drop)]
-pub struct Server {
+pub(crate) struct Server {
     pub identity: Identity,
     pub hasher: RandomState,
 }
 
 impl Server {
     /// The server `ocs.example`. The only error is want of memory.
-    pub fn new(alloc: Global, hasher: RandomState) -> Result<Server, Fail> {
+    pub(crate) fn new(alloc: Global, hasher: RandomState) -> Result<Server, Fail> {
         let identity = Identity {
             host: named(alloc, b"ocs.example")?,
             realm: named(alloc, b"example")?,

@@ -10,7 +10,7 @@ use sqlite_disk::{Crash, Disk};
 use std::alloc::Global;
 
 /// A shard over records in files.
-pub type FileShard<D> = Shard<SqlRecords<FileStore<D>>>;
+pub(crate) type FileShard<D> = Shard<SqlRecords<FileStore<D>>>;
 
 /// The log is copied into the database file after few pages, so that both files are written to throughout.
 fn options(seed: u64) -> Options {
@@ -78,7 +78,7 @@ fn closed<D: Disk + Drop>(records: SqlRecords<FileStore<D>>) -> Files<D> {
 }
 
 /// The shard over what two files hold; a store is made in them if there is none. If they can't be opened, they are handed back.
-pub fn opened<D: Disk + Drop>(
+pub(crate) fn opened<D: Disk + Drop>(
     alloc: Global,
     server: &Server,
     files: Files<D>,
@@ -98,12 +98,12 @@ pub fn opened<D: Disk + Drop>(
 }
 
 /// The files of a shard, as they are.
-pub fn left<D: Disk + Drop>(shard: FileShard<D>) -> Files<D> {
+pub(crate) fn left<D: Disk + Drop>(shard: FileShard<D>) -> Files<D> {
     closed(shard.into_records())
 }
 
 /// The shard over the files that a power cut leaves. If they can't be opened, they are handed back.
-pub fn reopened<D: Crash + Drop>(
+pub(crate) fn reopened<D: Crash + Drop>(
     alloc: Global,
     server: &Server,
     files: Files<D>,
@@ -115,7 +115,7 @@ pub fn reopened<D: Crash + Drop>(
 }
 
 /// Whether both disks still answer.
-pub fn still_answer<D: Disk>(files: &mut Files<D>) -> bool {
+pub(crate) fn still_answer<D: Disk>(files: &mut Files<D>) -> bool {
     answers(&mut files.log) && answers(&mut files.db)
 }
 

@@ -1,8 +1,9 @@
 //! Two gateways of one subscriber at once, each at its own seat, and their requests again.
 
+use crate::disks::{FileShard, left, opened, reopened};
+use crate::server::Server;
 use dcc_act::Sub;
 use dcc_callers::{Caller, DEBITS, after, locked_alone};
-use dcc_disks::{FileShard, Server, left, opened, reopened};
 use dcc_records::Records;
 use dcc_running::{Books, Seat, Shards};
 use dcc_shard::{Shard, TopUpAnswer};
