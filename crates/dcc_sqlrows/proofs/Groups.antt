@@ -210,7 +210,7 @@ module _ (differ : Differ) where
 
 -- ---- one line more
 
-open_all : {X : Type 0} (P : X → Type 0) (xs : List X) → All P xs → AllByRecursion P xs
+pub open_all : {X : Type 0} (P : X → Type 0) (xs : List X) → All P xs → AllByRecursion P xs
 open_all P [] all = tt
 open_all P (x ∷ xs) all = (all 0 x (omega arith), open_all P xs (λ i d below. all (suc i) d (omega (arith, below))))
 

@@ -21,7 +21,7 @@ use Rattle.dcc_sqlrows.specs.Rows.{sub_octets, act_row, entry_row, entry_rows_of
 use Rattle.dcc_sqlrows.specs.Pages.{IsSub, IsPage, IsOwn, entries_at, act_rows_from, entry_rows_to, page_act_rows, page_entry_rows, page_account_row, book_act_rows, book_entry_rows, book_account_rows}
 use Rattle.dcc_sqlrows.specs.Held.{AreJust, IsActRow, IsEntryRow, IsAccountRow}
 use Rattle.dcc_sqlrows.specs.Ordered.{act_order, entry_order, account_order}
-use Rattle.dcc_sqlrows.proofs.Strict.{once_strict, act_total, entry_total, account_total, book_acts_strict, book_entries_strict, book_accounts_strict}
+use Rattle.dcc_sqlrows.proofs.Strict.{all_weaker, once_strict, act_total, entry_total, account_total, book_acts_strict, book_entries_strict, book_accounts_strict}
 
 same_where_equal : (a b : Sub) → same_sub a b ≡ is_eq (sub_order a b)
 same_where_equal = search (comparing, rules)
@@ -212,17 +212,25 @@ makes_a_book none terms (page ∷ pages) own sub = elim (cases_Bool (same_sub pa
   | inr apart ↦ rw apart (makes_a_book none terms pages own.1 sub)
 ]
 
-fit_at : (xs : List Act) (i : ℕ) (x : Act) → AllByRecursion IsAct xs → slice_get xs i ≡ Some x → IsAct x
-fit_at [] i x fit h = absurd cc
-fit_at (y ∷ xs) zero x fit h = let e : y ≡ x = cc in subst IsAct e fit.0
-fit_at (y ∷ xs) (suc i) x fit h = fit_at xs i x fit.1 h
+-- what holds of each act of pages
+module _ (P : Act → Type 0) where
+  fit_at : (xs : List Act) (i : ℕ) (x : Act) → AllByRecursion P xs → slice_get xs i ≡ Some x → P x
+  fit_at [] i x fit h = absurd cc
+  fit_at (y ∷ xs) zero x fit h = let e : y ≡ x = cc in subst P e fit.0
+  fit_at (y ∷ xs) (suc i) x fit h = fit_at xs i x fit.1 h
+
+  pub acts_fit : (pages : List PageView) → AllByRecursion (λ page. AllByRecursion P page.acts) pages → (sub : Sub) (i : ℕ) (act : Act) → slice_get (acts_in pages sub) i ≡ Some act → P act
+  acts_fit [] all sub i act h = absurd cc
+  acts_fit (page ∷ pages) all sub i act h = elim (cases_Bool (same_sub page.sub sub)) [
+    | inl one ↦ fit_at page.acts i act all.0 (rw one at h)
+    | inr apart ↦ acts_fit pages all.1 sub i act (rw apart at h)
+  ]
+
+pub each_fits : (pages : List PageView) → AllByRecursion IsPage pages → AllByRecursion (λ page. AllByRecursion IsAct page.acts) pages
+each_fits = all_weaker IsPage (λ page. AllByRecursion IsAct page.acts) (λ page it. it.fit)
 
 pub pages_fit : (pages : List PageView) → AllByRecursion IsPage pages → (sub : Sub) (i : ℕ) (act : Act) → slice_get (acts_in pages sub) i ≡ Some act → IsAct act
-pages_fit [] valid sub i act h = absurd cc
-pages_fit (page ∷ pages) valid sub i act h = elim (cases_Bool (same_sub page.sub sub)) [
-  | inl one ↦ fit_at page.acts i act valid.0.fit (rw one at h)
-  | inr apart ↦ pages_fit pages valid.1 sub i act (rw apart at h)
-]
+pages_fit pages valid = acts_fit IsAct pages (each_fits pages valid)
 
 pub of_subs : SameAreEqual → (pages : List PageView) → AllByRecursion IsPage pages → (sub : Sub) → acts_in pages sub ≢ [] → IsSub sub
 of_subs same [] valid sub some = absurd (some refl)

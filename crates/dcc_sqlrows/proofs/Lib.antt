@@ -6,3 +6,4 @@ pub mod Judgements
 pub mod Strict
 pub mod Held
 pub mod Ordered
+pub mod OldRows

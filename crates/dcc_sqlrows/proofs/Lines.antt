@@ -10,7 +10,9 @@ use Rattle.dcc_act.specs.declared.sub.Sub.{Sub}
 use Rattle.dcc_act.specs.Subs.{is_sub}
 use Rattle.dcc_sqlrows.specs.declared.line.Line.{Line}
 use Rattle.dcc_sqlrows.specs.Rows.{sub_octets}
-use Rattle.dcc_sqlrows.specs.Stored.{line_row, IsOfSub}
+use Rattle.dcc_sqlrows.specs.declared.version.Version.{Version}
+use Rattle.dcc_sqlrows.specs.Stored.{IsOfSub}
+use Rattle.dcc_sqlrows.specs.inner.Versions.{row_of}
 
 abbrev sub_by : ℕ → List ℕ → Option Sub
 sub_by kind name = cond (is_sub kind name) (Some (record { kind = kind; name = name })) None
@@ -40,8 +42,8 @@ all_more_at P xs i x below is p all = All-more P xs i x below all (subst P is p)
 pub all_at_end : {X : Type 0} (P : X → Type 0) (xs : List X) (n : ℕ) → length xs ≤ n → All P (take n xs) → All P xs
 all_at_end P xs n end all = subst (All P) (take_all n xs end) all
 
-pub lines_more : (rows : List Row) (i : ℕ) (row : Row) (lines : List Line) (line : Line) → i < length rows → row ≡ get_or rows i row → take i rows ≡ map line_row lines → row ≡ line_row line
-    → take (i + 1) rows ≡ map line_row (lines ++ line ∷ [])
-lines_more rows i row lines line below is so_far says =
-    (take_at_read rows i row below).1 ∙ ap (λ (r : Row). take i rows ++ r ∷ []) (sym is ∙ says) ∙ ap (λ (front : List Row). front ++ line_row line ∷ []) so_far
-    ∙ sym (map-append line_row lines (line ∷ []))
+pub lines_more : (version : Version) (rows : List Row) (i : ℕ) (row : Row) (lines : List Line) (line : Line) → i < length rows → row ≡ get_or rows i row → take i rows ≡ map (row_of version) lines
+    → row ≡ row_of version line → take (i + 1) rows ≡ map (row_of version) (lines ++ line ∷ [])
+lines_more version rows i row lines line below is so_far says =
+    (take_at_read rows i row below).1 ∙ ap (λ (r : Row). take i rows ++ r ∷ []) (sym is ∙ says) ∙ ap (λ (front : List Row). front ++ row_of version line ∷ []) so_far
+    ∙ sym (map-append (row_of version) lines (line ∷ []))

@@ -1,14 +1,13 @@
 -- The pages of a book, by the rows of its accounts.
-use Rattle.std.proofs.Common.{◌≡◌, ◌≢◌, ◌⊎◌, inl, inr, ℕ, zero, suc, ◌+◌, ◌<◌, ℤ, pos, List, [], ◌∷◌, length, map, slice_get, Some, refl, sym, ap, subst, ◌∙◌, arith}
-use Rattle.std.specs.List.{Contains, AllByRecursion}
-use Rattle.std.specs.List.Sorted.{IsSorted, IsStrictlySortedBy}
+use Rattle.std.proofs.Common.{◌≡◌, ◌≢◌, inl, inr, ℕ, suc, ◌+◌, pos, List, [], ◌∷◌, length, map, slice_get, Some, refl, sym, ap, subst, ◌∙◌, arith}
+use Rattle.std.specs.List.{AllByRecursion}
+use Rattle.std.specs.List.Sorted.{IsStrictlySortedBy}
 use Rattle.std.specs.declared.cmp.Ordering.TheVariants.{Less, Equal}
 use Rattle.std.proofs.lemmas.Bool.{cases_Bool}
 use Rattle.sqlite.specs.declared.types.Value.TheVariants.{Int, Blob}
 use Rattle.sqlite.specs.Order.{Row, column, value_cmp}
 use Rattle.dcc_tariff.specs.Terms.{TermsView}
 use Rattle.dcc_act.specs.declared.act.Act.{Act}
-use Rattle.dcc_act.specs.declared.entry.Entry.{Entry}
 use Rattle.dcc_act.specs.declared.sub.Sub.{Sub}
 use Rattle.dcc_act.specs.Subs.{same_sub, SameAreEqual}
 use Rattle.dcc_model.specs.Outcomes.{funds}
@@ -18,7 +17,7 @@ use Rattle.dcc_records.specs.Books.{Held, PageView, AreInOrder, acts_in, sub_ord
 use Rattle.dcc_sqlrows.specs.declared.line.Line.{Line}
 use Rattle.dcc_sqlrows.specs.Rows.{sub_octets, act_row, entry_row, account_row}
 use Rattle.dcc_sqlrows.specs.Pages.{IsSub, IsPage, IsOwn, entries_at, book_act_rows, book_entry_rows, book_account_rows}
-use Rattle.dcc_sqlrows.specs.Stored.{Rows, line_row, IsLine, IsOfSub, IsDamaged, AreOfBook}
+use Rattle.dcc_sqlrows.specs.Stored.{Rows, HasRowOfNobody, IsDamaged, AreOfBook}
 use Rattle.dcc_sqlrows.specs.Held.{AreJust, IsActRow, IsEntryRow, IsAccountRow}
 use Rattle.dcc_sqlrows.specs.Ordered.{act_order, entry_order, account_order, AreHeld}
 use Rattle.dcc_sqlrows.proofs.Groups.{octets_apart}
@@ -192,14 +191,17 @@ module _ (same : SameAreEqual) (terms : TermsView) (held : Held) (rows : Rows) (
 
 -- ---- and none is damaged
 
+pub of_somebody : (terms : TermsView) (held : Held) (rows : Rows) → ((sub : Sub) → held sub ≢ [] → IsSub sub) → AreJust rows.entries (IsEntryRow terms held) → AreJust rows.accounts (IsAccountRow terms held) → ¬ HasRowOfNobody rows
+of_somebody terms held rows subs entries accounts (inl bad) =
+    let it = entries.only bad.0 bad.1 in
+    bad.2 (it.0, subs it.0 (some_below (held it.0) it.1 it.4), ap (λ (r : Row). column r 0) it.6)
+of_somebody terms held rows subs entries accounts (inr bad) =
+    let it = accounts.only bad.0 bad.1 in
+    bad.2 (it.0, subs it.0 it.1, ap (λ (r : Row). column r 0) it.2)
+
 pub not_damaged : (terms : TermsView) (held : Held) (rows : Rows) → AreHeld terms held rows → ¬ IsDamaged rows
 not_damaged terms held rows h (inl bad) =
     let it = h.acts.only bad.0 bad.1 in
     let line : Line = record { sub = it.0; place = pos (it.1 + 1); act = it.2 } in
     bad.2 (line, h.subs it.0 (some_at (held it.0) it.1 it.2 it.3), h.fits it.0 it.1 it.2 it.3, it.4)
-not_damaged terms held rows h (inr (inl bad)) =
-    let it = h.entries.only bad.0 bad.1 in
-    bad.2 (it.0, h.subs it.0 (some_below (held it.0) it.1 it.4), ap (λ (r : Row). column r 0) it.6)
-not_damaged terms held rows h (inr (inr bad)) =
-    let it = h.accounts.only bad.0 bad.1 in
-    bad.2 (it.0, h.subs it.0 it.1, ap (λ (r : Row). column r 0) it.2)
+not_damaged terms held rows h (inr bad) = of_somebody terms held rows h.subs h.entries h.accounts bad

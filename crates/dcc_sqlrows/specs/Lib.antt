@@ -4,4 +4,5 @@ pub mod Tallies
 pub mod Stored
 pub mod Held
 pub mod Ordered
+pub mod OldRows
 pub mod inner

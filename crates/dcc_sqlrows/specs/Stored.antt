@@ -30,12 +30,13 @@ pub record Rows : Type 0 where
   pub entries : List Row
   pub accounts : List Row
 
+-- some row of an entry or of an account is of nobody
+abbrev pub HasRowOfNobody : Rows → Type 0
+HasRowOfNobody rows = ((row : Row) × Contains rows.entries row × (¬ IsOfSub row)) ⊎ ((row : Row) × Contains rows.accounts row × (¬ IsOfSub row))
+
 -- some row is no act's, or is of nobody
 abbrev pub IsDamaged : Rows → Type 0
-IsDamaged rows =
-    ((row : Row) × Contains rows.acts row × (¬ IsLine row))
-    ⊎ (((row : Row) × Contains rows.entries row × (¬ IsOfSub row))
-    ⊎ ((row : Row) × Contains rows.accounts row × (¬ IsOfSub row)))
+IsDamaged rows = ((row : Row) × Contains rows.acts row × (¬ IsLine row)) ⊎ HasRowOfNobody rows
 
 -- The rows are those of a book of these pages under these terms.
 pub record AreOfBook (terms : TermsView) (pages : List PageView) (rows : Rows) : Type 0 where

@@ -1,10 +1,19 @@
 //! The laws of rows: what callers need to know of them without a look into pages.
 
+ghost use Rattle.std.specs.Prelude.{◌≡◌, All, List, map};
+ghost use Rattle.std.specs.List.{AllByRecursion};
+ghost use Rattle.dcc_record.specs.OldRecords.{IsOldAct};
+ghost use Rattle.dcc_records.specs.Books.{PageView};
+ghost use Rattle.dcc_sqlrows.specs.Pages.{IsPage, book_act_rows};
+ghost use Rattle.dcc_sqlrows.specs.Stored.{line_row};
 ghost use Rattle.dcc_sqlrows.specs.Held.{PagesHoldTheirActs, PagesHoldTheirEntries, PagesHoldTheirAccounts, PagesMakeABook, PagesFit, PagesAreOfSubs};
 ghost use Rattle.dcc_sqlrows.specs.Ordered.{BooksHavePages, BooksAreWhole};
+ghost use Rattle.dcc_sqlrows.specs.OldRows.{old_line_row, IsOldPage, old_book_act_rows, OldPagesHoldTheirActs, OldPagesFit, OldBooksHavePages, OldBooksAreWhole};
+ghost use Rattle.dcc_sqlrows.specs.declared.line.Line.{Line};
 
 use dcc_act::same_subscribers_are_equal;
 use dcc_model::leaving_out_changes_nothing;
+use dcc_record::{old_records_differ, records_differ};
 
 /// The rows of pages, of their acts, entries and accounts, are those of the book that the pages are, and no others.
 /// Pages whose acts are those that each list makes are a book, and their acts are within their limits. It does nothing.
@@ -27,4 +36,41 @@ pub fn books_have_pages()
     ensures whole { BooksAreWhole }
 {
     same_subscribers_are_equal();
+}
+
+/// The rows of lines in layout 2 are those of pages exactly if their rows in layout 1 are, where each act has a record of
+/// version 1. Such pages are pages of both layouts. So [`crate::book_of`] and [`crate::judge`] judge rows of layout 1 by their
+/// lines. It does nothing.
+pub fn old_lines_are_of_old_pages()
+    ensures there { (lines : List Line) (pages : List PageView) → All (λ line. IsOldAct line.act) lines → AllByRecursion IsPage pages
+        → map line_row lines ≡ book_act_rows pages → AllByRecursion IsOldPage pages × (map old_line_row lines ≡ old_book_act_rows pages) }
+    ensures back { (lines : List Line) (pages : List PageView) → All (λ line. IsOldAct line.act) lines → AllByRecursion IsOldPage pages
+        → map old_line_row lines ≡ old_book_act_rows pages → AllByRecursion IsPage pages × (map line_row lines ≡ book_act_rows pages) }
+{
+    records_differ();
+    old_records_differ();
+}
+
+/// The rows of acts of pages, in layout 1, are those of the book that the pages are, and no others. The acts have records of
+/// version 1. The pages are pages of layout 2 too, so [`pages_hold_their_rows`] speaks of their entries, accounts and book.
+/// It does nothing.
+pub fn old_pages_hold_their_rows()
+    ensures acts { OldPagesHoldTheirActs }
+    ensures fit { OldPagesFit }
+    ensures pages { (pages : List PageView) → AllByRecursion IsOldPage pages → AllByRecursion IsPage pages }
+{
+    same_subscribers_are_equal();
+    records_differ();
+    old_records_differ();
+}
+
+/// The rows of a book in layout 1, each table in the order of its key, are those of pages, and none of them is damaged. It does
+/// nothing.
+pub fn old_books_have_pages()
+    ensures pages { OldBooksHavePages }
+    ensures whole { OldBooksAreWhole }
+{
+    same_subscribers_are_equal();
+    records_differ();
+    old_records_differ();
 }

@@ -1,19 +1,22 @@
 //! Rows of the table of acts, and whose the rows of the others are.
 
-ghost use Rattle.std.specs.Prelude.{◌≡◌, ◌≢◌, ◌↔◌, true, false, All, map, Err, IfOk, IfSome, MatchOption};
+ghost use Rattle.std.specs.Prelude.{◌≡◌, ◌≢◌, ◌↔◌, true, false, All, map, Err, IfOk, IfErr, IfSome, MatchOption};
 ghost use Rattle.std.specs.List.{Contains};
 ghost use Rattle.sqlite.specs.declared.types.Value.TheVariants.{Blob};
 ghost use Rattle.sqlite.specs.Order.{Row as Values, column};
 ghost use Rattle.dcc_record.specs.Limits.{IsAct};
-ghost use Rattle.dcc_record.specs.Records.{record_of};
+ghost use Rattle.dcc_record.specs.OldRecords.{IsOldAct};
 ghost use Rattle.dcc_sqlrows.specs.Rows.{sub_octets};
 ghost use Rattle.dcc_sqlrows.specs.Pages.{IsSub};
 ghost use Rattle.dcc_sqlrows.specs.Stored.{line_row, IsLine, IsOfSub};
+ghost use Rattle.dcc_sqlrows.specs.OldRows.{old_line_row, IsOldLine};
+ghost use Rattle.dcc_sqlrows.specs.inner.Versions.{body_of, HasBody, row_of, IsRowOf};
 
 use crate::fault::ReadFault;
 use crate::value::{number_at, octets_at};
+use crate::version::Version;
 use dcc_act::{Act, Sub, same_subscribers_are_equal};
-use dcc_record::{RecordFault, read_act};
+use dcc_record::{RecordFault, read_act, read_act_1};
 use sqlite::Row;
 use std::alloc::Global;
 
@@ -34,9 +37,31 @@ pub fn read_lines(alloc: Global, rows: &[Row]) -> Result<Vec<Line>, ReadFault>
     ensures fit { IfOk result (λ lines. All (λ line. IsAct line.act) lines.items) }
     ensures damaged { result ≡ Err ReadFault.Damaged → (row : Values) × Contains rows.now row × (¬ IsLine row) }
 {
+    lines_of(alloc, Version::Two, rows)
+}
+
+/// The lines that the rows of a store of layout 1 say, which have records of version 1.
+///
+/// Errors: [`ReadFault::Memory`]; [`ReadFault::Damaged`], a row is no act's.
+pub fn read_old_lines(alloc: Global, rows: &[Row]) -> Result<Vec<Line>, ReadFault>
+    ensures lines { IfOk result (λ lines. rows.now ≡ map old_line_row lines.items) }
+    ensures subs { IfOk result (λ lines. All (λ line. IsSub line.sub) lines.items) }
+    ensures fit { IfOk result (λ lines. All (λ line. IsOldAct line.act) lines.items) }
+    ensures damaged { result ≡ Err ReadFault.Damaged → (row : Values) × Contains rows.now row × (¬ IsOldLine row) }
+{
+    lines_of(alloc, Version::One, rows)
+}
+
+/// The lines that rows of a version say.
+fn lines_of(alloc: Global, version: Version, rows: &[Row]) -> Result<Vec<Line>, ReadFault>
+    ensures lines { IfOk result (λ lines. rows.now ≡ map (row_of version) lines.items) }
+    ensures subs { IfOk result (λ lines. All (λ line. IsSub line.sub) lines.items) }
+    ensures fit { IfOk result (λ lines. All (λ line. HasBody version line.act) lines.items) }
+    ensures damaged { result ≡ Err ReadFault.Damaged → (row : Values) × Contains rows.now row × (¬ IsRowOf version row) }
+{
     let mut lines = Vec::with_capacity(alloc, rows.len())?;
     for row in rows {
-        let line = read_line(alloc, row)?;
+        let line = read_line(alloc, version, row)?;
         lines.push(line)?;
     }
     Ok(lines)
@@ -44,11 +69,11 @@ pub fn read_lines(alloc: Global, rows: &[Row]) -> Result<Vec<Line>, ReadFault>
 
 /// The line that a row says.
 #[tactic(auto, using(crate::proofs::Lists::three_values))]
-fn read_line(alloc: Global, row: &Row) -> Result<Line, ReadFault>
-    ensures line { IfOk result (λ line. row.now ≡ line_row line) }
+fn read_line(alloc: Global, version: Version, row: &Row) -> Result<Line, ReadFault>
+    ensures line { IfOk result (λ line. row.now ≡ row_of version line) }
     ensures sub { IfOk result (λ line. IsSub line.sub) }
-    ensures fits { IfOk result (λ line. IsAct line.act) }
-    ensures damaged { result ≡ Err ReadFault.Damaged → ¬ IsLine row.now }
+    ensures fits { IfOk result (λ line. HasBody version line.act) }
+    ensures damaged { result ≡ Err ReadFault.Damaged → ¬ IsRowOf version row.now }
 {
     if row.column_count() != 3 {
         return Err(ReadFault::Damaged);
@@ -59,23 +84,35 @@ fn read_line(alloc: Global, row: &Row) -> Result<Line, ReadFault>
     let Some(place) = number_at(row, 1) else {
         return Err(ReadFault::Damaged);
     };
-    let act = act_at(alloc, row)?;
+    let act = act_at(alloc, version, row)?;
     Ok(Line { sub, place, act })
 }
 
 /// The act whose record the third column has.
-fn act_at(alloc: Global, row: &Row) -> Result<Act, ReadFault>
-    ensures act { IfOk result (λ act. column row.now 2 ≡ Blob (record_of act)) }
-    ensures fits { IfOk result IsAct }
-    ensures damaged { result ≡ Err ReadFault.Damaged → (act : Act) → IsAct act → column row.now 2 ≢ Blob (record_of act) }
+fn act_at(alloc: Global, version: Version, row: &Row) -> Result<Act, ReadFault>
+    ensures act { IfOk result (λ act. column row.now 2 ≡ Blob (body_of version act)) }
+    ensures fits { IfOk result (HasBody version) }
+    ensures damaged { result ≡ Err ReadFault.Damaged → (act : Act) → HasBody version act → column row.now 2 ≢ Blob (body_of version act) }
 {
     let Some(body) = octets_at(row, 2) else {
         return Err(ReadFault::Damaged);
     };
-    match read_act(alloc, body) {
+    match read_body(alloc, version, body) {
         Ok(act) => Ok(act),
         Err(RecordFault::Memory) => Err(ReadFault::Memory),
         Err(RecordFault::BadRecord) => Err(ReadFault::Damaged),
+    }
+}
+
+/// The act whose record of a version the octets are.
+fn read_body(alloc: Global, version: Version, octets: &[u8]) -> Result<Act, RecordFault>
+    ensures found { IfOk result (λ act. octets.now ≡ body_of version act) }
+    ensures within { IfOk result (HasBody version) }
+    ensures refused { IfErr result (λ fault. fault ≡ RecordFault.BadRecord → (act : Act) → HasBody version act → body_of version act ≢ octets.now) }
+{
+    match version {
+        Version::One => read_act_1(alloc, octets),
+        Version::Two => read_act(alloc, octets),
     }
 }
 
