@@ -1,5 +1,5 @@
 -- Rows of which none comes twice.
-use Rattle.std.proofs.Common.{◌≡◌, ◌≢◌, ◌⊎◌, inl, inr, ℕ, zero, suc, ◌+◌, ◌<◌, Bool, List, [], ◌∷◌, ◌++◌, map, filter, length, get_or, refl, sym, ap, subst, ◌∙◌, arith}
+use Rattle.std.proofs.Common.{◌≡◌, ◌≢◌, inl, inr, ℕ, zero, suc, ◌<◌, List, [], ◌∷◌, ◌++◌, map, length, get_or, refl, sym, ap, ◌∙◌, arith}
 use Rattle.std.specs.Prelude.{AllPairs, All}
 use Rattle.std.specs.List.{Contains, swap}
 use Rattle.std.specs.List.Sorted.{IsPermutation}
@@ -10,10 +10,8 @@ use Rattle.std.proofs.lemmas.List.Kept.{AllPairs-cons, AllPairs-filter}
 use Rattle.std.proofs.lemmas.List.Quantifiers.{all_pairs_push}
 use Rattle.std.proofs.lemmas.List.Sorted.{IsPermutation-keeps}
 use Rattle.sqlite.specs.Order.{Row}
-use Rattle.sqlite.specs.Tree.{without_rowid, has_rowid}
+use Rattle.sqlite.specs.Tree.{without_rowid}
 use Rattle.sqlite.specs.Edit.{without_all}
-use Rattle.dcc_act.specs.declared.entry.Entry.{Entry}
-use Rattle.dcc_sqlrows.specs.Rows.{entry_row, entry_rows_of}
 use Rattle.dcc_sqlrec.specs.inner.Trees.{AreApart, three_columns}
 
 abbrev Differ : {X : Type 0} → X → X → Type 0

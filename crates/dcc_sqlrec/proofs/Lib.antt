@@ -20,3 +20,7 @@ pub mod Creates
 pub mod First
 pub mod Verdicts
 pub mod Opened
+pub mod Drops
+pub mod Gathering
+pub mod Fronts
+pub mod Upgraded

@@ -1,15 +1,14 @@
 -- A book in the tables is shown in the order of its keys.
-use Rattle.std.proofs.Common.{◌≡◌, ◌⊎◌, inl, inr, false, ℕ, zero, suc, ◌+◌, ◌<◌, ◌≤◌, pos, List, [], ◌∷◌, map, length, get_or, All, refl, sym, ap, subst, ◌∙◌, arith}
+use Rattle.std.proofs.Common.{◌≡◌, ◌⊎◌, inl, inr, false, zero, suc, ◌+◌, ◌<◌, pos, List, [], ◌∷◌, map, length, get_or, All, refl, sym, ap, subst, ◌∙◌, arith}
 use Rattle.std.proofs.Math.Path.{subst₂}
 use Rattle.std.specs.Ordering.{is_lt, ordering_then}
 use Rattle.std.specs.declared.cmp.Ordering.{Ordering}
-use Rattle.std.specs.declared.cmp.Ordering.TheVariants.{Equal}
 use Rattle.std.specs.List.{AllByRecursion}
-use Rattle.std.specs.List.Sorted.{IsSorted, IsPermutation}
+use Rattle.std.specs.List.Sorted.{IsSorted}
 use Rattle.std.proofs.lemmas.List.{get_or-map, length-map}
 use Rattle.std.proofs.lemmas.List.Sorted.{IsPermutation-sym, All-permutation}
 use Rattle.sqlite.specs.Order.{Row, column, value_cmp}
-use Rattle.sqlite.specs.Query.{Query, output, output_cmp, Output}
+use Rattle.sqlite.specs.Query.{output, output_cmp, Output}
 use Rattle.sqlite.specs.Tree.{Trees}
 use Rattle.sqlite.specs.State.{State, HasCleanDisk}
 use Rattle.sqlite_value.proofs.OrderLemmas.{then-Equal}
@@ -21,10 +20,12 @@ use Rattle.dcc_records.specs.Stops.{LeavesEither}
 use Rattle.dcc_sqlrows.specs.Held.{IsActRow, IsEntryRow, IsAccountRow}
 use Rattle.dcc_sqlrows.specs.Ordered.{act_order, entry_order, account_order, AreHeld, BooksHavePages, BooksAreWhole}
 use Rattle.dcc_sqlrows.specs.Stored.{Rows}
+use Rattle.dcc_sqlrows.specs.OldRows.{IsOldActRow, AreOldHeld, OldBooksHavePages, OldBooksAreWhole}
 use Rattle.dcc_sqlrec.specs.Trees.{act_tree, entry_tree, account_tree, act_rows, entry_rows, account_rows}
 use Rattle.dcc_sqlrec.specs.Queries.{Shows, acts_query, entries_query, accounts_query}
-use Rattle.dcc_sqlrec.specs.Content.{HoldsBook, leaves}
+use Rattle.dcc_sqlrec.specs.Content.{HoldsBook, HoldsOldBook, leaves}
 use Rattle.dcc_sqlrec.specs.Opening.{ShowsRows, IsDamagedIn, DisagreeIn}
+use Rattle.dcc_sqlrec.specs.Upgrade.{IsOldDamagedIn, OldDisagreeIn}
 use Rattle.dcc_sqlrec.proofs.Answering.{each_row, shown_of, shows_acts, shows_entries, shows_accounts}
 use Rattle.dcc_sqlrec.proofs.Loads.{just_along}
 
@@ -121,6 +122,26 @@ pub no_book : BooksHavePages → BooksAreWhole → (terms : TermsView) (db : Tre
 no_book pages whole terms db (inl bad) held book = whole terms held bad.0 (shown_held terms db held bad.0 book bad.1) bad.2
 no_book pages whole terms db (inr none) held book =
     let it = pages terms held none.0 (shown_held terms db held none.0 book none.1) in
+    none.3 it.0 it.1
+
+-- the same of tables of layout 1
+shown_old_held : (terms : TermsView) (db : Trees) (held : Held) (rows : Rows) → HoldsOldBook terms db held → ShowsRows db rows → AreOldHeld terms held rows
+shown_old_held terms db held rows book shown = record {
+  own = book.own;
+  subs = book.subs;
+  fits = book.fits;
+  acts = just_along (act_rows db) rows.acts (IsOldActRow held) (IsPermutation-sym (act_rows db) rows.acts (shows_acts db rows.acts shown.acts)) book.acts;
+  entries = just_along (entry_rows db) rows.entries (IsEntryRow terms held) (IsPermutation-sym (entry_rows db) rows.entries (shows_entries db rows.entries shown.entries)) book.entries;
+  accounts = just_along (account_rows db) rows.accounts (IsAccountRow terms held) (IsPermutation-sym (account_rows db) rows.accounts (shows_accounts db rows.accounts shown.accounts)) book.accounts;
+  acts_sorted = acts_sorted db rows.acts shown.acts;
+  entries_sorted = entries_sorted db rows.entries shown.entries;
+  accounts_sorted = accounts_sorted db rows.accounts shown.accounts;
+}
+
+pub no_old_book : OldBooksHavePages → OldBooksAreWhole → (terms : TermsView) (db : Trees) → IsOldDamagedIn db ⊎ OldDisagreeIn terms db → (held : Held) → ¬ HoldsOldBook terms db held
+no_old_book pages whole terms db (inl bad) held book = whole terms held bad.0 (shown_old_held terms db held bad.0 book bad.1) bad.2
+no_old_book pages whole terms db (inr none) held book =
+    let it = pages terms held none.0 (shown_old_held terms db held none.0 book none.1) in
     none.3 it.0 it.1
 
 -- where a stop leaves the content of one of two books, and nothing else, tables that it leaves hold a book

@@ -6,10 +6,12 @@ use Rattle.dcc_tariff.specs.Terms.{TermsView}
 use Rattle.dcc_act.specs.declared.act.Act.{Act}
 use Rattle.dcc_act.specs.declared.sub.Sub.{Sub}
 use Rattle.dcc_record.specs.Limits.{IsAct}
+use Rattle.dcc_record.specs.OldRecords.{IsOldAct}
 use Rattle.dcc_records.specs.Books.{Held, IsBook}
 use Rattle.dcc_records.specs.Contents.{Content, IsContentOf}
 use Rattle.dcc_sqlrows.specs.Pages.{IsSub}
 use Rattle.dcc_sqlrows.specs.Held.{AreJust, IsActRow, IsEntryRow, IsAccountRow}
+use Rattle.dcc_sqlrows.specs.OldRows.{IsOldActRow}
 use Rattle.dcc_sqlrec.specs.Trees.{act_rows, entry_rows, account_rows}
 
 -- The tables hold this book under these terms: of each subscriber the acts, which are those that the list itself makes, their
@@ -19,6 +21,15 @@ pub record HoldsBook (terms : TermsView) (db : Trees) (held : Held) : Type 0 whe
   pub subs : (sub : Sub) → held sub ≢ [] → IsSub sub
   pub fits : (sub : Sub) (i : ℕ) (act : Act) → slice_get (held sub) i ≡ Some act → IsAct act
   pub acts : AreJust (act_rows db) (IsActRow held)
+  pub entries : AreJust (entry_rows db) (IsEntryRow terms held)
+  pub accounts : AreJust (account_rows db) (IsAccountRow terms held)
+
+-- The same of the tables of layout 1: the acts have records of version 1.
+pub record HoldsOldBook (terms : TermsView) (db : Trees) (held : Held) : Type 0 where
+  pub own : IsBook terms held
+  pub subs : (sub : Sub) → held sub ≢ [] → IsSub sub
+  pub fits : (sub : Sub) (i : ℕ) (act : Act) → slice_get (held sub) i ≡ Some act → IsOldAct act
+  pub acts : AreJust (act_rows db) (IsOldActRow held)
   pub entries : AreJust (entry_rows db) (IsEntryRow terms held)
   pub accounts : AreJust (account_rows db) (IsAccountRow terms held)
 

@@ -6,3 +6,4 @@ pub mod Content
 pub mod Faults
 pub mod inner
 pub mod Opening
+pub mod Upgrade

@@ -24,6 +24,10 @@ setting_row_in layout setting =
 abbrev pub setting_row : Setting → Row
 setting_row setting = setting_row_in 2 setting
 
+-- stores of layout 1 have records of acts of version 1
+abbrev pub old_setting_row : Setting → Row
+old_setting_row setting = setting_row_in 1 setting
+
 -- the tables of a store, with no acts, entries and accounts, and this setting
 abbrev pub IsFirst : Setting → Trees → Type 0
 IsFirst setting db = AreEmpty db × (setting_rows db ≡ setting_row setting ∷ []) × IsStore db

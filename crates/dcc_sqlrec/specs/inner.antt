@@ -7,3 +7,6 @@ pub mod Reading
 pub mod Rowids
 pub mod Opening
 pub mod Telling
+pub mod Dropping
+pub mod Refilling
+pub mod Upgrading

@@ -37,7 +37,7 @@ pub fn add_rows<S: Alter>(
 }
 
 /// The row of an act is added.
-fn add_act<S: Alter>(
+pub fn add_act<S: Alter>(
     tx: &mut Transaction<'_, S>,
     sub: &[u8],
     place: u32,
@@ -61,7 +61,7 @@ fn add_act<S: Alter>(
 }
 
 /// The rows of the entries of an act are added, line by line.
-fn add_entries<S: Alter>(
+pub fn add_entries<S: Alter>(
     tx: &mut Transaction<'_, S>,
     sub: &[u8],
     place: u32,
@@ -179,7 +179,7 @@ fn drop_account<S: Alter>(tx: &mut Transaction<'_, S>, sub: &[u8]) -> Result<(),
 }
 
 /// The row of an account is added.
-fn add_account<S: Alter>(
+pub fn add_account<S: Alter>(
     tx: &mut Transaction<'_, S>,
     sub: &[u8],
     acts: u32,

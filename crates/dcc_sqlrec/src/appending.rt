@@ -55,7 +55,7 @@ pub fn store_act<S: Alter>(
 }
 
 /// A subscriber as the tables have it: the type in one octet, and the data.
-fn octets_of(alloc: Global, sub: Sub) -> Result<Vec<u8>, AllocError>
+pub fn octets_of(alloc: Global, sub: Sub) -> Result<Vec<u8>, AllocError>
     ensures value { IfOk result (λ octets. octets.items ≡ sub_octets sub) }
     ensures valid { IsSub sub }
 {

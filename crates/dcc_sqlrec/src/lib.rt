@@ -14,6 +14,9 @@
 //!   of acts by one statement, and judges each list of acts by an account of its own.
 //! - [`SqlRecords::open`] reads each table whole, by one statement, and judges the rows by the acts: Ok with the book that the tables
 //!   hold, or the first fault that applies, with nothing changed. Rows of a book are never told 54 or 55.
+//! - [`upgrade`] makes a store of layout 1, whose acts have records of version 1, into the store of layout 2 of the same acts, in one
+//!   transaction: a stop inside leaves the one or the other. The rows are judged before anything is changed. What is not such a store stays as it
+//!   was.
 //! - [`stop_and_open`] finds one of the databases that a stop leaves, and [`stop_and_reopen`] the records in it: what they hold is one
 //!   of the contents that a stop leaves. Where a stop leaves a book's content, only want of memory, a database that fails or another
 //!   setting keeps it from being opened.
@@ -21,24 +24,30 @@
 
 mod adding;
 mod appending;
+mod dropping;
 mod fault;
 mod files;
 mod judging;
 mod layout;
 mod loading;
 mod making;
+mod old_store;
 mod opening;
 mod parts;
 mod reading;
 mod records;
+mod refilling;
+mod remaking;
 mod rising;
 mod setting;
 mod sql_records;
 mod tally;
 mod telling;
 mod transaction;
+mod upgrading;
 
 pub use fault::{CreateFault, OpenFault};
 pub use files::{stop_and_open, stop_and_reopen};
 pub use setting::Setting;
 pub use sql_records::SqlRecords;
+pub use upgrading::upgrade;

@@ -62,7 +62,10 @@ fn commit_tables<S: Alter>(conn: &mut Connection<S>, setting: &Setting<'_>) -> R
 }
 
 /// The four tables are made, and the row of the setting is written.
-fn make_tables<S: Alter>(tx: &mut Transaction<'_, S>, setting: &Setting<'_>) -> Result<(), Error>
+pub fn make_tables<S: Alter>(
+    tx: &mut Transaction<'_, S>,
+    setting: &Setting<'_>,
+) -> Result<(), Error>
     ensures same_reference { tx.new.conn.ghost_name ≡ tx.old.conn.ghost_name }
     ensures made { HasCleanDisk (state S.Store tx.new.conn.now) → IsTrue (state S.Store tx.old.conn.now).in_transaction
         → (state S.Store tx.old.conn.now).now.schema ≡ no_schema

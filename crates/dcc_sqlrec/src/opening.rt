@@ -80,7 +80,7 @@ pub fn open_store<S: Alter>(
 }
 
 /// All that is read of a store. Want of memory leaves a store that may be used.
-fn read_store<S: Alter>(conn: &mut Connection<S>) -> Result<Found, StoreFault>
+pub fn read_store<S: Alter>(conn: &mut Connection<S>) -> Result<Found, StoreFault>
     requires { conn.old.in_transaction ≡ false }
     ensures mode { conn.new.in_transaction ≡ false }
     ensures clean { doubt (state S.Store conn.old).is_clean ≤ doubt (state S.Store conn.new).is_clean }

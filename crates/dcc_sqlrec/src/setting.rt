@@ -3,7 +3,7 @@
 ghost use Rattle.std.specs.Prelude.{◌≡◌, ◌↔◌, true, pos, [], ◌∷◌};
 ghost use Rattle.sqlite.specs.declared.types.Value.TheVariants.{Int, Text};
 ghost use Rattle.sqlite.specs.Order.{column};
-ghost use Rattle.dcc_sqlrec.specs.Setting.{setting_row};
+ghost use Rattle.dcc_sqlrec.specs.Setting.{setting_row, setting_row_in};
 
 use dcc_sqlrows::{has_count, has_number, has_text};
 use dcc_tariff::Terms;
@@ -28,28 +28,35 @@ pub struct Setting<'a> {
 pub fn is_setting(rows: &[Row], setting: &Setting<'_>) -> bool
     ensures { result ≡ true ↔ rows.now ≡ setting_row setting.now ∷ [] }
 {
+    is_setting_in(rows, setting, 2)
+}
+
+/// The same for a store of a layout.
+pub fn is_setting_in(rows: &[Row], setting: &Setting<'_>, layout: u64) -> bool
+    ensures { result ≡ true ↔ rows.now ≡ setting_row_in layout setting.now ∷ [] }
+{
     match rows {
-        [only] => is_setting_row(only, setting),
+        [only] => is_setting_row(only, setting, layout),
         _ => false,
     }
 }
 
-/// Whether a row is that of this setting.
+/// Whether a row is that of this setting in a layout.
 #[tactic(auto, using(crate::proofs::Values::ten_values))]
-fn is_setting_row(row: &Row, setting: &Setting<'_>) -> bool
-    ensures { result ≡ true ↔ row.now ≡ setting_row setting.now }
+fn is_setting_row(row: &Row, setting: &Setting<'_>, layout: u64) -> bool
+    ensures { result ≡ true ↔ row.now ≡ setting_row_in layout setting.now }
 {
-    row.column_count() == 10 && is_of_server(row, setting) && has_terms(row, &setting.terms)
+    row.column_count() == 10 && is_of_server(row, setting, layout) && has_terms(row, &setting.terms)
 }
 
 /// Whether a row begins with the one row's number, the layout's, and the shard and the names of the server.
-fn is_of_server(row: &Row, setting: &Setting<'_>) -> bool
-    ensures { result ≡ true ↔ (column row.now 0 ≡ Int (pos 1)) × (column row.now 1 ≡ Int (pos 2))
+fn is_of_server(row: &Row, setting: &Setting<'_>, layout: u64) -> bool
+    ensures { result ≡ true ↔ (column row.now 0 ≡ Int (pos 1)) × (column row.now 1 ≡ Int (pos layout))
         × (column row.now 2 ≡ Int (pos setting.now.shard)) × (column row.now 3 ≡ Int (pos setting.now.shards))
         × (column row.now 4 ≡ Text setting.now.host.now) × (column row.now 5 ≡ Text setting.now.realm.now) }
 {
     has_count(row, 0, 1)
-        && has_count(row, 1, 2)
+        && has_count(row, 1, layout)
         && has_count(row, 2, u64::from(setting.shard))
         && has_count(row, 3, u64::from(setting.shards))
         && has_text(row, 4, setting.host)
