@@ -1,1 +1,4 @@
 pub mod Stopped
+pub mod Layouts
+pub mod OldBooks
+pub mod Upgraded

@@ -1,9 +1,12 @@
-//! A shard that is stopped and opened again.
+//! A shard that is stopped and opened again, and a store that is stopped in the midst of its upgrade.
 //!
-//! Stands on `dcc_sqlrec` for records over a database and what a stop leaves of them, on `dcc_shard` for what stands on records, and on the kit's
-//! `sqlite` for files. It gives one law: [`stop_and_reopen_shard`], of any disk that returns what was written. No program calls it.
+//! Stands on `dcc_sqlrec` for records over a database, for the upgrade of a store and what a stop leaves of both, on `dcc_record` for the records of
+//! layout 1, on `dcc_shard` for what stands on records, and on the kit's `sqlite` for files. It gives two laws of any disk that returns what was
+//! written: [`stop_and_reopen_shard`] and [`stop_and_upgrade`]. No program calls them.
 #![tactic(auto)]
 
 mod stops;
+mod upgrades;
 
 pub use stops::stop_and_reopen_shard;
+pub use upgrades::stop_and_upgrade;
