@@ -1,5 +1,5 @@
 -- Of which shard a store is.
-use Rattle.std.specs.Prelude.{◌≡◌, ◌≢◌, ◌⊎◌, ℕ, ◌^◌, ◌≤◌, IsUtf8, [], ◌∷◌}
+use Rattle.std.specs.Prelude.{◌≡◌, ◌≢◌, ◌⊎◌, ℕ, ◌^◌, ◌≤◌, IsUtf8, [], ◌∷◌, length}
 use Rattle.sqlite.specs.Tree.{Trees}
 use Rattle.sqlite.specs.Held.{Held, state}
 use Rattle.sqlite.specs.State.{HasCleanDisk}
@@ -11,8 +11,9 @@ use Rattle.dcc_tariff.specs.Plans.{PlanView}
 use Rattle.dcc_sqlrec.specs.declared.setting.Setting.{Setting}
 use Rattle.dcc_sqlrec.specs.Setting.{setting_row}
 use Rattle.dcc_sqlrec.specs.Tables.{no_schema, layout}
-use Rattle.dcc_sqlrec.specs.Trees.{setting_rows}
+use Rattle.dcc_sqlrec.specs.Trees.{setting_rows, act_rows}
 use Rattle.dcc_sqlrec.specs.Opening.{HasOtherSetting, IsDamagedIn, DisagreeIn}
+use Rattle.dcc_sqlrec.specs.Upgrade.{HasOldSetting, IsUpgraded, IsOldDamagedIn, OldDisagreeIn}
 
 -- the setting of the store of a shard, by its index, under a plan
 pub record IsSettingOf (plan : PlanView) (shard : ℕ) (setting : Setting) : Type 0 where
@@ -22,13 +23,43 @@ pub record IsSettingOf (plan : PlanView) (shard : ℕ) (setting : Setting) : Typ
   pub realm : setting.realm.now ≡ plan.realm
   pub terms : setting.terms ≡ plan.terms
 
+-- the setting that stands in the tables is this one, in layout 2
+abbrev pub HasSetting : Setting → Trees → Type 0
+HasSetting setting db = setting_rows db ≡ setting_row setting ∷ []
+
 -- the setting that stands in the tables is that of this shard under this plan; the tariffs of a plan are no part of it
 abbrev pub AreOfShard : PlanView → ℕ → Trees → Type 0
-AreOfShard plan shard db = (setting : Setting) × IsSettingOf plan shard setting × (setting_rows db ≡ setting_row setting ∷ [])
+AreOfShard plan shard db = (setting : Setting) × IsSettingOf plan shard setting × HasSetting setting db
+
+-- The store of this shard was of layout 1 and had so many acts. Now it is the store of layout 2 of the same acts.
+abbrev pub UpgradesShard : PlanView → ℕ → ℕ → Trees → Trees → Type 0
+UpgradesShard plan shard count old new =
+    ∥ ((setting : Setting) × IsSettingOf plan shard setting × IsUpgraded setting old new) ∥₁ × (count ≡ length (act_rows old))
 
 -- a plan has no such setting: its names are no text, or its index is none that a store can have
 abbrev pub HasNoSetting : PlanView → ℕ → Type 0
 HasNoSetting plan shard = (¬ IsUtf8 plan.host) ⊎ ((¬ IsUtf8 plan.realm) ⊎ (2 ^ 32 ≤ shard))
+
+-- the setting that stands in the tables is another one, in layout 2 and in layout 1
+abbrev pub HasNeitherSetting : Setting → Trees → Type 0
+HasNeitherSetting setting db = HasOtherSetting setting db × (¬ HasOldSetting setting db)
+
+-- some row is no act's, or is of nobody, by the records that go with the layout
+abbrev pub HasDamage : Setting → Trees → Type 0
+HasDamage setting db = (HasSetting setting db × IsDamagedIn db) ⊎ (HasOldSetting setting db × IsOldDamagedIn db)
+
+-- no row is damaged, and there is no book whose rows these are in the layout
+abbrev pub HasNoBook : Setting → Trees → Type 0
+HasNoBook setting db = (HasSetting setting db × DisagreeIn setting.terms db) ⊎ (HasOldSetting setting db × OldDisagreeIn setting.terms db)
+
+-- a connection that was just opened sees what is committed
+abbrev pub SeesCommitted : {S : Type 0} → Ghosts S → Held S → Type 0
+SeesCommitted {S} g conn = HasCleanDisk (state g conn) → (state g conn).now ≡ (state g conn).committed
+
+-- the tables are those of a store, and this is so of them under the setting of the shard, where the disk has returned what was written
+abbrev pub IsFound : {S : Type 0} → Ghosts S → PlanView → ℕ → Held S → (Setting → Trees → Type 0) → Type 0
+IsFound {S} g plan shard conn Says =
+    (conn.schema ≡ layout) × (setting : Setting) × IsSettingOf plan shard setting × (after : Held S) × (HasCleanDisk (state g after) → Says setting (state g conn).now.trees)
 
 -- The number of the fault for which a database isn't opened as the store of a shard, with its cause: 50 want of memory, 51 the database failed,
 -- 53 other tables or another setting, 54 rows of no book, 55 a row of no act or of nobody. The rows are judged where the disk has returned
@@ -36,10 +67,8 @@ HasNoSetting plan shard = (¬ IsUtf8 plan.host) ⊎ ((¬ IsUtf8 plan.realm) ⊎ 
 abbrev pub IsOpenFault : {S : Type 0} → Ghosts S → PlanView → ℕ → Held S → ℕ → Type 0
 IsOpenFault {S} g plan shard conn number =
     ((number ≡ 50) ⊎ (number ≡ 51))
-    ⊎ (((number ≡ 53) × (HasNoSetting plan shard ⊎ (((conn.schema ≢ no_schema) × (conn.schema ≢ layout))
-    ⊎ ((conn.schema ≡ layout) × (setting : Setting) × IsSettingOf plan shard setting × (after : Held S) × (HasCleanDisk (state g after) → HasOtherSetting setting (state g conn).now.trees)))))
-    ⊎ (((number ≡ 54) × (conn.schema ≡ layout) × (after : Held S) × (HasCleanDisk (state g after) → DisagreeIn plan.terms (state g conn).now.trees))
-    ⊎ ((number ≡ 55) × (conn.schema ≡ layout) × (after : Held S) × (HasCleanDisk (state g after) → IsDamagedIn (state g conn).now.trees))))
+    ⊎ (((number ≡ 53) × (HasNoSetting plan shard ⊎ (((conn.schema ≢ no_schema) × (conn.schema ≢ layout)) ⊎ IsFound g plan shard conn HasNeitherSetting)))
+    ⊎ (((number ≡ 54) × IsFound g plan shard conn HasNoBook) ⊎ ((number ≡ 55) × IsFound g plan shard conn HasDamage)))
 
 -- what opening a file tells: want of memory, or that it failed
 abbrev pub connect_number : Error → ℕ

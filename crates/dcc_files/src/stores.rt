@@ -1,15 +1,16 @@
 //! Stores in files.
 
-ghost use Rattle.std.specs.Prelude.{◌≡◌, ◌≢◌, IfOk, IfErr, IfSome, IfNone};
+ghost use Rattle.std.specs.Prelude.{◌≡◌, ◌≢◌, None, IfOk, IfErr, IfSome, IfNone};
 ghost use Rattle.sqlite.specs.Files.{file_state};
 ghost use Rattle.sqlite.specs.Held.{state};
 ghost use Rattle.sqlite.specs.State.{HasCleanDisk};
-ghost use Rattle.dcc_files.specs.Stores.{IsSettingOf, AreOfShard, HasNoSetting, IsConnectFault, IsOpenFault, IsFileFault, connect_number};
+ghost use Rattle.dcc_files.specs.Stores.{IsSettingOf, AreOfShard, UpgradesShard, HasNoSetting, SeesCommitted, IsConnectFault, IsOpenFault, IsFileFault, connect_number};
 ghost use Rattle.dcc_sqlrec.specs.Faults.{open_number, create_number};
 ghost use Rattle.dcc_sqlrec.specs.Tables.{no_schema};
 ghost use Rattle.dcc_sqlrec.specs.Trees.{IsUndone};
 
 use crate::file_records::FileRecords;
+use crate::opening::open_or_upgrade;
 use dcc_operator::{StoreRefusal, Stores};
 use dcc_sqlrec::{CreateFault, OpenFault, Setting, SqlRecords};
 use dcc_tariff::Plan;
@@ -19,6 +20,7 @@ use sqlite_trees::store::Store;
 use std::alloc::{AllocError, Global};
 use std::fs;
 use std::hash::RandomState;
+use std::io::Write;
 
 /// The fault of memory, and that of a database that failed.
 const MEMORY: StoreRefusal = StoreRefusal(50);
@@ -42,11 +44,23 @@ impl<'r> FileStores<'r> {
 
     /// A connection to the database at a path, which is made where there is none.
     fn connect(&self, path: &str) -> Result<Connection<FileStore<File>>, StoreRefusal>
-        ensures { IfErr result (λ refusal. IsConnectFault refusal.0) }
+        ensures sees { IfOk result (λ conn. SeesCommitted ⟦<FileStore<File> as Store>⟧ conn) }
+        ensures refused { IfErr result (λ refusal. IsConnectFault refusal.0) }
     {
         match Connection::open(self.rt, path) {
             Ok(conn) => Ok(conn),
             Err(error) => Err(unconnected(&error)),
+        }
+    }
+
+    /// Reports the upgrade of a store by a line on standard error. If the line can't be written, nothing else is done.
+    fn report(&self, path: &str, upgraded: Option<u64>) {
+        if let Some(count) = upgraded {
+            let acts = if count == 1 { "act" } else { "acts" };
+            let _unwritten = writeln!(
+                self.rt.stderr(),
+                "dcc: {path}: store upgraded from layout 1 to layout 2, {count} {acts}"
+            );
         }
     }
 }
@@ -75,7 +89,10 @@ impl Stores for FileStores<'_> {
         }
         let conn = self.connect(path.as_str())?;
         match opened(alloc, conn, plan, shard, hasher)? {
-            Some(records) => Ok(Some(FileRecords { records })),
+            Some((records, upgraded)) => {
+                self.report(path.as_str(), upgraded);
+                Ok(Some(FileRecords { records }))
+            }
             None => Ok(None),
         }
     }
@@ -90,22 +107,29 @@ impl Stores for FileStores<'_> {
         let alloc = self.rt.alloc();
         let path = path_of(alloc, folder, shard).map_err(|_| MEMORY)?;
         let conn = self.connect(path.as_str())?;
-        let records = opened_or_made(alloc, conn, plan, shard, hasher)?;
+        let (records, upgraded) = opened_or_made(alloc, conn, plan, shard, hasher)?;
+        self.report(path.as_str(), upgraded);
         Ok(FileRecords { records })
     }
 }
 
-/// The records over a database, or none where there is nothing in it.
+/// The records over a database, and how many acts its store had where it was of layout 1 and is upgraded; or none where there is
+/// nothing in it.
 fn opened<S: Alter + Drop>(
     alloc: Global,
     conn: Connection<S>,
     plan: &Plan,
     shard: usize,
     hasher: RandomState,
-) -> Result<Option<SqlRecords<S>>, StoreRefusal>
-    ensures terms { IfOk result (λ found. IfSome found (λ records. records.terms ≡ plan.now.terms)) }
-    ensures shard { IfOk result (λ found. IfSome found (λ records. HasCleanDisk (state S.Store records.conn)
-        → AreOfShard plan.now shard (state S.Store records.conn).now.trees)) }
+) -> Result<Option<(SqlRecords<S>, Option<u64>)>, StoreRefusal>
+    requires { SeesCommitted S.Store conn }
+    ensures terms { IfOk result (λ found. IfSome found (λ opened. opened.0.terms ≡ plan.now.terms)) }
+    ensures shard { IfOk result (λ found. IfSome found (λ opened. HasCleanDisk (state S.Store opened.0.conn)
+        → AreOfShard plan.now shard (state S.Store opened.0.conn).now.trees)) }
+    ensures still { IfOk result (λ found. IfSome found (λ opened. opened.1 ≡ None → HasCleanDisk (state S.Store opened.0.conn)
+        → IsUndone (state S.Store conn) (state S.Store opened.0.conn))) }
+    ensures upgraded { IfOk result (λ found. IfSome found (λ opened. IfSome opened.1 (λ count. HasCleanDisk (state S.Store opened.0.conn)
+        → UpgradesShard plan.now shard count (state S.Store conn).now.trees (state S.Store opened.0.conn).now.trees))) }
     ensures none { IfOk result (λ found. IfNone found (conn.schema ≡ no_schema)) }
     ensures refused { IfErr result (λ refusal. IsOpenFault S.Store plan.now shard conn refusal.0) }
 {
@@ -114,8 +138,8 @@ fn opened<S: Alter + Drop>(
         drop(conn);
         return Err(LAYOUT);
     };
-    match SqlRecords::open(alloc, conn, &setting, hasher) {
-        Ok(records) => Ok(Some(records)),
+    match open_or_upgrade(alloc, conn, &setting, hasher) {
+        Ok(opened) => Ok(Some(opened)),
         Err((fault, conn)) => {
             drop(conn);
             match unopened(fault) {
@@ -133,20 +157,23 @@ fn opened_or_made<S: Alter + Drop>(
     plan: &Plan,
     shard: usize,
     hasher: RandomState,
-) -> Result<SqlRecords<S>, StoreRefusal>
-    ensures terms { IfOk result (λ records. records.terms ≡ plan.now.terms) }
-    ensures shard { IfOk result (λ records. HasCleanDisk (state S.Store records.conn)
-        → AreOfShard plan.now shard (state S.Store records.conn).now.trees) }
-    ensures still { IfOk result (λ records. conn.schema ≢ no_schema → HasCleanDisk (state S.Store records.conn)
-        → IsUndone (state S.Store conn) (state S.Store records.conn)) }
+) -> Result<(SqlRecords<S>, Option<u64>), StoreRefusal>
+    requires { SeesCommitted S.Store conn }
+    ensures terms { IfOk result (λ opened. opened.0.terms ≡ plan.now.terms) }
+    ensures shard { IfOk result (λ opened. HasCleanDisk (state S.Store opened.0.conn)
+        → AreOfShard plan.now shard (state S.Store opened.0.conn).now.trees) }
+    ensures still { IfOk result (λ opened. opened.1 ≡ None → conn.schema ≢ no_schema → HasCleanDisk (state S.Store opened.0.conn)
+        → IsUndone (state S.Store conn) (state S.Store opened.0.conn)) }
+    ensures upgraded { IfOk result (λ opened. IfSome opened.1 (λ count. HasCleanDisk (state S.Store opened.0.conn)
+        → UpgradesShard plan.now shard count (state S.Store conn).now.trees (state S.Store opened.0.conn).now.trees)) }
     ensures refused { IfErr result (λ refusal. IsOpenFault S.Store plan.now shard conn refusal.0) }
 {
     let Some(setting) = setting_of(plan, shard) else {
         drop(conn);
         return Err(LAYOUT);
     };
-    let (fault, conn) = match SqlRecords::open(alloc, conn, &setting, hasher) {
-        Ok(records) => return Ok(records),
+    let (fault, conn) = match open_or_upgrade(alloc, conn, &setting, hasher) {
+        Ok(opened) => return Ok(opened),
         Err(refused) => refused,
     };
     if let Some(refusal) = unopened(fault) {
@@ -154,7 +181,7 @@ fn opened_or_made<S: Alter + Drop>(
         return Err(refusal);
     }
     match SqlRecords::create(alloc, conn, &setting, hasher) {
-        Ok(records) => Ok(records),
+        Ok(records) => Ok((records, None)),
         Err((fault, conn)) => {
             drop(conn);
             Err(unmade(fault))

@@ -1,7 +1,9 @@
 //! Where the rows of a store are not those of a book.
 
+use crate::rows::number;
+use crate::settings::layout_of;
 use crate::subs::{shown, sub_of};
-use dcc_record::{RecordFault, read_act};
+use dcc_record::{RecordFault, read_act, read_act_1};
 use sqlite::types::ValueRef;
 use sqlite::{Alter, Connection, Row, params};
 use std::alloc::{AllocError, Global};
@@ -15,16 +17,17 @@ pub(crate) fn damage_words<S: Alter>(
     else {
         return String::from_str(alloc, "its acts can't be read");
     };
+    let layout = layout_of(conn);
     for row in &rows {
-        if let Some(words) = act_slip(alloc, row)? {
+        if let Some(words) = act_slip(alloc, row, layout)? {
             return Ok(words);
         }
     }
     String::from_str(alloc, "a row of its entries or accounts is of nobody")
 }
 
-/// What is wrong with the row of an act.
-fn act_slip(alloc: Global, row: &Row) -> Result<Option<String>, AllocError> {
+/// What is wrong with the row of an act, in a store of this layout.
+fn act_slip(alloc: Global, row: &Row, layout: i64) -> Result<Option<String>, AllocError> {
     let place = number(row, 1);
     let Some(sub) = sub_of(row) else {
         return Ok(Some(format!(in alloc; "a row of its acts, with place {place}, is of nobody")?));
@@ -33,7 +36,12 @@ fn act_slip(alloc: Global, row: &Row) -> Result<Option<String>, AllocError> {
         Ok(ValueRef::Blob(octets)) => octets,
         _ => b"".as_slice(),
     };
-    match read_act(alloc, body) {
+    let read = if layout == 1 {
+        read_act_1(alloc, body)
+    } else {
+        read_act(alloc, body)
+    };
+    match read {
         Ok(_) => Ok(None),
         Err(RecordFault::Memory) => Err(AllocError),
         Err(_) => {
@@ -104,13 +112,5 @@ fn one<S: Alter>(conn: &mut Connection<S>, query: &str, sub: &[u8]) -> i64 {
     match conn.query_row(query, params![sub]) {
         Ok(row) => number(&row, 0),
         Err(_) => 0,
-    }
-}
-
-/// The number of a column, or 0.
-fn number(row: &Row, at: usize) -> i64 {
-    match row.get_ref(at) {
-        Ok(ValueRef::Int(number)) => number,
-        _ => 0,
     }
 }

@@ -7,14 +7,14 @@ use crate::damage::{damage_words, disagreement_words};
 use crate::settings::setting_words;
 use crate::subs::stray_words;
 use dcc_explain::StoreNote;
-use dcc_files::setting_of;
-use dcc_sqlrec::{OpenFault, SqlRecords};
+use dcc_files::{open_or_upgrade, setting_of};
+use dcc_sqlrec::OpenFault;
 use dcc_tariff::Plan;
 use sqlite::{Alter, Connection};
 use std::alloc::{AllocError, Global};
 use std::hash::RandomState;
 
-/// What is found of a database as the store of a shard.
+/// What is found of a database as the store of a shard. It is a copy: a store of layout 1 is upgraded in it, as an opening does.
 pub(crate) fn note_over<S: Alter + Drop>(
     alloc: Global,
     conn: Connection<S>,
@@ -28,11 +28,11 @@ pub(crate) fn note_over<S: Alter + Drop>(
     };
     let mut conn = conn;
     let stray = stray_words(alloc, &mut conn, shard, usize::from(plan.shards()));
-    match SqlRecords::open(alloc, conn, &setting, hasher) {
-        Ok(records) => {
+    match open_or_upgrade(alloc, conn, &setting, hasher) {
+        Ok((records, upgraded)) => {
             // By a call: records that are let go in place are proved part by part.
             drop(records);
-            opened_note(alloc, stray?)
+            opened_note(alloc, stray?, upgraded.is_some())
         }
         Err((fault, conn)) => {
             let mut conn = conn;
@@ -43,18 +43,27 @@ pub(crate) fn note_over<S: Alter + Drop>(
     }
 }
 
-/// A store that is opened: it is good, or it has a subscriber of another shard.
-fn opened_note(alloc: Global, stray: Option<String>) -> Result<StoreNote, AllocError> {
-    match stray {
-        Some(words) => Ok(StoreNote {
+/// A store that is opened: it is good, or it has a subscriber of another shard. A good one may be of layout 1.
+fn opened_note(
+    alloc: Global,
+    stray: Option<String>,
+    is_upgraded: bool,
+) -> Result<StoreNote, AllocError> {
+    if let Some(words) = stray {
+        return Ok(StoreNote {
             fault: Some(54),
             words,
-        }),
-        None => Ok(StoreNote {
-            fault: None,
-            words: String::from_str(alloc, "good")?,
-        }),
+        });
     }
+    let words = if is_upgraded {
+        "good; an opening makes it a store of layout 2"
+    } else {
+        "good"
+    };
+    Ok(StoreNote {
+        fault: None,
+        words: String::from_str(alloc, words)?,
+    })
 }
 
 /// A store that isn't opened, for this fault; an empty one is made by a server.

@@ -1,9 +1,18 @@
 //! How a store's setting differs from a plan.
 
+use crate::rows::number;
 use dcc_tariff::Plan;
 use sqlite::types::ValueRef;
 use sqlite::{Alter, Connection, Row};
 use std::alloc::{AllocError, Global};
+
+/// The layout that the setting of a store has, and else 0.
+pub(crate) fn layout_of<S: Alter>(conn: &mut Connection<S>) -> i64 {
+    match conn.query_row("SELECT layout FROM setting", &[]) {
+        Ok(row) => number(&row, 0),
+        Err(_) => 0,
+    }
+}
 
 /// The keys of a store's setting that differ from a plan and a shard, each with both values.
 pub(crate) fn setting_words<S: Alter>(
@@ -41,7 +50,10 @@ fn push_numbers(
     shard: usize,
 ) -> Result<(), AllocError> {
     let terms = plan.terms();
-    push_number(words, row, 0, "layout", 2)?;
+    // An opening upgrades a store of layout 1.
+    if number(row, 0) != 1 {
+        push_number(words, row, 0, "layout", 2)?;
+    }
     push_number(
         words,
         row,

@@ -1,0 +1,12 @@
+//! Numbers in rows.
+
+use sqlite::Row;
+use sqlite::types::ValueRef;
+
+/// The number of a column, or 0.
+pub(crate) fn number(row: &Row, at: usize) -> i64 {
+    match row.get_ref(at) {
+        Ok(ValueRef::Int(number)) => number,
+        _ => 0,
+    }
+}
