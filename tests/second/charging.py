@@ -14,6 +14,7 @@ UNABLE_TO_COMPLY, USER_UNKNOWN, RATING_FAILED = 5012, 5030, 5031
 DIRECT_DEBITING, REFUND, CHECK_BALANCE, PRICE_ENQUIRY = range(4)
 MOST_FUNDS = 10**18
 MOST_SESSIONS = 1024
+TOP_UP, DEBIT, REPAYMENT, CHARGE = 1, 2, 3, 4
 
 
 class Grant(NamedTuple):
@@ -39,6 +40,15 @@ class Outcome(NamedTuple):
     is_enough: bool | None = None
 
 
+class Entry(NamedTuple):
+    """A change of the funds: what it stands for, and the units that were charged or given back."""
+
+    kind: int
+    group: int | None
+    units: int
+    amount: int
+
+
 class Session:
     def __init__(self, deadline):
         self.deadline, self.live = deadline, {}
@@ -46,40 +56,45 @@ class Session:
 
 class Account:
     def __init__(self, plan):
-        self.plan, self.funds = plan, 0
-        self.tickets, self.kept = {}, {}
+        self.plan, self.funds, self.overrun = plan, 0, 0
+        self.tickets, self.kept, self.entries = {}, {}, []
         self.open, self.names = {}, set()
 
     def free(self):
         """What no live grant has reserved."""
         return self.funds - sum(grant.price for session in self.open.values() for grant in session.live.values())
 
+    def book(self, kind, group, units, amount):
+        """Changes the funds, by an entry."""
+        self.funds += amount
+        self.entries.append(Entry(kind, group, units, amount))
+
     def top_up(self, ticket, amount):
         """Whether the amount was added, now or when its ticket came first."""
         if ticket not in self.tickets:
             self.tickets[ticket] = self.funds + amount <= MOST_FUNDS
             if self.tickets[ticket]:
-                self.funds += amount
+                self.book(TOP_UP, None, 0, amount)
         return self.tickets[ticket]
 
     def expire(self, moment):
         for name in [name for name, session in self.open.items() if session.deadline <= moment]:
             del self.open[name]
 
-    def answer(self, request, moment):
-        """The outcome of a request that wasn't made before."""
+    def answer(self, request, moment, most_sessions):
+        """The outcome of a request that wasn't made before, judged by this limit of open sessions."""
         services = [self.plan.service(asked, request.kind == EVENT, moment) for asked in request.services]
         if request.kind == EVENT:
             return self.event(request.action, services[0])
         if request.kind in (UPDATE, TERMINATION):
             return self.go_on(request, services, moment)
-        return self.begin(request, services, moment)
+        return self.begin(request, services, moment, most_sessions)
 
-    def begin(self, request, services, moment):
+    def begin(self, request, services, moment, most_sessions):
         """An initial request, whose reports aren't looked at."""
         if request.session in self.names:
             return Outcome(UNABLE_TO_COMPLY)
-        if len(self.open) >= MOST_SESSIONS:
+        if len(self.open) >= most_sessions:
             return Outcome(RESOURCES_EXCEEDED)
         session = self.open[request.session] = Session(moment + self.plan.hold)
         outcomes = [self.grant(session, service) for service in services]
@@ -97,10 +112,13 @@ class Account:
             return Outcome(UNKNOWN_SESSION)
         # A report is charged at the tariff of what was granted, or else of the moment.
         tariffs = [session.live[it.key()].tariff if it.key() in session.live else it.tariff for it in services]
-        charges = [tariff.price_of(it.used) for it, tariff in zip(services, tariffs) if it.used is not None and tariff]
-        if self.funds - sum(charges) < -MOST_FUNDS:
+        charges = [(it, tariff.price_of(it.used)) for it, tariff in zip(services, tariffs) if it.used is not None and tariff]
+        if self.funds - sum(price for _, price in charges) < -MOST_FUNDS:
             return Outcome(UNABLE_TO_COMPLY)
-        self.funds -= sum(charges)
+        for service, price in charges:
+            reserved = session.live[service.key()].price if service.key() in session.live else 0
+            self.overrun += max(price - reserved, 0)
+            self.book(CHARGE, service.asked.group, service.used, -price)
         for service in services:
             if service.used is not None or service.requested is not None:
                 session.live.pop(service.key(), None)
@@ -139,10 +157,12 @@ class Account:
         result, granted = SUCCESS, None
         if action == DIRECT_DEBITING:
             result, granted = (SUCCESS, service.requested) if is_covered else (CREDIT_LIMIT_REACHED, None)
-            self.funds -= price if is_covered else 0
+            if is_covered:
+                self.book(DEBIT, service.asked.group, service.requested, -price)
         elif action == REFUND:
             result = SUCCESS if self.funds + price <= MOST_FUNDS else UNABLE_TO_COMPLY
-            self.funds += price if result == SUCCESS else 0
+            if result == SUCCESS:
+                self.book(REPAYMENT, service.asked.group, service.requested, price)
         return Outcome(
             result,
             [ServiceOutcome(service, result, granted)],

@@ -86,12 +86,13 @@ FORMS = {
 
 
 class Judge:
-    """A server under a plan: its peers, the hosts of those that are open, its accounts, who opened which session from which host, and how many
-    events it took.
+    """A server under a plan: its peers, the hosts of those that are open, its accounts, who opened which session from which host, how many sessions
+    a subscriber may have open, and how many events it took.
     """
 
-    def __init__(self, plan):
+    def __init__(self, plan, make_account=Account, most_sessions=MOST_SESSIONS):
         self.plan, self.accounts, self.openers = plan, {}, {}
+        self.make_account, self.most_sessions = make_account, most_sessions
         self.peers, self.hosts, self.events = {}, {}, 0
         self.origin = spell(ORIGIN_HOST, plan.host) + spell(ORIGIN_REALM, plan.realm)
 
@@ -114,7 +115,7 @@ class Judge:
     def topup(self, _moment, subscriber, ticket, amount):
         if not 1 <= amount <= MOST_FUNDS:
             return ["topup bad"]
-        account = self.accounts.setdefault(subscriber, Account(self.plan))
+        account = self.accounts.setdefault(subscriber, self.make_account(self.plan))
         return ["topup done" if account.top_up(ticket, amount) else "topup ceiling"]
 
     def sweep(self, moment):
@@ -207,7 +208,7 @@ class Judge:
             return self.told(request, Outcome(USER_UNKNOWN))
         key = request.session, request.number
         if key not in account.kept:
-            outcome = account.answer(request, moment)
+            outcome = account.answer(request, moment, self.most_sessions)
             account.kept[key] = self.told(request, outcome)
             if request.kind == INITIAL and outcome.result == SUCCESS:
                 self.openers.setdefault((request.session, host), []).append(request.subscriber)

@@ -94,7 +94,7 @@ class Plan:
         keys = Keys(read_toml(octets))
         self.host, self.realm = keys.name("host"), keys.name("realm")
         self.address = keys.address("address")
-        keys.number("shards", 1, 8)  # which changes no answer
+        self.shards = keys.number("shards", 1, 8)  # which changes no answer
         self.default_group = keys.number("default_group", 0, 2**32 - 1)
         self.quantum = keys.number("quantum", 1, 10**12)
         self.validity, self.hold = keys.number("validity", 1, 10**6), keys.number("hold", 1, 10**6)

@@ -33,6 +33,8 @@ def moment_text(moment):
 
 
 class Maker(Writer):
+    most_sessions, most_services = MOST_SESSIONS, MOST_SERVICES
+
     def __init__(self, seed):
         self.dice = random.Random(seed)
         self.temper = self.dice.choice(list(TEMPERS))
@@ -79,18 +81,24 @@ class Maker(Writer):
 
     def make(self, count):
         """A script of about so many events, and a last look at each account."""
+        self.begin()
+        self.go_on(TEMPERS[self.temper], count)
+        self.look_at_all()
+        self.say(f"sweep {LAST_MOMENT}")
+        self.look_at_all()
+        return self
+
+    def begin(self):
         self.say(f"open 1 {HOSTS[1]}")
         self.say(f"open 2 {HOSTS[2]}")
         for subscriber in self.subscribers:
             if self.dice.random() < 0.9:
                 self.top_up_by(subscriber, self.dice.choice([1000, 10**5, 10**7, 10**18]))
-        weights = TEMPERS[self.temper]
+
+    def go_on(self, weights, count):
+        """So many events, each kind as often as its weight says."""
         for event in self.dice.choices(list(weights), weights.values(), k=count):
             getattr(self, event)()
-        self.look_at_all()
-        self.say(f"sweep {LAST_MOMENT}")
-        self.look_at_all()
-        return self
 
     def look_at_all(self):
         self.say("open 1 gw1.example")
@@ -289,7 +297,7 @@ class Maker(Writer):
         session = account.open.get(name) if account else None
         kind = dice.choice([UPDATE] * 8 + [TERMINATION] * 2 + [INITIAL]) if session else dice.choice([INITIAL] * 8 + [UPDATE, TERMINATION])
         live = list(session.live) if session else []
-        count = dice.choice([0, 1, 1, 1, 2, 2, 3, dice.randint(4, MOST_SERVICES)] + [MOST_SERVICES + 1] * (dice.random() < 0.02))
+        count = dice.choice([0, 1, 1, 1, 2, 2, 3, dice.randint(4, self.most_services)] + [self.most_services + 1] * (dice.random() < 0.02))
         single = dice.random() < 0.35
         rest = self.single_service(subscriber) if single else self.multi_services(subscriber, live, count)
         if dice.random() < 0.05:
@@ -330,7 +338,7 @@ class Maker(Writer):
     def crowd(self):
         """One subscriber, of all always the same, opens as many sessions as it may, and one or two more."""
         account = self.account(self.crowded)
-        for _ in range(MOST_SESSIONS + 2 - len(account.open) if account else 0):
+        for _ in range(self.most_sessions + 2 - len(account.open) if account else 0):
             self.next_name += 1
             self.send_new(credit_control(self.crowded, b"crowd %d" % self.next_name, 0, INITIAL))
 

@@ -10,9 +10,12 @@ from refusals import MOST_UNITS
 class Writer:
     def __init__(self, plan_text):
         self.plan_text = plan_text
-        self.judge = Judge(Plan(plan_text))
+        self.judge = self.make_judge(Plan(plan_text))
         self.lines, self.printed = [], []
         self.looks = 0
+
+    def make_judge(self, plan):
+        return Judge(plan)
 
     def say(self, line):
         self.lines.append(line)
