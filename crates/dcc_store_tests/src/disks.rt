@@ -21,7 +21,7 @@ fn options(seed: u64) -> Options {
 }
 
 /// A database over two files, or the files where they can't be opened.
-fn connected<D: Disk + Drop>(
+pub(crate) fn connected<D: Disk + Drop>(
     alloc: Global,
     files: Files<D>,
     seed: u64,

@@ -19,3 +19,5 @@ mod server;
 mod stops;
 #[cfg(test)]
 mod subscribers;
+#[cfg(test)]
+mod upgrades;

@@ -17,14 +17,14 @@ use std::test::Fail;
 
 /// What a stop takes away: what was written and not synced, as a power cut may, or nothing, as the end of a process does.
 #[derive(Clone, Copy)]
-enum Stop {
+pub(crate) enum Stop {
     Power,
     Process,
 }
 
 /// Which file's disk stops.
 #[derive(Clone, Copy)]
-enum Half {
+pub(crate) enum Half {
     Log,
     Database,
 }
@@ -120,7 +120,7 @@ fn synced(alloc: Global, disk: &Fuse<Memory>) -> Result<Fuse<Memory>, Fail> {
 }
 
 /// What a stop leaves of the files, once the machine comes back.
-fn stopped(
+pub(crate) fn stopped(
     alloc: Global,
     files: Files<Fuse<Memory>>,
     stop: Stop,
