@@ -21,17 +21,25 @@ use dcc_session::Held;
 use std::alloc::{AllocError, Global};
 
 /// The session of this name among these.
-pub(crate) fn session<'a>(sessions: &'a [OpenSession], sid: &SessionId) -> Option<&'a OpenSession>
+fn session<'a>(sessions: &'a [OpenSession], sid: &SessionId) -> Option<&'a OpenSession>
     ensures { option_map (λ session. session.now) result ≡ session_in sessions.now sid.now }
 {
     sessions.iter().find(|session| session.sid == *sid)
 }
 
 /// Whether the session of this name is open.
-pub(crate) fn is_open(sessions: &[OpenSession], sid: &SessionId) -> bool
+fn is_open(sessions: &[OpenSession], sid: &SessionId) -> bool
     ensures { result ≡ is_open_in sessions.now sid.now }
 {
     session(sessions, sid).is_some()
+}
+
+/// The same by the grants of that session: one that has some is open, and only one without is looked for.
+fn is_open_with(sessions: &[OpenSession], own: &[Held], sid: &SessionId) -> bool
+    requires own { own.now ≡ own_in sessions.now sid.now }
+    ensures { result ≡ is_open_in sessions.now sid.now }
+{
+    !own.is_empty() || is_open(sessions, sid)
 }
 
 /// The grants of the session of this name. Each is one look.
@@ -110,7 +118,7 @@ pub(crate) fn reported(
     requires own { own.now ≡ own_in sessions.now key.now.sid }
     ensures { IfOk result (λ outcome. outcome ≡ reported_in facts.now sessions.now request key.now services.now) }
 {
-    if !is_open(sessions, &key.sid) {
+    if !is_open_with(sessions, own, &key.sid) {
         return bare(alloc, request, key, ResultCode::UnknownSession);
     }
     let charged = charges(own, services);
