@@ -1,11 +1,18 @@
-//! What the tests of acts share.
+//! Acts in short: of one session, each request under its place as its number.
 
-use dcc_act::{Moment, RequestKey, SessionId};
-use dcc_tariff::Terms;
+ghost use Rattle.std.specs.Prelude.{◌≤◌};
+ghost use Rattle.std.specs.Option.{ForSome};
+ghost use Rattle.dcc_act.specs.declared.limits.TheConstants.{MAX_SECONDS};
+
+use dcc_act::{
+    Act, Form, Kind, MAX_SECONDS, Moment, RequestKey, Service, ServiceIds, Services, SessionId,
+    SessionLimit, SessionRequest, TopUp,
+};
+use dcc_tariff::{Tariff, Terms, UnitKind};
 use std::alloc::Global;
 use std::test::Fail;
 
-/// The terms of the samples' plan.
+/// The terms of the plan of the rows.
 pub(crate) const TERMS: Terms = Terms {
     validity: 600,
     hold: 1200,
@@ -13,13 +20,115 @@ pub(crate) const TERMS: Terms = Terms {
     exponent: -2,
 };
 
-/// A request's key in the session of this name.
-pub(crate) fn key(alloc: Global, session: u8, number: u32) -> Result<RequestKey, Fail> {
-    let sid = SessionId::from_vec([session].to_vec(alloc)?).ok_or("a name")?;
-    Ok(RequestKey { sid, number })
+/// 5 for each 1,000 octets.
+pub(crate) const OCTETS: Tariff = Tariff {
+    price: 5,
+    block: 1000,
+};
+
+/// 2025-06-01T00:00:00Z.
+const MOMENT: u64 = 1_748_736_000;
+
+/// 2 for each 60 seconds.
+const SECONDS: Tariff = Tariff {
+    price: 2,
+    block: 60,
+};
+
+/// A service in short: its group, which is 10 or 20, what it reports and what it asks for, each 0 for nothing.
+pub(crate) type Want = (u32, u64, u64);
+
+/// An act in short.
+#[derive(Clone, Copy)]
+pub(crate) enum Ask {
+    /// The amount; the ticket is 1.
+    TopUp(u64),
+    Initial(&'static [Want]),
+    Update(&'static [Want]),
+    Termination(&'static [Want]),
+}
+
+/// The name of a session.
+pub(crate) fn name(alloc: Global, octet: u8) -> Result<SessionId, Fail> {
+    Ok(SessionId::from_vec([octet].to_vec(alloc)?).ok_or("a name")?)
 }
 
 /// The moment of these seconds. `Moment::new` of a literal, in its place, takes the prover minutes.
-pub(crate) fn moment(seconds: u64) -> Result<Moment, Fail> {
+fn moment(seconds: u64) -> Result<Moment, Fail> {
     Ok(Moment::new(seconds).ok_or("a moment")?)
+}
+
+/// An amount within its limits; none for 0.
+fn units(amount: u64) -> Option<u64>
+    ensures least { ForSome result (λ units. 1 ≤ units) }
+    ensures most { ForSome result (λ units. units ≤ MAX_SECONDS) }
+{
+    if amount == 0 {
+        return None;
+    }
+    Some(amount.min(MAX_SECONDS))
+}
+
+/// The service in short.
+fn service(alloc: Global, (group, used, asked): Want) -> Service {
+    let (unit, tariff) = if group == 20 {
+        (UnitKind::Time, SECONDS)
+    } else {
+        (UnitKind::Octets, OCTETS)
+    };
+    Service {
+        group: Some(group),
+        ids: ServiceIds::new(alloc),
+        form: Form::Multi,
+        asked: units(asked),
+        used: units(used),
+        unit: Some(unit),
+        tariff: Some(tariff),
+    }
+}
+
+/// A request of the session.
+fn request(alloc: Global, place: u32, wants: &[Want]) -> Result<SessionRequest, Fail> {
+    let mut services = Vec::new(alloc);
+    for want in wants {
+        services.push(service(alloc, *want))?;
+    }
+    Ok(SessionRequest {
+        key: RequestKey {
+            sid: name(alloc, b's')?,
+            number: place,
+        },
+        services: Services::from_vec(services).ok_or("services")?,
+    })
+}
+
+/// What happens by an act in short.
+fn kind(alloc: Global, place: u32, ask: Ask) -> Result<Kind, Fail> {
+    Ok(match ask {
+        Ask::TopUp(amount) => Kind::TopUp(TopUp::new(1, amount).ok_or("an amount")?),
+        Ask::Initial(wants) => Kind::Initial {
+            request: request(alloc, place, wants)?,
+            limit: SessionLimit::Many,
+            host: None,
+        },
+        Ask::Update(wants) => Kind::Update(request(alloc, place, wants)?),
+        Ask::Termination(wants) => Kind::Termination(request(alloc, place, wants)?),
+    })
+}
+
+/// An act in short.
+fn act(alloc: Global, place: u32, ask: Ask) -> Result<Act, Fail> {
+    Ok(Act {
+        moment: moment(MOMENT)?,
+        kind: kind(alloc, place, ask)?,
+    })
+}
+
+/// Acts in short, by their places from 0.
+pub(crate) fn acts(alloc: Global, asks: &[Ask]) -> Result<Vec<Act>, Fail> {
+    let mut acts = Vec::new(alloc);
+    for (place, ask) in asks.iter().enumerate() {
+        acts.push(act(alloc, (place & 0xff) as u32, *ask)?)?;
+    }
+    Ok(acts)
 }

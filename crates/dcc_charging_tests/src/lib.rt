@@ -1,4 +1,5 @@
-//! Tests of the crates that charge, which stand apart: a crate with tests of its own is proved a second time with them.
+//! Tests of the crates that charge, which stand apart: a crate with tests of its own is proved a second time with them. They make the calls that no run
+//! of the program makes. What a run makes of requests stands in tests/rows.
 #![tactic(auto)]
 
 #[cfg(test)]
@@ -8,6 +9,6 @@ mod expiry;
 #[cfg(test)]
 mod model;
 #[cfg(test)]
-mod session;
+mod plan;
 #[cfg(test)]
-mod tariff;
+mod session;

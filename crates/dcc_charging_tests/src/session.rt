@@ -1,76 +1,38 @@
-//! What may be refused, once granted and once refused.
+//! A grant that is made alone, where the program makes all of a request.
 
-use dcc_act::{Grant, Looks, ServiceKey};
+use crate::acts::OCTETS;
+use dcc_act::{Grant, ServiceKey};
 use dcc_escrow::Pool;
-use dcc_session::{GrantFault, Granted, Held, Idle, ParkedSession};
-use dcc_tariff::{Tariff, UnitKind};
+use dcc_session::{Held, Idle};
+use dcc_tariff::UnitKind;
 use std::alloc::Global;
 use std::test::Fail;
 
-/// So many octets, at 5 minor units for each 1,000 that are begun.
+/// So many octets of group 10.
 fn octets(units: u64) -> Result<Held, Fail> {
-    let tariff = Tariff {
-        price: 5,
-        block: 1000,
-    };
-    let key = ServiceKey {
-        group: Some(10),
-        id: None,
-    };
-    let grant = Grant::new(UnitKind::Octets, units, tariff).ok_or("a grant")?;
-    Ok(Held { key, grant })
+    Ok(Held {
+        key: ServiceKey {
+            group: Some(10),
+            id: None,
+        },
+        grant: Grant::new(UnitKind::Octets, units, OCTETS).ok_or("a grant")?,
+    })
 }
 
-/// A session that is put away with this grant.
-fn session_with(alloc: Global, pool: &mut Pool, held: Held) -> Result<ParkedSession, GrantFault> {
+/// What a session of one grant reserves, where it is made.
+fn reserved(alloc: Global, pool: &mut Pool, held: Held) -> Option<u64> {
     let mut session = Idle::new(alloc, pool).open(1200);
-    match session.grant(pool, held) {
-        Ok(()) => {
-            session.touch(1800);
-            Ok(session.park())
-        }
-        Err(fault) => {
-            session.end(pool);
-            Err(fault)
-        }
-    }
+    let granted = session.grant(pool, held).is_ok();
+    let reserved = pool.reserved();
+    session.end(pool);
+    granted.then_some(reserved)
 }
 
-/// Whether a session that is put away holds one grant, until this deadline.
-fn is_held(parked: &ParkedSession, deadline: u64) -> bool {
-    if parked.deadline() != deadline || parked.count() != 1 {
-        return false;
-    }
-    let mut looks = Looks::new();
-    parked.grants(&mut looks).len() == 1 && looks.count() == 1
-}
-
-/// Whether a grant is held.
-fn holds(alloc: Global, pool: &mut Pool, held: Held) -> Result<bool, GrantFault> {
-    let parked = session_with(alloc, pool, held)?;
-    Ok(is_held(&parked, 1800))
-}
-
-/// A grant is held where what is free reaches for it.
 #[test]
-fn grant_is_held(rt: HostRuntime) -> Result<(), Fail> {
-    let alloc = rt.alloc();
+fn grant_is_made(rt: HostRuntime) -> Result<(), Fail> {
     let mut pool = Pool::new(7);
     pool.credit(1000)?;
-    assert!(rt; holds(alloc, &mut pool, octets(100_000)?)?);
-    assert_eq!(rt; (pool.committed(), pool.reserved()), (1000, 500));
-    let refused = holds(alloc, &mut pool, octets(100_001)?);
-    assert!(rt; matches!(refused, Err(GrantFault::Short)));
-    assert_eq!(rt; pool.reserved(), 500);
-    Ok(())
-}
-
-/// There is memory for grants that are about to be made.
-#[test]
-fn grants_find_memory(rt: HostRuntime) -> Result<(), Fail> {
-    let alloc = rt.alloc();
-    let grants = vec![in alloc; octets(1000)?]?;
-    let granted = Granted::new(alloc, grants, 2)?;
-    assert_eq!(rt; granted.grants().len(), 1);
+    let held = octets(100_000)?;
+    assert_eq!(rt; reserved(rt.alloc(), &mut pool, held), Some(500));
     Ok(())
 }

@@ -1,4 +1,0 @@
-mod moments;
-mod plans;
-mod prices;
-mod texts;
