@@ -1,3 +1,0 @@
-//! How the program ends: what no row of tests/rows says.
-
-mod endings;
