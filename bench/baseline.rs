@@ -1,7 +1,6 @@
-// The same work in plain Rust, as one would write it without a framework: `rustc -O baseline.rs`; no crates. It prints what `dcc_bench codec N` and
-// `dcc_bench account ACCOUNTS HELD` print.
+// The same work in plain Rust, as one would write it without a framework: `rustc -O baseline.rs`; no crates. It prints what `dcc_bench codec N` prints.
 
-// Of codec.rs, dispatch.rs and accounts.rs, which the servers beside this file include too, it needs a part.
+// Of codec.rs, which the servers beside this file include too, it needs a part.
 #![allow(dead_code)]
 
 use std::hint::black_box;
@@ -16,11 +15,7 @@ const REQUEST: &str = "010000e4c0000110000000040000000000000000\
 000001a04000000c000000040000019f4000000c00000000000001b44000000c00000000000001bb40000028\
 000001c24000000c00000000000001bc40000014343931373030303030303030000001b540000018000001a54000001000000000000003e9";
 
-const MOMENT: u64 = 1_751_328_000;
-
 include!("codec.rs");
-include!("dispatch.rs");
-include!("accounts.rs");
 
 type Measured<T> = Result<T, &'static str>;
 
@@ -139,8 +134,6 @@ fn codec(count: u32) -> Measured<()> {
     Ok(())
 }
 
-include!("growth.rs");
-
 #[repr(C)]
 struct Timespec {
     seconds: i64,
@@ -183,7 +176,6 @@ fn main() -> Measured<()> {
     let numbers: Option<Vec<u32>> = words.iter().skip(1).map(|word| word.parse().ok()).collect();
     match (words.first().map(String::as_str), numbers.as_deref()) {
         (Some("codec"), Some(&[count])) => codec(count),
-        (Some("account"), Some(&[accounts, held])) => accounts_of(accounts, held),
-        _ => Err("usage: codec N | account ACCOUNTS HELD"),
+        _ => Err("usage: codec N"),
     }
 }

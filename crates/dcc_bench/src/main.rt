@@ -1,39 +1,44 @@
-//! The program that measures what no command of `dcc` shows by itself: `codec N`, debit requests read and their answers written; `account ACCOUNTS HELD`, steps of
-//! accounts that hold so many acts; `framer OCTETS PIECE`, a stream cut into messages; and `sample`, a little of each, which the gate runs.
+//! The program that measures what no command of `dcc` shows by itself: `codec N`, debit requests read and their answers written; `framer OCTETS PIECE`, a stream
+//! cut into messages; and `sample`, a little of each, which the gate runs.
 //!
 //! It stands on the crates of these, and calls them as the server does. Standard output has only what the arguments determine: counts, and a checksum of
 //! the answers. Times go to standard error, one line for each thing that is measured: the processor time for one item, the median of the rounds, the least and the most.
 #![tactic(auto)]
 
-mod account;
 mod checksum;
 mod codec;
 mod debit;
+mod fault;
 mod outcomes;
 mod rounds;
 mod stream;
 
+use crate::fault::{Fault, Measured};
 use anyhow::{Result, bail};
 use std::env;
-use std::random::RandomSource;
 use std::time::CpuClock;
 
 fn main(rt: HostRuntime) -> Result<()> {
     let words: Vec<String> = env::args(&rt)?.collect(rt.alloc())?;
-    let words = words.as_slice();
+    match measure(&rt, words.as_slice()) {
+        Ok(()) => Ok(()),
+        Err(fault) => bail!("{}", fault.text()),
+    }
+}
+
+/// Measures what the words behind the program's name say.
+fn measure<R: AllocGlobal + Print + Eprint + CpuClock>(rt: &R, words: &[String]) -> Measured<()> {
     match (name_of(words), number_at(words, 2), number_at(words, 3)) {
-        ("sample", None, None) => sample(&rt),
-        ("codec", Some(count), None) => codec::measure(&rt, count),
-        ("account", Some(accounts), Some(held)) => account::measure(&rt, accounts, held),
-        ("framer", Some(octets), Some(piece)) => stream::measure(&rt, octets, piece),
-        _ => bail!("usage: codec N | account ACCOUNTS HELD | framer OCTETS PIECE | sample"),
+        ("sample", None, None) => sample(rt),
+        ("codec", Some(count), None) => codec::measure(rt, count),
+        ("framer", Some(octets), Some(piece)) => stream::measure(rt, octets, piece),
+        _ => Err(Fault::Usage),
     }
 }
 
 /// A little of each, by which the gate sees that it runs.
-fn sample<R: AllocGlobal + RandomSource + Print + Eprint + CpuClock>(rt: &R) -> Result<()> {
+fn sample<R: AllocGlobal + Print + Eprint + CpuClock>(rt: &R) -> Measured<()> {
     codec::measure(rt, 100)?;
-    account::measure(rt, 2, 100)?;
     stream::measure(rt, 10_000, 7)
 }
 

@@ -1,6 +1,5 @@
 //! What an account says to the sample debit, of which its answer is written.
 
-use anyhow::{Context, Result};
 use dcc_act::{
     Answer, Form, Grant, Outcome, RequestKey, RequestType, ResultCode, ServiceAnswer,
     ServiceAnswers, ServiceIds, SessionId,
@@ -8,38 +7,35 @@ use dcc_act::{
 use dcc_tariff::{Tariff, UnitKind};
 use std::alloc::Global;
 
-/// Success, by which 1,001 octets are granted.
-pub(crate) fn debited(alloc: Global) -> Result<Outcome> {
-    let service = granted(alloc);
-    let services = ServiceAnswers::from_vec(vec![in alloc; service]?).context("services")?;
-    Ok(Outcome::Answered(Answer {
+/// Success, by which 1,001 octets are granted; none without memory.
+pub(crate) fn debited(alloc: Global) -> Option<Outcome> {
+    let sid = session(alloc, b"gw1.example;1;1")?;
+    Some(Outcome::Answered(Answer {
         request: RequestType::Event,
-        key: RequestKey {
-            sid: session(alloc, b"gw1.example;1;1")?,
-            number: 0,
-        },
+        key: RequestKey { sid, number: 0 },
         result: ResultCode::Success,
-        services,
+        services: services(alloc)?,
         cost: None,
         balance: None,
     }))
 }
 
 /// A session's name. A name that is made of a literal in its place takes the prover minutes.
-fn session(alloc: Global, octets: &[u8]) -> Result<SessionId> {
-    SessionId::from_vec(octets.to_vec(alloc)?).context("a session")
+fn session(alloc: Global, octets: &[u8]) -> Option<SessionId> {
+    SessionId::from_vec(octets.to_vec(alloc).ok()?)
 }
 
 /// The service of a debit.
-fn granted(alloc: Global) -> ServiceAnswer {
-    ServiceAnswer {
+fn services(alloc: Global) -> Option<ServiceAnswers> {
+    let service = ServiceAnswer {
         group: None,
         ids: ServiceIds::new(alloc),
         form: Form::Single,
         result: ResultCode::Success,
         grant: Some(GRANT),
         is_final: false,
-    }
+    };
+    ServiceAnswers::from_vec(vec![in alloc; service].ok()?)
 }
 
 /// The grant of a service.

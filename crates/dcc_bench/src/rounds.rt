@@ -1,72 +1,60 @@
 //! Rounds of one measurement.
 
-use anyhow::Result;
-use std::alloc::{AllocError, Global};
-use std::io;
+use crate::fault::{Fault, Measured};
 use std::time::{CpuClock, Duration};
 
 /// How often each thing is measured.
-pub(crate) const ROUNDS: u32 = 7;
+const ROUNDS: usize = 7;
 
 /// Measures a thing in rounds of so many items, each of which gives the same mark, and tells the times for one item.
-pub fn timed<R: AllocGlobal + Eprint + CpuClock, F: FnMut() -> Result<u64>>(
+pub(crate) fn timed<R: Eprint + CpuClock, F: FnMut() -> Measured<u64>>(
     rt: &R,
     name: &str,
     items: u64,
     mut round: F,
-) -> Result<u64>
+) -> Measured<u64>
     requires { F.IsAlwaysCallable round }
 {
-    let mut rounds = Rounds::new(rt.alloc());
+    let mut rounds = [0; ROUNDS];
     let mut mark = 0;
-    for _ in 0..ROUNDS {
-        let begin = rt.thread_cpu_time()?;
+    for nanos in &mut rounds {
+        let begin = now(rt)?;
         mark ^= round()?;
-        let end = rt.thread_cpu_time()?;
-        rounds.push(begin, end)?;
+        *nanos = nanos_between(begin, now(rt)?);
     }
-    rounds.report(rt, name, items)?;
+    report(rt, name, items, &mut rounds)?;
     Ok(mark)
 }
 
-/// How long each round of one thing took.
-#[derive(Drop)]
-pub(crate) struct Rounds {
-    nanos: Vec<u64>,
+/// The processor time of the thread.
+fn now(rt: &impl CpuClock) -> Measured<Duration> {
+    match rt.thread_cpu_time() {
+        Ok(time) => Ok(time),
+        Err(_) => Err(Fault::Clock),
+    }
 }
 
-impl Rounds {
-    /// None yet.
-    pub fn new(alloc: Global) -> Rounds {
-        Rounds {
-            nanos: Vec::new(alloc),
-        }
-    }
+fn nanos_between(begin: Duration, end: Duration) -> u64 {
+    let spent = end.checked_sub(begin).unwrap_or(Duration::ZERO);
+    u64::try_from(spent.as_nanos()).unwrap_or(u64::MAX)
+}
 
-    /// Adds a round from its begin to its end, as the processor time of the thread has them.
-    pub fn push(&mut self, begin: Duration, end: Duration) -> Result<(), AllocError> {
-        let spent = end.checked_sub(begin).unwrap_or(Duration::ZERO);
-        let nanos = u64::try_from(spent.as_nanos()).unwrap_or(u64::MAX);
-        self.nanos.push(nanos)?;
-        Ok(())
-    }
-
-    /// Tells the times for one of the items of a round.
-    pub fn report(mut self, rt: &impl Eprint, name: &str, items: u64) -> io::Result<()> {
-        self.nanos.sort_unstable();
-        let nanos = self.nanos.as_slice();
-        let rounds = nanos.len();
-        let least = picoseconds(nanos.first(), items);
-        let median = picoseconds(nanos.get(rounds / 2), items);
-        let most = picoseconds(nanos.last(), items);
-        eprintln!(rt;
-            "{name}: median {median}, least {least}, most {most} picoseconds, {rounds} rounds of {items}"
-        )
+/// Tells the times for one of the items of a round.
+fn report(rt: &impl Eprint, name: &str, items: u64, rounds: &mut [u64; ROUNDS]) -> Measured<()> {
+    rounds.sort_unstable();
+    let least = picoseconds(rounds[0], items);
+    let median = picoseconds(rounds[ROUNDS / 2], items);
+    let most = picoseconds(rounds[ROUNDS - 1], items);
+    let told = eprintln!(rt;
+        "{name}: median {median}, least {least}, most {most} picoseconds, {ROUNDS} rounds of {items}"
+    );
+    match told {
+        Ok(()) => Ok(()),
+        Err(_) => Err(Fault::Output),
     }
 }
 
 /// Picoseconds for one item.
-fn picoseconds(nanos: Option<&u64>, items: u64) -> u64 {
-    let nanos = nanos.copied().unwrap_or(0);
+fn picoseconds(nanos: u64, items: u64) -> u64 {
     nanos.saturating_mul(1000) / items.max(1)
 }
