@@ -1,5 +1,6 @@
 /* Refuses one allocation of a program, the one whose number is in REFUSE, counted from 1; it is preloaded (LD_PRELOAD). Where there were
- * fewer it says so on standard error, so that a sweep over all of them knows its end. The allocations of all threads are counted together. */
+ * fewer it says so on standard error, so that a sweep over all of them knows its end. The allocations of all threads are counted together; with WHEN
+ * set, from when on there is a file at WHEN. */
 #include <stddef.h>
 #include <stdlib.h>
 #include <string.h>
@@ -13,10 +14,12 @@ extern void *__libc_memalign(size_t, size_t);
 
 static unsigned long wanted;
 static unsigned long made;
+static const char *since;
 
 __attribute__((constructor)) static void begin(void) {
     const char *word = getenv("REFUSE");
     wanted = word ? strtoul(word, NULL, 10) : 0;
+    since = getenv("WHEN");
     made = 0;
 }
 
@@ -37,6 +40,9 @@ void _exit(int status) {
 }
 
 static int is_refused(void) {
+    if (since && access(since, F_OK) != 0) {
+        return 0;
+    }
     return __atomic_add_fetch(&made, 1, __ATOMIC_SEQ_CST) == wanted;
 }
 

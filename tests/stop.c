@@ -1,7 +1,8 @@
 /* Ends a program at one call that changes a file, the one whose number is in STOP, counted from 1; it is preloaded (LD_PRELOAD). With HALF set, a
  * write does half of its work first. Where there were fewer calls it says so on standard error, so that a sweep over all of them knows its
- * end. With FAIL and WHEN set, each such call fails on a file whose path has the text of FAIL in it, from when on there is a file at WHEN.
- * Standard output, standard error and sockets are no files here. The calls of all threads are counted together. */
+ * end. With FAIL set, each such call fails on a file whose path has the text of FAIL in it, from when on there is a file at WHEN, or from the
+ * one whose number among these is AFTER. With HOLD and WHEN set, each such call on a file whose path has the text of HOLD in it waits while
+ * there is a file at WHEN. Standard output, standard error and sockets are no files here. The calls of all threads are counted together. */
 #include <errno.h>
 #include <stddef.h>
 #include <stdio.h>
@@ -16,14 +17,20 @@ static unsigned long wanted;
 static unsigned long made;
 static int halves;
 static const char *failing;
+static const char *held;
 static const char *since;
+static unsigned long after;
+static unsigned long tried;
 
 __attribute__((constructor)) static void begin(void) {
     const char *word = getenv("STOP");
     wanted = word ? strtoul(word, NULL, 10) : 0;
     halves = getenv("HALF") != NULL;
     failing = getenv("FAIL");
+    held = getenv("HOLD");
     since = getenv("WHEN");
+    word = getenv("AFTER");
+    after = word ? strtoul(word, NULL, 10) : 0;
     made = 0;
 }
 
@@ -48,20 +55,30 @@ static int is_file(int file) {
     return file > 2 && fstat(file, &found) == 0 && S_ISREG(found.st_mode);
 }
 
-/* Whether a call on this file fails. */
-static int fails(int file) {
+/* Whether the path of a file has this text in it. */
+static int is_of(int file, const char *text) {
     char link[64];
     char path[4096];
-    if (!failing || !since || access(since, F_OK) != 0) {
-        return 0;
-    }
     snprintf(link, sizeof link, "/proc/self/fd/%d", file);
     ssize_t length = readlink(link, path, sizeof path - 1);
     if (length < 0) {
         return 0;
     }
     path[length] = 0;
-    if (!strstr(path, failing)) {
+    return strstr(path, text) != NULL;
+}
+
+/* Whether a call on this file fails; one that is held waits before. */
+static int fails(int file) {
+    while (held && since && access(since, F_OK) == 0 && is_of(file, held)) {
+        usleep(1000);
+    }
+    if (!failing || !is_of(file, failing)) {
+        return 0;
+    }
+    int is_since = since && access(since, F_OK) == 0;
+    int is_after = after && __atomic_add_fetch(&tried, 1, __ATOMIC_SEQ_CST) >= after;
+    if (!is_since && !is_after) {
         return 0;
     }
     errno = EIO;
