@@ -7,14 +7,4 @@ mod connect;
 #[cfg(test)]
 mod lane;
 #[cfg(test)]
-mod record;
-#[cfg(test)]
-mod records;
-#[cfg(test)]
 mod report;
-#[cfg(test)]
-mod server;
-#[cfg(test)]
-mod shard;
-#[cfg(test)]
-mod top_ups;
