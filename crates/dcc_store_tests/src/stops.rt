@@ -1,5 +1,7 @@
 //! Stores over disks in memory that lose power.
 
+ghost use Rattle.std.specs.Prelude.{IsTrue};
+
 use crate::asking::ask;
 use dcc_callers::{TERMS, identity, shard_over};
 use dcc_message::Identity;
@@ -8,17 +10,15 @@ use dcc_records::Records;
 use dcc_shard::Shard;
 use dcc_sqlrec::{Setting, SqlRecords};
 use dcc_stops::{stop_and_reopen_shard, stop_and_upgrade};
-use sqlite::{Connection, FileStore, Files, Options};
-use sqlite_disk::Memory;
+use sqlite::{Alter, Connection, FileStore, Files, Options};
+use sqlite_disk::{Crash, Disk, Memory};
 use std::alloc::Global;
 use std::hash::RandomState;
 use std::process::Abort;
 use std::random::RandomSource;
 use std::test::Fail;
 
-type Database = Connection<FileStore<Memory>>;
-
-type Store = SqlRecords<FileStore<Memory>>;
+type Store<D> = SqlRecords<FileStore<D>>;
 
 /// The setting of the store of an only shard.
 const SETTING: Setting<'static> = Setting {
@@ -29,12 +29,14 @@ const SETTING: Setting<'static> = Setting {
     terms: TERMS,
 };
 
-/// A database in new files.
-fn database(alloc: Global) -> Result<Database, Fail> {
-    let files = Files {
-        log: Memory::new(alloc),
-        db: Memory::new(alloc),
-    };
+/// A database in files.
+fn database<D: Disk + Drop>(
+    alloc: Global,
+    files: Files<D>,
+) -> Result<Connection<FileStore<D>>, Fail>
+    requires log { IsTrue (D.Disk.is_usable files.log) }
+    requires db { IsTrue (D.Disk.is_usable files.db) }
+{
     match Connection::open_files(alloc, files, Options::new(1)) {
         Ok(conn) => Ok(conn),
         Err(refused) => {
@@ -44,9 +46,13 @@ fn database(alloc: Global) -> Result<Database, Fail> {
     }
 }
 
-/// A store without acts.
-fn store(alloc: Global, hasher: RandomState) -> Result<Store, Fail> {
-    match SqlRecords::create(alloc, database(alloc)?, &SETTING, hasher) {
+/// A store without acts in an empty database.
+fn created<S: Alter + Drop>(
+    alloc: Global,
+    conn: Connection<S>,
+    hasher: RandomState,
+) -> Result<SqlRecords<S>, Fail> {
+    match SqlRecords::create(alloc, conn, &SETTING, hasher) {
         Ok(records) => Ok(records),
         Err(refused) => {
             drop(refused);
@@ -55,13 +61,22 @@ fn store(alloc: Global, hasher: RandomState) -> Result<Store, Fail> {
     }
 }
 
+/// A store without acts in memory.
+fn store(alloc: Global, hasher: RandomState) -> Result<Store<Memory>, Fail> {
+    let files = Files {
+        log: Memory::new(alloc),
+        db: Memory::new(alloc),
+    };
+    created(alloc, database(alloc, files)?, hasher)
+}
+
 /// The shard over what a power cut leaves of a shard's files.
-fn reopened(
+fn reopened<D: Crash + Drop>(
     alloc: Global,
-    shard: Shard<Store>,
+    shard: Shard<Store<D>>,
     identity: &Identity,
     hasher: RandomState,
-) -> Option<Shard<Store>> {
+) -> Option<Shard<Store<D>>> {
     stop_and_reopen_shard(alloc, shard, Options::new(2), &SETTING, identity, hasher)
 }
 
@@ -93,7 +108,11 @@ fn repeated<R: Records + Drop>(
 }
 
 /// The records over what a power cut leaves of a store's files. A store of layout 2 needs no upgrade.
-fn upgraded(alloc: Global, conn: Database, hasher: RandomState) -> Result<Store, Fail> {
+fn upgraded<D: Crash + Drop>(
+    alloc: Global,
+    conn: Connection<FileStore<D>>,
+    hasher: RandomState,
+) -> Result<Store<D>, Fail> {
     match stop_and_upgrade(alloc, conn, Options::new(2), &SETTING, hasher) {
         Ok(records) => Ok(records),
         Err(refused) => {
