@@ -10,14 +10,8 @@ pub(crate) type Change = (usize, u8);
 /// Where a request and its answer have the last digit of the session's name.
 pub(crate) const SESSION: usize = 42;
 
-/// Where a request and its answer have the last octet of their Hop-by-Hop Identifier.
-pub(crate) const HOP: usize = 15;
-
 /// Where a debit has the last digit of its subscriber.
 pub(crate) const DEBIT_SUBSCRIBER: usize = 203;
-
-/// Where a request that opens a session has the last digit of its subscriber.
-pub(crate) const OPENING_SUBSCRIBER: usize = 191;
 
 /// An initial request of the samples' session and subscriber, for 100,000 octets of group 10.
 const OPENING: &str = "\

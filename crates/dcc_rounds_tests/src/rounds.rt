@@ -1,15 +1,19 @@
-//! Rounds of gateways, over any records, under a clock that is set.
+//! Rounds of gateways, over records whose appends wait at gates, under a clock that is set.
 
 use crate::gateways::{Gateways, Input, Output, Stage, Untold};
-use crate::server::Server;
+use crate::server::{Server, topped_up};
 use dcc_act::Moment;
-use dcc_callers::are_shards;
+use dcc_callers::{are_shards, pair};
 use dcc_connect::Clock;
+use dcc_gate_records::{Gate, GateRecords};
 use dcc_records::Records;
 use dcc_serve::{Rounds, ServeFault, Service, serve_run};
 use dcc_shard::Shard;
 use std::alloc::Global;
+use std::process::Abort;
+use std::random::RandomSource;
 use std::sync::Wait;
+use std::test::Fail;
 use std::thread::Threads;
 
 /// A clock that tells one moment for so many readings, and then another. Each gateway has its own.
@@ -34,7 +38,7 @@ impl Clock for Watch {
 
 /// Serves rounds of a stage's gateways over these shards, and writes their lines: how that ends, or nothing where the shards may not
 /// stand as one.
-pub(crate) fn serve<W: Threads + Wait + Sync, R: Records + Send + Sync + Drop>(
+fn serve<W: Threads + Wait + Sync, R: Records + Send + Sync + Drop>(
     rt: &W,
     alloc: Global,
     server: Server<'_>,
@@ -70,4 +74,56 @@ pub(crate) fn serve<W: Threads + Wait + Sync, R: Records + Send + Sync + Drop>(
         rounds,
     );
     Some(served)
+}
+
+/// Shards of one subscriber each, the first one's appends behind a gate that may be shut.
+fn gated<'a, S: RandomSource + AllocGlobal>(
+    rt: &S,
+    first: &'a Gate,
+    open: &'a Gate,
+) -> Result<Vec<Shard<GateRecords<'a>>>, Fail> {
+    let first = GateRecords::new(topped_up(rt, &[b"491700000001"])?, first);
+    let second = GateRecords::new(topped_up(rt, &[b"491700000002"])?, open);
+    pair(rt, first, second)
+}
+
+/// Serves rounds over such shards, of which the first waits at the stage's gate, and writes their lines; whether all were served.
+fn serve_gated<S: Threads + Wait + Sync + RandomSource + AllocGlobal>(
+    rt: &S,
+    server: Server<'_>,
+    rounds: &Rounds,
+    watch: &Watch,
+    stage: &Stage,
+    lines: &mut Vec<u8>,
+) -> Result<bool, Fail> {
+    let open = Gate::new();
+    open.open();
+    let shards = gated(rt, &stage.gate, &open)?;
+    let served = serve(
+        rt,
+        rt.alloc(),
+        server,
+        (rounds, watch),
+        stage,
+        shards,
+        lines,
+    );
+    Ok(matches!(served, Some(Ok(()))))
+}
+
+/// Serves both gateways of a stage, and asserts that each is answered, and the lines.
+pub(crate) fn check<S: Threads + Wait + Sync + Abort + RandomSource + AllocGlobal>(
+    rt: &S,
+    server: Server<'_>,
+    rounds: &Rounds,
+    watch: &Watch,
+    stage: &Stage,
+    wanted: &[u8],
+) -> Result<(), Fail> {
+    let mut lines = Vec::new(rt.alloc());
+    assert!(rt; serve_gated(rt, server, rounds, watch, stage, &mut lines)?);
+    assert!(rt; stage.second.is_answered());
+    assert!(rt; stage.first.is_answered());
+    assert_eq!(rt; lines.as_slice(), wanted);
+    Ok(())
 }

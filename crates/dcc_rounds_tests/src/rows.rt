@@ -1,10 +1,8 @@
 //! What these tests try, and the server by which each is tried. Its plan and its names are made and let go in one function each: a
 //! function that lets go of them on other ways too takes the prover long.
 
-use crate::connection::{self, Talking};
 use crate::server::Server;
-use crate::sweeps::{self, Sweeping};
-use crate::workers;
+use crate::{sweeps, workers};
 use dcc_callers::identity;
 use dcc_samples::PLAN;
 use dcc_tariff::Plan;
@@ -19,9 +17,8 @@ use std::thread::Threads;
 /// What is tried.
 #[derive(Clone, Copy)]
 pub(crate) enum Row {
-    Connection(Talking),
     Workers,
-    Sweeps(Sweeping),
+    Sweep,
 }
 
 /// The plan of this text. Read of a literal, in its place, it takes the prover long.
@@ -65,8 +62,7 @@ fn run_by<S: Threads + Wait + Sync + Abort + RandomSource + AllocGlobal>(
     row: Row,
 ) -> Result<(), Fail> {
     match row {
-        Row::Connection(talking) => connection::run(rt, server, talking),
         Row::Workers => workers::run(rt, server),
-        Row::Sweeps(sweeping) => sweeps::run(rt, server, sweeping),
+        Row::Sweep => sweeps::run(rt, server),
     }
 }

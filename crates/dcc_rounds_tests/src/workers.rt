@@ -2,13 +2,11 @@
 
 use crate::gateways::{Stage, Talk};
 use crate::messages::{Change, DEBIT_SUBSCRIBER, SESSION, debit, debited};
-use crate::rounds::{Watch, serve};
+use crate::rounds::{Watch, check};
 use crate::rows::{self, Row};
-use crate::server::{Server, after, topped_up};
-use dcc_callers::pair;
-use dcc_gate_records::{Gate, GateRecords};
+use crate::server::{Server, after};
+use dcc_gate_records::Gate;
 use dcc_serve::Rounds;
-use dcc_shard::Shard;
 use std::alloc::Global;
 use std::process::Abort;
 use std::random::RandomSource;
@@ -41,60 +39,6 @@ fn stage(alloc: Global) -> Result<Stage, Fail> {
     })
 }
 
-/// Shards of one subscriber each, the first one's appends behind a gate that is shut.
-fn gated<'a, S: RandomSource + AllocGlobal>(
-    rt: &S,
-    shut: &'a Gate,
-    open: &'a Gate,
-) -> Result<Vec<Shard<GateRecords<'a>>>, Fail> {
-    let first = GateRecords::new(topped_up(rt, &[b"491700000001"])?, shut);
-    let second = GateRecords::new(topped_up(rt, &[b"491700000002"])?, open);
-    pair(rt, first, second)
-}
-
-/// Serves rounds over such shards, and writes their lines; whether all were served.
-fn serve_gated<S: Threads + Wait + Sync + RandomSource + AllocGlobal>(
-    rt: &S,
-    server: Server<'_>,
-    rounds: &Rounds,
-    watch: &Watch,
-    stage: &Stage,
-    lines: &mut Vec<u8>,
-) -> Result<bool, Fail> {
-    let open = Gate::new();
-    open.open();
-    let shards = gated(rt, &stage.gate, &open)?;
-    let served = serve(
-        rt,
-        rt.alloc(),
-        server,
-        (rounds, watch),
-        stage,
-        shards,
-        lines,
-    );
-    Ok(matches!(served, Some(Ok(()))))
-}
-
-/// Serves both, and asserts that each is answered, and the line.
-fn serve_both<S: Threads + Wait + Sync + Abort + RandomSource + AllocGlobal>(
-    rt: &S,
-    server: Server<'_>,
-    rounds: &Rounds,
-    watch: &Watch,
-    stage: &Stage,
-) -> Result<(), Fail> {
-    let mut lines = Vec::new(rt.alloc());
-    assert!(rt; serve_gated(rt, server, rounds, watch, stage, &mut lines)?);
-    assert!(rt; stage.second.is_answered());
-    assert!(rt; stage.first.is_answered());
-    assert_eq!(rt;
-        lines.as_slice(),
-        b"round 1 requests 2 answers 4 acts 2\n".as_slice()
-    );
-    Ok(())
-}
-
 /// Serves one round of two gateways.
 pub(crate) fn run<S: Threads + Wait + Sync + Abort + RandomSource + AllocGlobal>(
     rt: &S,
@@ -107,7 +51,8 @@ pub(crate) fn run<S: Threads + Wait + Sync + Abort + RandomSource + AllocGlobal>
     };
     let rounds = Rounds::new(2, 1, 0).ok_or("rounds")?;
     let stage = stage(rt.alloc())?;
-    serve_both(rt, server, &rounds, &watch, &stage)
+    let line = b"round 1 requests 2 answers 4 acts 2\n";
+    check(rt, server, &rounds, &watch, &stage, line)
 }
 
 /// With one lock round both shards, or one worker for both, the append waits until it fails.
