@@ -2,10 +2,9 @@
 
 ghost use Rattle.std.specs.Prelude.{◌<◌};
 
-use dcc_act::{Act, Action, Kind, MAX_AMOUNT, TopUp};
-use dcc_answer::Proxies;
-use dcc_callers::{Caller, after, event, in_memory, one};
-use dcc_receipts::{Receipt, Told, check_receipts};
+use dcc_act::MAX_AMOUNT;
+use dcc_callers::{Caller, in_memory, one};
+use dcc_receipts::{Receipt, check_receipts};
 use dcc_records::{MemoryRecords, Records};
 use dcc_running::{Seat, Shards};
 use dcc_shard::{ExpiryAnswer, TopUpAnswer};
@@ -85,6 +84,14 @@ fn end_session<W: Wait + Abort + AllocGlobal, R: Records>(
     }
 }
 
+/// The number of the fault that receipts have beside no acts, 0 for none.
+fn check(receipts: &[Receipt]) -> u8 {
+    match check_receipts(&[], receipts) {
+        Ok(()) => 0,
+        Err(fault) => fault.number().unwrap_or(1),
+    }
+}
+
 /// How many subscribers the first shard has.
 fn count<W: Wait, R: Records>(rt: &W, alloc: Global, shards: &Shards<R>) -> Result<usize, Fail>
     requires { 0 < shards.now.count }
@@ -104,6 +111,7 @@ fn make_each<W: Wait + Abort + AllocGlobal, R: Records>(
     end_session(rt, shards, caller);
     assert_eq!(rt; count(rt, rt.alloc(), shards)?, 1);
     assert_eq!(rt; caller.seat.receipts().len(), 4);
+    assert_eq!(rt; (check(&[]), check(caller.seat.receipts())), (0, 60));
     Ok(())
 }
 
@@ -119,7 +127,7 @@ fn seat_of_each<W: Wait + Abort + AllocGlobal, R: Records>(
     caller.stand_up(rt.alloc(), shards)
 }
 
-/// A seat of some shards, at which money was topped up in these, the same or others.
+/// A seat of some shards, at which money was topped up in others.
 fn seat_of_top_ups<W: Wait + Abort + AllocGlobal, R: Records>(
     rt: &W,
     shards: &Shards<R>,
@@ -128,17 +136,6 @@ fn seat_of_top_ups<W: Wait + Abort + AllocGlobal, R: Records>(
     let mut caller = caller(rt.alloc(), shards)?;
     top_up_each(rt, others, &mut caller, THREE_TOP_UPS);
     caller.stand_up(rt.alloc(), shards)
-}
-
-/// What the subscriber is told after a top-up, that it is unknown, comes of other shards.
-fn ask_others<S: Wait + Abort + RandomSource + AllocGlobal>(
-    rt: &S,
-    caller: &mut Caller,
-) -> Result<(), Fail> {
-    let others = one(rt, in_memory(rt)?)?;
-    let answer = caller.debit(rt, rt.alloc(), &others, 0);
-    assert!(rt; answer.is_none());
-    Ok(())
 }
 
 /// A seat of these shards at which money was topped up in others.
@@ -150,6 +147,18 @@ fn seat_of_others<W: Wait + Abort + AllocGlobal + RandomSource>(
     let seat = seat_of_top_ups(rt, shards, &others);
     drop(others);
     seat
+}
+
+/// What the subscriber is told after a top-up, that it is unknown, comes of other shards.
+fn ask_others<S: Wait + Abort + RandomSource + AllocGlobal>(
+    rt: &S,
+    caller: &mut Caller,
+) -> Result<(), Fail> {
+    let others = one(rt, in_memory(rt)?)?;
+    let is_unknown = caller.debit(rt, rt.alloc(), &others, 0).is_none();
+    drop(others);
+    assert!(rt; is_unknown);
+    Ok(())
 }
 
 /// A seat whose last receipt is of an act before one that was told as unknown.
@@ -167,7 +176,6 @@ fn seat_out_of_order<W: Wait + Abort + AllocGlobal + RandomSource, R: Records>(
 #[derive(Clone, Copy)]
 enum Seated {
     EachCall,
-    TopUps,
     TopUpsInOthers,
     UnknownBetween,
     AtTheCeiling,
@@ -183,7 +191,6 @@ fn seats_of<W: Wait + Abort + AllocGlobal + RandomSource>(
 {
     let seat = match seated {
         Seated::EachCall => seat_of_each(rt, shards)?,
-        Seated::TopUps => seat_of_top_ups(rt, shards, shards)?,
         Seated::TopUpsInOthers => seat_of_others(rt, shards)?,
         Seated::UnknownBetween => seat_out_of_order(rt, shards)?,
         Seated::AtTheCeiling => seat_at_the_ceiling(rt, shards)?,
@@ -234,12 +241,6 @@ fn each_call_gives_its_receipt(rt: HostRuntime) -> Result<(), Fail> {
 }
 
 #[test]
-fn a_seat_is_missing(rt: HostRuntime) -> Result<(), Fail> {
-    assert_eq!(&rt; faults(&rt, Seated::TopUps)?, (61, 0));
-    Ok(())
-}
-
-#[test]
 fn a_receipt_is_stray(rt: HostRuntime) -> Result<(), Fail> {
     assert_eq!(&rt; faults(&rt, Seated::TopUpsInOthers)?, (0, 60));
     Ok(())
@@ -255,134 +256,6 @@ fn receipts_are_out_of_order(rt: HostRuntime) -> Result<(), Fail> {
 fn nothing_is_added_at_the_ceiling(rt: HostRuntime) -> Result<(), Fail> {
     assert_eq!(&rt; faults(&rt, Seated::AtTheCeiling)?, (61, 0));
     Ok(())
-}
-
-/// The number of the fault that a seat's receipts have beside these acts, 0 for none.
-fn check(acts: &[Act], receipts: &[Receipt]) -> u8 {
-    match check_receipts(acts, receipts) {
-        Ok(()) => 0,
-        Err(fault) => fault.number().unwrap_or(1),
-    }
-}
-
-/// Puts the acts of a top-up of 1,000 and of the first two debits.
-fn put_acts(alloc: Global, acts: &mut Vec<Act>) -> Result<(), Fail> {
-    let kind = Kind::TopUp(TopUp::new(1, 1000).ok_or("a top-up")?);
-    let moment = after(0).ok_or("a moment")?;
-    acts.push(Act { moment, kind })?;
-    put_debit(alloc, acts, b"gw1.example;1;1", 0)?;
-    put_debit(alloc, acts, b"gw1.example;1;1", 1)
-}
-
-/// Puts the act of the debit of this number.
-fn put_debit(alloc: Global, acts: &mut Vec<Act>, name: &[u8], number: u32) -> Result<(), Fail> {
-    acts.push(event(alloc, Action::DirectDebiting, name, number).ok_or("a debit")?)?;
-    Ok(())
-}
-
-/// A copy of a receipt whose call had no proxies.
-fn copied(alloc: Global, receipt: &Receipt) -> Option<Receipt> {
-    let answer = copied_answer(&receipt.answer)?;
-    let act = receipt.act.copy().ok()?;
-    Some(Receipt {
-        sub: receipt.sub,
-        place: receipt.place,
-        act,
-        header: receipt.header,
-        proxies: Proxies::none(alloc),
-        answer,
-        fresh: receipt.fresh,
-    })
-}
-
-fn copied_answer(told: &Told) -> Option<Told> {
-    match told {
-        Told::Octets(octets) => Some(Told::Octets(octets.copy().ok()?)),
-        Told::Added => Some(Told::Added),
-        Told::Ceiling => Some(Told::Ceiling),
-        Told::Closed { sessions } => Some(Told::Closed {
-            sessions: *sessions,
-        }),
-    }
-}
-
-/// Copies receipts.
-fn copy_each(alloc: Global, receipts: &[Receipt], copies: &mut Vec<Receipt>) -> Result<(), Fail> {
-    for receipt in receipts {
-        copies.push(copied(alloc, receipt).ok_or("a receipt")?)?;
-    }
-    Ok(())
-}
-
-/// Asserts that these receipts are those of these acts, of no others, and out of order once the second and the third are exchanged.
-fn check_each(rt: &impl Abort, acts: &[Act], receipts: &mut [Receipt]) {
-    assert_eq!(rt; receipts.len(), 3);
-    assert_eq!(rt; check(acts, receipts), 0);
-    assert_eq!(rt; check(&[], receipts), 60);
-    assert_eq!(rt; check(acts, &[]), 61);
-    receipts.swap(1, 2);
-    assert_eq!(rt; check(acts, receipts), 62);
-}
-
-/// The same of copies of these.
-fn check_copies(
-    rt: &(impl Abort + AllocGlobal),
-    acts: &[Act],
-    receipts: &[Receipt],
-) -> Result<(), Fail> {
-    let mut copies = Vec::new(rt.alloc());
-    copy_each(rt.alloc(), receipts, &mut copies)?;
-    check_each(rt, acts, &mut copies);
-    Ok(())
-}
-
-/// Tops up and makes two debits at the caller's seat.
-fn debit_twice<W: Wait + Abort + AllocGlobal, R: Records>(
-    rt: &W,
-    shards: &Shards<R>,
-    caller: &mut Caller,
-) {
-    top_up_each(rt, shards, caller, &[(1, 1000, ADDED)]);
-    assert!(rt; is_made(rt, shards, caller, 0));
-    assert!(rt; is_made(rt, shards, caller, 1));
-}
-
-/// Whether the debit of this number is made.
-fn is_made<W: Wait + AllocGlobal, R: Records>(
-    rt: &W,
-    shards: &Shards<R>,
-    caller: &mut Caller,
-    number: u32,
-) -> bool {
-    match caller.debit(rt, rt.alloc(), shards, number) {
-        Some((_octets, is_fresh)) => is_fresh,
-        None => false,
-    }
-}
-
-/// Makes them at a seat, and checks its receipts against the acts of these.
-fn debit_and_check<W: Wait + Abort + AllocGlobal, R: Records>(
-    rt: &W,
-    shards: &Shards<R>,
-) -> Result<(), Fail> {
-    let mut caller = caller(rt.alloc(), shards)?;
-    debit_twice(rt, shards, &mut caller);
-    check_receipts_of(rt, caller.seat.receipts())
-}
-
-/// Checks the receipts of a top-up and two debits.
-fn check_receipts_of(rt: &(impl Abort + AllocGlobal), receipts: &[Receipt]) -> Result<(), Fail> {
-    let mut acts = Vec::new(rt.alloc());
-    put_acts(rt.alloc(), &mut acts)?;
-    check_copies(rt, &acts, receipts)
-}
-
-#[test]
-fn receipts_of_one_seat(rt: HostRuntime) -> Result<(), Fail> {
-    let shards = one(&rt, in_memory(&rt)?)?;
-    let checked = debit_and_check(&rt, &shards);
-    drop(shards);
-    checked
 }
 
 /// All of 10^18 minor units, for which a refund and a top-up are refused, and are so again.

@@ -1,29 +1,22 @@
-//! An engine one of whose shards has records that fail once, at each of its appends in turn.
+//! An engine one of whose shards has records that fail once, in the midst of a sweep.
 
 ghost use Rattle.std.specs.Prelude.{◌≡◌, IfOk};
 
-use crate::history::{ACTS, FUNDS, History, busy, subscribers};
 use dcc_act::Sub;
-use dcc_callers::{TERMS, are_shards, pair};
+use dcc_base::Host;
+use dcc_callers::{TERMS, after, are_shards, pair};
 use dcc_engine::{Engine, Event, Out};
 use dcc_message::Identity;
+use dcc_octets::OctetString;
 use dcc_records::{MemoryRecords, OnceRecords, Records};
-use dcc_samples::PLAN;
-use dcc_shard::{Shard, Shards, TopUpAnswer};
+use dcc_samples::{ANSWER, BUSY, DEBIT, PLAN};
+use dcc_shard::{Shard, Shards};
 use dcc_tariff::{Plan, Terms};
 use std::alloc::Global;
 use std::hash::RandomState;
 use std::process::Abort;
 use std::random::RandomSource;
 use std::test::Fail;
-
-/// What an event is answered where no append fails, whose it is, and how many acts of the subscriber that is looked at are held behind it.
-#[derive(Drop)]
-struct Turn {
-    of: Option<Sub>,
-    out: Out,
-    acts: usize,
-}
 
 /// An engine of two shards, over these records.
 fn engine_over<S: RandomSource + AllocGlobal, R: Records + Drop>(
@@ -80,77 +73,12 @@ fn as_one<R: Records + Drop>(
     Ok(Shards::new(terms, identity, shards))
 }
 
-/// An engine of which no append fails.
-fn engine_in_memory(rt: &(impl RandomSource + AllocGlobal)) -> Result<Engine<MemoryRecords>, Fail> {
+/// An engine whose first shard fails at its third append.
+fn failing_engine(rt: &(impl RandomSource + AllocGlobal)) -> Result<Engine<OnceRecords>, Fail> {
     let hasher = RandomState::new(rt)?;
     let first = MemoryRecords::new(rt.alloc(), &TERMS, hasher);
     let second = MemoryRecords::new(rt.alloc(), &TERMS, hasher);
-    engine_over(rt, first, second)
-}
-
-/// What the events come to where no append fails.
-fn turns(
-    rt: &(impl RandomSource + AllocGlobal),
-    history: &History,
-    sub: Sub,
-) -> Result<Vec<Turn>, Fail> {
-    let alloc = rt.alloc();
-    let mut engine = engine_in_memory(rt)?;
-    let turns = turns_of(alloc, &mut engine, history, sub);
-    drop(engine);
-    turns
-}
-
-/// What an event comes to.
-fn turn_of(
-    alloc: Global,
-    engine: &mut Engine<MemoryRecords>,
-    event: &[Event],
-    of: Option<Sub>,
-    sub: Sub,
-) -> Result<Turn, Fail> {
-    let out = engine.run(alloc, event)?.pop().ok_or("an out")?;
-    let acts = acts_of(engine, sub);
-    Ok(Turn { of, out, acts })
-}
-
-/// What the events come to, one after another.
-fn turns_of(
-    alloc: Global,
-    engine: &mut Engine<MemoryRecords>,
-    history: &History,
-    sub: Sub,
-) -> Result<Vec<Turn>, Fail> {
-    let mut turns = Vec::new(alloc);
-    for (event, of) in history.events.chunks(1).zip(&history.subs) {
-        turns.push(turn_of(alloc, engine, event, *of, sub)?)?;
-    }
-    Ok(turns)
-}
-
-/// How many acts are held for a subscriber.
-fn acts_of<R: Records>(engine: &Engine<R>, sub: Sub) -> usize {
-    match engine.account(sub) {
-        Some(account) => account.acts().len(),
-        None => 0,
-    }
-}
-
-/// The engine of which an append fails: the `n`-th of the shard at this index.
-fn failing_engine(
-    rt: &(impl RandomSource + AllocGlobal),
-    index: usize,
-    n: u64,
-) -> Result<Engine<OnceRecords>, Fail> {
-    let (one, other) = if index == 0 { (n, 0) } else { (0, n) };
-    let hasher = RandomState::new(rt)?;
-    let first = MemoryRecords::new(rt.alloc(), &TERMS, hasher);
-    let second = MemoryRecords::new(rt.alloc(), &TERMS, hasher);
-    engine_over(
-        rt,
-        OnceRecords::new(first, one),
-        OnceRecords::new(second, other),
-    )
+    engine_over(rt, OnceRecords::new(first, 3), OnceRecords::new(second, 0))
 }
 
 /// An engine over what its records find after a restart.
@@ -174,221 +102,163 @@ fn healed(shards: &mut Vec<Shard<OnceRecords>>) -> Option<MemoryRecords> {
     Some(shards.pop()?.into_records().healed())
 }
 
-/// Whether two outs are alike, but that a top-up which was made before isn't fresh.
-fn are_alike(a: &Out, b: &Out) -> bool {
-    a.octets.as_slice() == b.octets.as_slice()
-        && (a.peer, a.close, a.refused_all) == (b.peer, b.close, b.refused_all)
-        && a.refused.as_slice() == b.refused.as_slice()
-        && are_told_alike(a.top_up, b.top_up)
+/// A subscriber of the first shard, or of the second: 0:491700000001 or 0:491700000002.
+fn subscriber(name: &[u8]) -> Result<Sub, Fail> {
+    Ok(Sub::new(0, name).ok_or("a subscriber")?)
 }
 
-fn are_told_alike(a: Option<TopUpAnswer>, b: Option<TopUpAnswer>) -> bool {
-    match (a, b) {
-        (Some(TopUpAnswer::Done { place: a, .. }), Some(TopUpAnswer::Done { place: b, .. })) => {
-            a == b
-        }
-        _ => a == b,
+/// Both.
+fn subscribers() -> Result<[Sub; 2], Fail> {
+    Ok([subscriber(b"491700000001")?, subscriber(b"491700000002")?])
+}
+
+/// The host of this name.
+fn host(alloc: Global, name: &[u8]) -> Result<Host, Fail> {
+    let octets = OctetString::from_vec(name.to_vec(alloc)?);
+    Ok(Host::from_octets(octets).ok_or("a host")?)
+}
+
+fn connect(alloc: Global) -> Result<Event, Fail> {
+    Ok(Event::Connect {
+        peer: 1,
+        host: Some(host(alloc, b"gw1.example")?),
+    })
+}
+
+fn top_up(sub: Sub) -> Result<Event, Fail> {
+    Ok(Event::TopUp {
+        moment: after(0).ok_or("a moment")?,
+        sub,
+        ticket: 1,
+        amount: 1000,
+    })
+}
+
+/// A message of the peer, so many seconds after the first.
+fn message(seconds: u32, octets: Vec<u8>) -> Result<Event, Fail> {
+    Ok(Event::Message {
+        peer: 1,
+        moment: after(seconds).ok_or("a moment")?,
+        octets: OctetString::from_vec(octets),
+    })
+}
+
+fn put(octets: &mut [u8], place: usize, octet: u8) -> Result<(), Fail> {
+    *octets.get_mut(place).ok_or("a place")? = octet;
+    Ok(())
+}
+
+/// The sample's debit, of this subscriber.
+fn debit(alloc: Global, sub: Sub) -> Result<Vec<u8>, Fail> {
+    let mut octets = hex::decode(alloc, DEBIT)?;
+    put(&mut octets, 203, *sub.name().last().ok_or("a name")?)?;
+    Ok(octets)
+}
+
+/// The initial request of a session, which asks for what the debit does.
+fn opening(alloc: Global, sub: Sub) -> Result<Vec<u8>, Fail> {
+    let debit = debit(alloc, sub)?;
+    let mut octets = Vec::from_slice(alloc, debit.get(..136).ok_or("a request")?)?;
+    octets.extend_from_slice(&[0, 0, 0, 1])?;
+    octets.extend_from_slice(debit.get(140..152).ok_or("a number")?)?;
+    // Behind the Requested-Action, which sessions don't have.
+    octets.extend_from_slice(debit.get(164..).ok_or("a subscriber")?)?;
+    let length = u8::try_from(octets.len()).map_err(|_| Fail::from("a long request"))?;
+    put(&mut octets, 3, length)?;
+    // Another session than the debit's.
+    put(&mut octets, 42, b'2')?;
+    Ok(octets)
+}
+
+/// How many seconds after the first messages the sweep comes: no session is held so long.
+const DAY: u32 = 86_400;
+
+/// Money and a session of both, the sweep, the first one's debit twice, and the other's.
+fn put_events(alloc: Global, events: &mut Vec<Event>) -> Result<(), Fail> {
+    let [first, other] = subscribers()?;
+    events.push(connect(alloc)?)?;
+    for sub in [first, other] {
+        events.push(top_up(sub)?)?;
+        events.push(message(0, opening(alloc, sub)?)?)?;
     }
-}
-
-/// Whether an event of the subscriber is refused.
-fn is_refused(alloc: Global, event: &Event, out: &Out) -> Result<bool, Fail> {
-    match event {
-        Event::Message { octets, .. } => {
-            let busy = busy(alloc, octets.as_slice())?;
-            Ok(out.octets.as_slice() == busy.as_slice())
-        }
-        Event::TopUp { .. } => Ok(out.top_up == Some(TopUpAnswer::Refused)),
-        _ => Ok(false),
-    }
-}
-
-/// Whether a sweep refused just this subscriber, or nobody where nothing is held for it.
-fn is_swept(out: &Out, sub: Sub, is_held: bool) -> bool {
-    let refused = out.refused.as_slice();
-    !out.refused_all && refused.len() == usize::from(is_held) && refused.iter().all(|it| *it == sub)
-}
-
-/// Asserts that the events of the subscriber are refused from its `n`-th act on, and that all else is answered as ever.
-fn assert_stopped(
-    rt: &(impl Abort + AllocGlobal),
-    history: &History,
-    turns: &[Turn],
-    outs: &[Out],
-    sub: Sub,
-    n: usize,
-) -> Result<(), Fail> {
-    assert_eq!(rt; outs.len(), turns.len());
-    for i in 0..outs.len() {
-        let is_right = is_right_at(rt.alloc(), history, turns, outs, i, sub, n)?;
-        assert!(rt; is_right, "event {i} where append {n} fails");
+    events.push(Event::Sweep {
+        moment: after(DAY).ok_or("a moment")?,
+    })?;
+    for sub in [first, first, other] {
+        events.push(message(DAY, debit(alloc, sub)?)?)?;
     }
     Ok(())
 }
 
-/// Whether the event at this index is answered as it is to be where the subscriber's `n`-th act isn't appended.
-fn is_right_at(
-    alloc: Global,
-    history: &History,
-    turns: &[Turn],
-    outs: &[Out],
-    i: usize,
-    sub: Sub,
-    n: usize,
-) -> Result<bool, Fail> {
-    let (Some(event), Some(turn), Some(out)) = (history.events.get(i), turns.get(i), outs.get(i))
-    else {
-        return Ok(false);
+/// Asserts that at the end of these outs are that of a sweep which was refused for this subscriber alone, and behind it two busy answers and one
+/// to a debit.
+fn assert_told(rt: &(impl Abort + AllocGlobal), outs: &[Out], sub: Sub) -> Result<(), Fail> {
+    let [.., sweep, busy, again, other] = outs else {
+        return Err("outs".into());
     };
-    is_right(alloc, event, turn, out, sub, n)
+    assert!(rt; !sweep.refused_all && sweep.refused.as_slice() == [sub].as_slice());
+    assert_octets(rt, busy, BUSY)?;
+    assert_octets(rt, again, BUSY)?;
+    assert_octets(rt, other, ANSWER)
 }
 
-/// Whether an event is answered as it is to be where the subscriber's `n`-th act isn't appended.
-fn is_right(
-    alloc: Global,
-    event: &Event,
-    turn: &Turn,
-    out: &Out,
-    sub: Sub,
-    n: usize,
-) -> Result<bool, Fail> {
-    if turn.acts >= n {
-        if let Event::Sweep { .. } = event {
-            return Ok(is_swept(out, sub, n > 1));
-        }
-        if turn.of == Some(sub) {
-            return is_refused(alloc, event, out);
-        }
-    }
-    Ok(are_alike(out, &turn.out) && out.top_up == turn.out.top_up)
-}
-
-/// Asserts that of the subscriber the acts before its `n`-th are held, and of the other all.
-fn assert_held<R: Records>(
-    rt: &impl Abort,
-    engine: &Engine<R>,
-    sub: Sub,
-    n: usize,
-) -> Result<(), Fail> {
-    for it in subscribers()? {
-        let wanted = if it == sub { n.saturating_sub(1) } else { ACTS };
-        assert_eq!(rt; acts_of(engine, it), wanted);
-    }
+/// Asserts that an event is answered by a sample.
+fn assert_octets(rt: &(impl Abort + AllocGlobal), out: &Out, sample: &str) -> Result<(), Fail> {
+    let octets = hex::decode(rt.alloc(), sample)?;
+    assert_eq!(rt; out.octets.as_slice(), octets.as_slice());
     Ok(())
 }
 
-/// Asserts that all events are answered as ever, and each act is made once.
-fn assert_made_once(
+/// How many acts are held for a subscriber.
+fn acts_of<R: Records>(engine: &Engine<R>, sub: Sub) -> usize {
+    match engine.account(sub) {
+        Some(account) => account.acts().len(),
+        None => 0,
+    }
+}
+
+/// Runs all, and asserts what is told, and that of the first subscriber nothing is held from the sweep on.
+fn run_until_stopped<R: Records>(
     rt: &(impl Abort + AllocGlobal),
-    engine: &mut Engine<MemoryRecords>,
-    history: &History,
-    turns: &[Turn],
+    engine: &mut Engine<R>,
 ) -> Result<(), Fail> {
-    let outs = engine.run(rt.alloc(), &history.events)?;
-    assert_alike(rt, turns, &outs);
-    assert_all_held(rt, engine)
-}
-
-/// Asserts that all events are answered as ever.
-fn assert_alike(rt: &impl Abort, turns: &[Turn], outs: &[Out]) {
-    assert_eq!(rt; outs.len(), turns.len());
-    for i in 0..outs.len() {
-        assert!(rt; is_alike(turns, outs, i), "event {i} again");
-    }
-}
-
-/// Whether the event at this index is answered as ever.
-fn is_alike(turns: &[Turn], outs: &[Out], i: usize) -> bool {
-    match (turns.get(i), outs.get(i)) {
-        (Some(turn), Some(out)) => are_alike(out, &turn.out),
-        _ => false,
-    }
-}
-
-/// Asserts that each act of both subscribers is made once.
-fn assert_all_held<R: Records>(rt: &impl Abort, engine: &Engine<R>) -> Result<(), Fail> {
-    for sub in subscribers()? {
-        assert_eq!(rt; sums_of(engine, sub), Some((ACTS, FUNDS)));
-    }
+    let [first, other] = subscribers()?;
+    let mut events = Vec::new(rt.alloc());
+    put_events(rt.alloc(), &mut events)?;
+    let outs = engine.run(rt.alloc(), &events)?;
+    assert_told(rt, &outs, first)?;
+    assert_eq!(rt; (acts_of(engine, first), acts_of(engine, other)), (2, 4));
     Ok(())
 }
 
-/// How many acts a subscriber has, and its funds.
-fn sums_of<R: Records>(engine: &Engine<R>, sub: Sub) -> Option<(usize, i128)> {
-    let account = engine.account(sub)?;
-    Some((account.acts().len(), account.funds()))
-}
-
-/// Runs the history, in which the subscriber's `n`-th append fails.
-fn run_until_stopped(
+/// Asks for the first subscriber's debit again, and asserts that it is made.
+fn run_again<R: Records>(
     rt: &(impl Abort + AllocGlobal),
-    engine: &mut Engine<OnceRecords>,
-    history: &History,
-    turns: &[Turn],
-    sub: Sub,
-    n: usize,
+    engine: &mut Engine<R>,
 ) -> Result<(), Fail> {
-    let outs = engine.run(rt.alloc(), &history.events)?;
-    assert_stopped(rt, history, turns, &outs, sub, n)?;
-    assert_held(rt, engine, sub, n)
+    let [first, _] = subscribers()?;
+    let mut events = Vec::new(rt.alloc());
+    events.push(connect(rt.alloc())?)?;
+    events.push(message(DAY, debit(rt.alloc(), first)?)?)?;
+    let outs = engine.run(rt.alloc(), &events)?;
+    assert_octets(rt, outs.last().ok_or("an out")?, ANSWER)?;
+    assert_eq!(rt; acts_of(engine, first), 3);
+    Ok(())
 }
 
-/// Runs the history with an append that fails, of the shard at this index: the engine over what is found after a restart.
+/// The engine over what is found after a restart.
 fn run_and_reopen(
     rt: &(impl Abort + RandomSource + AllocGlobal),
-    history: &History,
-    turns: &[Turn],
-    (index, sub): (usize, Sub),
-    n: usize,
 ) -> Result<Engine<MemoryRecords>, Fail> {
-    let mut engine = failing_engine(rt, index, n as u64)?;
-    run_until_stopped(rt, &mut engine, history, turns, sub, n)?;
+    let mut engine = failing_engine(rt)?;
+    run_until_stopped(rt, &mut engine)?;
     reopened(rt, engine)
 }
 
-/// Runs the history with an append that fails, and again over what is found after a restart.
-fn run_twice(
-    rt: &(impl Abort + RandomSource + AllocGlobal),
-    history: &History,
-    turns: &[Turn],
-    of: (usize, Sub),
-    n: usize,
-) -> Result<(), Fail> {
-    let mut again = run_and_reopen(rt, history, turns, of, n)?;
-    assert_made_once(rt, &mut again, history, turns)
-}
-
-/// The same for each append of the subscriber in turn.
-fn run_for_each(
-    rt: &(impl Abort + RandomSource + AllocGlobal),
-    history: &History,
-    turns: &[Turn],
-    (index, sub): (usize, Sub),
-) -> Result<(), Fail> {
-    assert_eq!(rt; turns.last().map(|turn| turn.acts), Some(ACTS));
-    for n in 1..=ACTS + 1 {
-        run_twice(rt, history, turns, (index, sub), n)?;
-    }
-    Ok(())
-}
-
-/// The same of the subscriber that the shard at this index keeps.
-fn run_of(
-    rt: &(impl Abort + RandomSource + AllocGlobal),
-    history: &History,
-    (index, sub): (usize, Sub),
-) -> Result<(), Fail> {
-    let turns = turns(rt, history, sub)?;
-    run_for_each(rt, history, &turns, (index, sub))
-}
-
-/// The shard whose append fails refuses its subscriber from there on, the other answers as ever, and what is opened again of both
-/// answers every event as if none had failed.
+/// The expiry of the first shard's subscriber isn't appended: it alone is refused, the other shard's session ends, and from there on the first
+/// shard is busy and the other answers. Opened again, the first makes the debit.
 #[test]
-fn an_engine_outlives_each_append_that_fails(rt: HostRuntime) -> Result<(), Fail> {
-    let history = History::new(rt.alloc())?;
-    for of in subscribers()?.into_iter().enumerate() {
-        run_of(&rt, &history, of)?;
-    }
-    Ok(())
+fn an_engine_outlives_an_append_that_fails(rt: HostRuntime) -> Result<(), Fail> {
+    let mut again = run_and_reopen(&rt)?;
+    run_again(&rt, &mut again)
 }

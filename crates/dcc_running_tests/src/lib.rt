@@ -8,5 +8,3 @@ mod closing;
 mod failing;
 #[cfg(test)]
 mod gates;
-#[cfg(test)]
-mod history;
