@@ -1,6 +1,7 @@
 //! What these tests try, and the server by which each is tried. Its plan and its names are made and let go in one function each: a
 //! function that lets go of them on other ways too takes the prover long.
 
+use crate::connection::{self, Talking};
 use crate::server::Server;
 use crate::{sweeps, workers};
 use dcc_callers::identity;
@@ -17,6 +18,7 @@ use std::thread::Threads;
 /// What is tried.
 #[derive(Clone, Copy)]
 pub(crate) enum Row {
+    Connection(Talking),
     Workers,
     Sweep,
 }
@@ -62,6 +64,7 @@ fn run_by<S: Threads + Wait + Sync + Abort + RandomSource + AllocGlobal>(
     row: Row,
 ) -> Result<(), Fail> {
     match row {
+        Row::Connection(talking) => connection::run(rt, server, talking),
         Row::Workers => workers::run(rt, server),
         Row::Sweep => sweeps::run(rt, server),
     }
