@@ -61,12 +61,15 @@ fn created<S: Alter + Drop>(
     }
 }
 
-/// A store without acts in memory.
-fn store(alloc: Global, hasher: RandomState) -> Result<Store<Memory>, Fail> {
-    let files = Files {
-        log: Memory::new(alloc),
-        db: Memory::new(alloc),
-    };
+/// A store without acts in files.
+fn store<D: Disk + Drop>(
+    alloc: Global,
+    files: Files<D>,
+    hasher: RandomState,
+) -> Result<Store<D>, Fail>
+    requires log { IsTrue (D.Disk.is_usable files.log) }
+    requires db { IsTrue (D.Disk.is_usable files.db) }
+{
     created(alloc, database(alloc, files)?, hasher)
 }
 
@@ -134,18 +137,51 @@ fn ask_over<S: Abort + RandomSource + AllocGlobal, R: Records + Drop>(
     Ok(())
 }
 
+/// Stops a shard behind its acts, and asks for them again.
+fn stop_shard<S: Abort + RandomSource + AllocGlobal, D: Crash + Drop>(
+    rt: &S,
+    files: Files<D>,
+    identity: &Identity,
+    hasher: RandomState,
+) -> Result<(), Fail>
+    requires log { IsTrue (D.Disk.is_usable files.log) }
+    requires db { IsTrue (D.Disk.is_usable files.db) }
+{
+    let mut shard = shard_over(rt, store(rt.alloc(), files, hasher)?)?;
+    let told = ask(rt, &mut shard, true);
+    let again = reopened(rt.alloc(), shard, identity, hasher);
+    repeated(rt, again, told)
+}
+
+/// Stops a store without acts, and asks a shard over it.
+fn stop_store<S: Abort + RandomSource + AllocGlobal, D: Crash + Drop>(
+    rt: &S,
+    files: Files<D>,
+    hasher: RandomState,
+) -> Result<(), Fail>
+    requires log { IsTrue (D.Disk.is_usable files.log) }
+    requires db { IsTrue (D.Disk.is_usable files.db) }
+{
+    let conn = store(rt.alloc(), files, hasher)?.into_connection();
+    ask_over(rt, upgraded(rt.alloc(), conn, hasher)?)
+}
+
 #[test]
 fn a_stopped_shard_repeats_its_answers(rt: HostRuntime) -> Result<(), Fail> {
     let (identity, hasher) = (identity(rt.alloc())?, RandomState::new(&rt)?);
-    let mut shard = shard_over(&rt, store(rt.alloc(), hasher)?)?;
-    let told = ask(&rt, &mut shard, true);
-    let again = reopened(rt.alloc(), shard, &identity, hasher);
-    repeated(&rt, again, told)
+    let files = Files {
+        log: Memory::new(rt.alloc()),
+        db: Memory::new(rt.alloc()),
+    };
+    stop_shard(&rt, files, &identity, hasher)
 }
 
 #[test]
 fn a_stopped_store_is_opened(rt: HostRuntime) -> Result<(), Fail> {
     let hasher = RandomState::new(&rt)?;
-    let conn = store(rt.alloc(), hasher)?.into_connection();
-    ask_over(&rt, upgraded(rt.alloc(), conn, hasher)?)
+    let files = Files {
+        log: Memory::new(rt.alloc()),
+        db: Memory::new(rt.alloc()),
+    };
+    stop_store(&rt, files, hasher)
 }
