@@ -1,12 +1,12 @@
 //! Acts in short: of one session, each request under its place as its number.
 
-ghost use Rattle.std.specs.Prelude.{◌≤◌};
+ghost use Rattle.std.specs.Prelude.{◌≡◌, ◌≤◌, is_some, true};
 ghost use Rattle.std.specs.Option.{ForSome};
 ghost use Rattle.dcc_act.specs.declared.limits.TheConstants.{MAX_SECONDS};
 
 use dcc_act::{
-    Act, Form, Kind, MAX_SECONDS, Moment, RequestKey, Service, ServiceIds, Services, SessionId,
-    SessionLimit, SessionRequest, TopUp,
+    Act, Action, Form, Kind, MAX_SECONDS, Moment, OneTimeEvent, RequestKey, Service, ServiceIds,
+    Services, SessionId, SessionLimit, SessionRequest, TopUp,
 };
 use dcc_tariff::{Tariff, Terms, UnitKind};
 use std::alloc::Global;
@@ -46,6 +46,9 @@ pub(crate) enum Ask {
     Initial(&'static [Want]),
     Update(&'static [Want]),
     Termination(&'static [Want]),
+    /// A direct debit of 1,001 octets.
+    Debit,
+    Expiry,
 }
 
 /// The name of a session.
@@ -94,11 +97,31 @@ fn request(alloc: Global, place: u32, wants: &[Want]) -> Result<SessionRequest, 
         services.push(service(alloc, *want))?;
     }
     Ok(SessionRequest {
-        key: RequestKey {
-            sid: name(alloc, b's')?,
-            number: place,
-        },
+        key: key(alloc, place)?,
         services: Services::from_vec(services).ok_or("services")?,
+    })
+}
+
+/// 1,001 octets in single form.
+fn debit(alloc: Global) -> Service
+    ensures { is_some result.asked ≡ true }
+{
+    Service {
+        group: None,
+        ids: ServiceIds::new(alloc),
+        form: Form::Single,
+        asked: Some(1001),
+        used: None,
+        unit: Some(UnitKind::Octets),
+        tariff: Some(OCTETS),
+    }
+}
+
+/// The key of the request at this place.
+fn key(alloc: Global, place: u32) -> Result<RequestKey, Fail> {
+    Ok(RequestKey {
+        sid: name(alloc, b's')?,
+        number: place,
     })
 }
 
@@ -113,11 +136,17 @@ fn kind(alloc: Global, place: u32, ask: Ask) -> Result<Kind, Fail> {
         },
         Ask::Update(wants) => Kind::Update(request(alloc, place, wants)?),
         Ask::Termination(wants) => Kind::Termination(request(alloc, place, wants)?),
+        Ask::Debit => Kind::Event(OneTimeEvent {
+            key: key(alloc, place)?,
+            action: Action::DirectDebiting,
+            service: debit(alloc),
+        }),
+        Ask::Expiry => Kind::Expiry,
     })
 }
 
 /// An act in short.
-fn act(alloc: Global, place: u32, ask: Ask) -> Result<Act, Fail> {
+pub(crate) fn act(alloc: Global, place: u32, ask: Ask) -> Result<Act, Fail> {
     Ok(Act {
         moment: moment(MOMENT)?,
         kind: kind(alloc, place, ask)?,

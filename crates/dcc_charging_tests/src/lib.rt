@@ -11,4 +11,8 @@ mod model;
 #[cfg(test)]
 mod plan;
 #[cfg(test)]
+mod record;
+#[cfg(test)]
+mod report;
+#[cfg(test)]
 mod session;

@@ -1,6 +1,6 @@
 //! The plain program, which no command runs, and the entries of worked examples.
 
-use crate::acts::{Ask, TERMS, acts};
+use crate::acts::{Ask, TERMS, act, acts};
 use dcc_act::{Act, Entry, Outcome, ResultCode};
 use dcc_model::{Done, Judgement, judge, plain_answer};
 use std::alloc::{AllocError, Global};
@@ -118,4 +118,50 @@ fn entries(rt: HostRuntime) -> Result<(), Fail> {
         Ask::Update(&[(20, 700, 0), (10, 0, 10_000)]),
     ];
     check_alone(&rt, rt.alloc(), &two, &[(1, 0, 0, 100), (3, 20, 700, -24)])
+}
+
+/// Whether a request is of an unknown user, an expiry ends none, or another act is done.
+fn is_told(outcome: &Outcome, ask: Ask) -> bool {
+    match outcome {
+        Outcome::Unknown { .. } => matches!(ask, Ask::Initial(_)),
+        Outcome::Expired { sessions } => matches!(ask, Ask::Expiry) && *sessions == 0,
+        Outcome::Added => matches!(ask, Ask::TopUp(_)),
+        Outcome::Answered(_) => matches!(ask, Ask::Debit) && is_success(outcome),
+        Outcome::Ceiling => false,
+    }
+}
+
+/// Judges an act in short, and asserts its outcome; one that is made is put behind the others.
+fn judge_one(
+    rt: &impl Abort,
+    alloc: Global,
+    made: &mut Vec<Done>,
+    posted: &mut Vec<Posted>,
+    (place, ask): (u32, Ask),
+) -> Result<(), Fail> {
+    let act = act(alloc, place, ask)?;
+    let outcome = judged(alloc, made, posted, &act)?;
+    assert!(rt; is_told(&outcome, ask), "act {place}");
+    if matches!(ask, Ask::TopUp(_) | Ask::Debit) {
+        push(made, &act, outcome)?;
+    }
+    Ok(())
+}
+
+/// A request before the first top-up, an expiry of no session, and a direct debit.
+#[test]
+fn others(rt: HostRuntime) -> Result<(), Fail> {
+    let asks = [
+        (1, Ask::Initial(&[])),
+        (2, Ask::TopUp(100)),
+        (3, Ask::Expiry),
+        (4, Ask::Debit),
+    ];
+    let (mut made, mut posted) = (Vec::new(rt.alloc()), Vec::new(rt.alloc()));
+    for ask in asks {
+        judge_one(&rt, rt.alloc(), &mut made, &mut posted, ask)?;
+    }
+    let wanted: &[Posted] = &[(1, 0, 0, 100), (2, 0, 1001, -10)];
+    assert_eq!(&rt; posted.as_slice(), wanted);
+    Ok(())
 }

@@ -8,3 +8,5 @@ mod closing;
 mod failing;
 #[cfg(test)]
 mod gates;
+#[cfg(test)]
+mod receipts;

@@ -6,4 +6,6 @@
 #[cfg(test)]
 mod asking;
 #[cfg(test)]
+mod at_once;
+#[cfg(test)]
 mod stops;

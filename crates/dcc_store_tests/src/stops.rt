@@ -18,7 +18,7 @@ use std::process::Abort;
 use std::random::RandomSource;
 use std::test::Fail;
 
-type Store<D> = SqlRecords<FileStore<D>>;
+pub(crate) type Store<D> = SqlRecords<FileStore<D>>;
 
 /// The setting of the store of an only shard.
 const SETTING: Setting<'static> = Setting {
@@ -62,7 +62,7 @@ fn created<S: Alter + Drop>(
 }
 
 /// A store without acts in files.
-fn store<D: Disk + Drop>(
+pub(crate) fn store<D: Disk + Drop>(
     alloc: Global,
     files: Files<D>,
     hasher: RandomState,
@@ -74,7 +74,7 @@ fn store<D: Disk + Drop>(
 }
 
 /// The shard over what a power cut leaves of a shard's files.
-fn reopened<D: Crash + Drop>(
+pub(crate) fn reopened<D: Crash + Drop>(
     alloc: Global,
     shard: Shard<Store<D>>,
     identity: &Identity,

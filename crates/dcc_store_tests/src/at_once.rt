@@ -1,0 +1,189 @@
+//! Two gateways of one subscriber at once, each at its own seat, over a store that loses power behind them; and their requests again.
+
+use crate::stops::{Store, reopened, store};
+use dcc_act::Sub;
+use dcc_callers::{Caller, DEBITS, identity, locked_alone, one};
+use dcc_message::Identity;
+use dcc_records::Records;
+use dcc_running::{Books, Seat, Shards};
+use dcc_shard::{Shard, TopUpAnswer};
+use sqlite::Files;
+use sqlite_disk::Memory;
+use std::alloc::Global;
+use std::hash::RandomState;
+use std::process::Abort;
+use std::random::RandomSource;
+use std::sync::Wait;
+use std::test::Fail;
+use std::thread::{Threads, join};
+
+/// The number of the subscriber.
+const NUMBER: &[u8] = b"491700000001";
+
+/// So many debits each gateway repeats at once.
+const REPEATS: u32 = 10;
+
+const ADDED: TopUpAnswer = TopUpAnswer::Done {
+    place: 1,
+    fresh: true,
+};
+
+/// Two gateways of the subscriber.
+fn gateways<R: Records>(alloc: Global, shards: &Shards<R>) -> Result<(Caller, Caller), Fail> {
+    let first = Caller::new(alloc, shards, NUMBER, b"gw1.example;1;1")?;
+    let second = Caller::new(alloc, shards, NUMBER, b"gw2.example;1;1")?;
+    Ok((first, second))
+}
+
+/// Makes the debits of a gateway, and repeats some: how many repeats get their first answer.
+fn debit_and_repeat<W: Wait, R: Records>(
+    rt: &W,
+    alloc: Global,
+    shards: &Shards<R>,
+    caller: &mut Caller,
+) -> u32 {
+    caller.debit_all(rt, alloc, shards);
+    caller.repeat(rt, alloc, shards, REPEATS)
+}
+
+/// A top-up of 1,000,000 minor units, and then the debits and repeats of both gateways at once.
+fn debit_at_once<W: Wait + Threads + Abort + Sync + AllocGlobal, R: Records + Send + Sync>(
+    rt: &W,
+    shards: &Shards<R>,
+    first: &mut Caller,
+    second: &mut Caller,
+) {
+    let alloc = rt.alloc();
+    let told = first.top_up(rt, alloc, shards, 1, 1_000_000);
+    assert_eq!(rt; told, Some(ADDED));
+    let repeated = join(
+        rt,
+        || debit_and_repeat(rt, alloc, shards, first),
+        || debit_and_repeat(rt, alloc, shards, second),
+    );
+    assert_eq!(rt; repeated, (REPEATS, REPEATS));
+}
+
+/// The seats of both.
+fn seats<R: Records>(
+    alloc: Global,
+    shards: &Shards<R>,
+    first: &mut Caller,
+    second: &mut Caller,
+) -> Result<Vec<Seat>, Fail> {
+    let mut seats = Vec::new(alloc);
+    seats.push(first.stand_up(alloc, shards)?)?;
+    seats.push(second.stand_up(alloc, shards)?)?;
+    Ok(seats)
+}
+
+/// How many receipts of these seats are fresh, and how many are not.
+fn receipts_in(seats: &[Seat]) -> (u32, u32) {
+    let mut counts = (0u32, 0u32);
+    for seat in seats {
+        for receipt in seat.receipts() {
+            if receipt.fresh {
+                counts.0 = counts.0.saturating_add(1);
+            } else {
+                counts.1 = counts.1.saturating_add(1);
+            }
+        }
+    }
+    counts
+}
+
+/// How many acts the subscriber has, and its funds.
+fn sums<R: Records>(books: &Books<R>, sub: Sub) -> Option<(usize, i128)> {
+    let account = books.account(sub)?;
+    Some((account.acts().len(), account.funds()))
+}
+
+/// The one shard of these books.
+fn shard_of<R: Records + Drop>(books: Books<R>) -> Result<Shard<R>, Fail> {
+    Ok(books.into_shards().pop().ok_or("a shard")?)
+}
+
+/// The shard whose books agree with the receipts of these seats: a top-up of 1,000,000 and 180 debits of 5.
+fn closed_with<S: Abort + AllocGlobal, R: Records + Drop>(
+    rt: &S,
+    shards: Shards<R>,
+    seats: Vec<Seat>,
+    sub: Sub,
+) -> Result<Shard<R>, Fail> {
+    match shards.close(rt.alloc(), seats) {
+        Ok(books) => {
+            assert_eq!(rt; sums(&books, sub), Some((181, 999_100)));
+            shard_of(books)
+        }
+        Err(_) => Err("receipts disagree".into()),
+    }
+}
+
+/// The same of the seats of both, of whose receipts so many are fresh and so many are not.
+fn closed<S: Abort + AllocGlobal, R: Records + Drop>(
+    rt: &S,
+    shards: Shards<R>,
+    first: &mut Caller,
+    second: &mut Caller,
+    receipts: (u32, u32),
+) -> Result<Shard<R>, Fail> {
+    match seats(rt.alloc(), &shards, first, second) {
+        Ok(seats) => {
+            assert_eq!(rt; receipts_in(&seats), receipts);
+            closed_with(rt, shards, seats, first.sub)
+        }
+        Err(fail) => {
+            drop(shards);
+            Err(fail)
+        }
+    }
+}
+
+/// Repeats all debits of both.
+fn repeat_both<W: Wait + Abort + AllocGlobal, R: Records>(
+    rt: &W,
+    shards: &Shards<R>,
+    first: &mut Caller,
+    second: &mut Caller,
+) {
+    assert_eq!(rt; first.repeat(rt, rt.alloc(), shards, DEBITS), DEBITS);
+    assert_eq!(rt; second.repeat(rt, rt.alloc(), shards, DEBITS), DEBITS);
+}
+
+/// A shard over a new store, under its lock.
+fn begun<S: RandomSource + AllocGlobal>(
+    rt: &S,
+    hasher: RandomState,
+) -> Result<Shards<Store<Memory>>, Fail> {
+    let files = Files {
+        log: Memory::new(rt.alloc()),
+        db: Memory::new(rt.alloc()),
+    };
+    one(rt, store(rt.alloc(), files, hasher)?)
+}
+
+/// The shard over what a power cut leaves of a shard's files, under its lock.
+fn again<S: RandomSource + AllocGlobal>(
+    rt: &S,
+    shard: Shard<Store<Memory>>,
+    identity: &Identity,
+    hasher: RandomState,
+) -> Result<Shards<Store<Memory>>, Fail> {
+    match reopened(rt.alloc(), shard, identity, hasher) {
+        Some(shard) => locked_alone(rt, shard),
+        None => Err("the shard again".into()),
+    }
+}
+
+#[test]
+fn two_gateways_at_once(rt: HostRuntime) -> Result<(), Fail> {
+    let (identity, hasher) = (identity(rt.alloc())?, RandomState::new(&rt)?);
+    let shards = begun(&rt, hasher)?;
+    let (mut first, mut second) = gateways(rt.alloc(), &shards)?;
+    debit_at_once(&rt, &shards, &mut first, &mut second);
+    let shard = closed(&rt, shards, &mut first, &mut second, (181, 20))?;
+    let shards = again(&rt, shard, &identity, hasher)?;
+    repeat_both(&rt, &shards, &mut first, &mut second);
+    drop(closed(&rt, shards, &mut first, &mut second, (0, 180))?);
+    Ok(())
+}
