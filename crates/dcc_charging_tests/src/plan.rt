@@ -6,7 +6,7 @@ use std::alloc::Global;
 use std::process::Abort;
 use std::test::Fail;
 
-/// A group, and moments before its tariff begins, when it begins, and for ever.
+/// The last second before the tariffs begin, the second when they begin, and the greatest number.
 const MOMENTS: [u64; 3] = [1_577_836_799, 1_577_836_800, u64::MAX];
 
 /// The plan of this text. Read of a literal, in its place, it takes the prover long.
