@@ -16,6 +16,3 @@ pub use laws::numbers_are_given;
 pub use names::{FIRST_VISIBLE, LAST_VISIBLE, MAX_NAME, are_visible, is_name, is_short};
 pub use numbers::{put_over, u24_at, u24_octets, u32_at, u32_in, u64_in};
 pub use octet_string::OctetString;
-
-#[cfg(test)]
-mod tests;
