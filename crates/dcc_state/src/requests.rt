@@ -34,7 +34,8 @@ fn is_open(sessions: &[OpenSession], sid: &SessionId) -> bool
     session(sessions, sid).is_some()
 }
 
-/// The same by the grants of that session: one that has some is open, and only one without is looked for.
+/// Whether the session of this name is open, by its own grants first: a session with live grants is open, and only a session
+/// without grants is looked for in the list.
 fn is_open_with(sessions: &[OpenSession], own: &[Held], sid: &SessionId) -> bool
     requires own { own.now ≡ own_in sessions.now sid.now }
     ensures { result ≡ is_open_in sessions.now sid.now }
