@@ -1,4 +1,4 @@
-//! Connections over readers and writers that come to their end or fail: which faults come, and that what a lane has goes out at once, no clause says.
+//! Connections whose reader comes to its end or fails: which faults come, and that what a lane has goes out at once, no clause says.
 
 use dcc_act::Moment;
 use dcc_base::Reply;
@@ -7,7 +7,6 @@ use dcc_connect::{
     serve_connection, write_side,
 };
 use dcc_lane::{Lane, Receiver, Sender};
-use dcc_message::HeaderFault;
 use dcc_octets::OctetString;
 use dcc_samples::{CAPABILITIES, CAPABILITIES_ANSWER, WATCHDOG, WATCHDOG_ANSWER};
 use std::alloc::Global;
@@ -21,11 +20,6 @@ const MESSAGES: &[u8] = &[
     1, 0, 0, 20, 0x80, 0, 1, 1, 0, 0, 0, 0, 0, 0, 0, 1, 0, 0, 0, 1, //
     1, 0, 0, 20, 0x80, 0, 1, 24, 0, 0, 0, 0, 0, 0, 0, 2, 0, 0, 0, 2,
 ];
-
-/// So many octets the sample of the first message has, and both together.
-const FIRST: usize = 108;
-
-const BOTH: usize = 164;
 
 /// So many octets its answer has, and both answers together.
 const FIRST_ANSWER: usize = 120;
@@ -58,13 +52,11 @@ impl Read for Source<'_> {
     }
 }
 
-/// Takes so many octets at a time, and in all no more than it has room for; then it fails, or takes none.
+/// Takes so many octets at a time.
 #[derive(Drop)]
 struct Sink {
     taken: Vec<u8>,
     most: usize,
-    room: usize,
-    refuses: bool,
     /// How often it was called.
     calls: u32,
 }
@@ -72,12 +64,8 @@ struct Sink {
 impl Write for Sink {
     fn write(&mut self, buf: &[u8]) -> io::Result<usize> {
         self.calls = self.calls.saturating_add(1);
-        if self.room == 0 && self.refuses {
-            return Err(Error::from(ErrorKind::BrokenPipe));
-        }
-        let count = self.room.min(self.most).min(buf.len());
+        let count = self.most.min(buf.len());
         self.taken.extend_from_slice(&buf[..count])?;
-        self.room -= count;
         Ok(count)
     }
 
@@ -151,28 +139,24 @@ impl Submitter for Counter {
     }
 }
 
-/// A connection: what it reads, so many octets at a time, and how the read after so many fails; how many octets its writer has room for, and
-/// whether it fails then, or takes none; behind which message it closes; and how many turns it has.
+/// A connection: what it reads, so many octets at a time, and how the read after so many fails; behind which message it closes; and how many
+/// turns it has.
 #[derive(Clone, Copy)]
 struct Given<'a> {
     octets: &'a [u8],
     most: usize,
     reads: u32,
     failure: ErrorKind,
-    room: usize,
-    refuses: bool,
     last: u32,
     turns: u32,
 }
 
-/// Two headers in one piece, of whose answers all is taken.
+/// Two headers in one piece.
 const WHOLE: Given<'static> = Given {
     octets: MESSAGES,
     most: 100,
     reads: ENOUGH,
     failure: ErrorKind::ConnectionReset,
-    room: 200,
-    refuses: true,
     last: 9,
     turns: ENOUGH,
 };
@@ -225,8 +209,6 @@ fn check(
     let mut output = Sink {
         taken: Vec::new(alloc),
         most: 1,
-        room: given.room,
-        refuses: given.refuses,
         calls: 0,
     };
     let mut answerer = InTurn {
@@ -279,81 +261,6 @@ fn check_ends(rt: &(impl Abort + AllocGlobal), octets: &[u8], answers: &[u8]) ->
 fn connections_end(rt: HostRuntime) -> Result<(), Fail> {
     let samples = decoded_samples(rt.alloc())?;
     check_ends(&rt, &samples.messages, &samples.answers)
-}
-
-/// A header of version 2 behind the first message.
-#[test]
-fn a_version_ends_a_connection(rt: HostRuntime) -> Result<(), Fail> {
-    let mut samples = decoded_samples(rt.alloc())?;
-    *samples.messages.get_mut(FIRST).ok_or("a header")? = 2;
-    let given = Given {
-        octets: &samples.messages,
-        ..WHOLE
-    };
-    let version = ConnectionEnd::Fault(ConnectFault::Header(HeaderFault::Version));
-    check(&rt, &samples.answers, given, version, FIRST_ANSWER)
-}
-
-/// So many octets are answered to the messages that are whole behind so many reads of one octet.
-fn answered(reads: u32) -> usize {
-    if reads < FIRST as u32 {
-        0
-    } else if reads < BOTH as u32 {
-        FIRST_ANSWER
-    } else {
-        BOTH_ANSWERS
-    }
-}
-
-/// The reader fails at each read in turn.
-fn check_reads(rt: &(impl Abort + AllocGlobal), octets: &[u8], answers: &[u8]) -> Result<(), Fail> {
-    let failed = ConnectionEnd::Fault(ConnectFault::Read);
-    for reads in 0..=BOTH as u32 {
-        let given = Given {
-            octets,
-            reads,
-            ..BY_OCTETS
-        };
-        check(rt, answers, given, failed, answered(reads))?;
-    }
-    Ok(())
-}
-
-#[test]
-fn a_reader_fails_at_each_read(rt: HostRuntime) -> Result<(), Fail> {
-    let samples = decoded_samples(rt.alloc())?;
-    check_reads(&rt, &samples.messages, &samples.answers)
-}
-
-/// The writer fails behind each octet in turn, or takes none any more.
-fn check_writes(
-    rt: &(impl Abort + AllocGlobal),
-    octets: &[u8],
-    answers: &[u8],
-) -> Result<(), Fail> {
-    for room in 0..BOTH_ANSWERS {
-        let failed = ConnectionEnd::Fault(ConnectFault::Write {
-            written: room as u64,
-        });
-        let failing = Given {
-            octets,
-            room,
-            ..WHOLE
-        };
-        let full = Given {
-            refuses: false,
-            ..failing
-        };
-        check(rt, answers, failing, failed, room)?;
-        check(rt, answers, full, failed, room)?;
-    }
-    Ok(())
-}
-
-#[test]
-fn a_writer_fails_behind_each_octet(rt: HostRuntime) -> Result<(), Fail> {
-    let samples = decoded_samples(rt.alloc())?;
-    check_writes(&rt, &samples.messages, &samples.answers)
 }
 
 /// Hands messages on: how that ends, and how many were handed on.
@@ -441,8 +348,6 @@ fn what_the_lane_has_goes_out_in_one_call(rt: HostRuntime) -> Result<(), Fail> {
     let mut output = Sink {
         taken: Vec::new(alloc),
         most: 200,
-        room: 200,
-        refuses: true,
         calls: 0,
     };
     let end = write_side(&rt, alloc, &mut output, &mut receiver, ENOUGH);
