@@ -6,6 +6,4 @@
 #[cfg(test)]
 mod asking;
 #[cfg(test)]
-mod at_once;
-#[cfg(test)]
 mod stops;

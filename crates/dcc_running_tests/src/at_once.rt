@@ -1,18 +1,12 @@
-//! Two gateways of one subscriber at once, each at its own seat, over a store that loses power behind them; and their requests again.
+//! Two gateways of one subscriber at once, each at its own seat; and their requests again, behind the comparison.
 
-use crate::stops::{Store, reopened, store};
 use dcc_act::Sub;
-use dcc_callers::{Caller, DEBITS, identity, locked_alone, one};
-use dcc_message::Identity;
+use dcc_callers::{Caller, DEBITS, in_memory, locked_alone, one};
 use dcc_records::Records;
 use dcc_running::{Books, Seat, Shards};
 use dcc_shard::{Shard, TopUpAnswer};
-use sqlite::Files;
-use sqlite_disk::Memory;
 use std::alloc::Global;
-use std::hash::RandomState;
 use std::process::Abort;
-use std::random::RandomSource;
 use std::sync::Wait;
 use std::test::Fail;
 use std::thread::{Threads, join};
@@ -150,39 +144,13 @@ fn repeat_both<W: Wait + Abort + AllocGlobal, R: Records>(
     assert_eq!(rt; second.repeat(rt, rt.alloc(), shards, DEBITS), DEBITS);
 }
 
-/// A shard over a new store, under its lock.
-fn begun<S: RandomSource + AllocGlobal>(
-    rt: &S,
-    hasher: RandomState,
-) -> Result<Shards<Store<Memory>>, Fail> {
-    let files = Files {
-        log: Memory::new(rt.alloc()),
-        db: Memory::new(rt.alloc()),
-    };
-    one(rt, store(rt.alloc(), files, hasher)?)
-}
-
-/// The shard over what a power cut leaves of a shard's files, under its lock.
-fn again<S: RandomSource + AllocGlobal>(
-    rt: &S,
-    shard: Shard<Store<Memory>>,
-    identity: &Identity,
-    hasher: RandomState,
-) -> Result<Shards<Store<Memory>>, Fail> {
-    match reopened(rt.alloc(), shard, identity, hasher) {
-        Some(shard) => locked_alone(rt, shard),
-        None => Err("the shard again".into()),
-    }
-}
-
 #[test]
 fn two_gateways_at_once(rt: HostRuntime) -> Result<(), Fail> {
-    let (identity, hasher) = (identity(rt.alloc())?, RandomState::new(&rt)?);
-    let shards = begun(&rt, hasher)?;
+    let shards = one(&rt, in_memory(&rt)?)?;
     let (mut first, mut second) = gateways(rt.alloc(), &shards)?;
     debit_at_once(&rt, &shards, &mut first, &mut second);
     let shard = closed(&rt, shards, &mut first, &mut second, (181, 20))?;
-    let shards = again(&rt, shard, &identity, hasher)?;
+    let shards = locked_alone(&rt, shard)?;
     repeat_both(&rt, &shards, &mut first, &mut second);
     drop(closed(&rt, shards, &mut first, &mut second, (0, 180))?);
     Ok(())
