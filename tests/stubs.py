@@ -1,10 +1,11 @@
 """Sources in which functions are stubs, and others stand twice, for tests/wrong-bodies.
 
-A check takes a function that another one calls by its contract alone, and proves both. For a wrong body the proofs of what it calls say nothing, and cost more
-than its own. So these functions are stubs there: the body can't be reached, and the proof is a hole. A check with `--allow-holes` takes what has a hole "by its
-signature, so each declaration that cites it is checked to its end" (`rattle check --help`).
+For a caller, a check takes a function by its contract alone; and it proves the function too. For a wrong body the proofs of the called functions say nothing,
+and they cost more than the body's own. So beside a wrong body all functions that may be stubs are stubs: the body is `unreachable!()`, and the proof is a hole.
+A check with `--allow-holes` takes what has a hole "by its signature, so each declaration that cites it is checked to its end" (`rattle check --help`).
 
-These are no stubs: functions of traits and of their impls, `const fn`, tests, and each function of a source that isn't surely read.
+These are no stubs: functions of traits and of their impls, methods that stand in another file than their type, `const fn`, tests, empty bodies, and each function
+of a source that isn't surely read.
 """
 
 import functools
@@ -48,7 +49,9 @@ class Functions(contracts.Source):
         name, start, self.braces = re.match(r" (\w+)", self.text[found.end() :])[1], self.start, None
         super().function(begin, found, inside, attributes)
         if self.braces:
-            is_free = inside in ("mod", "impl") and not found["const"] and "#[test]" not in attributes
+            # A check names a method by the module of its type.
+            is_here = inside == "mod" or (inside == "impl" and re.search(rf"\b(?:struct|enum) {self.within[-1]}\b", self.text))
+            is_free = bool(is_here) and not found["const"] and "#[test]" not in attributes
             self.functions.append(Function("::".join([*self.within, name]), start, *self.braces, is_free))
 
     def block(self, begin, kind, attributes):
@@ -73,7 +76,7 @@ def functions_of(file, text):
 
 
 def with_stubs(file, text, stays):
-    """A file with stubs in the place of all functions that may be, but for those of which `stays` is true, by the path and the body; and the paths of the stubs."""
+    """A file in which all functions are stubs that may be stubs, but for those of which `stays` is true, by path and body; and the paths of the stubs."""
     parts, at, paths = [], 0, []
     for it in functions_of(file, text):
         body = text[it.opening : it.end]
@@ -87,7 +90,7 @@ def with_stubs(file, text, stays):
 
 
 def put_holes(folder, crate, paths):
-    """Puts a hole in the place of each of these functions' proofs, in a folder that has the crate's."""
+    """Puts a hole in the place of the proof of each of these functions, in a folder with the crate's proofs."""
     for path in paths:
         *above, own = path.split("::")
         place = os.path.join(folder, "proofs", *above)
@@ -99,17 +102,17 @@ def put_holes(folder, crate, paths):
 
 
 def twin(text, it, name, old, new):
-    """A function of a text once more, under another name, with `new` in the place of `old` in its body; none if that isn't there once."""
+    """A function of a text once more, under another name, with `new` in the place of `old` in its body; none if `old` isn't there once, or the function calls itself."""
     own, begin = it.path.split("::")[-1], it.opening - it.begin
     whole = text[it.begin : it.end]
-    if whole[begin:].count(old) != 1 or whole[:begin].count(f"fn {own}") != 1:
+    if whole[begin:].count(old) != 1 or whole[:begin].count(f"fn {own}") != 1 or re.search(rf"(?<![\w:.])(?:Self::|self\.)?{own}\(", whole[begin:]):
         return None
     indent = re.match(" *", text[text.rfind("\n", 0, it.begin) + 1 :])[0]
     return f"\n\n{indent}{whole[:begin].replace(f'fn {own}', f'fn {name}')}{whole[begin:].replace(old, new)}"
 
 
 def copy_proofs(folder, crate, path, name):
-    """Gives the twin of a function the function's proofs, in a folder that has the crate's."""
+    """Gives the twin of a function the function's proofs, in a folder with the crate's proofs."""
     *above, own = path.split("::")
     place = os.path.join(folder, "proofs", *above)
     if not os.path.isdir(f"{place}/{own}"):
@@ -120,5 +123,8 @@ def copy_proofs(folder, crate, path, name):
             with open(f"{at}/{file}", encoding="utf-8") as it:
                 text = it.read()
             module = f"Rattle.{crate}.proofs.{'.'.join(above)}{'.' if above else ''}"
+            text = re.sub(rf"{re.escape(module + own)}\b(?=\.)", module + name, text)
+            if re.search(rf"{re.escape(module + own)}\b", text):
+                raise ValueError(f"{at}/{file} still names the proofs of {path}")
             with open(f"{at}/{file}", "w", encoding="utf-8") as it:
-                it.write(re.sub(rf"{re.escape(module + own)}\b(?=\.)", module + name, text))
+                it.write(text)
