@@ -1,6 +1,6 @@
 /* Has calls fail by which a program takes connections in; it is preloaded (LD_PRELOAD). ACCEPTS has the numbers of errors for the calls that accept a
  * connection, one behind another, with 0 for a call that is made; SETS has them for those that say how long a connection's writes wait. All calls behind the
- * last number are made. One thread alone takes connections in. */
+ * last number are made. One thread at a time takes connections in. */
 #include <errno.h>
 #include <stdlib.h>
 #include <sys/socket.h>

@@ -1,6 +1,11 @@
 /* Refuses one allocation of a program, the one whose number is in REFUSE, counted from 1; it is preloaded (LD_PRELOAD). Where there were
  * fewer it says so on standard error, so that a sweep over all of them knows its end. The allocations of all threads are counted together; with WHEN
- * set, from when on there is a file at WHEN. */
+ * set, from when on there is a file at WHEN. Allocations of the C library for a new thread are not counted. If THREADS is set, each new thread has
+ * a line on standard error. */
+#define _GNU_SOURCE
+#include <dlfcn.h>
+#include <errno.h>
+#include <pthread.h>
 #include <stddef.h>
 #include <stdlib.h>
 #include <string.h>
@@ -15,6 +20,7 @@ extern void *__libc_memalign(size_t, size_t);
 static unsigned long wanted;
 static unsigned long made;
 static const char *since;
+static __thread int makes_thread;
 
 __attribute__((constructor)) static void begin(void) {
     const char *word = getenv("REFUSE");
@@ -39,11 +45,27 @@ void _exit(int status) {
     }
 }
 
+int pthread_create(pthread_t *thread, const pthread_attr_t *attributes, void *(*does)(void *), void *argument) {
+    int (*make)(pthread_t *, const pthread_attr_t *, void *(*)(void *), void *) = dlsym(RTLD_NEXT, "pthread_create");
+    makes_thread = 1;
+    int status = make(thread, attributes, does, argument);
+    makes_thread = 0;
+    if (status == 0 && getenv("THREADS")) {
+        static const char text[] = "a thread was made\n";
+        syscall(SYS_write, 2, text, sizeof text - 1);
+    }
+    return status;
+}
+
 static int is_refused(void) {
-    if (since && access(since, F_OK) != 0) {
+    if (makes_thread || (since && access(since, F_OK) != 0)) {
         return 0;
     }
-    return __atomic_add_fetch(&made, 1, __ATOMIC_SEQ_CST) == wanted;
+    if (__atomic_add_fetch(&made, 1, __ATOMIC_SEQ_CST) != wanted) {
+        return 0;
+    }
+    errno = ENOMEM;
+    return 1;
 }
 
 void *malloc(size_t size) {

@@ -149,7 +149,7 @@ fn io_lines<R: Files + Net<Listener = TcpListener, Stream = TcpStream> + AllocGl
         }
     }
     if let (Some(address), Some(silence)) = (address(alloc, words)?, Silence::new(0)) {
-        if let Err(error) = Door::bind(rt, alloc, address, silence) {
+        if let Err(error) = Door::bind(rt, alloc, address, silence, None) {
             return Ok(format!(in alloc; "dcc: {address}: {error}\n")?);
         }
     }

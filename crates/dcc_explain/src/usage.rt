@@ -1,5 +1,7 @@
 //! The explanation of a command line.
 
+ghost use Rattle.std.specs.Prelude.{◌<◌};
+
 use crate::kind::Kind;
 use crate::text::quoted;
 use dcc_words::any_u64;
@@ -26,6 +28,7 @@ enum Switch {
     Rounds,
     Every,
     Silent,
+    Sweep,
 }
 
 impl Command {
@@ -88,6 +91,7 @@ impl Switch {
             "--rounds" => Some(Switch::Rounds),
             "--every" => Some(Switch::Every),
             "--silent" => Some(Switch::Silent),
+            "--sweep" => Some(Switch::Sweep),
             _ => None,
         }
     }
@@ -99,29 +103,62 @@ impl Switch {
             Switch::Rounds => "--rounds",
             Switch::Every => "--every",
             Switch::Silent => "--silent",
+            Switch::Sweep => "--sweep",
         }
     }
 
-    fn fits(self, value: &str) -> bool {
+    /// Whether a value is one of the option, of a server that stays or not.
+    fn fits(self, value: &str, stays: bool) -> bool {
         let number = any_u64(value.as_bytes());
         match self {
             Switch::Listen => SocketAddrV4::parse_ascii(value.as_bytes()).is_ok(),
-            Switch::Gates => number.is_some_and(|n| 1 <= n && n <= 16),
+            Switch::Gates => number.is_some_and(|n| 1 <= n && n <= most_gates(stays)),
             Switch::Rounds => number.is_some_and(|n| 1 <= n && n <= 1_000_000),
             Switch::Every => number.is_some_and(|n| n <= 1_000_000),
-            Switch::Silent => number.is_some_and(|n| n <= 86_400),
+            Switch::Silent | Switch::Sweep => number.is_some_and(|n| n <= 86_400),
         }
     }
 
-    fn wanted(self) -> &'static str {
+    fn wanted(self, stays: bool) -> &'static str {
         match self {
             Switch::Listen => "an IPv4 address and a port, such as 127.0.0.1:3868",
-            Switch::Gates => "1 to 16",
+            Switch::Gates => { if stays { "1 to 256" } else { "1 to 16" } }
             Switch::Rounds => "1 to 1000000",
             Switch::Every => "0 to 1000000",
-            Switch::Silent => "0 to 86400",
+            Switch::Silent | Switch::Sweep => "0 to 86400",
         }
     }
+
+    /// Its place among all options.
+    fn place(self) -> usize
+        ensures { result < 6 }
+    {
+        match self {
+            Switch::Listen => 0,
+            Switch::Gates => 1,
+            Switch::Rounds => 2,
+            Switch::Every => 3,
+            Switch::Silent => 4,
+            Switch::Sweep => 5,
+        }
+    }
+
+    /// Why the option doesn't go with the others, if it doesn't.
+    fn quarrel(self, stays: bool) -> Option<&'static str> {
+        match self {
+            Switch::Rounds if stays => Some("--rounds does not go with --stay"),
+            Switch::Sweep if !stays => Some("--sweep goes with --stay alone"),
+            _ => None,
+        }
+    }
+}
+
+/// The place of `--stay` among all options, behind those that have a value.
+const STAY: usize = 6;
+
+/// So many gateways are served at once at most.
+fn most_gates(stays: bool) -> u64 {
+    if stays { 256 } else { 16 }
 }
 
 /// The words of a command line, as far as they were read.
@@ -134,6 +171,10 @@ struct Reading {
     is_rest: bool,
     /// The option whose value comes next.
     awaited: Option<Switch>,
+    /// Whether `--stay` is among the words.
+    stays: bool,
+    /// Whether each option was there, by its place.
+    seen: [bool; 7],
 }
 
 /// What doesn't fit in the words of a command line, of which the first is the program's name: in one line the first word that is at fault or the
@@ -155,6 +196,8 @@ pub fn explain_words(alloc: Global, words: &[String]) -> Result<String, AllocErr
         count: 0,
         is_rest: false,
         awaited: None,
+        stays: command == Command::Serve && has_stay(words),
+        seen: [false; 7],
     };
     for word in words.iter().skip(2) {
         if let Some(slip) = reading.slip(alloc, word.as_str())? {
@@ -169,7 +212,7 @@ impl Reading {
     fn slip(&mut self, alloc: Global, word: &str) -> Result<Option<String>, AllocError> {
         if let Some(switch) = self.awaited {
             self.awaited = None;
-            return value_slip(alloc, switch, word);
+            return value_slip(alloc, switch, word, self.stays);
         }
         if self.is_rest || !is_switch(word) {
             return self.argument_slip(alloc, word);
@@ -205,14 +248,28 @@ impl Reading {
             Some((name, value)) => (name, Some(value)),
             None => (word, None),
         };
+        if self.stays && name == "--stay" {
+            return match value {
+                Some(_) => Ok(Some(format!(in alloc; "--stay has no value")?)),
+                None => self.repeat(alloc, STAY, name),
+            };
+        }
         match Switch::named(name) {
-            Some(switch) if self.command == Command::Serve => match value {
-                Some(value) => value_slip(alloc, switch, value),
-                None => {
-                    self.awaited = Some(switch);
-                    Ok(None)
+            Some(switch) if self.command == Command::Serve => {
+                if let Some(quarrel) = switch.quarrel(self.stays) {
+                    return Ok(Some(format!(in alloc; "{quarrel}")?));
                 }
-            },
+                if let Some(slip) = self.repeat(alloc, switch.place(), name)? {
+                    return Ok(Some(slip));
+                }
+                match value {
+                    Some(value) => value_slip(alloc, switch, value, self.stays),
+                    None => {
+                        self.awaited = Some(switch);
+                        Ok(None)
+                    }
+                }
+            }
             _ => {
                 let shown = quoted(alloc, name.as_bytes())?;
                 Ok(Some(format!(in alloc; "{shown} is no option of this command")?))
@@ -220,29 +277,43 @@ impl Reading {
         }
     }
 
+    /// What is wrong with an option that was there before.
+    fn repeat(&mut self, alloc: Global, at: usize, name: &str) -> Result<Option<String>, AllocError>
+        requires { at < 7 }
+    {
+        if self.seen[at] {
+            return Ok(Some(format!(in alloc; "{name} stands twice")?));
+        }
+        self.seen[at] = true;
+        Ok(None)
+    }
+
     /// What is missing behind the last word, if something is.
     fn lack(&self, alloc: Global) -> Result<String, AllocError> {
         if let Some(switch) = self.awaited {
-            let (name, wanted) = (switch.name(), switch.wanted());
+            let (name, wanted) = (switch.name(), switch.wanted(self.stays));
             return format!(in alloc; "{name} has no value; it has to be {wanted}");
         }
         match self.command.argument(self.count) {
             Some(name) if self.count < self.command.needs() => format!(in alloc;
                 "{name} is missing"
             ),
-            _ => format!(in alloc;
-                "an option stands twice, or a word in a place where the command has none"
-            ),
+            _ => format!(in alloc; "a word stands in a place where the command has none"),
         }
     }
 }
 
 /// The value of an option.
-fn value_slip(alloc: Global, switch: Switch, value: &str) -> Result<Option<String>, AllocError> {
-    if switch.fits(value) {
+fn value_slip(
+    alloc: Global,
+    switch: Switch,
+    value: &str,
+    stays: bool,
+) -> Result<Option<String>, AllocError> {
+    if switch.fits(value, stays) {
         return Ok(None);
     }
-    let (name, wanted) = (switch.name(), switch.wanted());
+    let (name, wanted) = (switch.name(), switch.wanted(stays));
     let shown = quoted(alloc, value.as_bytes())?;
     Ok(Some(format!(in alloc; "{name} is {shown}; it has to be {wanted}")?))
 }
@@ -250,4 +321,17 @@ fn value_slip(alloc: Global, switch: Switch, value: &str) -> Result<Option<Strin
 /// Whether a word is an option, or the two hyphens behind which there is none.
 fn is_switch(word: &str) -> bool {
     word.len() > 1 && word.starts_with('-')
+}
+
+/// Whether `--stay` stands among the words, also with a value, before a `--`.
+fn has_stay(words: &[String]) -> bool {
+    for word in words {
+        if word.as_str() == "--" {
+            return false;
+        }
+        if word.as_str() == "--stay" || word.starts_with("--stay=") {
+            return true;
+        }
+    }
+    false
 }

@@ -1,7 +1,7 @@
 -- The command lines of the program, as the reader of command lines is told of them and reads them.
 use Rattle.std.specs.Prelude.{◌≡◌, ◌⊎◌, ⊤, ℕ, true, List, [], codes, Option, Some, None, Result, Ok, Err}
 use Rattle.clap.specs.Words.{App, IsAmong, Row, Rule, Text, fault_of, first_of, new_app, new_rule, subcommand_of, with_rule, with_subcommand}
-use Rattle.clap.specs.declared.builder.ArgAction.TheVariants.{Set}
+use Rattle.clap.specs.declared.builder.ArgAction.TheVariants.{Set, SetTrue}
 use Rattle.clap.specs.declared.error.ErrorKind.{ErrorKind}
 use Rattle.clap.specs.declared.error.ErrorKind.TheVariants as kind
 use Rattle.dcc_act.specs.declared.sub.Sub.{Sub}
@@ -35,9 +35,17 @@ ledger_command = store_command (codes "ledger")
 abbrev pub option : Text → Rule
 option name = record (new_rule name) { long = Some name; action = Some Set }
 
+-- an option that takes none
+abbrev pub flag : Text → Rule
+flag name = record (new_rule name) { long = Some name; action = Some SetTrue }
+
+-- a server's plan, its folder, and where it listens
+abbrev pub listening_command : App
+listening_command = with_rule (with_rule (with_rule (new_app (codes "serve")) (argument (codes "PLAN"))) (argument (codes "DIR"))) (option (codes "listen"))
+
 abbrev pub serve_command : App
-serve_command = with_rule (with_rule (with_rule (with_rule (with_rule (with_rule (with_rule (new_app (codes "serve")) (argument (codes "PLAN"))) (argument (codes "DIR")))
-    (option (codes "listen"))) (option (codes "gates"))) (option (codes "rounds"))) (option (codes "every"))) (option (codes "silent"))
+serve_command = with_rule (with_rule (with_rule (with_rule (with_rule (with_rule listening_command (option (codes "gates"))) (option (codes "rounds"))) (option (codes "every")))
+    (option (codes "silent"))) (flag (codes "stay"))) (option (codes "sweep"))
 
 abbrev pub decode_command : App
 decode_command = new_app (codes "decode")

@@ -29,7 +29,7 @@ abbrev pub AreOverStores : {R : Type 0} → (opens : ℕ → R → Type 0) → (
 AreOverStores {R} opens may_leave plan shards =
     (length shards ≡ plan.shards) × ((i : ℕ) (none : StoredView R) → i < length shards → IsOpenedOver (opens i) may_leave (slice_index_or shards i none))
 
-module _ {I O C : Type 0} (remaining : I → Option (List ℕ)) (contents : O → Option (List ℕ)) (tells : C → ℕ → C → Type 0) where
+module _ {I O C : Type 0} (remaining : I → Option (List ℕ)) (contents : O → Option (List ℕ)) (tells : C → ℕ → C → Type 0) (closed : Type 0) where
   -- a writer has grown by where the server listens, and then by the lines of rounds over the stores of a folder under a plan, each round over the
   -- shards that the one before it left
   pub record IsServedOver {R : Type 0} (opens : PlanView → ℕ → R → Type 0) (is_stopped : R → Bool) (may_leave : R → Content → Type 0) (rounds : RoundsView)
@@ -42,7 +42,7 @@ module _ {I O C : Type 0} (remaining : I → Option (List ℕ)) (contents : O �
     pub told : Option (List ℕ)
     pub opened : AreOverStores (opens plan) may_leave plan shards
     pub listening : Appends old told (listening_line address)
-    pub served : AreServed (IsGoodRound remaining contents tells clock (record { plan = plan; identity = identity_of plan }) is_stopped may_leave rounds.gates rounds.every)
+    pub served : AreServed (IsGoodRound remaining contents tells closed clock (record { plan = plan; identity = identity_of plan }) is_stopped may_leave rounds)
         rounds.rounds shards last told new
 
 -- the failures that come before a gateway is waited for: the plan's, or under a good plan a store's or the address's
@@ -61,7 +61,7 @@ abbrev pub IsTellingBegun : (old new : Option (List ℕ)) → Failure → Type 0
 IsTellingBegun old new failure = (IsBeforeServing failure × Keeps old new)
     ⊎ ((address : SocketAddr) × (n : ℕ) × (failure ≡ Io) × Appends old new (take n (listening_line address)))
 
-module _ {I O C : Type 0} (remaining : I → Option (List ℕ)) (contents : O → Option (List ℕ)) (tells : C → ℕ → C → Type 0) where
+module _ {I O C : Type 0} (remaining : I → Option (List ℕ)) (contents : O → Option (List ℕ)) (tells : C → ℕ → C → Type 0) (closed : Type 0) where
   -- where the server listens is written, and then what a fault of its rounds leaves, for the cause that this fault has
   pub record IsServingEnded {R : Type 0} (opens : PlanView → ℕ → R → Type 0) (is_stopped : R → Bool) (may_leave : R → Content → Type 0) (rounds : RoundsView)
       (old new : Option (List ℕ)) (failure : Failure) : Type 0 where
@@ -75,7 +75,7 @@ module _ {I O C : Type 0} (remaining : I → Option (List ℕ)) (contents : O �
     pub listening : Appends old told (listening_line address)
     pub failed : failure ≡ of_serve fault
     pub lines : EndsWith fault rounds.rounds told new
-    pub cause : EndsServing remaining contents tells clock (record { plan = plan; identity = identity_of plan }) is_stopped may_leave rounds fault shards told new
+    pub cause : EndsServing remaining contents tells closed clock (record { plan = plan; identity = identity_of plan }) is_stopped may_leave rounds fault shards told new
 
   -- by what a writer has grown where a server ends with a failure
   abbrev pub IsServedBegun : {R : Type 0} → (opens : PlanView → ℕ → R → Type 0) (is_stopped : R → Bool) (may_leave : R → Content → Type 0) → RoundsView

@@ -2,7 +2,7 @@
 
 ghost use Rattle.std.specs.Prelude.{◌≡◌, ◌⊎◌, codes, None, IfErr, IfOk, IfSome, map, option_map, string_bytes};
 ghost use Rattle.clap.specs.Words.{app_of, first_of, found_of, rows_of, with_rule};
-ghost use Rattle.dcc_program.specs.CommandLines.{dcc_command, topup_command, store_command, serve_command, argument, option, wish_of, Asks, IsTaskOf, IsTaskFailure};
+ghost use Rattle.dcc_program.specs.CommandLines.{dcc_command, topup_command, store_command, listening_command, serve_command, argument, flag, option, wish_of, Asks, IsTaskOf, IsTaskFailure};
 ghost use Rattle.dcc_program.specs.CommandLines.{IsPlace, IsAsk, sub_in, number_in, moment_in};
 ghost use Rattle.dcc_program.specs.declared.failure.Failure.TheVariants.{Memory, Usage};
 
@@ -53,7 +53,18 @@ pub struct ServeAsk<'a> {
     pub rounds: Rounds,
     /// How long a gateway may be silent.
     pub silence: Silence,
+    /// Of a server that stays: so many seconds pass between two sweeps, or none is asked for with 0.
+    pub sweep: Option<u64>,
 }
+
+/// A server that stays drops a gateway that is silent for so many seconds, where nothing else is said.
+const SILENT_SECONDS: u64 = 60;
+
+/// A server that stays sweeps after so many seconds, where nothing else is said.
+const SWEEP_SECONDS: u64 = 60;
+
+/// So many seconds at most pass between two sweeps: a day.
+const MOST_SWEEP_SECONDS: u64 = 86_400;
 
 /// The words of the command line; one that is no text is none of the program's.
 pub fn given_words<E: Env + AllocGlobal>(rt: &E) -> Result<Vec<String>, Failure>
@@ -104,18 +115,53 @@ pub fn serve_of<'a>(alloc: Global, words: &'a [String]) -> Result<Option<ServeAs
     }
 }
 
-/// The server with its options, or none where one isn't in its range.
+/// The server with its options, or none where one isn't in its range or doesn't go with another.
 fn serve_ask_of<'a>(found: &ArgMatches<'a>) -> Option<ServeAsk<'a>> {
-    let gates = usize::try_from(option_of(found, "gates", 1)?).ok()?;
-    let rounds = u32::try_from(option_of(found, "rounds", 1)?).ok()?;
-    let every = u32::try_from(option_of(found, "every", 0)?).ok()?;
-    let silence = Silence::new(option_of(found, "silent", 0)?)?;
+    let stays = found.get_flag("stay");
+    let silent = option_of(found, "silent", if stays { SILENT_SECONDS } else { 0 })?;
+    let rounds = if stays {
+        places_of(found)?
+    } else {
+        rounds_of(found)?
+    };
+    let sweep = if stays { Some(sweep_of(found)?) } else { None };
+    if !stays && text_of(found, "sweep").is_some() {
+        return None;
+    }
     Some(ServeAsk {
         place: place_of(found)?,
         address: address_of(found)?,
-        rounds: Rounds::new(gates, rounds, every)?,
-        silence,
+        rounds,
+        silence: Silence::new(silent)?,
+        sweep,
     })
+}
+
+/// The rounds of a server.
+fn rounds_of(found: &ArgMatches<'_>) -> Option<Rounds> {
+    let gates = usize::try_from(option_of(found, "gates", 1)?).ok()?;
+    let rounds = u32::try_from(option_of(found, "rounds", 1)?).ok()?;
+    let every = u32::try_from(option_of(found, "every", 0)?).ok()?;
+    Rounds::new(gates, rounds, every)
+}
+
+/// The places of a server that stays, which has no rounds.
+fn places_of(found: &ArgMatches<'_>) -> Option<Rounds> {
+    if text_of(found, "rounds").is_some() {
+        return None;
+    }
+    let gates = usize::try_from(option_of(found, "gates", 1)?).ok()?;
+    let every = u32::try_from(option_of(found, "every", 0)?).ok()?;
+    Rounds::staying(gates, every)
+}
+
+/// The seconds between two sweeps of a server that stays.
+fn sweep_of(found: &ArgMatches<'_>) -> Option<u64> {
+    let seconds = option_of(found, "sweep", SWEEP_SECONDS)?;
+    if seconds > MOST_SWEEP_SECONDS {
+        return None;
+    }
+    Some(seconds)
 }
 
 /// A number that stands for an option, or this one where the option isn't there.
@@ -255,17 +301,25 @@ fn command<'a>(alloc: Global) -> Result<Command<'a>, AllocError>
         .subcommand(help)
 }
 
-/// The command of a server: where its plan and its stores are, and the options.
+/// The command of a server, with its options.
 fn serve_command<'a>(alloc: Global) -> Result<Command<'a>, AllocError>
     ensures { IfOk result (λ command. app_of command ≡ serve_command) }
 {
-    let with_plan = with_argument(alloc, Command::new(alloc, "serve"), "PLAN")?;
-    let with_folder = with_argument(alloc, with_plan, "DIR")?;
-    let with_listen = with_option(alloc, with_folder, "listen")?;
-    let with_gates = with_option(alloc, with_listen, "gates")?;
+    let with_gates = with_option(alloc, listening_command(alloc)?, "gates")?;
     let with_rounds = with_option(alloc, with_gates, "rounds")?;
     let with_every = with_option(alloc, with_rounds, "every")?;
-    with_option(alloc, with_every, "silent")
+    let with_silent = with_option(alloc, with_every, "silent")?;
+    let with_stay = with_flag(alloc, with_silent, "stay")?;
+    with_option(alloc, with_stay, "sweep")
+}
+
+/// The command of a server: where its plan and its stores are, and where it listens.
+fn listening_command<'a>(alloc: Global) -> Result<Command<'a>, AllocError>
+    ensures { IfOk result (λ command. app_of command ≡ listening_command) }
+{
+    let with_plan = with_argument(alloc, Command::new(alloc, "serve"), "PLAN")?;
+    let with_folder = with_argument(alloc, with_plan, "DIR")?;
+    with_option(alloc, with_folder, "listen")
 }
 
 /// A command with the arguments of a top-up behind those by which its subscriber's store is found.
@@ -308,4 +362,16 @@ fn with_option<'a>(
 {
     let option = Arg::new(alloc, name).long(name).action(ArgAction::Set);
     command.arg(option)
+}
+
+/// A command with one more option, which takes no value.
+fn with_flag<'a>(
+    alloc: Global,
+    command: Command<'a>,
+    name: &'a str,
+) -> Result<Command<'a>, AllocError>
+    ensures { IfOk result (λ given. app_of given ≡ with_rule (app_of command.entry) (flag name.now)) }
+{
+    let flag = Arg::new(alloc, name).long(name).action(ArgAction::SetTrue);
+    command.arg(flag)
 }

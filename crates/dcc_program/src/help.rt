@@ -7,7 +7,7 @@ dcc is a Diameter credit-control server (RFC 8506) on prepaid balances.
 usage: dcc replay PLAN
        dcc topup PLAN DIR SUB TICKET AMOUNT [MOMENT]
        dcc ledger PLAN DIR SUB
-       dcc serve PLAN DIR [--listen ADDR] [--gates N] [--rounds N] [--every N] [--silent S]
+       dcc serve PLAN DIR [--listen ADDR] [--gates N] [--rounds N | --stay [--sweep S]] [--every N] [--silent S]
        dcc check PLAN [DIR]
        dcc decode
        dcc help
@@ -17,14 +17,18 @@ dcc replay PLAN   reads a script of events from standard input, and prints what 
 dcc topup         makes one top-up under the plan of the file PLAN, in the store of the subscriber's shard in the
                   folder DIR, and prints done, ceiling, refused or bad. A store that is missing is made, a folder isn't.
                   SUB is a type and data, as 0:491700000001, TICKET tells the top-up from the others, AMOUNT is in
-                  minor units, MOMENT in seconds since 1970, the clock's where it is missing
+                  minor units, MOMENT in seconds since 1970, the clock's if it is missing
 dcc ledger        prints the ledger of the subscriber SUB from the store of its shard in the folder DIR. Without such a
                   store or folder the account is unknown, and nothing is made
 dcc serve         serves gateways over TCP from the stores in the folder DIR, and prints where it listens, and a line
-                  for each round. ADDR is an IPv4 address and a port, 127.0.0.1:3868 where it is missing; a round
+                  for each round. ADDR is an IPv4 address and a port, 127.0.0.1:3868 if it is missing; a round
                   has --gates gateways, 1 to 16; --rounds are 1 to 1000000; after each --every messages of a
                   gateway, 0 to 1000000, sessions whose time is over are ended, with 0 never. Missing, they are 1, 1, 0.
-                  A gateway that sends nothing for --silent seconds, 1 to 86400, is dropped; with 0, or missing, never
+                  A gateway that sends nothing for --silent seconds, 1 to 86400, is dropped, with 0 never. Missing, it is 0.
+                  With --stay gateways come and go in one round that stays: --gates of them at once, 1 to 256. Each
+                  --sweep seconds, 1 to 86400, sessions whose time is over are ended, with 0 never. With --stay, --sweep
+                  and --silent are 60 if they are missing. A file DIR/stop ends the server once it has answered what it
+                  has read
 dcc check         judges the plan of the file PLAN and the store of each of its shards in the folder DIR, and prints
                   what is good. It changes and makes nothing, explains each failure, and ends as dcc serve would before
                   it listens
@@ -36,8 +40,8 @@ dcc --version     prints the version, as dcc -V does
 Each command takes --explain, before a -- if there is one: behind the line of a failure, further lines on standard
 error say what is wrong and where.
 
-exit status: 0; 1 where memory, input or output failed; 2 at another command line; 3 at a faulty plan; 4 at a faulty
-store; 5 at a faulty script; 6 where a server's answers and accounts disagree.
+exit status: 0; 1 if memory, input or output failed; 2 at another command line; 3 at a faulty plan; 4 at a faulty
+store; 5 at a faulty script; 6 if a server's answers and accounts disagree.
 A failure has one line on standard error, and the lines of --explain.
 ";
 

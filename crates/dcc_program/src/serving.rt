@@ -14,10 +14,10 @@ use crate::plan_file::plan_from;
 use dcc_operator::{OperatorFault, Stores, shards_over};
 use dcc_replay::identity_of;
 use dcc_serve::{Service, serve_run};
-use dcc_sockets::{Door, Input, NoticeLines, Output, SystemClock};
+use dcc_sockets::{Closing, Door, Input, NoticeLines, Output, Staying, SystemClock, remove_stop};
 use dcc_streams::write_all;
 use dcc_tariff::Plan;
-use std::alloc::Global;
+use std::alloc::{AllocError, Global};
 use std::fs;
 use std::hash::RandomState;
 use std::io::{Eprint, Write};
@@ -44,10 +44,10 @@ pub fn serve<
     S: Stores,
     W: Write,
 >(rt: &R, stores: &S, ask: &ServeAsk<'_>, output: &mut W) -> Result<(), Failure>
-    ensures served { OnOk result (IsServedOver (λ (input : Input R). None) (λ (output : Output R). None) (λ (before : SystemClock R) moment after. Unit {0})
+    ensures served { OnOk result (IsServedOver (λ (input : Input R). None) (λ (output : Output R). None) (λ (before : SystemClock R) moment after. Unit {0}) (Unit {0})
         (S.opens stores.now ask.now.place.folder.now) S.Records.is_stopped S.Records.may_leave ask.now.rounds (W.contents output.old) (W.contents output.new)) }
     ensures whole { OnOk result (IsServed ask.now.rounds.rounds (W.contents output.old) (W.contents output.new)) }
-    ensures part { IfErr result (IsServedBegun (λ (input : Input R). None) (λ (output : Output R). None) (λ (before : SystemClock R) moment after. Unit {0})
+    ensures part { IfErr result (IsServedBegun (λ (input : Input R). None) (λ (output : Output R). None) (λ (before : SystemClock R) moment after. Unit {0}) (Unit {0})
         (S.opens stores.now ask.now.place.folder.now) S.Records.is_stopped S.Records.may_leave ask.now.rounds (W.contents output.old) (W.contents output.new)) }
 {
     let alloc = rt.alloc();
@@ -76,10 +76,10 @@ fn serve_under<
     ask: &ServeAsk<'_>,
     output: &mut W,
 ) -> Result<(), Failure>
-    ensures served { OnOk result (IsServedOver (λ (input : Input R). None) (λ (output : Output R). None) (λ (before : SystemClock R) moment after. Unit {0})
+    ensures served { OnOk result (IsServedOver (λ (input : Input R). None) (λ (output : Output R). None) (λ (before : SystemClock R) moment after. Unit {0}) (Unit {0})
         (S.opens stores.now ask.now.place.folder.now) S.Records.is_stopped S.Records.may_leave ask.now.rounds (W.contents output.old) (W.contents output.new)) }
     ensures whole { OnOk result (IsServed ask.now.rounds.rounds (W.contents output.old) (W.contents output.new)) }
-    ensures part { IfErr result (IsServedBegun (λ (input : Input R). None) (λ (output : Output R). None) (λ (before : SystemClock R) moment after. Unit {0})
+    ensures part { IfErr result (IsServedBegun (λ (input : Input R). None) (λ (output : Output R). None) (λ (before : SystemClock R) moment after. Unit {0}) (Unit {0})
         (S.opens stores.now ask.now.place.folder.now) S.Records.is_stopped S.Records.may_leave ask.now.rounds (W.contents output.old) (W.contents output.new)) }
 {
     let alloc = rt.alloc();
@@ -89,7 +89,15 @@ fn serve_under<
         Ok(shards) => shards,
         Err(refusal) => return Err(Failure::from(OperatorFault::from(refusal))),
     };
-    let mut door = match open_door(rt, alloc, ask, output) {
+    let stop = stop_path(alloc, ask)?;
+    let closing = Closing::new();
+    let staying = ask.sweep.map(|sweep| Staying {
+        closing: &closing,
+        stop: stop.as_str(),
+        sweep,
+    });
+    forget_stop(ask, stop.as_str());
+    let mut door = match open_door(rt, alloc, ask, staying, output) {
         Ok(door) => door,
         Err(failure) => {
             // By a call: shards that are let go in place are proved part by part.
@@ -116,7 +124,20 @@ fn serve_under<
         NoticeLines<'_, R>,
         W,
     >(rt, alloc, &service, shards, &mut door, output, &ask.rounds);
+    forget_stop(ask, stop.as_str());
     Ok(served?)
+}
+
+/// The path of the file that tells a server that stays to end: `stop` in the folder of the stores.
+fn stop_path(alloc: Global, ask: &ServeAsk<'_>) -> Result<String, AllocError> {
+    format!(in alloc; "{}/stop", ask.place.folder)
+}
+
+/// Removes the file that tells a server that stays to end, where it is there.
+fn forget_stop(ask: &ServeAsk<'_>, stop: &str) {
+    if ask.sweep.is_some() {
+        let _was_there = remove_stop(stop);
+    }
 }
 
 /// Listens at an address, and writes where that is.
@@ -124,13 +145,14 @@ fn open_door<'r, N: Net<Listener = TcpListener, Stream = TcpStream>, W: Write>(
     rt: &'r N,
     alloc: Global,
     ask: &ServeAsk<'_>,
+    staying: Option<Staying<'r>>,
     output: &mut W,
 ) -> Result<Door<'r, N>, Failure>
     ensures whole { OnOk result ((address : SocketAddr) × Appends (W.contents output.old) (W.contents output.new) (listening_line address)) }
     ensures part { IfErr result (IsTellingBegun (W.contents output.old) (W.contents output.new)) }
 {
     // No `?`, which is not proved where a value holds a reference beside a struct with a model.
-    let door = match Door::bind(rt, alloc, ask.address, ask.silence) {
+    let door = match Door::bind(rt, alloc, ask.address, ask.silence, staying) {
         Ok(door) => door,
         Err(error) => return Err(Failure::from(error)),
     };

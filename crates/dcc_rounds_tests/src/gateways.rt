@@ -4,7 +4,7 @@ use crate::messages::decoded;
 use dcc_gate_records::Gate;
 use dcc_octets::OctetString;
 use dcc_samples::{CAPABILITIES, CAPABILITIES_ANSWER};
-use dcc_serve::{Connection, Listener, Notice, Notices, Shut};
+use dcc_serve::{Connection, Listener, Notice, Notices, Shut, Tick};
 use std::alloc::Global;
 use std::hint::spin_loop;
 use std::io::{self, Error, ErrorKind, Read, Write};
@@ -189,6 +189,8 @@ pub(crate) struct Gateways<'a> {
 }
 
 impl<'a> Listener<Input<'a>, Output<'a>> for Gateways<'a> {
+    ghost is_closed = { Unit {0} };
+
     fn accept(&mut self) -> io::Result<Connection<Input<'a>, Output<'a>>> {
         let stage = self.stage;
         let talk = match self.came {
@@ -207,6 +209,15 @@ impl<'a> Listener<Input<'a>, Output<'a>> for Gateways<'a> {
             output: Output { talk, gate },
             name: OctetString::new(self.alloc),
         })
+    }
+
+    // No place is taken again.
+    fn enter<W: Wait>(&self, _rt: &W) -> Option<Connection<Input<'a>, Output<'a>>> {
+        None
+    }
+
+    fn tick<W: Wait>(&self, _rt: &W) -> Tick {
+        Tick::End
     }
 }
 

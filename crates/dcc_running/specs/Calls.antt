@@ -49,6 +49,10 @@ abbrev pub IsResolved : (count : ℕ) → (host sid : List ℕ) → Found → Ty
 IsResolved count host sid who =
     (parts : List Found) × (length parts ≡ count) × AllByRecursion (IsFoundBy host sid) parts × (who ≡ joined_with found.None parts)
 
+-- whether some shard's records have failed
+abbrev pub IsToldStopped : {R : Type 0} → (R → Bool) → Bool → Type 0
+IsToldStopped {R} is_stopped told = (records : R) × (told ≡ is_stopped records)
+
 -- the receipt of a job, of an answer at a place; 0 is that of an unknown subscriber
 abbrev pub receipt : Job → List ℕ → ℕ → Bool → Receipt
 receipt job octets at fresh =

@@ -5,7 +5,7 @@ ghost use Rattle.std.specs.List.Sorted.{IsStrictlySortedBy};
 ghost use Rattle.dcc_act.specs.declared.sub.Sub.{Sub};
 ghost use Rattle.dcc_records.specs.Books.{sub_order};
 ghost use Rattle.dcc_running.specs.Books.{at_opening, book};
-ghost use Rattle.dcc_running.specs.Calls.{AreSubs, IsResolved};
+ghost use Rattle.dcc_running.specs.Calls.{AreSubs, IsResolved, IsToldStopped};
 ghost use Rattle.dcc_running.specs.inner.Locks.{AreOf};
 ghost use Rattle.dcc_shard.specs.Routes.{shard_of};
 ghost use Rattle.dcc_shard.specs.Shards.{held};
@@ -115,6 +115,15 @@ impl<R: Records> Shards<R> {
             found = found.join(self.locks[shard].lock_as(rt, shard).find(host, sid));
         }
         found
+    }
+
+    /// Whether the records of the shard of this index have failed, as they are when its lock is taken. It waits for the shard's lock, and takes no
+    /// memory. The condition is that there is such a shard.
+    pub fn is_stopped<W: Wait>(&self, rt: &W, shard: usize) -> bool
+        requires { shard < self.now.count }
+        ensures { IsToldStopped R.is_stopped result }
+    {
+        self.locks[shard].lock_as(rt, shard).records().is_stopped()
     }
 
     /// Waits for the lock of the shard that keeps a subscriber.

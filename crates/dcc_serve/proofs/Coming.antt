@@ -62,7 +62,7 @@ module _ {X : Type 0} where
   among_into x item (suc i) (l ∷ ls) (inl j) = inl (inl j)
   among_into x item (suc i) (l ∷ ls) (inr j) = elim (among_into x item i ls j) [ inl k ↦ inl (inr k) | inr e ↦ inr e ]
 
-  among_all : (x item : X) (lanes : List (List X)) → IsAmong x (put_all item lanes) → IsAmong x lanes ⊎ (item ≡ x)
+  pub among_all : (x item : X) (lanes : List (List X)) → IsAmong x (put_all item lanes) → IsAmong x lanes ⊎ (item ≡ x)
   among_all x item [] n = absurd n
   among_all x item (l ∷ ls) (inl j) = elim (in_either x l (item ∷ []) j) [ inl k ↦ inl (inl k) | inr k ↦ elim k [ inl e ↦ inr e | inr n ↦ absurd n ] ]
   among_all x item (l ∷ ls) (inr j) = elim (among_all x item ls j) [ inl k ↦ inl (inr k) | inr e ↦ inr e ]
@@ -90,19 +90,29 @@ module _ (setting : Setting) (count : ℕ) where
       (moment : ℕ) × (old : Peer) × (new : Peer) × (word : Dispatched) × (asked : AskedView) × IsDispatched setting moment message old new word
       × IsSettledBy setting count (host_name old) message word (Asked asked) × (request.job ≡ job_of asked)
 
+-- `before` is of messages that were read of gateways before
+module _ (setting : Setting) (count : ℕ) (before : List ℕ → Type 0) where
+  -- a message is one of these, or came before
+  abbrev pub Known : List (List ℕ) → List ℕ → Type 0
+  Known ms message = before message ⊎ IsIn message ms
+
   -- what was put comes of these messages
   pub record Came (ms : List (List ℕ)) (reading : Reading) : Type 0 where
-    pub replied : (octets : List ℕ) → IsIn (Octets octets) reading.replied → (message : List ℕ) × IsIn message ms × IsAnswerOf setting count message octets
-    pub asked : (request : Request) → IsAmong (work.Request request) reading.asked → (message : List ℕ) × IsIn message ms × AsksFor message request
+    pub replied : (octets : List ℕ) → IsIn (Octets octets) reading.replied → (message : List ℕ) × Known ms message × IsAnswerOf setting count message octets
+    pub asked : (request : Request) → IsAmong (work.Request request) reading.asked → (message : List ℕ) × Known ms message × AsksFor setting count message request
+
+  known_wider : (ms ns : List (List ℕ)) (m : List ℕ) → (IsIn m ms → IsIn m ns) → Known ms m → Known ns m
+  known_wider ms ns m all (inl b) = inl b
+  known_wider ms ns m all (inr i) = inr (all i)
 
   wider : (ms ns : List (List ℕ)) (reading : Reading) → ((m : List ℕ) → IsIn m ms → IsIn m ns) → Came ms reading → Came ns reading
   wider ms ns reading all h = record {
-    replied = λ octets i. (let t = h.replied octets i in (t.0, all t.0 t.1, t.2));
-    asked = λ request i. (let t = h.asked request i in (t.0, all t.0 t.1, t.2));
+    replied = λ octets i. (let t = h.replied octets i in (t.0, known_wider ms ns t.0 (all t.0) t.1, t.2));
+    asked = λ request i. (let t = h.asked request i in (t.0, known_wider ms ns t.0 (all t.0) t.1, t.2));
   }
 
-  last_in : (m : List ℕ) (ms : List (List ℕ)) → IsIn m (ms ++ m ∷ [])
-  last_in m ms = in_right m ms (m ∷ []) (inl refl)
+  last_in : (m : List ℕ) (ms : List (List ℕ)) → Known (ms ++ m ∷ []) m
+  last_in m ms = inr (in_right m ms (m ∷ []) (inl refl))
 
   passes_on : (gate moment : ℕ) (m : List ℕ) (ms : List (List ℕ)) (p q : Peer) (word : Dispatched) (settled : Settled) (handed : Handed) (old new : Reading) → Came ms old
       → IsDispatched setting moment m p q word → IsSettledBy setting count (host_name p) m word settled → Passes gate settled handed old new → Came (ms ++ m ∷ []) new
@@ -125,7 +135,7 @@ module _ (setting : Setting) (count : ℕ) where
         replied = on.replied;
         asked = λ r i. elim (among_into (work.Request r) (work.Request request) (shard_of asked.sub (length old.asked)) old.asked i) [
           | inl j ↦ on.asked r j
-          | inr e ↦ (let same : request ≡ r = cc in (m, last_in m ms, subst (AsksFor m) same (moment, p, q, word, asked, is, by, h.1.2)))
+          | inr e ↦ (let same : request ≡ r = cc in (m, last_in m ms, subst (AsksFor setting count m) same (moment, p, q, word, asked, is, by, h.1.2)))
         ];
       })
 
@@ -137,6 +147,15 @@ module _ (setting : Setting) (count : ℕ) where
   sweeps_on : (moment : ℕ) (ms : List (List ℕ)) (old new : Reading) → Came ms old → AsksSweep moment old new → Came ms new
   sweeps_on moment ms old new was h =
       subst (Came ms) (sym h) (record { replied = was.replied; asked = λ r i. was.asked r (among_swept (is_due old.sweeps) r moment old.asked i) })
+
+  -- a reader that puts nothing more puts nothing of a message
+  pub leaves_on : (ms : List (List ℕ)) (old new : Reading) → Came ms old → new ≡ record old { asked = put_all work.Over old.asked } → Came ms new
+  leaves_on ms old new was h =
+      subst (Came ms) (sym h)
+      (record {
+        replied = was.replied;
+        asked = λ r i. elim (among_all (work.Request r) work.Over old.asked i) [ inl j ↦ was.asked r j | inr e ↦ absurd (cc) ];
+      })
 
   pub ends_on : (gate : ℕ) (ms : List (List ℕ)) (old new : Reading) → Came ms old → Ends gate old new → Came ms new
   ends_on gate ms old new was h =
@@ -219,6 +238,9 @@ does_on works q (work.End gate) v was h octets i = elim (among_into (Octets octe
   | inl j ↦ (let t = was octets j in (t.0, in_left (work.Request t.0) works (work.End gate ∷ []) t.1, t.2))
   | inr e ↦ absurd (cc)
 ]
+does_on works q work.Over v was h octets i =
+    let t = was octets (subst (IsAmong (Octets octets)) h.1 i) in
+    (t.0, in_left (work.Request t.0) works (work.Over ∷ []) t.1, t.2)
 
 pub done_answers : (works : List Work) (p q : Doing) → Answered [] p → FoldsTo Does p works q → Answered works q
 done_answers works p q was all = chained_keeps Does (λ (xs : List Work) (d : Doing). Answered xs d) does_on works p q was all

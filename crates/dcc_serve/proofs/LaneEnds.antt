@@ -1,11 +1,11 @@
 -- How the lanes of a round are ended.
-use Rattle.std.proofs.Common.{◌≡◌, ℕ, suc, ◌+◌, List, [], ◌∷◌, ◌++◌, map, length, Option, Some, None, refl, sym, ap, ap₂, ◌∙◌, subst, append_assoc, append-nil, arith, inl, inr}
+use Rattle.std.proofs.Common.{◌≡◌, ℕ, suc, ◌+◌, Bool, List, [], ◌∷◌, ◌++◌, map, length, Option, Some, None, refl, sym, ap, ap₂, ◌∙◌, subst, append_assoc, append-nil, arith, inl, inr}
 use Rattle.std.proofs.lemmas.Bool.{cases_lt}
 use Rattle.std.proofs.lemmas.List.{map-append}
 use Rattle.std.proofs.lemmas.List.Elements.{All-nil, All-cons, filter_map-append}
 use Rattle.std.proofs.Math.ListN.{length-map}
 use Rattle.std.specs.Global.{Vec}
-use Rattle.std.specs.List.{All, AllByRecursion, cons_option, filter_map}
+use Rattle.std.specs.List.{All, AllByRecursion, FoldsTo, cons_option, filter_map}
 use Rattle.std.specs.Option.{option_map}
 use Rattle.atomic_table.specs.Seated.{TableId}
 use Rattle.dcc_connect.specs.declared.writing.Item.{Item}
@@ -15,15 +15,20 @@ use Rattle.dcc_lane.specs.declared.receiver.Receiver.{Receiver}
 use Rattle.dcc_lane.specs.declared.sender.Sender.{Sender}
 use Rattle.dcc_serve.specs.Counting.{seat_in}
 use Rattle.dcc_serve.specs.Finishing.{AddsTask, AreFinished, ArePartsOf, AreTied, Ends, answers_of, asks_of, ends_in, items_in, reply_of, with, work_in}
-use Rattle.dcc_serve.specs.Gathering.{AreGathered, gates_from, workers_from}
+use Rattle.dcc_serve.specs.Gathering.{AreGathered, places_from, timer_of, workers_from}
+use Rattle.dcc_serve.specs.Handing.{IsSameReader}
 use Rattle.dcc_serve.specs.Lanes.{AreAllHeard, AreDealt, AreOfLanes, firsts, lanes_of, lists_of, rests}
+use Rattle.dcc_serve.specs.Rounds.{RoundsView}
 use Rattle.dcc_serve.specs.Tasks.{AllRun, Runs}
+use Rattle.dcc_serve.specs.Visiting.{IsVisit, Visit}
 use Rattle.dcc_serve.specs.declared.face.Connection.{Connection}
 use Rattle.dcc_serve.specs.declared.finishing.Parts.{Parts}
+use Rattle.dcc_serve.specs.declared.place.Place as places
 use Rattle.dcc_serve.specs.declared.tasks.Task.{Task}
-use Rattle.dcc_serve.specs.declared.tasks.Task.TheVariants.{Read, Write, Work}
+use Rattle.dcc_serve.specs.declared.tasks.Task.TheVariants.{Work, Time, Place}
 use Rattle.dcc_serve.specs.declared.work.Work as work
 use Rattle.dcc_serve.proofs.Dealing.{lists_push}
+use Rattle.dcc_serve.proofs.Handings.{same_as, same_on}
 
 module _ {T : Type 0} where
   -- one list more gave its first sender, or had none
@@ -136,18 +141,18 @@ of_workers I O shard (r ∷ rs) (s ∷ ss) same =
     let t = of_workers I O (shard + 1) rs ss (omega arith) in
     record { work = ap (λ l. lane_of r ∷ l) t.work; asks = t.asks; items = t.items; reply = t.reply; answers = ap (λ l. lanes_of s.items ∷ l) t.answers }
 
-of_gates : {I O : Type 0} (every gate : ℕ) (came : List (Connection I O)) (receivers : List (Receiver Item)) (senders : List (Vec (Sender work.Work))) (replies : List (Sender Item))
-    → length receivers ≡ length came → length senders ≡ length came → length replies ≡ length came
-    → Told (map ends_in (gates_from every gate came receivers senders replies)) [] (map lane_of receivers) (lanes_of replies) (lanes_in senders) []
-of_gates every gate [] [] [] [] a b c = record { work = refl; asks = refl; items = refl; reply = refl; answers = refl }
-of_gates every gate [] (r ∷ rs) ss ps a b c = absurd (omega arith)
-of_gates every gate [] [] (s ∷ ss) ps a b c = absurd (omega arith)
-of_gates every gate [] [] [] (p ∷ ps) a b c = absurd (omega arith)
-of_gates every gate (x ∷ xs) [] ss ps a b c = absurd (omega arith)
-of_gates every gate (x ∷ xs) (r ∷ rs) [] ps a b c = absurd (omega arith)
-of_gates every gate (x ∷ xs) (r ∷ rs) (s ∷ ss) [] a b c = absurd (omega arith)
-of_gates every gate (x ∷ xs) (r ∷ rs) (s ∷ ss) (p ∷ ps) a b c =
-    let t = of_gates every (gate + 1) xs rs ss ps (omega arith) (omega arith) (omega arith) in
+of_places : {I O : Type 0} (stays : Bool) (every gate : ℕ) (firsts : List (Option (Connection I O))) (receivers : List (Receiver Item)) (senders : List (Vec (Sender work.Work)))
+    (replies : List (Sender Item)) → length receivers ≡ length firsts → length senders ≡ length firsts → length replies ≡ length firsts
+    → Told (map ends_in (places_from stays every gate firsts receivers senders replies)) [] (map lane_of receivers) (lanes_of replies) (lanes_in senders) []
+of_places stays every gate [] [] [] [] a b c = record { work = refl; asks = refl; items = refl; reply = refl; answers = refl }
+of_places stays every gate [] (r ∷ rs) ss ps a b c = absurd (omega arith)
+of_places stays every gate [] [] (s ∷ ss) ps a b c = absurd (omega arith)
+of_places stays every gate [] [] [] (p ∷ ps) a b c = absurd (omega arith)
+of_places stays every gate (x ∷ xs) [] ss ps a b c = absurd (omega arith)
+of_places stays every gate (x ∷ xs) (r ∷ rs) [] ps a b c = absurd (omega arith)
+of_places stays every gate (x ∷ xs) (r ∷ rs) (s ∷ ss) [] a b c = absurd (omega arith)
+of_places stays every gate (x ∷ xs) (r ∷ rs) (s ∷ ss) (p ∷ ps) a b c =
+    let t = of_places stays every (gate + 1) xs rs ss ps (omega arith) (omega arith) (omega arith) in
     record {
       work = t.work;
       asks = ap (λ l. lanes_of s.items ∷ l) t.asks;
@@ -163,46 +168,71 @@ dealt_lanes receivers (l ∷ ls) h = (h.0.0, dealt_lanes receivers ls h.1)
 
 module _ {I O : Type 0} where
   -- what a round begins with is tied
-  pub gathered_tied : (shards gates every : ℕ) (tasks : List (Task I O)) → AreGathered shards gates every tasks → AreTied (map ends_in tasks)
-  gathered_tied shards gates every tasks g =
-      let came = g.tasks_are.0 in
+  pub gathered_tied : (shards : ℕ) (rounds : RoundsView) (tasks : List (Task I O)) → AreGathered shards rounds tasks → AreTied (map ends_in tasks)
+  gathered_tied shards rounds tasks g =
+      let firsts = g.tasks_are.0 in
       let workers = workers_from {I = I} {O = O} 0 g.work.receivers.items g.answers in
-      let others = gates_from every 0 came g.items.receivers.items g.work.senders.items g.replies.items in
+      let timer : List (Task I O) = timer_of rounds.stays g.timers ∷ [] in
+      let others = places_from rounds.stays rounds.every 0 firsts g.items.receivers.items g.asks g.replies.items in
       let lists : length (g.replies ∷ g.answers) ≡ shards + 1 = ap length (sym g.dealt) ∙ g.items_are.lists in
+      let askers : length (g.timers ∷ g.asks) ≡ rounds.gates + 1 = ap length (sym g.asked) ∙ g.work_are.lists in
       let all : AllByRecursion (AreDealt g.items.receivers.items) (lists_of (g.replies ∷ g.answers)) =
       subst (λ (ls : List (Vec (Sender Item))). AllByRecursion (AreDealt g.items.receivers.items) (lists_of ls)) g.dealt g.items_are.dealt in
+      let asked : AllByRecursion (AreDealt g.work.receivers.items) (lists_of (g.timers ∷ g.asks)) =
+      subst (λ (ls : List (Vec (Sender work.Work))). AllByRecursion (AreDealt g.work.receivers.items) (lists_of ls)) g.asked g.work_are.dealt in
       let replies : length g.replies.items ≡ length g.items.receivers.items =
       sym (length-map g.replies.items lane_of_sender) ∙ ap length all.0.0 ∙ length-map g.items.receivers.items lane_of in
       let w = of_workers I O 0 g.work.receivers.items g.answers (omega (arith, lists, g.work_are.receivers)) in
-      let o = of_gates every 0 came g.items.receivers.items g.work.senders.items g.replies.items (omega (arith, g.items_are.receivers, g.tasks_are.1))
-      (omega (arith, g.work_are.lists, g.tasks_are.1)) (omega (arith, replies, g.items_are.receivers, g.tasks_are.1)) in
-      let ends : map ends_in tasks ≡ map ends_in workers ++ map ends_in others = ap (map ends_in) g.tasks_are.2 ∙ map-append ends_in workers others in
+      let o = of_places rounds.stays rounds.every 0 firsts g.items.receivers.items g.asks g.replies.items (omega (arith, g.items_are.receivers, g.tasks_are.1))
+      (omega (arith, askers, g.tasks_are.1)) (omega (arith, replies, g.items_are.receivers, g.tasks_are.1)) in
       let a = map ends_in workers in
+      let t = map ends_in timer in
       let b = map ends_in others in
+      let ends : map ends_in tasks ≡ a ++ (t ++ b) =
+      ap (map ends_in) g.tasks_are.3 ∙ map-append ends_in (workers ++ timer) others ∙ ap (λ l. l ++ b) (map-append ends_in workers timer) ∙ append_assoc a t b in
+      let late : (X : Type 0) (f : Ends → Option X) (x y z : List X) → filter_map f a ≡ x → filter_map f t ≡ y → filter_map f b ≡ z → filter_map f (a ++ (t ++ b)) ≡ x ++ (y ++ z) =
+      λ X f x y z p q r. both_kept f a (t ++ b) x (y ++ z) p (both_kept f t b y z q r) in
       subst AreTied (sym ends)
-      (tied_by (a ++ b) (map lane_of g.work.receivers.items ++ []) ([] ++ map lane_of g.items.receivers.items) ([] ++ lanes_of g.replies.items) ([] ++ lanes_in g.work.senders.items)
-      (lanes_in g.answers ++ [])
-      (both_kept (λ (e : Ends). e.work) a b _ _ w.work o.work) (both_kept (λ (e : Ends). e.asks) a b _ _ w.asks o.asks) (both_kept (λ (e : Ends). e.items) a b _ _ w.items o.items)
-      (both_kept (λ (e : Ends). e.reply) a b _ _ w.reply o.reply) (both_kept (λ (e : Ends). e.answers) a b _ _ w.answers o.answers)
-      (subst (λ l. AreOfLanes l (lanes_in g.work.senders.items)) (sym (append-nil (map lane_of g.work.receivers.items)))
-      (dealt_lanes g.work.receivers.items g.work.senders.items g.work_are.dealt))
+      (tied_by (a ++ (t ++ b)) (map lane_of g.work.receivers.items ++ ([] ++ [])) ([] ++ ([] ++ map lane_of g.items.receivers.items)) ([] ++ ([] ++ lanes_of g.replies.items))
+      ([] ++ ((lanes_of g.timers.items ∷ []) ++ lanes_in g.asks)) (lanes_in g.answers ++ ([] ++ []))
+      (late TableId (λ (e : Ends). e.work) _ _ _ w.work refl o.work) (late (List TableId) (λ (e : Ends). e.asks) _ _ _ w.asks refl o.asks)
+      (late TableId (λ (e : Ends). e.items) _ _ _ w.items refl o.items) (late TableId (λ (e : Ends). e.reply) _ _ _ w.reply refl o.reply)
+      (late (List TableId) (λ (e : Ends). e.answers) _ _ _ w.answers refl o.answers)
+      (subst (λ l. AreOfLanes l (lanes_of g.timers.items ∷ lanes_in g.asks)) (sym (append-nil (map lane_of g.work.receivers.items)))
+      (dealt_lanes g.work.receivers.items (g.timers ∷ g.asks) asked))
       (subst (λ l. AreOfLanes (map lane_of g.items.receivers.items) (lanes_of g.replies.items ∷ l)) (sym (append-nil (lanes_in g.answers)))
       (dealt_lanes g.items.receivers.items (g.replies ∷ g.answers) all)))
 
-module _ {I O C : Type 0} (remaining : I → Option (List ℕ)) (contents : O → Option (List ℕ)) (tells : C → ℕ → C → Type 0) (clock : C) (setting : Setting) (count : ℕ) where
+module _ {I O C : Type 0} (remaining : I → Option (List ℕ)) (contents : O → Option (List ℕ)) (tells : C → ℕ → C → Type 0) (closed : Type 0) (clock : C) (setting : Setting)
+    (count : ℕ) where
+  -- the ends of lanes that a place has
+  abbrev AtPlace : places.Place I O → places.Place I O → Type 0
+  AtPlace old new = IsSameReader old.reader new.reader × (lane_of new.from ≡ lane_of old.from)
+
+  visited_same : (old last : places.Place I O) (visits : List (Visit I O)) → FoldsTo (IsVisit remaining contents tells closed clock setting count) old visits last → AtPlace old last
+  visited_same old last [] h = subst (AtPlace old) h (same_as old.reader, refl)
+  visited_same old last (v ∷ vs) h =
+      let mid = h.0 in
+      let same = h.1.reads.5 in
+      let more = visited_same mid last vs h.2 in
+      let here : IsSameReader old.reader mid.reader = record { gate = same.gate; workers = same.workers; writer = same.writer } in
+      (same_on old.reader mid.reader last.reader here more.0, more.1 ∙ h.1.writes.1.0)
+
   -- a thread keeps its lanes
-  ends_same : (t u : Task I O) → Runs remaining contents tells clock setting count t u → ends_in u ≡ ends_in t
-  ends_same (Read input reader) u h =
-      let same = h.4.5 in
-      ap ends_in h.3 ∙ (λ i. record { work = None; asks = Some (same.workers i); items = None; reply = Some (same.writer i); answers = None })
-  ends_same (Write gate output from answers) u h =
-      let same = h.4.1.0 in ap ends_in h.3 ∙ (λ i. record { work = None; asks = None; items = Some (same i); reply = None; answers = None })
+  ends_same : (t u : Task I O) → Runs remaining contents tells closed clock setting count t u → ends_in u ≡ ends_in t
   ends_same (Work worker) u h = elim (cases_lt worker.shard count) [
     | inl there ↦ (let d = h.2 there in ap ends_in h.1 ∙ (λ i. record { work = Some (d.same.0 i); asks = None; items = None; reply = None; answers = Some (d.lanes i) }))
     | inr past ↦ ap ends_in h.1 ∙ ap (λ w. ends_in {I = I} {O = O} (Work w)) (h.3 past)
   ]
+  ends_same (Time timer) u h = ap ends_in h.1 ∙ (λ i. record { work = None; asks = Some (h.2.lanes i); items = None; reply = None; answers = None })
+  ends_same (Place old) u h =
+      let s = h.2.1 in
+      let v = visited_same old s.last h.2.0 s.visited in
+      let reader = same_on old.reader s.last.reader h.0.reader v.0 s.left.1 in
+      let from : lane_of h.0.from ≡ lane_of old.from = ap lane_of s.from ∙ v.1 in
+      ap ends_in h.1 ∙ (λ i. record { work = None; asks = Some (reader.workers i); items = Some (from i); reply = Some (reader.writer i); answers = None })
 
-  all_same : (old new : List (Task I O)) → AllRun remaining contents tells clock setting count old new → length new ≡ length old → map ends_in new ≡ map ends_in old
+  all_same : (old new : List (Task I O)) → AllRun remaining contents tells closed clock setting count old new → length new ≡ length old → map ends_in new ≡ map ends_in old
   all_same [] [] ran same = refl
   all_same [] (u ∷ us) ran same = absurd (omega arith)
   all_same (t ∷ ts) [] ran same = absurd (omega arith)
@@ -210,36 +240,36 @@ module _ {I O C : Type 0} (remaining : I → Option (List ℕ)) (contents : O �
       ap₂ (λ e es. e ∷ es) (ends_same t u (ran 0 t (omega arith))) (all_same ts us (λ i none l. ran (suc i) none (omega arith)) (omega arith))
 
   -- so its threads are tied when they have ended
-  pub ended_tied : (gates every : ℕ) (begun ended : List (Task I O)) → AreGathered count gates every begun → AllRun remaining contents tells clock setting count begun ended
+  pub ended_tied : (rounds : RoundsView) (begun ended : List (Task I O)) → AreGathered count rounds begun → AllRun remaining contents tells closed clock setting count begun ended
       → length ended ≡ length begun → AreTied (map ends_in ended)
-  ended_tied gates every begun ended g ran same = subst AreTied (sym (all_same begun ended ran same)) (gathered_tied count gates every begun g)
+  ended_tied rounds begun ended g ran same = subst AreTied (sym (all_same begun ended ran same)) (gathered_tied count rounds begun g)
 
 -- the parts of threads that are tied are so too
 module _ {I O : Type 0} where
   work_lane : (t : Task I O) → (ends_in t).work ≡ option_map lane_of (work_in t)
-  work_lane (Read input reader) = refl
-  work_lane (Write gate output from answers) = refl
   work_lane (Work worker) = refl
+  work_lane (Time timer) = refl
+  work_lane (Place place) = refl
 
   asks_lanes : (t : Task I O) → (ends_in t).asks ≡ option_map (λ (v : Vec (Sender work.Work)). lanes_of v.items) (asks_of t)
-  asks_lanes (Read input reader) = refl
-  asks_lanes (Write gate output from answers) = refl
   asks_lanes (Work worker) = refl
+  asks_lanes (Time timer) = refl
+  asks_lanes (Place place) = refl
 
   items_lane : (t : Task I O) → (ends_in t).items ≡ option_map lane_of (items_in t)
-  items_lane (Read input reader) = refl
-  items_lane (Write gate output from answers) = refl
   items_lane (Work worker) = refl
+  items_lane (Time timer) = refl
+  items_lane (Place place) = refl
 
   reply_lane : (t : Task I O) → (ends_in t).reply ≡ option_map lane_of_sender (reply_of t)
-  reply_lane (Read input reader) = refl
-  reply_lane (Write gate output from answers) = refl
   reply_lane (Work worker) = refl
+  reply_lane (Time timer) = refl
+  reply_lane (Place place) = refl
 
   answers_lanes : (t : Task I O) → (ends_in t).answers ≡ option_map (λ (v : Vec (Sender Item)). lanes_of v.items) (answers_of t)
-  answers_lanes (Read input reader) = refl
-  answers_lanes (Write gate output from answers) = refl
   answers_lanes (Work worker) = refl
+  answers_lanes (Time timer) = refl
+  answers_lanes (Place place) = refl
 
   seen_as : {Y Z : Type 0} (g : Y → Z) (f : Task I O → Option Y) (h : Ends → Option Z) → ((t : Task I O) → h (ends_in t) ≡ option_map g (f t)) → (ts : List (Task I O)) (ys : List Y)
       → ys ≡ filter_map f ts → filter_map h (map ends_in ts) ≡ map g ys

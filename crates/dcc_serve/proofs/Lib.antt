@@ -7,6 +7,8 @@ pub mod Counts
 pub mod Mapped
 pub mod Dealing
 pub mod Gathers
+pub mod Placing
+pub mod Timings
 pub mod LaneEnds
 pub mod Coming
 pub mod Going

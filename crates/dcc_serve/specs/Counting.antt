@@ -1,9 +1,10 @@
 -- What the threads of a round leave.
-use Rattle.std.specs.Prelude.{ℕ, ◌-◌, ◌^◌, min, List, Option, Some, None, sum_by, count_by}
+use Rattle.std.specs.Prelude.{ℕ, ◌+◌, ◌-◌, ◌^◌, min, List, Option, Some, None, sum_by, count_by}
+use Rattle.dcc_connect.specs.declared.writing.WriteEnd.{WriteEnd}
 use Rattle.dcc_receipts.specs.declared.receipt.Receipt.{Receipt}
 use Rattle.dcc_serve.specs.declared.line.Counts.{Counts}
 use Rattle.dcc_serve.specs.declared.tasks.Task.{Task}
-use Rattle.dcc_serve.specs.declared.tasks.Task.TheVariants.{Read, Write, Work}
+use Rattle.dcc_serve.specs.declared.tasks.Task.TheVariants.{Work, Time, Place}
 
 -- how many acts these receipts are of: each has one that is fresh
 abbrev pub acts_of : List Receipt → ℕ
@@ -13,30 +14,34 @@ acts_of receipts = count_by (λ (receipt : Receipt). receipt.fresh) receipts
 abbrev pub at_most : ℕ → ℕ
 at_most count = min count (2 ^ 64 - 1)
 
+-- so many answers went out whole, with those of one gateway more
+abbrev pub with_answers : ℕ → WriteEnd → ℕ
+with_answers count written = at_most (count + written.answers)
+
 module _ {I O : Type 0} where
   -- how many requests a thread handed to shards
   abbrev pub requests_in : Task I O → ℕ
-  requests_in (Read input reader) = reader.requests
-  requests_in (Write gate output from answers) = 0
   requests_in (Work worker) = 0
+  requests_in (Time timer) = 0
+  requests_in (Place place) = place.reader.requests
 
   -- how many answers it wrote whole
   abbrev pub answers_in : Task I O → ℕ
-  answers_in (Read input reader) = 0
-  answers_in (Write gate output from answers) = answers
   answers_in (Work worker) = 0
+  answers_in (Time timer) = 0
+  answers_in (Place place) = place.answers
 
   -- how many acts it made
   abbrev pub acts_in : Task I O → ℕ
-  acts_in (Read input reader) = 0
-  acts_in (Write gate output from answers) = 0
   acts_in (Work worker) = acts_of worker.seat
+  acts_in (Time timer) = 0
+  acts_in (Place place) = 0
 
   -- its seat, where it is a worker
   abbrev pub seat_in : Task I O → Option (List Receipt)
-  seat_in (Read input reader) = None
-  seat_in (Write gate output from answers) = None
   seat_in (Work worker) = Some worker.seat
+  seat_in (Time timer) = None
+  seat_in (Place place) = None
 
   -- what a round comes to: the sums over its threads
   abbrev pub counts_in : List (Task I O) → Counts

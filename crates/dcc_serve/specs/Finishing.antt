@@ -22,7 +22,7 @@ pub record Ends : Type 0 where
   pub reply : Option TableId
   pub answers : Option (List TableId)
 
--- of some threads the readers, and so each worker, has a sender of each lane that it puts into
+-- of some threads the timer and each reader, and so each worker, has a sender of each lane that it puts into
 pub record AreTied (ends : List Ends) : Type 0 where
   pub asked : AreOfLanes (filter_map (λ (e : Ends). e.work) ends) (filter_map (λ (e : Ends). e.asks) ends)
   pub answered : AreOfLanes (filter_map (λ (e : Ends). e.items) ends) (filter_map (λ (e : Ends). e.reply) ends ∷ filter_map (λ (e : Ends). e.answers) ends)
@@ -33,40 +33,45 @@ with xs None = xs
 with xs (Some x) = xs ++ x ∷ []
 
 module _ {I O : Type 0} where
-  -- the lane that a worker takes of, and its senders to the gateways' writers
+  -- the lane that a worker takes of, and its senders to the writers
   abbrev pub work_in : Task I O → Option (Receiver Work)
-  work_in (task.Read input reader) = None
-  work_in (task.Write gate output from answers) = None
   work_in (task.Work worker) = Some worker.from
+  work_in (task.Time timer) = None
+  work_in (task.Place place) = None
 
   abbrev pub answers_of : Task I O → Option (Vec (Sender Item))
-  answers_of (task.Read input reader) = None
-  answers_of (task.Write gate output from answers) = None
   answers_of (task.Work worker) = Some worker.writers
+  answers_of (task.Time timer) = None
+  answers_of (task.Place place) = None
 
-  -- a reader's senders to the workers, and the one to its writer
+  -- the senders of the timer, and of a place's reader, to the workers, and that of the reader to its writer
   abbrev pub asks_of : Task I O → Option (Vec (Sender Work))
-  asks_of (task.Read input reader) = Some reader.workers
-  asks_of (task.Write gate output from answers) = None
   asks_of (task.Work worker) = None
+  asks_of (task.Time timer) = Some timer.workers
+  asks_of (task.Place place) = Some place.reader.workers
 
   abbrev pub reply_of : Task I O → Option (Sender Item)
-  reply_of (task.Read input reader) = Some reader.writer
-  reply_of (task.Write gate output from answers) = None
   reply_of (task.Work worker) = None
+  reply_of (task.Time timer) = None
+  reply_of (task.Place place) = Some place.reader.writer
 
-  -- the lane that a writer takes of
+  -- the lane that a place's writer takes of
   abbrev pub items_in : Task I O → Option (Receiver Item)
-  items_in (task.Read input reader) = None
-  items_in (task.Write gate output from answers) = Some from
   items_in (task.Work worker) = None
+  items_in (task.Time timer) = None
+  items_in (task.Place place) = Some place.from
 
   abbrev pub ends_in : Task I O → Ends
-  ends_in (task.Read input reader) =
-      record { work = None; asks = Some (lanes_of reader.workers.items); items = None; reply = Some (lane_of_sender reader.writer); answers = None }
-  ends_in (task.Write gate output from answers) = record { work = None; asks = None; items = Some (lane_of from); reply = None; answers = None }
   ends_in (task.Work worker) =
       record { work = Some (lane_of worker.from); asks = None; items = None; reply = None; answers = Some (lanes_of worker.writers.items) }
+  ends_in (task.Time timer) = record { work = None; asks = Some (lanes_of timer.workers.items); items = None; reply = None; answers = None }
+  ends_in (task.Place place) = record {
+    work = None;
+    asks = Some (lanes_of place.reader.workers.items);
+    items = Some (lane_of place.from);
+    reply = Some (lane_of_sender place.reader.writer);
+    answers = None;
+  }
 
   -- what a thread leaves is behind what was there, each with its kind
   pub record AddsTask (one : Task I O) (old new : Parts) : Type 0 where
@@ -86,8 +91,8 @@ module _ {I O : Type 0} where
     pub replies : parts.replies.items ≡ filter_map reply_of tasks
     pub answers : parts.answers.items ≡ filter_map answers_of tasks
 
-  -- What the worker of a shard took of a gateway's reader is a beginning of what that put for it, and the worker took nothing else. So it is of what a
-  -- gateway's writer took of its reader and of each worker.
+  -- What the worker of a shard took of the timer and of a place's reader is a beginning of what that put for it, and the worker took nothing else. So it
+  -- is of what a place's writer took of its reader and of each worker.
   pub record AreFinished (tasks : List (Task I O)) : Type 0 where
     pub asked : AreAllHeard (filter_map work_in tasks) (lists_of (filter_map asks_of tasks))
     pub answered : AreAllHeard (filter_map items_in tasks) (filter_map reply_of tasks ∷ lists_of (filter_map answers_of tasks))

@@ -1,11 +1,13 @@
 -- What the threads of a round begin with.
-use Rattle.std.specs.Prelude.{◌≡◌, ℕ, ◌+◌, List, [], ◌∷◌, ◌++◌, length}
+use Rattle.std.specs.Prelude.{◌≡◌, ℕ, ◌+◌, Bool, not, List, [], ◌∷◌, ◌++◌, length, Option, is_some}
 use Rattle.std.specs.Global.{Vec}
+use Rattle.std.specs.List.{AllByRecursion}
 use Rattle.dcc_base.specs.declared.peer.Peer.TheVariants.{Wait}
 use Rattle.dcc_connect.specs.declared.writing.Item.{Item}
 use Rattle.dcc_lane.specs.declared.receiver.Receiver.{Receiver}
 use Rattle.dcc_lane.specs.declared.sender.Sender.{Sender}
 use Rattle.dcc_serve.specs.Lanes.{AreLanes}
+use Rattle.dcc_serve.specs.Rounds.{RoundsView}
 use Rattle.dcc_serve.specs.declared.face.Connection.{Connection}
 use Rattle.dcc_serve.specs.declared.lanes.Lanes.{Lanes}
 use Rattle.dcc_serve.specs.declared.tasks.Task.{Task}
@@ -20,37 +22,51 @@ module _ {I O : Type 0} where
   workers_from shard (from ∷ receivers) (writers ∷ senders) =
       task.Work (record { shard = shard; seat = []; counter = record { lists = 0; shard = shard; left = 0 }; from = from; writers = writers }) ∷ workers_from (shard + 1) receivers senders
 
-  -- a gateway's reader has its own senders to the workers and one to the gateway's own writer; it and the writer have done nothing
-  abbrev pub reader_of : ℕ → ℕ → Connection I O → Vec (Sender Work) → Sender Item → Task I O
-  reader_of every gate connection workers writer =
-      task.Read connection.input
-      (record { gate = gate; peer = Wait; workers = workers; writer = writer; sweeps = record { every = every; since = 0 }; requests = 0 })
+  -- a place has its own senders to the workers and one to its own writer; it has served nobody
+  abbrev pub place_of : (stays : Bool) → (every gate : ℕ) → Option (Connection I O) → Receiver Item → Vec (Sender Work) → Sender Item → Task I O
+  place_of stays every gate first from workers writer =
+      task.Place (record {
+        first = first;
+        stays = stays;
+        reader = record { gate = gate; peer = Wait; workers = workers; writer = writer; sweeps = record { every = every; since = 0 }; requests = 0 };
+        from = from;
+        answers = 0;
+      })
 
-  abbrev pub writer_of : ℕ → Connection I O → Receiver Item → Task I O
-  writer_of gate connection from = task.Write gate (record { output = connection.output }) from 0
+  -- the places from this one on, each with the gateway that came for it, where one did
+  abbrev pub places_from : (stays : Bool) → (every gate : ℕ) → List (Option (Connection I O)) → List (Receiver Item) → List (Vec (Sender Work)) → List (Sender Item) → List (Task I O)
+  places_from stays every gate [] receivers senders replies = []
+  places_from stays every gate (first ∷ firsts) [] senders replies = []
+  places_from stays every gate (first ∷ firsts) (from ∷ receivers) [] replies = []
+  places_from stays every gate (first ∷ firsts) (from ∷ receivers) (workers ∷ senders) [] = []
+  places_from stays every gate (first ∷ firsts) (from ∷ receivers) (workers ∷ senders) (writer ∷ replies) =
+      place_of stays every gate first from workers writer ∷ places_from stays every (gate + 1) firsts receivers senders replies
 
-  -- the readers and writers of gateways from this one on, in the order in which they came
-  abbrev pub gates_from : (every gate : ℕ) → List (Connection I O) → List (Receiver Item) → List (Vec (Sender Work)) → List (Sender Item) → List (Task I O)
-  gates_from every gate [] receivers senders replies = []
-  gates_from every gate (connection ∷ came) [] senders replies = []
-  gates_from every gate (connection ∷ came) (from ∷ receivers) [] replies = []
-  gates_from every gate (connection ∷ came) (from ∷ receivers) (workers ∷ senders) [] = []
-  gates_from every gate (connection ∷ came) (from ∷ receivers) (workers ∷ senders) (writer ∷ replies) =
-      reader_of every gate connection workers writer ∷ writer_of gate connection from ∷ gates_from every (gate + 1) came receivers senders replies
+  -- a gateway came for each place, or for none where places are taken again
+  abbrev pub HasCome : Bool → Option (Connection I O) → Type 0
+  HasCome stays first = is_some first ≡ not stays
 
-  -- so many gateways came, and each has its reader and its writer
-  abbrev pub AddsGates : (every gates : ℕ) → List (Receiver Item) → List (Vec (Sender Work)) → List (Sender Item) → List (Task I O) → List (Task I O) → Type 0
-  AddsGates every gates receivers senders replies old new =
-      (came : List (Connection I O)) × (length came ≡ gates) × (new ≡ old ++ gates_from every 0 came receivers senders replies)
+  -- so many places were made
+  abbrev pub AddsPlaces : RoundsView → List (Receiver Item) → List (Vec (Sender Work)) → List (Sender Item) → List (Task I O) → List (Task I O) → Type 0
+  AddsPlaces rounds receivers senders replies old new =
+      (firsts : List (Option (Connection I O))) × (length firsts ≡ rounds.gates) × AllByRecursion (HasCome rounds.stays) firsts
+      × (new ≡ old ++ places_from rounds.stays rounds.every 0 firsts receivers senders replies)
 
-  -- Lanes are made to each shard's worker, with a sender for each gateway, and to each gateway's writer, with one for its reader and one for
-  -- each shard; the worker of each shard and the reader and the writer of each gateway are these.
-  pub record AreGathered (shards gates every : ℕ) (tasks : List (Task I O)) : Type 0 where
+  abbrev pub timer_of : Bool → Vec (Sender Work) → Task I O
+  timer_of stays workers = task.Time (record { stays = stays; workers = workers })
+
+  -- Lanes are made to each shard's worker, with a sender for each place and one for the timer, and to each place's writer, with one for its reader and
+  -- one for each shard; the worker of each shard, the timer, and the places are these.
+  pub record AreGathered (shards : ℕ) (rounds : RoundsView) (tasks : List (Task I O)) : Type 0 where
     pub work : Lanes Work
     pub items : Lanes Item
+    pub timers : Vec (Sender Work)
+    pub asks : List (Vec (Sender Work))
     pub replies : Vec (Sender Item)
     pub answers : List (Vec (Sender Item))
-    pub work_are : AreLanes shards gates work
-    pub items_are : AreLanes gates (shards + 1) items
+    pub work_are : AreLanes shards (rounds.gates + 1) work
+    pub items_are : AreLanes rounds.gates (shards + 1) items
+    pub asked : work.senders.items ≡ timers ∷ asks
     pub dealt : items.senders.items ≡ replies ∷ answers
-    pub tasks_are : AddsGates every gates items.receivers.items work.senders.items replies.items (workers_from 0 work.receivers.items answers) tasks
+    pub tasks_are : AddsPlaces rounds items.receivers.items asks replies.items
+        (workers_from 0 work.receivers.items answers ++ timer_of rounds.stays timers ∷ []) tasks

@@ -5,6 +5,8 @@ pub mod Working
 pub mod Handing
 pub mod Writing
 pub mod Counting
+pub mod Visiting
+pub mod Timing
 pub mod Tasks
 pub mod Gathering
 pub mod Finishing

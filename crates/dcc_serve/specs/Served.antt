@@ -42,16 +42,17 @@ EndsRounds {S} good round ends stopped (Store number) rounds first before after 
 abbrev pub is_any_stopped : {R : Type 0} → (R → Bool) → List (StoredView R) → Bool
 is_any_stopped {R} is_stopped shards = list_any (λ (part : StoredView R). is_stopped part.records) shards
 
-module _ {I O C : Type 0} (remaining : I → Option (List ℕ)) (contents : O → Option (List ℕ)) (tells : C → ℕ → C → Type 0) (clock : C) (setting : Setting) where
+module _ {I O C : Type 0} (remaining : I → Option (List ℕ)) (contents : O → Option (List ℕ)) (tells : C → ℕ → C → Type 0) (closed : Type 0) (clock : C)
+    (setting : Setting) where
   -- Its threads were gathered and ran, its lanes were ended with all their senders, and its counts are sums over its threads. The books of its shards
   -- begin with what these held when it began, are what they themselves make, and agree with the receipts of all its workers; and what a stop leaves of
   -- a shard has them.
-  pub record IsRound {R : Type 0} (is_stopped : R → Bool) (may_leave : R → Content → Type 0) (gates every : ℕ) (old : List (StoredView R)) (counts : Counts) (new : List (StoredView R)) : Type 0 where
+  pub record IsRound {R : Type 0} (is_stopped : R → Bool) (may_leave : R → Content → Type 0) (rounds : RoundsView) (old : List (StoredView R)) (counts : Counts) (new : List (StoredView R)) : Type 0 where
     pub begun : List (Task I O)
     pub ended : List (Task I O)
     pub books : BooksView R
-    pub gathered : AreGathered (length old) gates every begun
-    pub ran : AllRun remaining contents tells clock setting (length old) begun ended
+    pub gathered : AreGathered (length old) rounds begun
+    pub ran : AllRun remaining contents tells closed clock setting (length old) begun ended
     pub all : length ended ≡ length begun
     pub finished : AreFinished ended
     pub counted : counts ≡ counts_in ended
@@ -63,18 +64,18 @@ module _ {I O C : Type 0} (remaining : I → Option (List ℕ)) (contents : O �
     pub held : AreLeft may_leave new
 
   -- a round behind which no records have failed
-  abbrev pub IsGoodRound : {R : Type 0} → (is_stopped : R → Bool) (may_leave : R → Content → Type 0) (gates every : ℕ) → List (StoredView R) → Counts → List (StoredView R) → Type 0
-  IsGoodRound is_stopped may_leave gates every old counts new =
-      IsRound is_stopped may_leave gates every old counts new × (is_any_stopped is_stopped new ≡ false)
+  abbrev pub IsGoodRound : {R : Type 0} → (is_stopped : R → Bool) (may_leave : R → Content → Type 0) (rounds : RoundsView) → List (StoredView R) → Counts → List (StoredView R) → Type 0
+  IsGoodRound is_stopped may_leave rounds old counts new =
+      IsRound is_stopped may_leave rounds old counts new × (is_any_stopped is_stopped new ≡ false)
 
   -- Threads were gathered over these shards and ran, their lanes were ended, and the first test of the comparison that fails is that of this number.
-  pub record Disagrees {R : Type 0} (gates every : ℕ) (old : List (StoredView R)) (number : ℕ) : Type 0 where
+  pub record Disagrees {R : Type 0} (rounds : RoundsView) (old : List (StoredView R)) (number : ℕ) : Type 0 where
     pub begun : List (Task I O)
     pub ended : List (Task I O)
     pub books : BooksView R
     pub fault : CloseFault
-    pub gathered : AreGathered (length old) gates every begun
-    pub ran : AllRun remaining contents tells clock setting (length old) begun ended
+    pub gathered : AreGathered (length old) rounds begun
+    pub ran : AllRun remaining contents tells closed clock setting (length old) begun ended
     pub all : length ended ≡ length begun
     pub finished : AreFinished ended
     pub opened : (sub : Sub) → at_opening books.opening sub ≡ book old sub
@@ -82,15 +83,15 @@ module _ {I O C : Type 0} (remaining : I → Option (List ℕ)) (contents : O �
     pub numbered : fault_number fault ≡ Some number
 
   -- why a round has no counts: receipts and books disagree, or, as 80, the sender of a lane is missing; nothing is said where memory was short or a listener failed
-  abbrev pub EndsRound : {R : Type 0} → (gates every : ℕ) → List (StoredView R) → ServeFault → Type 0
-  EndsRound gates every old Memory = Unit {0}
-  EndsRound gates every old Io = Unit {0}
-  EndsRound gates every old (Close number) = Disagrees gates every old number ⊎ (number ≡ 80)
-  EndsRound gates every old (Store number) = ⊥
+  abbrev pub EndsRound : {R : Type 0} → (rounds : RoundsView) → List (StoredView R) → ServeFault → Type 0
+  EndsRound rounds old Memory = Unit {0}
+  EndsRound rounds old Io = Unit {0}
+  EndsRound rounds old (Close number) = Disagrees rounds old number ⊎ (number ≡ 80)
+  EndsRound rounds old (Store number) = ⊥
 
   -- why a server ends before its rounds are over, each of which is over the shards that the one before it left
   abbrev pub EndsServing : {R : Type 0} → (is_stopped : R → Bool) (may_leave : R → Content → Type 0) → RoundsView → (fault : ServeFault) → List (StoredView R)
       → (before after : Option (List ℕ)) → Type 0
   EndsServing is_stopped may_leave rounds fault first before after =
-      EndsRounds (IsGoodRound is_stopped may_leave rounds.gates rounds.every) (IsRound is_stopped may_leave rounds.gates rounds.every)
-      (EndsRound rounds.gates rounds.every) (is_any_stopped is_stopped) fault rounds.rounds first before after
+      EndsRounds (IsGoodRound is_stopped may_leave rounds) (IsRound is_stopped may_leave rounds)
+      (EndsRound rounds) (is_any_stopped is_stopped) fault rounds.rounds first before after

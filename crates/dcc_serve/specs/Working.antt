@@ -64,17 +64,21 @@ abbrev pub Does : Doing → Work → Doing → Type 0
 Does old (work.Request request) new = Answers request old new
 Does old (work.Sweep moment) new = Sweeps moment old.told new.told × (new.put ≡ old.put)
 Does old (work.End gate) new = (new.told ≡ old.told) × (new.put ≡ put_into gate End old.put)
+Does old work.Over new = (new.told ≡ old.told) × (new.put ≡ old.put)
 
 -- What a worker's counter shows behind an item: for a sweep the subscribers of the worker's shard were listed once more, and none of them is left to be asked.
 abbrev pub CountsFor : ℕ → SweepCounter → Work → SweepCounter → Type 0
 CountsFor shard old (work.Request request) new = new ≡ old
 CountsFor shard old (work.Sweep moment) new = new ≡ record { lists = one_more old.lists; shard = shard; left = 0 }
 CountsFor shard old (work.End gate) new = new ≡ old
+CountsFor shard old work.Over new = new ≡ old
 
-abbrev pub is_end : Work → Bool
-is_end (work.Request request) = false
-is_end (work.Sweep moment) = false
-is_end (work.End gate) = true
+-- whether a sender of its lane puts nothing more
+abbrev pub is_over : Work → Bool
+is_over (work.Request request) = false
+is_over (work.Sweep moment) = false
+is_over (work.End gate) = false
+is_over work.Over = true
 
 -- a worker took one item more, and did it
 pub record DoesOne (old new : Worker) (ended : Bool) : Type 0 where
@@ -82,18 +86,18 @@ pub record DoesOne (old new : Worker) (ended : Bool) : Type 0 where
   pub taken : items_of (taken_of new.from) ≡ items_of (taken_of old.from) ++ one ∷ []
   pub done : Does (doing_of old) one (doing_of new)
   pub counted : CountsFor old.shard old.counter one new.counter
-  pub ended_is : ended ≡ is_end one
+  pub ended_is : ended ≡ is_over one
   pub same : IsSameReceiver old.from new.from
   pub lanes : lanes_of new.writers.items ≡ lanes_of old.writers.items
   pub shard : new.shard ≡ old.shard
 
--- A worker took items, with so many ends, and did each in its turn. Each of its sweeps asked every subscriber that was listed of its shard.
+-- A worker took items until so many of its senders put nothing more, and did each in its turn. Each of its sweeps asked every subscriber that was listed of its shard.
 pub record HasDone (old new : Worker) (ended : ℕ) : Type 0 where
   pub works : List Work
   pub taken : items_of (taken_of new.from) ≡ items_of (taken_of old.from) ++ works
   pub done : FoldsTo Does (doing_of old) works (doing_of new)
   pub counted : FoldsTo (CountsFor old.shard) old.counter works new.counter
-  pub ended_are : count_by is_end works ≡ ended
+  pub ended_are : count_by is_over works ≡ ended
   pub same : IsSameReceiver old.from new.from
   pub lanes : lanes_of new.writers.items ≡ lanes_of old.writers.items
   pub shard : new.shard ≡ old.shard

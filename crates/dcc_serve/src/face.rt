@@ -1,5 +1,8 @@
 //! What the server is given from outside: who connects, and who is told of it.
 
+ghost use Rattle.std.specs.Prelude.{◌≡◌, IfNone};
+ghost use Rattle.dcc_serve.specs.declared.face.Tick.TheVariants as end;
+
 use dcc_connect::{ConnectionEnd, WriteEnd};
 use dcc_octets::OctetString;
 use std::io::{self, Write};
@@ -16,10 +19,32 @@ pub struct Connection<I, O> {
     pub name: OctetString,
 }
 
+/// What is due once a while has passed.
+#[derive(Clone, Copy, Debug, PartialEq, Eq)]
+pub enum Tick {
+    /// Nothing is.
+    Nothing,
+    /// A sweep of all shards.
+    Sweep,
+    /// The end: no more connections are taken in.
+    End,
+}
+
 /// Who takes connections in.
 pub trait Listener<I, O> {
-    /// The next connection. It may wait for it.
+    /// That no more connections are taken in for places.
+    ghost is_closed: { Type 0 };
+
+    /// The next connection of a round. It may wait for it.
     fn accept(&mut self) -> io::Result<Connection<I, O>>;
+
+    /// The next connection for a place that is free, at the call of one thread of several. None once no more are taken in. It may wait.
+    fn enter<W: Wait>(&self, rt: &W) -> Option<Connection<I, O>>
+        ensures { IfNone result is_closed };
+
+    /// Waits for a while, and tells what is due behind it.
+    fn tick<W: Wait>(&self, rt: &W) -> Tick
+        ensures { result ≡ end.End → is_closed };
 }
 
 /// The half of a connection that is written to, which can end both.

@@ -10,8 +10,10 @@ ghost use Rattle.dcc_serve.specs.Lines.{is_of_lanes};
 
 use crate::fault::{ServeFault, of_lane};
 use crate::lanes::first_of;
+use crate::place::Place;
 use crate::reader::Reader;
 use crate::tasks::Task;
+use crate::timer::SweepTimer;
 use crate::work::Work;
 use crate::worker::Worker;
 use dcc_connect::Item;
@@ -26,15 +28,16 @@ pub(crate) struct Parts {
     /// Of the workers, by shard: the lane that each takes of, and its senders to the writers.
     pub work: Vec<Receiver<Work>>,
     pub answers: Vec<Vec<Sender<Item>>>,
-    /// Of the readers, by gateway: each one's senders to the workers, and the one to its writer.
+    /// Of the timer and of each place's reader: its senders to the workers.
     pub asks: Vec<Vec<Sender<Work>>>,
+    /// Of the readers, by place: the sender to the place's writer.
     pub replies: Vec<Sender<Item>>,
-    /// Of the writers, by gateway: the lane that each takes of.
+    /// Of the writers, by place: the lane that each takes of.
     pub items: Vec<Receiver<Item>>,
 }
 
-/// Ends each lane of a round with all its senders, and gives the seats of the workers, in order. The condition: each reader and each worker has a
-/// sender of every lane that it puts into.
+/// Ends each lane of a round with all its senders, and gives the seats of the workers, in order. The condition: the timer, each reader and
+/// each worker have a sender of every lane that they put into.
 ///
 /// Errors: memory was short, or a sender is missing.
 pub(crate) fn finished<I: Drop, O: Drop>(
@@ -99,28 +102,6 @@ fn with_task<I: Drop, O: Drop>(parts: Parts, task: Task<I, O>) -> Result<Parts, 
 {
     let mut parts = parts;
     match task {
-        Task::Read { input: _, reader } => {
-            let Reader {
-                gate: _,
-                peer: _,
-                workers,
-                writer,
-                sweeps: _,
-                requests: _,
-            } = reader;
-            parts.asks.push(workers)?;
-            parts.replies.push(writer)?;
-            Ok(parts)
-        }
-        Task::Write {
-            gate: _,
-            output: _,
-            from,
-            answers: _,
-        } => {
-            parts.items.push(from)?;
-            Ok(parts)
-        }
         Task::Work(worker) => {
             let Worker {
                 shard: _,
@@ -132,6 +113,32 @@ fn with_task<I: Drop, O: Drop>(parts: Parts, task: Task<I, O>) -> Result<Parts, 
             parts.seats.push(seat)?;
             parts.work.push(from)?;
             parts.answers.push(writers)?;
+            Ok(parts)
+        }
+        Task::Time(timer) => {
+            let SweepTimer { stays: _, workers } = timer;
+            parts.asks.push(workers)?;
+            Ok(parts)
+        }
+        Task::Place(place) => {
+            let Place {
+                first: _,
+                stays: _,
+                reader,
+                from,
+                answers: _,
+            } = place;
+            let Reader {
+                gate: _,
+                peer: _,
+                workers,
+                writer,
+                sweeps: _,
+                requests: _,
+            } = reader;
+            parts.asks.push(workers)?;
+            parts.replies.push(writer)?;
+            parts.items.push(from)?;
             Ok(parts)
         }
     }

@@ -1,14 +1,15 @@
 //! The laws of rounds. Each is the contract of a function that does nothing.
 
-ghost use Rattle.std.specs.Prelude.{◌≡◌, ℕ, List, length};
+ghost use Rattle.std.specs.Prelude.{◌≡◌, List, length};
 ghost use Rattle.dcc_dispatch.specs.Settings.{Setting};
 ghost use Rattle.dcc_serve.specs.Answering.{AllAnswer, CameIn};
+ghost use Rattle.dcc_serve.specs.Rounds.{RoundsView};
 ghost use Rattle.dcc_serve.specs.Served.{IsRound};
 ghost use Rattle.dcc_serve.specs.declared.lanes.TheConstants.{CAPACITY};
 ghost use Rattle.dcc_serve.specs.declared.line.Counts.{Counts};
 ghost use Rattle.dcc_shard.specs.Stored.{StoredView};
 
-use crate::face::Shut;
+use crate::face::{Listener, Shut};
 use dcc_connect::Clock;
 use dcc_records::Records;
 use std::io::Read;
@@ -20,8 +21,9 @@ pub fn numbers_are_given()
 
 /// In each round what goes out to a gateway is a beginning of the octets of some answers, one after another, each of which answers a message that came
 /// in of a gateway of that round.
-pub fn answers_are_to_what_came<R: Records, I: Read, O: Shut, C: Clock>()
-    ensures { (clock : C) (setting : Setting) (gates every : ℕ) (old new : List (StoredView R)) (counts : Counts)
-        (round : IsRound I.remaining O.contents C.tells clock setting R.is_stopped R.may_leave gates every old counts new)
-        → AllAnswer I.remaining O.contents (CameIn I.remaining O.contents round.begun round.ended) setting (length old) round.begun round.ended }
+pub fn answers_are_to_what_came<R: Records, I: Read, O: Shut, L: Listener<I, O>, C: Clock>()
+    ensures { (clock : C) (setting : Setting) (rounds : RoundsView) (old new : List (StoredView R)) (counts : Counts)
+        (round : IsRound I.remaining O.contents C.tells L.is_closed clock setting R.is_stopped R.may_leave rounds old counts new)
+        → AllAnswer I.remaining O.contents C.tells L.is_closed clock setting (length old)
+        (CameIn I.remaining O.contents C.tells L.is_closed clock setting (length old) round.begun round.ended) round.begun round.ended }
 {}

@@ -4,9 +4,14 @@
 //! the two sides of a connection, and on `dcc_lane` for what threads hand to one another. It is generic over listener, connections,
 //! records and clock, and opens nothing itself. [`serve_run`] serves round after round, and prints a line behind each.
 //!
-//! In a round each gateway has a reader and a writer, and each shard a worker, each in a thread of its own. The lane to a worker has a
-//! sender for each gateway; the lane to a writer has one for each shard and one for its reader, which answers at once what asks no
-//! account. Each sender's last item says that it ends, and who takes ends after all of these. Behind a round each lane is ended with all its senders: what was taken
+//! A round has places, which gateways take: one gateway for each place, before the round begins; or one after another, while it goes on
+//! ([`Rounds::staying`]). While a gateway is at a place, it has a reader and a writer, each in a thread of its own. Each shard has a worker in a
+//! thread of its own, and a timer asks for sweeps.
+//!
+//! The lane to a worker has a sender for each place and one for the timer; the lane to a place's writer has one for each shard and one for the
+//! place's reader, which answers at once what asks no account. A gateway's reader says to each worker, and to its writer, that the gateway is
+//! gone, each worker passes that on, and the writer takes until all have said so: then the place is free. A place and the timer say at their
+//! end that they put nothing more, and a worker ends after all of these. Behind a round each lane is ended with all its senders: what was taken
 //! of it is a beginning of what each of them put. So what goes out of a round answers what came in ([`answers_are_to_what_came`]).
 #![tactic(auto)]
 
@@ -17,16 +22,18 @@ mod finishing;
 mod lanes;
 mod laws;
 mod line;
+mod place;
 mod reader;
 mod round;
 mod rounds;
 mod run;
 mod tasks;
+mod timer;
 mod work;
 mod worker;
 mod writer;
 
-pub use face::{Connection, Listener, Notice, Notices, Shut};
+pub use face::{Connection, Listener, Notice, Notices, Shut, Tick};
 pub use fault::ServeFault;
 pub use laws::{answers_are_to_what_came, numbers_are_given};
 pub use rounds::Rounds;

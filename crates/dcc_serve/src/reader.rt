@@ -38,7 +38,7 @@ pub(crate) const TURNS: u32 = u32::MAX;
 /// A reader's ends of lanes, and what it counts.
 #[derive(Drop)]
 pub(crate) struct Reader {
-    /// The index of its gateway.
+    /// The index of its place.
     pub gate: usize,
     pub peer: Peer,
     /// One for each shard's worker, by its index.

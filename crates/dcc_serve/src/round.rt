@@ -4,24 +4,25 @@ ghost use Rattle.std.specs.Prelude.{◌≡◌, ◌≢◌, ◌<◌, ◌≤◌, �
 ghost use Rattle.dcc_act.specs.declared.sub.Sub.{Sub};
 ghost use Rattle.dcc_running.specs.Books.{AreShards};
 ghost use Rattle.dcc_serve.specs.Counting.{counts_in};
-ghost use Rattle.dcc_serve.specs.Gathering.{AddsGates, AreGathered, reader_of, workers_from, writer_of};
+ghost use Rattle.dcc_serve.specs.Gathering.{AddsPlaces, AreGathered, HasCome, place_of, workers_from};
 ghost use Rattle.dcc_serve.specs.Lines.{is_numbered};
 ghost use Rattle.dcc_serve.specs.Served.{EndsRound, IsRound};
 ghost use Rattle.dcc_serve.specs.Tasks.{AllRun};
 
 use crate::counter::SweepCounter;
-use crate::face::{Connection, Listener, Notice, Notices, Shut};
+use crate::face::{Connection, Listener, Notices, Shut};
 use crate::fault::{ServeFault, of_close};
 use crate::finishing::finished;
 use crate::lanes::{Lanes, first_of, make_lanes};
 use crate::line::Counts;
+use crate::place::{Place, tell_came};
 use crate::reader::{Reader, Sweeps};
 use crate::rounds::Rounds;
 use crate::run::Service;
 use crate::tasks::{Shared, Task};
+use crate::timer::SweepTimer;
 use crate::work::Work;
 use crate::worker::Worker;
-use crate::writer::Ending;
 use dcc_base::Peer;
 use dcc_connect::{Clock, Item};
 use dcc_lane::{Receiver, Sender};
@@ -29,7 +30,7 @@ use dcc_records::Records;
 use dcc_running::Shards;
 use dcc_shard::Shard;
 use std::alloc::{AllocError, Global};
-use std::io::Read;
+use std::io::{self, Read};
 use std::sync::Wait;
 use std::thread::{Threads, for_each_mut};
 
@@ -39,7 +40,7 @@ pub(crate) fn serve_round<
     R: Records + Send + Sync + Drop,
     I: Read + Send + Drop,
     O: Shut + Send + Drop,
-    L: Listener<I, O>,
+    L: Listener<I, O> + Sync,
     C: Clock + Copy + Sync,
     N: Notices + Sync,
 >(
@@ -53,13 +54,13 @@ pub(crate) fn serve_round<
     requires shards { AreShards service.now.plan.now.terms service.now.identity.now shards.items }
     requires some { 1 ≤ length shards.items }
     requires most { length shards.items ≤ 8 }
-    ensures round { IfOk result (λ r. IsRound I.remaining O.contents C.tells service.now.clock.now
-        (record { plan = service.now.plan.now; identity = service.now.identity.now }) R.is_stopped R.may_leave rounds.now.gates rounds.now.every shards.items r.0 r.1.items) }
+    ensures round { IfOk result (λ r. IsRound I.remaining O.contents C.tells L.is_closed service.now.clock.now
+        (record { plan = service.now.plan.now; identity = service.now.identity.now }) R.is_stopped R.may_leave rounds.now shards.items r.0 r.1.items) }
     ensures shards { IfOk result (λ r. AreShards service.now.plan.now.terms service.now.identity.now r.1.items) }
     ensures some { IfOk result (λ r. 1 ≤ length r.1.items) }
     ensures most { IfOk result (λ r. length r.1.items ≤ 8) }
-    ensures ends { IfErr result (EndsRound I.remaining O.contents C.tells service.now.clock.now
-        (record { plan = service.now.plan.now; identity = service.now.identity.now }) rounds.now.gates rounds.now.every shards.items) }
+    ensures ends { IfErr result (EndsRound I.remaining O.contents C.tells L.is_closed service.now.clock.now
+        (record { plan = service.now.plan.now; identity = service.now.identity.now }) rounds.now shards.items) }
 {
     let count = shards.len();
     let Ok(locked) = Shards::new(
@@ -80,7 +81,15 @@ pub(crate) fn serve_round<
         listener,
         rounds,
     )?;
-    serve_all::<W, R, I, O, C, N>(rt, alloc, service, &locked, count, tasks.as_mut_slice());
+    serve_all::<W, R, I, O, L, C, N>(
+        rt,
+        alloc,
+        service,
+        listener,
+        &locked,
+        count,
+        tasks.as_mut_slice(),
+    );
     let counts = counted(tasks.as_slice());
     let seats = finished(alloc, tasks)?;
     match locked.close(alloc, seats) {
@@ -89,7 +98,7 @@ pub(crate) fn serve_round<
     }
 }
 
-/// Makes all that the threads of a round begin with, and accepts its gateways.
+/// Makes all that the threads of a round begin with, and accepts its gateways where these come before it begins.
 fn gather<W: Wait, R: Records, I: Read + Drop, O: Shut + Drop, L: Listener<I, O>, N: Notices>(
     rt: &W,
     alloc: Global,
@@ -101,27 +110,34 @@ fn gather<W: Wait, R: Records, I: Read + Drop, O: Shut + Drop, L: Listener<I, O>
 ) -> Result<Vec<Task<I, O>>, ServeFault>
     requires some { 1 ≤ count }
     requires most { count ≤ 8 }
-    ensures tasks { IfOk result (λ tasks. AreGathered count rounds.now.gates rounds.now.every tasks.items) }
+    ensures tasks { IfOk result (λ tasks. AreGathered count rounds.now tasks.items) }
     ensures fault { IfErr result (λ fault. is_numbered fault ≡ false) }
 {
     let gates = rounds.gates;
-    let work = make_lanes::<Work>(alloc, count, gates)?;
+    let work = make_lanes::<Work>(alloc, count, gates + 1)?;
     let items = make_lanes::<Item>(alloc, gates, count + 1)?;
     let Lanes {
         receivers: lanes,
-        senders: workers,
+        senders: mut askers,
     } = work;
     let Lanes {
         receivers: writers,
         senders: mut putters,
     } = items;
+    let Some(timers) = first_of(&mut askers) else {
+        return Err(ServeFault::Memory);
+    };
     let Some(replies) = first_of(&mut putters) else {
         return Err(ServeFault::Memory);
     };
-    let tasks = Vec::with_capacity(alloc, 40)?;
-    let tasks = add_workers::<R, I, O>(alloc, locked, lanes, putters, tasks)?;
-    add_gates::<W, I, O, L, N>(
-        rt, notices, listener, rounds, writers, workers, replies, tasks,
+    let tasks = Vec::with_capacity(alloc, count + 1 + gates)?;
+    let mut tasks = add_workers::<R, I, O>(alloc, locked, lanes, putters, tasks)?;
+    tasks.push(Task::Time(SweepTimer {
+        stays: rounds.stays,
+        workers: timers,
+    }))?;
+    add_places::<W, I, O, L, N>(
+        rt, notices, listener, rounds, writers, askers, replies, tasks,
     )
 }
 
@@ -158,8 +174,8 @@ fn add_workers<R: Records, I: Drop, O: Drop>(
     Ok(tasks)
 }
 
-/// Accepts each gateway of a round, and adds its reader and its writer.
-fn add_gates<W: Wait, I: Read + Drop, O: Shut + Drop, L: Listener<I, O>, N: Notices>(
+/// Adds each place of a round, with the gateway that it accepts for it, or with none where places are taken again.
+fn add_places<W: Wait, I: Read + Drop, O: Shut + Drop, L: Listener<I, O>, N: Notices>(
     rt: &W,
     notices: &N,
     listener: &mut L,
@@ -169,7 +185,7 @@ fn add_gates<W: Wait, I: Read + Drop, O: Shut + Drop, L: Listener<I, O>, N: Noti
     replies: Vec<Sender<Item>>,
     tasks: Vec<Task<I, O>>,
 ) -> Result<Vec<Task<I, O>>, ServeFault>
-    ensures gates { IfOk result (λ all. AddsGates rounds.now.every rounds.now.gates receivers.items senders.items replies.items tasks.items all.items) }
+    ensures places { IfOk result (λ all. AddsPlaces rounds.now receivers.items senders.items replies.items tasks.items all.items) }
     ensures fault { IfErr result (λ fault. is_numbered fault ≡ false) }
 {
     let mut receivers = receivers;
@@ -186,46 +202,53 @@ fn add_gates<W: Wait, I: Read + Drop, O: Shut + Drop, L: Listener<I, O>, N: Noti
         let Some(writer) = first_of(&mut replies) else {
             return Err(ServeFault::Memory);
         };
-        let Ok(connection) = listener.accept() else {
+        let Ok(first) = first_at::<W, I, O, L, N>(rt, notices, listener, rounds.stays, gate) else {
             return Err(ServeFault::Io);
         };
-        tell_came(rt, notices, gate, &connection);
-        let ends = ends_of(rounds.every, gate, connection, workers, writer, from);
-        tasks.push(ends.0)?;
-        tasks.push(ends.1)?;
+        let place = place_of(
+            rounds.stays,
+            rounds.every,
+            gate,
+            first,
+            from,
+            workers,
+            writer,
+        );
+        tasks.push(place)?;
     }
     Ok(tasks)
 }
 
-/// Tells that a gateway came.
-fn tell_came<W: Wait, I, O, N: Notices>(
+/// The gateway that comes for a place before the round begins; none where places are taken again. The only error is the listener's.
+fn first_at<W: Wait, I, O, L: Listener<I, O>, N: Notices>(
     rt: &W,
     notices: &N,
+    listener: &mut L,
+    stays: bool,
     gate: usize,
-    connection: &Connection<I, O>,
-) {
-    let name = connection.name.as_slice();
-    let gate = gate.saturating_add(1);
-    notices.tell(rt, Notice::Came { gate, name });
+) -> io::Result<Option<Connection<I, O>>>
+    ensures { IfOk result (λ first. HasCome stays first) }
+{
+    if stays {
+        return Ok(None);
+    }
+    let connection = listener.accept()?;
+    tell_came(rt, notices, gate, &connection);
+    Ok(Some(connection))
 }
 
-/// The reader and the writer of a gateway.
-fn ends_of<I: Drop, O: Drop>(
+/// A place.
+fn place_of<I: Drop, O: Drop>(
+    stays: bool,
     every: u32,
     gate: usize,
-    connection: Connection<I, O>,
+    first: Option<Connection<I, O>>,
+    from: Receiver<Item>,
     workers: Vec<Sender<Work>>,
     writer: Sender<Item>,
-    from: Receiver<Item>,
-) -> (Task<I, O>, Task<I, O>)
-    ensures reader { result.0 ≡ reader_of every gate connection workers writer }
-    ensures writer { result.1 ≡ writer_of gate connection from }
+) -> Task<I, O>
+    ensures { result ≡ place_of stays every gate first from workers writer }
 {
-    let Connection {
-        input,
-        output,
-        name: _,
-    } = connection;
     let reader = Reader {
         gate,
         peer: Peer::Wait,
@@ -234,13 +257,13 @@ fn ends_of<I: Drop, O: Drop>(
         sweeps: Sweeps { every, since: 0 },
         requests: 0,
     };
-    let writer = Task::Write {
-        gate,
-        output: Ending { output },
+    Task::Place(Place {
+        first,
+        stays,
+        reader,
         from,
         answers: 0,
-    };
-    (Task::Read { input, reader }, writer)
+    })
 }
 
 /// Runs each task in a thread of its own, until all have ended.
@@ -249,18 +272,20 @@ fn serve_all<
     R: Records + Send + Sync + Drop,
     I: Read + Send + Drop,
     O: Shut + Send + Drop,
+    L: Listener<I, O> + Sync,
     C: Clock + Copy + Sync,
     N: Notices + Sync,
 >(
     rt: &W,
     alloc: Global,
     service: &Service<'_, C, N>,
+    listener: &L,
     locked: &Shards<R>,
     count: usize,
     tasks: &mut [Task<I, O>],
 )
     requires { count ≡ locked.now.count }
-    ensures { AllRun I.remaining O.contents C.tells service.now.clock.now (record { plan = service.now.plan.now; identity = service.now.identity.now })
+    ensures { AllRun I.remaining O.contents C.tells L.is_closed service.now.clock.now (record { plan = service.now.plan.now; identity = service.now.identity.now })
         count tasks.old tasks.new }
 {
     let shared = Shared {
@@ -269,6 +294,7 @@ fn serve_all<
         identity: service.identity,
         clock: service.clock,
         notices: service.notices,
+        listener,
         shards: locked,
         count,
     };

@@ -38,8 +38,9 @@ pub struct Service<'a, C, N> {
 /// those of [`dcc_running::Shards::new`]: 1 to 8 shards, under these terms and for this server, each of which holds only subscribers
 /// that [`dcc_shard::shard_of`] gives it.
 ///
-/// A round accepts its gateways, serves them until all have ended, and compares what they were told with what the shards hold. A
-/// fault of a connection ends that connection alone. A shard whose records fail answers busy from then on, and the others go on.
+/// A round accepts its gateways, serves them until all have ended, and compares what they were told with what the shards hold. Where its
+/// places are taken again ([`Rounds::staying`]) it begins without gateways, and ends when the listener takes no more connections in and all
+/// have gone. A fault of a connection ends that connection alone. A shard whose records fail answers busy from then on, and the others go on.
 /// It waits for gateways, and for threads of its own.
 ///
 /// Faults: [`ServeFault::Memory`], memory was short for a round; [`ServeFault::Io`], the output or the listener failed;
@@ -50,7 +51,7 @@ pub fn serve_run<
     R: Records + Send + Sync + Drop,
     I: Read + Send + Drop,
     O: Shut + Send + Drop,
-    L: Listener<I, O>,
+    L: Listener<I, O> + Sync,
     C: Clock + Copy + Sync,
     N: Notices + Sync,
     P: Write,
@@ -66,12 +67,12 @@ pub fn serve_run<
     requires shards { AreShards service.now.plan.now.terms service.now.identity.now shards.items }
     requires some { 1 ≤ length shards.items }
     requires most { length shards.items ≤ 8 }
-    ensures served { OnOk result ((last : List (StoredView R)) × AreServed (IsGoodRound I.remaining O.contents C.tells service.now.clock.now
-        (record { plan = service.now.plan.now; identity = service.now.identity.now }) R.is_stopped R.may_leave rounds.now.gates rounds.now.every)
+    ensures served { OnOk result ((last : List (StoredView R)) × AreServed (IsGoodRound I.remaining O.contents C.tells L.is_closed service.now.clock.now
+        (record { plan = service.now.plan.now; identity = service.now.identity.now }) R.is_stopped R.may_leave rounds.now)
         rounds.now.rounds shards.items last (P.contents output.old) (P.contents output.new)) }
     ensures whole { OnOk result (AreTold rounds.now.rounds (P.contents output.old) (P.contents output.new)) }
     ensures part { IfErr result (λ fault. EndsWith fault rounds.now.rounds (P.contents output.old) (P.contents output.new)) }
-    ensures cause { IfErr result (λ fault. EndsServing I.remaining O.contents C.tells service.now.clock.now
+    ensures cause { IfErr result (λ fault. EndsServing I.remaining O.contents C.tells L.is_closed service.now.clock.now
         (record { plan = service.now.plan.now; identity = service.now.identity.now }) R.is_stopped R.may_leave rounds.now fault shards.items
         (P.contents output.old) (P.contents output.new)) }
 {
@@ -89,7 +90,7 @@ pub fn serve_run<
     Ok(())
 }
 
-/// Tells each shard that is stopped, and whether one is.
+/// Whether a shard is stopped; tells each that is, also if the round's timer has told it before.
 fn tell_stopped<W: Wait, R: Records, N: Notices>(rt: &W, notices: &N, shards: &[Shard<R>]) -> bool
     ensures { result ≡ is_any_stopped R.is_stopped shards.now }
 {

@@ -4,12 +4,11 @@ ghost use Rattle.std.specs.Prelude.{◌≡◌};
 ghost use Rattle.dcc_serve.specs.Tasks.{Runs};
 ghost use Rattle.dcc_serve.specs.Counting.{requests_in, answers_in, acts_in};
 
-use crate::face::{Notices, Shut};
-use crate::reader::{Reader, read_gate};
+use crate::face::{Listener, Notices, Shut};
+use crate::place::Place;
+use crate::timer::SweepTimer;
 use crate::worker::Worker;
-use crate::writer::{Ending, write_gate};
-use dcc_connect::{Clock, Item};
-use dcc_lane::Receiver;
+use dcc_connect::Clock;
 use dcc_message::Identity;
 use dcc_records::Records;
 use dcc_running::Shards;
@@ -17,75 +16,51 @@ use dcc_tariff::Plan;
 use std::alloc::Global;
 use std::io::Read;
 use std::sync::Wait;
+use std::thread::Threads;
 
 /// What one thread of a round does, and what came of it.
 #[derive(Drop)]
 pub(crate) enum Task<I, O> {
-    Read {
-        input: I,
-        reader: Reader,
-    },
-    Write {
-        gate: usize,
-        output: Ending<O>,
-        from: Receiver<Item>,
-        answers: u64,
-    },
     Work(Worker),
+    Time(SweepTimer),
+    Place(Place<I, O>),
 }
 
 /// What all threads of a round share.
 #[derive(Drop)]
-pub(crate) struct Shared<'a, R: Records, C, N> {
+pub(crate) struct Shared<'a, R: Records, L, C, N> {
     pub alloc: Global,
     pub plan: &'a Plan,
     pub identity: &'a Identity,
     pub clock: &'a C,
     pub notices: &'a N,
+    pub listener: &'a L,
     pub shards: &'a Shards<R>,
     /// So many shards there are.
     pub count: usize,
     ghost counted: { count ≡ shards.now.count },
 }
 
-impl<I: Read, O: Shut> Task<I, O> {
+impl<I: Read + Send + Drop, O: Shut + Send + Drop> Task<I, O> {
     /// Does what there is to do.
-    pub fn run<W: Wait, R: Records, C: Clock + Copy, N: Notices>(
-        &mut self,
-        rt: &W,
-        shared: &Shared<'_, R, C, N>,
-    )
-        ensures { Runs I.remaining O.contents C.tells shared.now.clock.now (record { plan = shared.now.plan.now; identity = shared.now.identity.now })
+    pub fn run<
+        W: Threads + Wait + Sync,
+        R: Records + Send + Sync + Drop,
+        L: Listener<I, O> + Sync,
+        C: Clock + Copy + Sync,
+        N: Notices + Sync,
+    >(&mut self, rt: &W, shared: &Shared<'_, R, L, C, N>)
+        ensures { Runs I.remaining O.contents C.tells L.is_closed shared.now.clock.now (record { plan = shared.now.plan.now; identity = shared.now.identity.now })
             shared.now.count self.old self.new }
     {
         match self {
-            Task::Read { input, reader } => {
-                let _end = read_gate(
-                    rt,
-                    shared.alloc,
-                    shared.plan,
-                    shared.identity,
-                    shared.shards,
-                    shared.clock,
-                    shared.notices,
-                    input,
-                    reader,
-                );
-            }
-            Task::Write {
-                gate,
-                output,
-                from,
-                answers,
-            } => {
-                let end = write_gate(rt, shared.alloc, shared.notices, *gate, output, from);
-                *answers = end.answers;
-            }
             Task::Work(worker) => {
                 if worker.shard < shared.count {
                     worker.run(rt, shared.alloc, shared.shards);
                 }
             }
+            Task::Time(timer) => timer.run::<W, R, I, O, L, C, N>(rt, shared),
+            Task::Place(place) => place.run(rt, shared),
         }
     }
 }
@@ -96,8 +71,8 @@ impl<I, O> Task<I, O> {
         ensures { result ≡ requests_in self.now }
     {
         match self {
-            Task::Read { input: _, reader } => reader.requests,
-            Task::Write { .. } | Task::Work(_) => 0,
+            Task::Place(place) => place.reader.requests,
+            Task::Work(_) | Task::Time(_) => 0,
         }
     }
 
@@ -106,13 +81,8 @@ impl<I, O> Task<I, O> {
         ensures { result ≡ answers_in self.now }
     {
         match self {
-            Task::Write {
-                gate: _,
-                output: _,
-                from: _,
-                answers,
-            } => *answers,
-            Task::Read { .. } | Task::Work(_) => 0,
+            Task::Place(place) => place.answers,
+            Task::Work(_) | Task::Time(_) => 0,
         }
     }
 
@@ -122,7 +92,7 @@ impl<I, O> Task<I, O> {
     {
         match self {
             Task::Work(worker) => worker.acts(),
-            Task::Read { .. } | Task::Write { .. } => 0,
+            Task::Place(_) | Task::Time(_) => 0,
         }
     }
 }

@@ -6,7 +6,7 @@ ghost use Rattle.dcc_model.specs.Keys.{request_key};
 use dcc_act::Moment;
 use dcc_running::Job;
 
-/// A request, and the index of the gateway that is answered.
+/// A request, and the index of the place whose gateway is answered.
 #[derive(Drop)]
 pub(crate) struct Request {
     pub gate: usize,
@@ -21,6 +21,8 @@ pub(crate) enum Work {
     Request(Request),
     /// What is due at this moment is ended.
     Sweep(Moment),
-    /// The gateway of this index asks for nothing more.
+    /// The gateway at the place of this index asks for nothing more.
     End(usize),
+    /// A sender puts nothing more.
+    Over,
 }

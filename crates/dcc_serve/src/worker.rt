@@ -33,22 +33,22 @@ pub(crate) struct Worker {
     /// Counts the calls of its sweeps.
     pub counter: SweepCounter,
     pub from: Receiver<Work>,
-    /// One for each gateway's writer, by its index.
+    /// One for each place's writer, by its index.
     pub writers: Vec<Sender<Item>>,
 }
 
 impl Worker {
-    /// Does what its lane asks for, until every gateway has ended.
+    /// Does what its lane asks for, until none of its senders puts anything more.
     pub fn run<W: Wait, R: Records>(&mut self, rt: &W, alloc: Global, shards: &Shards<R>)
         requires { self.old.shard < shards.now.count }
         ensures { HasDone self.old self.new (senders_of self.old.from) }
     {
-        let gates = self.from.senders();
+        let senders = self.from.senders();
         let mut ended = 0usize;
         let mut since = 0u32;
         for _ in rt.forever() {
             wake(self.writers.as_slice(), since);
-            if ended >= gates {
+            if ended >= senders {
                 return;
             }
             if self.take_one(rt, alloc, shards, &mut since) {
@@ -58,7 +58,7 @@ impl Worker {
         unreachable!()
     }
 
-    /// Takes one item and does it; whether a gateway has ended.
+    /// Takes one item and does it; whether its sender puts nothing more.
     fn take_one<W: Wait, R: Records>(
         &mut self,
         rt: &W,
@@ -95,8 +95,9 @@ impl Worker {
             }
             Work::End(gate) => {
                 put_into(rt, &mut self.writers, gate, Item::End);
-                true
+                false
             }
+            Work::Over => true,
         }
     }
 

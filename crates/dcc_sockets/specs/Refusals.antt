@@ -3,12 +3,13 @@ use Rattle.std.specs.Prelude.{Bool, true, false}
 use Rattle.std.specs.declared.io.ErrorKind as io
 use Rattle.std.specs.declared.io.ErrorKind.TheVariants as kind
 use Rattle.dcc_sockets.specs.declared.refusal.Refusal.{Refusal}
-use Rattle.dcc_sockets.specs.declared.refusal.Refusal.TheVariants.{Lost, Short, Over}
+use Rattle.dcc_sockets.specs.declared.refusal.Refusal.TheVariants.{Nobody, Lost, Short, Over}
 
--- an error of the system, or not, of this kind: one connection was lost, by what happened on its way; the listener is no listener; and else nothing is
+-- an error of the system, or not, of this kind: none came in time; one connection was lost, by what happened on its way; the listener is no listener; and else nothing is
 -- there to take a connection in with
 abbrev pub meaning_of : Bool → io.ErrorKind → Refusal
 meaning_of false any = Lost
+meaning_of true kind.WouldBlock = Nobody
 meaning_of true kind.ConnectionAborted = Lost
 meaning_of true kind.ConnectionReset = Lost
 meaning_of true kind.TimedOut = Lost

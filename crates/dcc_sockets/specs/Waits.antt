@@ -17,9 +17,13 @@ abbrev pub waiting_since : Option ℕ → ℕ → ℕ
 waiting_since None now = now
 waiting_since (Some since) now = since
 
+-- nanoseconds that are left of so many behind a wait of so many; none where that was all
+abbrev pub left_of : ℕ → ℕ → Option ℕ
+left_of all waited = if nat_lt waited all then Some (all - waited) else None
+
 -- nanoseconds for which a write may wait whose octets have waited for so many; none where that was all
 abbrev pub wait_left : ℕ → Option ℕ
-wait_left waited = if nat_lt waited write_wait then Some (write_wait - waited) else None
+wait_left = left_of write_wait
 
 -- since when octets wait behind a write that took so many of so many: none do where it took all
 abbrev pub waiting_behind : Option ℕ → ℕ → ℕ → Option ℕ

@@ -1,19 +1,25 @@
 //! Where gateways connect.
 
+use crate::closing::{Staying, remove_stop};
 use crate::gateway::{Input, Output, halves};
+use crate::options::wait_for_connections;
 use crate::refusal::{Refusal, meaning_of};
 use crate::silence::Silence;
 use crate::trouble::{Trouble, tell};
 use dcc_octets::OctetString;
-use dcc_serve::{Connection, Listener};
+use dcc_serve::{Connection, Listener, Tick};
 use std::alloc::Global;
-use std::io;
 use std::io::{Eprint, ErrorKind};
 use std::net::{Net, SocketAddr, SocketAddrV4, TcpListener, TcpStream};
+use std::sync::{Mutex, Wait};
 use std::time::{Clock, Duration};
+use std::{fs, io};
 
 /// So many seconds pass before the next try, where there is nothing to take a connection in with.
 pub const SHORT_SECONDS: u64 = 1;
+
+/// So many seconds a server that stays waits at most before it looks whether it is to end.
+pub const TURN_SECONDS: u64 = 1;
 
 /// A listener that is bound to an address of this machine.
 #[derive(Drop)]
@@ -22,12 +28,19 @@ pub struct Door<'r, R> {
     alloc: Global,
     listener: TcpListener,
     silence: Silence,
+    /// Of a server that stays: when it ends, and how often it sweeps.
+    staying: Option<Staying<'r>>,
     /// Whether there was nothing to take a connection in with at the last try, which is told once.
     is_short: bool,
+    /// The same for the threads of places, one of which accepts at a time.
+    turn: Mutex<bool>,
+    /// So many seconds have passed since the last sweep.
+    since_sweep: Mutex<u64>,
 }
 
 impl<'r, R: Net<Listener = TcpListener, Stream = TcpStream>> Door<'r, R> {
-    /// Listens at an address, for gateways that may be silent so long; port 0 takes one that is free.
+    /// Listens at an address, for gateways that may be silent so long, and for places that are taken again if the server stays; port 0 takes
+    /// one that is free.
     ///
     /// Error: the system refuses it, as where the address is taken or isn't one of this machine.
     pub fn bind(
@@ -35,13 +48,21 @@ impl<'r, R: Net<Listener = TcpListener, Stream = TcpStream>> Door<'r, R> {
         alloc: Global,
         address: SocketAddrV4,
         silence: Silence,
+        staying: Option<Staying<'r>>,
     ) -> io::Result<Door<'r, R>> {
+        let listener = rt.bind(SocketAddr::V4(address))?;
+        if staying.is_some() {
+            wait_for_connections(&listener, TURN_SECONDS)?;
+        }
         Ok(Door {
             rt,
             alloc,
-            listener: rt.bind(SocketAddr::V4(address))?,
+            listener,
             silence,
+            staying,
             is_short: false,
+            turn: Mutex::new(false),
+            since_sweep: Mutex::new(0),
         })
     }
 }
@@ -63,7 +84,11 @@ impl<'r, R> Door<'r, R> {
         from: SocketAddr,
     ) -> io::Result<Connection<Input<'r, R>, Output<'r, R>>> {
         let name = format!(in self.alloc; "{from}")?;
-        let (input, output) = halves(self.rt, stream, from, self.silence)?;
+        let closing = match self.staying {
+            Some(staying) => Some(staying.closing),
+            None => None,
+        };
+        let (input, output) = halves(self.rt, stream, from, self.silence, closing)?;
         Ok(Connection {
             input,
             output,
@@ -73,13 +98,17 @@ impl<'r, R> Door<'r, R> {
 }
 
 impl<'r, R: Clock + Eprint> Door<'r, R> {
-    /// One try: a connection; none where one was lost, which is told, or where there is nothing to take one in with, behind a wait.
+    /// One try: a connection; none where one was lost, which is told, where none came in time, or where there is nothing to take one in with,
+    /// behind a wait.
     ///
     /// Error: the listener takes none any more.
-    fn try_accept(&mut self) -> io::Result<Option<Connection<Input<'r, R>, Output<'r, R>>>> {
+    fn try_accept(
+        &self,
+        is_short: &mut bool,
+    ) -> io::Result<Option<Connection<Input<'r, R>, Output<'r, R>>>> {
         match self.listener.accept() {
             Ok((stream, from)) => {
-                self.is_short = false;
+                *is_short = false;
                 match self.set_up(stream, from) {
                     Ok(connection) => Ok(Some(connection)),
                     Err(error) => {
@@ -88,7 +117,7 @@ impl<'r, R: Clock + Eprint> Door<'r, R> {
                     }
                 }
             }
-            Err(error) => match self.bear(error) {
+            Err(error) => match self.bear(is_short, error) {
                 Ok(()) => Ok(None),
                 Err(error) => Err(error),
             },
@@ -98,12 +127,13 @@ impl<'r, R: Clock + Eprint> Door<'r, R> {
     /// Tells of an error of accepting, and waits where the next try would have the same.
     ///
     /// Error: this one, where the listener takes none any more.
-    fn bear(&mut self, error: io::Error) -> io::Result<()> {
+    fn bear(&self, is_short: &mut bool, error: io::Error) -> io::Result<()> {
         match meaning_of(&error) {
+            Refusal::Nobody => {}
             Refusal::Lost => tell(self.rt, Trouble::Lost { error }),
             Refusal::Short => {
-                if !self.is_short {
-                    self.is_short = true;
+                if !*is_short {
+                    *is_short = true;
                     tell(self.rt, Trouble::Short { error });
                 }
                 self.rt.sleep(Duration::from_secs(SHORT_SECONDS));
@@ -115,18 +145,68 @@ impl<'r, R: Clock + Eprint> Door<'r, R> {
 }
 
 impl<'r, R: Clock + Eprint> Listener<Input<'r, R>, Output<'r, R>> for Door<'r, R> {
+    // What a listener of the system does no clause says.
+    ghost is_closed = { Unit {0} };
+
     /// A connection that can't be taken in costs that connection alone: it is closed, and a line tells of it. Where descriptors or memory are
     /// short, the next try is a second later.
     ///
     /// Error: the listener takes none any more.
     fn accept(&mut self) -> io::Result<Connection<Input<'r, R>, Output<'r, R>>> {
+        let mut is_short = self.is_short;
         for _ in 0..u64::MAX {
-            match self.try_accept() {
+            let tried = self.try_accept(&mut is_short);
+            self.is_short = is_short;
+            match tried {
                 Ok(Some(connection)) => return Ok(connection),
                 Ok(None) => {}
                 Err(error) => return Err(error),
             }
         }
         Err(io::Error::from(ErrorKind::TimedOut))
+    }
+
+    /// As [`Door::accept`], by one thread at a time. A listener that takes none any more tells the server to end.
+    fn enter<W: Wait>(&self, rt: &W) -> Option<Connection<Input<'r, R>, Output<'r, R>>> {
+        let staying = self.staying?;
+        let mut turn = self.turn.lock(rt);
+        for _ in rt.forever() {
+            if staying.closing.is_told() {
+                return None;
+            }
+            let mut is_short = *turn;
+            let tried = self.try_accept(&mut is_short);
+            *turn = is_short;
+            match tried {
+                Ok(Some(connection)) => return Some(connection),
+                Ok(None) => {}
+                Err(error) => {
+                    tell(self.rt, Trouble::Over { error });
+                    staying.closing.tell();
+                }
+            }
+        }
+        unreachable!()
+    }
+
+    /// Waits a second, and looks whether the server is to end: the file that tells so is removed.
+    fn tick<W: Wait>(&self, rt: &W) -> Tick {
+        let Some(staying) = self.staying else {
+            return Tick::End;
+        };
+        self.rt.sleep(Duration::from_secs(TURN_SECONDS));
+        if remove_stop(staying.stop) {
+            staying.closing.tell();
+        }
+        if staying.closing.is_told() {
+            return Tick::End;
+        }
+        let mut since = self.since_sweep.lock(rt);
+        *since = since.saturating_add(TURN_SECONDS);
+        if staying.sweep > 0 && *since >= staying.sweep {
+            *since = 0;
+            return Tick::Sweep;
+        }
+        Tick::Nothing
     }
 }

@@ -1,6 +1,11 @@
 //! The two halves of a gateway's connection.
 
-use crate::keepalive::keep_alive;
+ghost use Rattle.std.specs.Prelude.{◌≤◌, IfOk, length};
+
+use crate::closing::Closing;
+use crate::door::TURN_SECONDS;
+use crate::lingering::linger;
+use crate::options::keep_alive;
 use crate::silence::Silence;
 use crate::trouble::{Trouble, tell};
 use crate::waiting::{WRITE_SECONDS, Waiting};
@@ -20,10 +25,12 @@ pub struct Input<'r, R> {
     has_sent: bool,
     /// For so many seconds the system has a read wait, or without an end.
     wait: Option<u64>,
+    /// When a server that stays is to end: then nothing more is read.
+    closing: Option<&'r Closing>,
 }
 
 /// What a gateway is sent. Octets wait for a gateway that doesn't take them for [`WRITE_SECONDS`] in all, however many writes they need, and
-/// then the write fails.
+/// then the write fails. Behind the last octets the connection lingers for [`crate::LINGER_SECONDS`] at most, until the gateway ends it too.
 #[derive(Drop)]
 pub struct Output<'r, R> {
     rt: &'r R,
@@ -32,6 +39,8 @@ pub struct Output<'r, R> {
     waiting: Waiting,
     /// For so long the system has a write wait.
     wait: Duration,
+    /// Whether nothing more is to reach the gateway: a write failed, or the connection was ended.
+    is_lost: bool,
 }
 
 /// Both halves of a connection from this address, set up: neither waits longer than it may, small answers go out at once,
@@ -43,6 +52,7 @@ pub fn halves<'r, R>(
     stream: TcpStream,
     from: SocketAddr,
     silence: Silence,
+    closing: Option<&'r Closing>,
 ) -> io::Result<(Input<'r, R>, Output<'r, R>)> {
     let wait = Duration::from_secs(WRITE_SECONDS);
     stream.set_write_timeout(Some(wait))?;
@@ -56,6 +66,7 @@ pub fn halves<'r, R>(
         silence,
         has_sent: false,
         wait: None,
+        closing,
     };
     let output = Output {
         rt,
@@ -63,14 +74,14 @@ pub fn halves<'r, R>(
         from,
         waiting: Waiting::new(),
         wait,
+        is_lost: false,
     };
     Ok((input, output))
 }
 
 impl<R: Eprint> Input<'_, R> {
-    /// Has the system wait as long as the next read may.
-    fn set_wait(&mut self) -> io::Result<()> {
-        let wait = self.silence.read_wait(self.has_sent);
+    /// Has the system wait for so many seconds in the next read, or without an end.
+    fn set_wait(&mut self, wait: Option<u64>) -> io::Result<()> {
         if wait != self.wait {
             self.stream
                 .set_read_timeout(wait.map(|seconds| Duration::from_secs(seconds)))?;
@@ -79,10 +90,47 @@ impl<R: Eprint> Input<'_, R> {
         Ok(())
     }
 
-    /// Tells that the gateway was silent.
-    fn tell_silent(&self) {
+    /// Reads once, and tells nothing.
+    fn read_once(&mut self, buf: &mut [u8]) -> io::Result<usize>
+        ensures { IfOk result (λ count. count ≤ length buf.old) }
+    {
+        let count = self.stream.read(buf)?;
+        self.has_sent = self.has_sent || count > 0;
+        Ok(count)
+    }
+
+    /// Reads, and waits for a second at most before it looks whether the server is to end, as long as the gateway may be silent.
+    fn read_until(
+        &mut self,
+        buf: &mut [u8],
+        closing: &Closing,
+        allowed: Option<u64>,
+    ) -> io::Result<usize>
+        ensures { IfOk result (λ count. count ≤ length buf.old) }
+    {
+        self.set_wait(Some(TURN_SECONDS))?;
+        for waited in 0..u64::MAX {
+            if closing.is_told() {
+                return Ok(0);
+            }
+            if is_over(waited, allowed) {
+                return Err(io::Error::from(ErrorKind::WouldBlock));
+            }
+            match self.read_once(buf) {
+                Ok(count) => return Ok(count),
+                Err(error) => {
+                    if error.kind() != ErrorKind::WouldBlock {
+                        return Err(error);
+                    }
+                }
+            }
+        }
+        Err(io::Error::from(ErrorKind::WouldBlock))
+    }
+
+    /// Tells that the gateway was silent for so many seconds.
+    fn tell_silent(&self, seconds: u64) {
         let from = self.from;
-        let seconds = self.wait.unwrap_or(0);
         let trouble = if self.has_sent {
             Trouble::Silent { from, seconds }
         } else {
@@ -92,17 +140,29 @@ impl<R: Eprint> Input<'_, R> {
     }
 }
 
+/// Whether that many seconds are all that a gateway may be silent for.
+fn is_over(waited: u64, allowed: Option<u64>) -> bool {
+    match allowed {
+        Some(seconds) => waited >= seconds,
+        None => false,
+    }
+}
+
 impl<R: Eprint> Read for Input<'_, R> {
     fn read(&mut self, buf: &mut [u8]) -> io::Result<usize> {
-        self.set_wait()?;
-        match self.stream.read(buf) {
-            Ok(count) => {
-                self.has_sent = self.has_sent || count > 0;
-                Ok(count)
+        let allowed = self.silence.read_wait(self.has_sent);
+        let read = match self.closing {
+            Some(closing) => self.read_until(buf, closing, allowed),
+            None => {
+                self.set_wait(allowed)?;
+                self.read_once(buf)
             }
+        };
+        match read {
+            Ok(count) => Ok(count),
             Err(error) => {
                 if error.kind() == ErrorKind::WouldBlock {
-                    self.tell_silent();
+                    self.tell_silent(allowed.unwrap_or(0));
                 }
                 Err(error)
             }
@@ -126,8 +186,11 @@ impl<R: Eprint> Output<'_, R> {
     }
 }
 
-impl<R: Clock + Eprint> Write for Output<'_, R> {
-    fn write(&mut self, buf: &[u8]) -> io::Result<usize> {
+impl<R: Clock + Eprint> Output<'_, R> {
+    /// Writes once, and tells of octets that waited too long.
+    fn write_once(&mut self, buf: &[u8]) -> io::Result<usize>
+        ensures { IfOk result (λ count. count ≤ length buf.now) }
+    {
         let now = Instant::now(self.rt)?;
         let Some(wait) = self.waiting.begin(now) else {
             self.tell_slow();
@@ -147,6 +210,22 @@ impl<R: Clock + Eprint> Write for Output<'_, R> {
             }
         }
     }
+}
+
+/// Whether nothing more can be written behind a write that came to this.
+fn is_loss(written: &io::Result<usize>) -> bool {
+    match written {
+        Ok(count) => *count == 0,
+        Err(error) => error.kind() != ErrorKind::Interrupted,
+    }
+}
+
+impl<R: Clock + Eprint> Write for Output<'_, R> {
+    fn write(&mut self, buf: &[u8]) -> io::Result<usize> {
+        let written = self.write_once(buf);
+        self.is_lost = self.is_lost || is_loss(&written);
+        written
+    }
 
     fn flush(&mut self) -> io::Result<()> {
         self.stream.flush()
@@ -157,8 +236,13 @@ impl<R: Clock + Eprint> Shut for Output<'_, R> {
     // What a socket does no clause says.
     ghost is_shut = { λ _. Unit {0} };
 
-    /// A connection that is lost already needs no more, so that a refusal tells nothing.
+    /// A gateway takes what was written before both halves end, if it can still take it. A connection that is lost already needs no more, so that a
+    /// refusal tells nothing.
     fn shut(&mut self) {
+        if !self.is_lost {
+            self.is_lost = true;
+            let _refused = linger(self.rt, &mut self.stream);
+        }
         let _refused = self.stream.shutdown(Shutdown::Both);
     }
 }

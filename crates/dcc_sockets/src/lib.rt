@@ -4,22 +4,26 @@
 //! Stands on std's sockets, and on `dcc_serve` and `dcc_connect` for what a listener, a connection and a clock are. What a socket gives
 //! and takes, and what a clock tells, are the system's, and have no contract here but that a call ends, that a moment is within its limits,
 //! for how long a gateway is waited for ([`Silence`], [`Waiting`]), and what an error of accepting means ([`meaning_of`]). [`Door`] is a bound
-//! listener, [`Input`] and [`Output`] are the halves of a connection, [`SystemClock`] is the clock, and [`NoticeLines`] are the lines.
+//! listener, [`Closing`] tells a server that stays to end, [`Input`] and [`Output`] are the halves of a connection, [`SystemClock`] is the clock, and [`NoticeLines`] are the lines.
 #![tactic(auto)]
 
 mod clock;
+mod closing;
 mod door;
 mod gateway;
-mod keepalive;
+mod lingering;
 mod notices;
+mod options;
 mod refusal;
 mod silence;
 mod trouble;
 mod waiting;
 
 pub use clock::SystemClock;
-pub use door::{Door, SHORT_SECONDS};
+pub use closing::{Closing, Staying, remove_stop};
+pub use door::{Door, SHORT_SECONDS, TURN_SECONDS};
 pub use gateway::{Input, Output, halves};
+pub use lingering::LINGER_SECONDS;
 pub use notices::NoticeLines;
 pub use refusal::{Refusal, meaning_of};
 pub use silence::{FIRST_SECONDS, MOST_SILENT_SECONDS, Silence};

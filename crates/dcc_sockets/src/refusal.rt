@@ -10,6 +10,8 @@ use std::io::ErrorKind;
 /// What it means that the system gives no connection.
 #[derive(Clone, Copy, Debug, PartialEq, Eq)]
 pub enum Refusal {
+    /// No connection came in time.
+    Nobody,
     /// One connection was lost, and the next can be taken in at once.
     Lost,
     /// There is nothing to take one in with, as descriptors or memory. They wait until there is.
@@ -26,6 +28,7 @@ pub fn meaning_of(error: &io::Error) -> Refusal
         return Refusal::Lost;
     }
     match error.kind() {
+        ErrorKind::WouldBlock => Refusal::Nobody,
         ErrorKind::ConnectionAborted
         | ErrorKind::ConnectionReset
         | ErrorKind::TimedOut

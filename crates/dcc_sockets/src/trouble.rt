@@ -20,6 +20,8 @@ pub(crate) enum Trouble {
     Lost { error: io::Error },
     /// There is nothing to take connections in with.
     Short { error: io::Error },
+    /// The listener of a server that stays takes none any more.
+    Over { error: io::Error },
 }
 
 impl fmt::Display for Trouble {
@@ -43,6 +45,9 @@ impl fmt::Display for Trouble {
             Trouble::Lost { error } => write!(f, "dcc: a connection was lost: {error}"),
             Trouble::Short { error } => {
                 write!(f, "dcc: no connection can be taken in for now: {error}")
+            }
+            Trouble::Over { error } => {
+                write!(f, "dcc: no connection can be taken in any more: {error}")
             }
         }
     }

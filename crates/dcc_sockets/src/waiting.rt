@@ -3,7 +3,7 @@
 ghost use Rattle.std.specs.Prelude.{◌≡◌, ◌-◌, None, Some, option_map};
 ghost use Rattle.std.specs.Duration.{as_nanos};
 ghost use Rattle.std.specs.Time.{instant_nanos};
-ghost use Rattle.dcc_sockets.specs.Waits.{wait_left, waiting_behind, waiting_since};
+ghost use Rattle.dcc_sockets.specs.Waits.{left_of, wait_left, waiting_behind, waiting_since};
 
 use std::marker::Model;
 use std::time::{Duration, Instant};
@@ -45,7 +45,10 @@ impl Waiting {
             None => now,
         };
         self.since = Some(since);
-        left_of(now.duration_since(since))
+        left_of(
+            Duration::from_secs(WRITE_SECONDS),
+            now.duration_since(since),
+        )
     }
 
     /// Behind a write that took so many octets of so many.
@@ -58,10 +61,10 @@ impl Waiting {
     }
 }
 
-/// How long octets may still wait that have waited so long; none where that was all.
-fn left_of(waited: Duration) -> Option<Duration>
-    ensures { option_map as_nanos result ≡ wait_left (as_nanos waited) }
+/// How much is left of a time behind a wait of so long; none where that was all.
+pub(crate) fn left_of(all: Duration, waited: Duration) -> Option<Duration>
+    ensures { option_map as_nanos result ≡ left_of (as_nanos all) (as_nanos waited) }
 {
-    let left = Duration::from_secs(WRITE_SECONDS).saturating_sub(waited);
+    let left = all.saturating_sub(waited);
     if left.is_zero() { None } else { Some(left) }
 }

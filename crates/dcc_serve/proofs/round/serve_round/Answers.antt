@@ -26,8 +26,7 @@ front_is n xs rest is = ap (λ k. take k (xs ++ rest)) is ∙ take-append_seam x
 
 pub returns-in-Ok-close-clause-round : goal.returns-in-Ok-close-clause-round
 returns-in-Ok-close-clause-round g c =
-    let gates = c.args.rounds.now.gates in
-    let every = c.args.rounds.now.every in
+    let rounds = c.args.rounds.now in
     let begun = c.in_ok-tasks.tasks.items in
     let ended = c.as_slice.result.now in
     let books = c.in-Ok-close.books in
@@ -42,8 +41,8 @@ returns-in-Ok-close-clause-round g c =
       begun = begun;
       ended = ended;
       books = books;
-      gathered = subst (λ (n : ℕ). AreGathered n gates every begun) count c.in_ok-tasks.ensures.tasks;
-      ran = said_of (AllRun g.I.Read.remaining g.O.Write.contents g.C.Clock.tells c.args.service.now.clock.now
+      gathered = subst (λ (n : ℕ). AreGathered n rounds begun) count c.in_ok-tasks.ensures.tasks;
+      ran = said_of (AllRun g.I.Read.remaining g.O.Write.contents g.C.Clock.tells g.L.Listener.is_closed c.args.service.now.clock.now
           (record { plan = c.args.service.now.plan.now; identity = c.args.service.now.identity.now })) c.len-count.result (length c.args.shards.items)
           c.as_mut_slice.result.now begun c.serve_all.new.tasks ended count first last c.serve_all.ensures;
       all = sym (ap length last) ∙ same;
@@ -68,9 +67,9 @@ finished-requires g c =
     let last : c.serve_all.new.tasks ≡ ended = sym (c.as_slice.ensures.value ∙ front_is c.in_ok-tasks.tasks.len c.serve_all.new.tasks _ long) in
     let setting : Setting = record { plan = c.args.service.now.plan.now; identity = c.args.service.now.identity.now } in
     subst (λ (ts : List (Task g.row.I.Denot g.row.O.Denot)). AreTied (map ends_in ts)) c.as_slice.ensures.value
-    (ended_tied g.I.Read.remaining g.O.Write.contents g.C.Clock.tells c.args.service.now.clock.now setting c.len-count.result c.args.rounds.now.gates c.args.rounds.now.every begun ended
+    (ended_tied g.I.Read.remaining g.O.Write.contents g.C.Clock.tells g.L.Listener.is_closed c.args.service.now.clock.now setting c.len-count.result c.args.rounds.now begun ended
     c.in_ok-tasks.ensures.tasks
-    (said_of (AllRun g.I.Read.remaining g.O.Write.contents g.C.Clock.tells c.args.service.now.clock.now setting) c.len-count.result c.len-count.result c.as_mut_slice.result.now begun
+    (said_of (AllRun g.I.Read.remaining g.O.Write.contents g.C.Clock.tells g.L.Listener.is_closed c.args.service.now.clock.now setting) c.len-count.result c.len-count.result c.as_mut_slice.result.now begun
     c.serve_all.new.tasks ended refl first last c.serve_all.ensures)
     (sym (ap length last) ∙ same))
 
@@ -79,13 +78,12 @@ returns-in_err-seats-clause-ends g c =
     let setting : Setting = record { plan = c.args.service.now.plan.now; identity = c.args.service.now.identity.now } in
     let p = err_from_is_err_and c.from_residual-in_err-seats.result c.from_residual-in_err-seats.ensures.1 in
     rw (p.1, p.2)
-    (of_lanes (EndsRound g.I.Read.remaining g.O.Write.contents g.C.Clock.tells c.args.service.now.clock.now setting c.args.rounds.now.gates c.args.rounds.now.every c.args.shards.items)
+    (of_lanes (EndsRound g.I.Read.remaining g.O.Write.contents g.C.Clock.tells g.L.Listener.is_closed c.args.service.now.clock.now setting c.args.rounds.now c.args.shards.items)
     tt (inr refl) c.in_err-seats.field-0.0 c.in_err-seats.ensures.fault)
 
 pub returns-in-Err-clause-ends : goal.returns-in-Err-clause-ends
 returns-in-Err-clause-ends g c =
-    let gates = c.args.rounds.now.gates in
-    let every = c.args.rounds.now.every in
+    let rounds = c.args.rounds.now in
     let begun = c.in_ok-tasks.tasks.items in
     let ended = c.as_slice.result.now in
     let setting : Setting = record { plan = c.args.service.now.plan.now; identity = c.args.service.now.identity.now } in
@@ -97,14 +95,14 @@ returns-in-Err-clause-ends g c =
     let seats : c.in_ok-seats.seats.items ≡ filter_map seat_in ended =
     c.in_ok-seats.ensures.seats ∙ ap (λ (ts : List (Task g.row.I.Denot g.row.O.Denot)). filter_map seat_in ts) (sym c.as_slice.ensures.value) in
     rw c.of_close.ensures.value
-    (of_compared (EndsRound g.I.Read.remaining g.O.Write.contents g.C.Clock.tells c.args.service.now.clock.now setting gates every c.args.shards.items) tt
+    (of_compared (EndsRound g.I.Read.remaining g.O.Write.contents g.C.Clock.tells g.L.Listener.is_closed c.args.service.now.clock.now setting rounds c.args.shards.items) tt
     (fault_number c.in-Err.unclosed.fault) (λ number told. inl (record {
       begun = begun;
       ended = ended;
       books = c.in-Err.unclosed.books;
       fault = c.in-Err.unclosed.fault;
-      gathered = subst (λ (n : ℕ). AreGathered n gates every begun) count c.in_ok-tasks.ensures.tasks;
-      ran = said_of (AllRun g.I.Read.remaining g.O.Write.contents g.C.Clock.tells c.args.service.now.clock.now setting) c.len-count.result (length c.args.shards.items)
+      gathered = subst (λ (n : ℕ). AreGathered n rounds begun) count c.in_ok-tasks.ensures.tasks;
+      ran = said_of (AllRun g.I.Read.remaining g.O.Write.contents g.C.Clock.tells g.L.Listener.is_closed c.args.service.now.clock.now setting) c.len-count.result (length c.args.shards.items)
           c.as_mut_slice.result.now begun c.serve_all.new.tasks ended count first last c.serve_all.ensures;
       all = sym (ap length last) ∙ same;
       finished = subst (λ (ts : List (Task g.row.I.Denot g.row.O.Denot)). AreFinished ts) (sym c.as_slice.ensures.value) c.in_ok-seats.ensures.finished;

@@ -8,7 +8,7 @@ loop-preserved-then-take_one g c = record {
       (ap (λ ended. c.loop.ended + (if ended then 1 else 0)) (sym c.if-take_one.true));
   few = omega arith;
   shard = c.take_one.ensures.shard ∙ c.loop.invariant.shard;
-  gates = c.loop.invariant.gates;
+  all = c.loop.invariant.all;
 }
 
 pub loop-preserved : goal.loop-preserved
@@ -19,5 +19,5 @@ loop-preserved g c =
           (none ∙ ap (λ ended. c.loop.ended + (if ended then 1 else 0)) (sym c.if-take_one.false));
       few = c.loop.invariant.few;
       shard = c.take_one.ensures.shard ∙ c.loop.invariant.shard;
-      gates = c.loop.invariant.gates;
+      all = c.loop.invariant.all;
     }

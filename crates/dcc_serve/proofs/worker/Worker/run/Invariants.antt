@@ -6,7 +6,7 @@ use Rattle.dcc_serve.proofs.worker.Worker.run.Given as goal
 abbrev pub invariant-loop : goal.invariant-loop
 invariant-loop g l = record {
   done : HasDone l.fn.self l.self l.ended;
-  few : l.ended ≤ l.gates;
+  few : l.ended ≤ l.senders;
   shard : l.self.shard ≡ l.fn.self.shard;
-  gates : l.gates ≡ senders_of l.fn.self.from;
+  all : l.senders ≡ senders_of l.fn.self.from;
 }

@@ -38,3 +38,15 @@ returns-in-End g c = record {
   lanes = c.put_into.ensures.lanes;
   shard = refl;
 }
+
+pub returns-in-Over : goal.returns-in-Over
+returns-in-Over g c = record {
+  one = work.Over;
+  taken = taken_one c.args.self.now.from c.next.new.from work.Over c.in-Over.ensures.taken;
+  done = (refl, refl);
+  counted = refl;
+  ended_is = refl;
+  same = c.in-Over.ensures.same;
+  lanes = refl;
+  shard = refl;
+}
