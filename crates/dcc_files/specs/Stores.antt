@@ -1,8 +1,8 @@
 -- Of which shard a store is.
-use Rattle.std.specs.Prelude.{◌≡◌, ◌≢◌, ◌⊎◌, ℕ, ◌^◌, ◌≤◌, IsUtf8, [], ◌∷◌, length}
+use Rattle.std.specs.Prelude.{◌≡◌, ◌≢◌, ◌⊎◌, ℕ, ◌^◌, ◌≤◌, false, IsTrue, IsUtf8, [], ◌∷◌, length}
 use Rattle.sqlite.specs.Tree.{Trees}
 use Rattle.sqlite.specs.Held.{Held, state}
-use Rattle.sqlite.specs.State.{HasCleanDisk}
+use Rattle.sqlite.specs.State.{State, HasCleanDisk}
 use Rattle.sqlite_trees.specs.declared.store.Store.{Ghosts}
 use Rattle.sqlite.specs.declared.error.Error.{Error}
 use Rattle.sqlite.specs.declared.error.Error.TheVariants.{SqliteFailure}
@@ -35,6 +35,13 @@ AreOfShard plan shard db = (setting : Setting) × IsSettingOf plan shard setting
 abbrev pub UpgradesShard : PlanView → ℕ → ℕ → Trees → Trees → Type 0
 UpgradesShard plan shard count old new =
     ∥ ((setting : Setting) × IsSettingOf plan shard setting × IsUpgraded setting old new) ∥₁ × (count ≡ length (act_rows old))
+
+-- The store became that of layout 2 of the same acts, this is committed, and the connection may be used.
+pub record StandsUpgraded (setting : Setting) (old new : State) : Type 0 where
+  pub is_open : IsTrue new.is_open
+  pub autocommit : new.in_transaction ≡ false
+  pub settled : new.now ≡ new.committed
+  pub upgraded : IsUpgraded setting old.now.trees new.now.trees
 
 -- a plan has no such setting: its names are no text, or its index is none that a store can have
 abbrev pub HasNoSetting : PlanView → ℕ → Type 0
