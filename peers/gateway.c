@@ -1,5 +1,6 @@
 /* A gateway on freeDiameter, as an extension of its daemon. It asks what the lines of a file say, so many at once as there are lanes, each lane
- * its lines in their order; writes a line for each answer; then stays idle for watchdogs, and shuts the daemon down.
+ * its lines in their order; writes a line for each answer; then stays idle for watchdogs, and shuts the daemon down. A request whose connection is
+ * lost is asked again, as it was.
  *
  *     LoadExtension = "gateway.so" : "SETTINGS";    where SETTINGS has the words: WORK ANSWERS LANES SECONDS SERVER
  *
@@ -16,7 +17,7 @@
 #include <time.h>
 #include <unistd.h>
 
-enum { MOST_LANES = 64, MOST_SECONDS = 60 };
+enum { MOST_LANES = 64, MOST_SECONDS = 60, MOST_TRIES = 180, UNABLE_TO_DELIVER = 3002 };
 
 enum { CREDIT_CONTROL = 272, CAPABILITIES_EXCHANGE = 257, DEVICE_WATCHDOG = 280, DISCONNECT_PEER = 282 };
 
@@ -31,7 +32,7 @@ enum {
 
 /* A file's line of requests, and a lane that asks its share of them. */
 struct lane {
-	int number, line;
+	int number, line, is_lost;
 	sem_t answered;
 	pthread_t thread;
 };
@@ -178,7 +179,7 @@ static void add(struct text *text, const char *form, ...)
 	text->length += took;
 }
 
-/* The value of the first AVP of a code among the children; NULL where there is none. A group has an empty value. */
+/* The value of the first AVP of a code among the children; NULL if there is none. A group has an empty value. */
 static union avp_value *found(msg_or_avp *in, int code, struct avp **at)
 {
 	static union avp_value empty;
@@ -245,7 +246,7 @@ static void add_octets(struct text *text, union avp_value *value)
 		add(text, "-");
 }
 
-/* What is told beside the services: check0 or cost4. */
+/* The result beside the services: check0 or cost4. */
 static void add_extra(struct text *text, struct msg *answer)
 {
 	struct avp *cost, *value;
@@ -294,16 +295,42 @@ static void add_answer(struct text *text, struct msg *answer)
 	add_services(text, answer);
 }
 
+/* Whether the daemon itself answered, as it does without a connection. */
+static int is_undelivered(struct msg *answer)
+{
+	struct msg_hdr *header;
+	must(fd_msg_hdr(answer, &header), "no header");
+	if (!(header->msg_flags & CMD_FLAG_ERROR) || fd_msg_parse_dict(answer, fd_g_config->cnf_dict, NULL))
+		return 0;
+	union avp_value *result = found(answer, RESULT_CODE, NULL);
+	return result && result->u32 == UNABLE_TO_DELIVER;
+}
+
 static void take_answer(void *of, struct msg **answer)
 {
 	struct lane *lane = of;
-	struct text text = {.length = 0};
-	add(&text, "%d ", lane->line);
-	add_answer(&text, *answer);
-	fprintf(answers, "%s\n", text.octets);
+	if (!(lane->is_lost = is_undelivered(*answer))) {
+		struct text text = {.length = 0};
+		add(&text, "%d ", lane->line);
+		add_answer(&text, *answer);
+		fprintf(answers, "%s\n", text.octets);
+	}
 	fd_msg_free(*answer);
 	*answer = NULL;
 	sem_post(&lane->answered);
+}
+
+/* Asks a lane's line; its answer is written down, or lost. */
+static void ask(struct lane *lane)
+{
+	struct msg *request = request_of(lines[lane->line]);
+	must(fd_msg_send(&request, take_answer, lane), "a request can't be sent");
+	struct timespec until;
+	clock_gettime(CLOCK_REALTIME, &until);
+	until.tv_sec += MOST_SECONDS;
+	while (sem_timedwait(&lane->answered, &until))
+		if (errno != EINTR)
+			give_up("a request isn't answered");
 }
 
 static void *run_lane(void *of)
@@ -312,14 +339,11 @@ static void *run_lane(void *of)
 	for (lane->line = 0; lane->line < line_count; lane->line++) {
 		if (atoi(lines[lane->line]) != lane->number)
 			continue;
-		struct msg *request = request_of(lines[lane->line]);
-		must(fd_msg_send(&request, take_answer, lane), "a request can't be sent");
-		struct timespec until;
-		clock_gettime(CLOCK_REALTIME, &until);
-		until.tv_sec += MOST_SECONDS;
-		while (sem_timedwait(&lane->answered, &until))
-			if (errno != EINTR)
-				give_up("a request isn't answered");
+		ask(lane);
+		for (int tries = 0; lane->is_lost && tries < MOST_TRIES; tries++) {
+			usleep(500000);
+			ask(lane);
+		}
 	}
 	return NULL;
 }

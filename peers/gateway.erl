@@ -1,5 +1,6 @@
 %% A gateway on the diameter application of Erlang/OTP. It asks what the lines of a file say, so many at once as there are lanes, each lane
-%% its lines in their order; writes a line for each answer; then stays idle for its peer's and its own watchdogs, and takes its leave.
+%% its lines in their order; writes a line for each answer; then stays idle for its peer's and its own watchdogs, and takes its leave. A request
+%% whose connection is lost is asked again, as it was.
 %%
 %%     erl -s gateway main -extra PORT WORK ANSWERS LANES SECONDS HOST SERVER
 %%
@@ -55,7 +56,8 @@ base_messages(Transport, Tries) ->
     Counted = lists:append([Counts || {_, Counts} <- diameter_stats:read([Transport])]),
     Codes = [{{0, Code, R}, Way} || Code <- [257, 280, 282], {R, Way} <- [{1, send}, {0, recv}]],
     case [proplists:get_value(Key, Counted, 0) || Key <- Codes] of
-        Base when Tries =:= 0; hd(Base) > 0 -> Base;
+        Base when Tries =:= 0 -> Base;
+        [_, _, _, _, Leaves, _] = Base when Leaves > 0 -> Base;
         _ -> timer:sleep(100), base_messages(Transport, Tries - 1)
     end.
 
@@ -85,8 +87,16 @@ ask(Number, [Sub, Session, Kind, Count, Action, Proxy | Services], Origin) ->
         'Proxy-Info' => [#{'Proxy-Host' => <<"first.exchange.example">>, 'Proxy-State' => Proxy} || Proxy =/= <<"-">>]
     },
     Request = lists:foldl(fun with_service/2, Base, Services),
-    Told = diameter:call(?SERVICE, credit, ['CCR' | Request], [{timeout, 60000}]),
-    [integer_to_list(Number), " ", told(Told)].
+    [integer_to_list(Number), " ", told(call(['CCR' | Request], 180))].
+
+%% The answer to a request, once the server or the relay has a connection.
+call(Request, Tries) ->
+    case diameter:call(?SERVICE, credit, Request, [{timeout, 60000}]) of
+        Told when Tries =:= 0; hd(Told) =:= 'CCA' -> Told;
+        {not_decoded, _} = Told -> Told;
+        ['answer-message' | #{'Result-Code' := Result}] = Told when Result =/= 3002 -> Told;
+        _ -> timer:sleep(500), call(Request, Tries - 1)
+    end.
 
 %% A service without a Rating-Group stands at the message's level.
 with_service(Word, Request) ->

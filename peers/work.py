@@ -44,7 +44,7 @@ def plan_text(shards):
 
 
 def accounts_of(count, poor):
-    """Accounts of so many subscribers. One of twenty has none, and one of ten is poor where there are poor."""
+    """Accounts of so many subscribers. One of twenty has none, and one of ten is poor if there are poor."""
     subs = [f"4917{place:08}" for place in range(count)]
     return {sub: None if place % 20 == 19 else Account(700 if poor and place % 10 == 4 else 10**12) for place, sub in enumerate(subs)}
 
@@ -89,7 +89,7 @@ class Account:
         self.entries.append(Entry(self.acts, kind, "-" if group is None else str(group), units, amount, session))
 
     def answer(self, session, kind, number, action, services):
-        """Result-Code, what is told beside, and the services: the first answer again where its key was kept."""
+        """Result-Code, the result beside the services, and the services: the first answer again if its key was kept."""
         if (session, number) not in self.kept:
             self.acts += 1
             ask = {INITIAL: self.initial, UPDATE: self.report, TERMINATION: self.report, EVENT: self.event}[kind]
@@ -99,7 +99,7 @@ class Account:
     def initial(self, session, _kind, _action, services):
         if session in self.begun:
             return "5012 -"
-        if len(self.open) == 64:
+        if len(self.open) == 1024:
             return "5006 -"
         grants = self.open[session] = {}
         told = [self.grant(grants, service) for service in services]

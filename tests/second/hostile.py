@@ -666,7 +666,7 @@ def full_house():
     """Sixty-four sessions of thirty-two live grants each, all of which report and ask anew, and end."""
     writer = Hostile(10**6)
     for kind in [INITIAL, UPDATE, TERMINATION]:
-        for name in range(65):
+        for name in range(1, 65):
             services = [service(60, number(SERVICE_IDENTIFIER, it)) for it in range(32)]
             for it in services:
                 it.data.append(units_of(REQUESTED, "units", name))

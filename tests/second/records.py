@@ -41,6 +41,8 @@ VECTORS = {
             Told(True, 10, (3, 1), 1001, None, "octets", BY_OCTETS), Told(True, None, (), None, 0, None, None))),
     ),
     "an initial request of no service": Vector(f"V 02 {FIRST} {FROM} 00", Act(2, MOMENT, session=NAME, number=0, limit=1024, host=HOST)),
+    "an initial request of a Session-Id of one octet": Vector(
+        f"V 02 {AT} 01 78 00000000 {FROM} 00", Act(2, MOMENT, session=b"x", number=0, limit=1024, host=HOST)),
     "an initial request of an unknown host": Vector(f"V 02 {FIRST} [0040 00] 00", Act(2, MOMENT, session=NAME, number=0, limit=64)),
     "an update": Vector(
         f"V 03 {SECOND} 01 00 00 0000 01 000000000000003c 01 000000000000002d 02 00",
