@@ -1,13 +1,15 @@
 #!/usr/bin/env python3
 """A gateway in a few lines: it opens a session for a subscriber, reports what was used and asks for more, and ends it.
 
-    ./dcc topup examples/plan.toml DIR 0:491700000001 1 1000 1748736000
-    ./dcc serve examples/plan.toml DIR &
+    ./dcc topup examples/plan.toml DIR 0:491700000001 1 1000 1748736000 --explain
+    ./dcc serve examples/plan.toml DIR --explain &
     examples/gateway.py [HOST [PORT]]
 
-It prints of each answer its Result-Code and the octets that are granted (RFC 6733; RFC 8506).
+If the server does not listen yet, the gateway tries again for 20 seconds. It prints of each answer its Result-Code and the octets that are granted
+(RFC 6733; RFC 8506).
 """
 
+import argparse
 import os
 import socket
 import sys
@@ -15,6 +17,8 @@ import time
 
 CCR, CER, DPR = 272, 257, 282
 RESULT_CODE, CC_TOTAL_OCTETS = 268, 421
+# The seconds for which a server that does not listen yet is waited for.
+PATIENCE = 20
 
 
 def avp(code, data):
@@ -55,13 +59,34 @@ def ask(connection, name, octets):
     """Sends a request and prints what its answer says."""
     connection.sendall(octets)
     head = connection.recv(4, socket.MSG_WAITALL)
+    if not head:
+        sys.exit(f"gateway.py: {name}: the server closed the connection")
     body = connection.recv(int.from_bytes(head[1:], "big") - 4, socket.MSG_WAITALL)
     granted = found(body[16:], CC_TOTAL_OCTETS)
     print(f"{name}: {found(body[16:], RESULT_CODE)}" + (f", granted {granted} octets" if granted is not None else ""))
 
 
+def connected():
+    """The connection to the server that the arguments name."""
+    parser = argparse.ArgumentParser(description=__doc__.splitlines()[0])
+    parser.add_argument("host", metavar="HOST", nargs="?", default="127.0.0.1", help="by default 127.0.0.1")
+    parser.add_argument("port", metavar="PORT", nargs="?", type=int, default=3868, help="by default 3868")
+    named = parser.parse_args()
+    end = time.monotonic() + PATIENCE
+    while True:
+        try:
+            connection = socket.create_connection((named.host, named.port), PATIENCE)
+            connection.settimeout(None)
+            return connection
+        except ConnectionRefusedError:
+            if time.monotonic() >= end:
+                sys.exit(f"gateway.py: no server listens on {named.host}:{named.port}; tried for {PATIENCE} seconds")
+            time.sleep(0.1)
+        except OSError as reason:
+            sys.exit(f"gateway.py: no server at {named.host}:{named.port}: {reason.strerror or reason}")
+
+
 def main():
-    host, port = (sys.argv[1:] + ["127.0.0.1", "3868"][len(sys.argv) - 1:])[:2]
     origin = [avp(264, "gw1.example"), avp(296, "example")]
     subscriber = avp(443, [avp(450, 0), avp(444, "491700000001")])
     session = f"gw1.example;{int(time.time())};1"
@@ -71,7 +96,7 @@ def main():
                        avp(415, number), subscriber, *([avp(456, [avp(432, 10), *service])] if service else []))
 
     asked = avp(437, [avp(CC_TOTAL_OCTETS, 10_000)])
-    with socket.create_connection((host, int(port))) as connection:
+    with connected() as connection:
         ask(connection, "capabilities", request(CER, 0, *origin, avp(257, b"\x00\x01\x7f\x00\x00\x01"), avp(266, 0), avp(269, "gateway"),
                                                 avp(258, 4)))
         ask(connection, "session opened", charge(1, 0, asked))
