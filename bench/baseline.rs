@@ -151,7 +151,7 @@ fn now() -> Duration {
     Duration::new(time.seconds as u64, time.nanos as u32)
 }
 
-/// Measures a thing in rounds of so many items, each of which gives the same mark, and tells the times for one item.
+/// Measures a thing in rounds of so many items, each of which gives the same mark, and returns the times for one item.
 fn timed(name: &str, items: u32, mut round: impl FnMut() -> Measured<u64>) -> Measured<u64> {
     let mut rounds = Vec::new();
     let mut mark = 0;

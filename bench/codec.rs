@@ -246,7 +246,7 @@ fn name<'a>(avp: &Avp<'a>) -> Result<&'a [u8], Refused<'a>> {
     if (1..=255).contains(&avp.value.len()) { Ok(avp.value) } else { Err(Refused::one(5014, avp)) }
 }
 
-/// The number of the first AVP of a code, where there is one.
+/// The number of the first AVP of a code, if there is one.
 fn optional<'a>(avps: &[Avp<'a>], code: u32) -> Result<Option<u32>, Refused<'a>> {
     of_code(avps, code).next().map(number).transpose()
 }

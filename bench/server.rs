@@ -50,7 +50,7 @@ fn shard_of(subscriber: &[u8; 65], shards: usize) -> usize {
     subscriber.iter().map(|octet| usize::from(*octet)).sum::<usize>() % shards
 }
 
-/// What a debit is granted, and whether it was made now. None where its price isn't covered.
+/// What a debit is granted, and whether it was made now. None if its price isn't covered.
 fn charged(accounts: &mut HashMap<[u8; 65], Account>, job: &Job) -> Option<(u64, bool)> {
     let account = accounts.entry(job.subscriber).or_insert_with(|| Account { funds: FUNDS, kept: HashMap::new() });
     let key = (job.session.clone(), job.number);

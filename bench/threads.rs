@@ -53,7 +53,7 @@ fn base_answer(header: &Header) -> Vec<u8> {
     out
 }
 
-/// Hands a message on. False where the connection ends behind it.
+/// Hands a message on. False if the connection ends behind it.
 fn hand_on(terms: &Terms, message: &[u8], to: &SyncSender<Vec<u8>>, shards: &[SyncSender<Job>]) -> bool {
     let Some(header) = read_header(message) else { return false };
     if header.app == 0 {
