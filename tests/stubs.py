@@ -101,14 +101,20 @@ def put_holes(folder, crate, paths):
             file.write(f"use Rattle.{crate}.proofs.{'.'.join([*above, own])}.Statement.{{statement}}\n\npub {own}_spec : {{M : Type 1}} → statement M\n{own}_spec = ?\n")
 
 
-def twin(text, it, name, old, new):
-    """A function of a text once more, under another name, with `new` in the place of `old` in its body; none if `old` isn't there once, or the function calls itself."""
+def twin(text, it, name, changes):
+    """A function of a text once more, under another name, with each second in the place of each first in its body; none if a first isn't there once, or the function
+    calls itself."""
     own, begin = it.path.split("::")[-1], it.opening - it.begin
     whole = text[it.begin : it.end]
-    if whole[begin:].count(old) != 1 or whole[:begin].count(f"fn {own}") != 1 or re.search(rf"(?<![\w:.])(?:Self::|self\.)?{own}\(", whole[begin:]):
+    header, body = whole[:begin], whole[begin:]
+    if header.count(f"fn {own}") != 1 or re.search(rf"(?<![\w:.])(?:Self::|self\.)?{own}\(", body):
         return None
+    for old, new in changes:
+        if body.count(old) != 1:
+            return None
+        body = body.replace(old, new)
     indent = re.match(" *", text[text.rfind("\n", 0, it.begin) + 1 :])[0]
-    return f"\n\n{indent}{whole[:begin].replace(f'fn {own}', f'fn {name}')}{whole[begin:].replace(old, new)}"
+    return f"\n\n{indent}{header.replace(f'fn {own}', f'fn {name}')}{body}"
 
 
 def copy_proofs(folder, crate, path, name):
