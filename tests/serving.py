@@ -45,6 +45,8 @@ ANSWER_SECONDS, END_SECONDS = 20, 60
 # A server that stays looks once a second whether it is to end, and so do its reads; and it waits two seconds for the ends of its gateways. The rest is for a
 # crowded machine.
 STOP_SECONDS = 8
+# So many seconds more than its time an event may take on a crowded machine, and a gateway waits at most for a place that is free.
+SOON = 5
 passed, failed = 0, 0
 counting = threading.Lock()
 
