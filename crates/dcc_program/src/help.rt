@@ -16,12 +16,12 @@ dcc replay PLAN   reads a script of events from standard input, and prints what 
                   plan of the file PLAN. A path that begins with a hyphen stands behind --
 dcc topup         makes one top-up under the plan of the file PLAN, in the store of the subscriber's shard in the
                   folder DIR, and prints done, ceiling, refused or bad. A store that is missing is made, a folder isn't.
-                  SUB is a type and data, as 0:491700000001, TICKET tells the top-up from the others, AMOUNT is in
-                  minor units, MOMENT in seconds since 1970, the clock's if it is missing
+                  SUB is a type and data, as 0:491700000001; TICKET is the top-up's number, and a second one with it is a
+                  repeat; AMOUNT is in minor units; MOMENT is in seconds since 1970, the clock's if it is missing
 dcc ledger        prints the ledger of the subscriber SUB from the store of its shard in the folder DIR. Without such a
                   store or folder the account is unknown, and nothing is made
-dcc serve         serves gateways over TCP from the stores in the folder DIR, and prints where it listens, and a line
-                  for each round. ADDR is an IPv4 address and a port, 127.0.0.1:3868 if it is missing; a round
+dcc serve         serves gateways over TCP from the stores in the folder DIR, and prints its address, and a line for each
+                  round. ADDR is an IPv4 address and a port, 127.0.0.1:3868 if it is missing; a round
                   has --gates gateways, 1 to 16; --rounds are 1 to 1000000; after each --every messages of a
                   gateway, 0 to 1000000, sessions whose time is over are ended, with 0 never. Missing, they are 1, 1, 0.
                   A gateway that sends nothing for --silent seconds, 1 to 86400, is dropped, with 0 never. Missing, it is 0.
@@ -41,7 +41,7 @@ Each command takes --explain, before a -- if there is one: behind the line of a 
 error say what is wrong and where.
 
 exit status: 0; 1 if memory, input or output failed; 2 at another command line; 3 at a faulty plan; 4 at a faulty
-store; 5 at a faulty script; 6 if a server's answers and accounts disagree.
+store; 5 at a faulty script; 6 if a server's answers and accounts disagree, or a part of it ended without the others.
 A failure has one line on standard error, and the lines of --explain.
 ";
 
