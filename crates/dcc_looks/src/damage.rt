@@ -1,10 +1,9 @@
 //! Where the rows of a store are not those of a book.
 
-use crate::rows::number;
+use crate::rows::{blob, number};
 use crate::settings::layout_of;
 use crate::subs::{shown, sub_of};
 use dcc_record::{RecordFault, read_act, read_act_1};
-use sqlite::types::ValueRef;
 use sqlite::{Alter, Connection, Row, params};
 use std::alloc::{AllocError, Global};
 
@@ -23,7 +22,37 @@ pub(crate) fn damage_words<S: Alter>(
             return Ok(words);
         }
     }
-    String::from_str(alloc, "a row of its entries or accounts is of nobody")
+    if let Some(words) = nobody_words(alloc, conn)? {
+        return Ok(words);
+    }
+    String::from_str(alloc, "a row of its entries or accounts can't be read")
+}
+
+/// The first entry or account of a store that is of nobody.
+fn nobody_words<S: Alter>(
+    alloc: Global,
+    conn: &mut Connection<S>,
+) -> Result<Option<String>, AllocError> {
+    if let Some(place) = of_nobody(conn, "SELECT sub, place FROM entry ORDER BY sub, place") {
+        return Ok(Some(format!(in alloc; "a row of its entries, with place {place}, is of nobody")?));
+    }
+    match of_nobody(conn, "SELECT sub, acts FROM account ORDER BY sub") {
+        Some(acts) => Ok(Some(format!(in alloc; "a row of its accounts, with {acts} acts, is of nobody")?)),
+        None => Ok(None),
+    }
+}
+
+/// The number in the first row whose subscriber is none.
+fn of_nobody<S: Alter>(conn: &mut Connection<S>, query: &str) -> Option<i64> {
+    let Ok(rows) = conn.query_all(query, &[]) else {
+        return None;
+    };
+    for row in &rows {
+        if sub_of(row).is_none() {
+            return Some(number(row, 1));
+        }
+    }
+    None
 }
 
 /// What is wrong with the row of an act, in a store of this layout.
@@ -32,10 +61,7 @@ fn act_slip(alloc: Global, row: &Row, layout: i64) -> Result<Option<String>, All
     let Some(sub) = sub_of(row) else {
         return Ok(Some(format!(in alloc; "a row of its acts, with place {place}, is of nobody")?));
     };
-    let body = match row.get_ref(2) {
-        Ok(ValueRef::Blob(octets)) => octets,
-        _ => b"".as_slice(),
-    };
+    let body = blob(row, 2);
     let read = if layout == 1 {
         read_act_1(alloc, body)
     } else {
@@ -53,7 +79,7 @@ fn act_slip(alloc: Global, row: &Row, layout: i64) -> Result<Option<String>, All
     }
 }
 
-/// The first account of a store that its acts or entries don't add up to.
+/// The first account of a store that its acts or entries don't add up to, or that is missing, or the first entry without an act.
 pub(crate) fn disagreement_words<S: Alter>(
     alloc: Global,
     conn: &mut Connection<S>,
@@ -66,10 +92,55 @@ pub(crate) fn disagreement_words<S: Alter>(
             return Ok(words);
         }
     }
-    String::from_str(
-        alloc,
-        "an account is missing, or entries are not those of the acts",
-    )
+    if let Some(words) = missing_account(alloc, conn)? {
+        return Ok(words);
+    }
+    if let Some(words) = missing_act(alloc, conn)? {
+        return Ok(words);
+    }
+    String::from_str(alloc, "the entries of an act are not those that it makes")
+}
+
+/// The first subscriber of a store with acts and without an account.
+fn missing_account<S: Alter>(
+    alloc: Global,
+    conn: &mut Connection<S>,
+) -> Result<Option<String>, AllocError> {
+    let query = "SELECT sub, place FROM act WHERE place = 1 ORDER BY sub, place";
+    let Ok(rows) = conn.query_all(query, &[]) else {
+        return Ok(None);
+    };
+    for row in &rows {
+        let found = one(conn, "SELECT COUNT(*) FROM account WHERE sub = ?1", blob(row, 0));
+        if let (0, Some(sub)) = (found, sub_of(row)) {
+            let sub = shown(alloc, &sub)?;
+            return Ok(Some(format!(in alloc; "the account of subscriber {sub} is missing")?));
+        }
+    }
+    Ok(None)
+}
+
+/// The first entry of a store at whose place its subscriber has no act.
+fn missing_act<S: Alter>(
+    alloc: Global,
+    conn: &mut Connection<S>,
+) -> Result<Option<String>, AllocError> {
+    let Ok(rows) = conn.query_all("SELECT sub, place FROM entry ORDER BY sub, place", &[]) else {
+        return Ok(None);
+    };
+    for row in &rows {
+        let place = number(row, 1);
+        let acts = one(conn, "SELECT COUNT(*) FROM act WHERE sub = ?1", blob(row, 0));
+        if place < 1 || place > acts {
+            if let Some(sub) = sub_of(row) {
+                let sub = shown(alloc, &sub)?;
+                return Ok(Some(format!(in alloc;
+                    "an entry of subscriber {sub} has place {place}, and there is no such act"
+                )?));
+            }
+        }
+    }
+    Ok(None)
 }
 
 /// What is wrong with an account.
@@ -81,10 +152,7 @@ fn account_slip<S: Alter>(
     let Some(sub) = sub_of(row) else {
         return Ok(None);
     };
-    let octets = match row.get_ref(0) {
-        Ok(ValueRef::Blob(octets)) => octets,
-        _ => b"".as_slice(),
-    };
+    let octets = blob(row, 0);
     let (acts, funds) = (number(row, 1), number(row, 2));
     let found = one(conn, "SELECT COUNT(*) FROM act WHERE sub = ?1", octets);
     if found != acts {
