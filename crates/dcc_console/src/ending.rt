@@ -1,4 +1,4 @@
-//! How the program ends where a failure is explained.
+//! How the program ends if a failure is explained.
 
 ghost use Rattle.std.specs.Prelude.{◌≡◌, ◌++◌, true};
 ghost use Rattle.std.specs.Io.KnownBytes.{Appends};

@@ -2,8 +2,8 @@
 //!
 //! Stands on `dcc_program` for the work and for the one line of a failure, and on `dcc_explain` for the words of explanations. The contract that it
 //! gives: [`without_explain`] takes `--explain` out of a command line, and nothing else; [`end_with`] writes the line of a failure as
-//! `dcc_program::end` does, and behind it the lines of its explanation. [`execute`] is all of it, for a `main` of one line: without `--explain` nothing
-//! but that one line is written on standard error. Which words explain a failure no clause says.
+//! `dcc_program::end` does, and behind it the lines of its explanation. [`execute`] is all of it, for a `main` of one line. Without `--explain`
+//! nothing but the line of a failure is written on standard error. No clause says which words explain a failure.
 #![tactic(auto)]
 
 mod checking;

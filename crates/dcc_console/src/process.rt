@@ -20,8 +20,8 @@ use std::sync::Wait;
 use std::thread::Threads;
 use std::time::Clock;
 
-/// Does what the process was asked for, over these stores, and reports a failure by its line on standard error and by the exit status. Where the words
-/// have `--explain`, and of `dcc check` always, lines that explain the failure follow.
+/// Does what the process was asked for, over these stores, and reports a failure by its line on standard error and by the exit status. Lines that
+/// explain the failure follow if the words have `--explain`, and for `dcc check` always.
 pub fn execute<
     R: Env
         + Files

@@ -24,7 +24,7 @@ pub(crate) struct Seen {
     pub script: Vec<u8>,
 }
 
-/// The lines that explain a failure of these words, each with the program's name in front. What was read before is read again: where a second try finds
+/// The lines that explain a failure of these words, each with the program's name in front. What was read before is read again. If a second try finds
 /// another state of a file, no line says more than that.
 pub(crate) fn lines_of<
     R: Files + RandomSource + Net<Listener = TcpListener, Stream = TcpStream> + AllocGlobal,

@@ -45,8 +45,8 @@ fn is_use(alloc: Global, words: &[String]) -> Result<bool, Failure> {
     }
 }
 
-/// That the ticket of a top-up was used before, with its amount and moment, if the words ask for such a one. The ledger is read before the top-up is
-/// made; a fault of its reading is the top-up's too, and is reported there.
+/// That the ticket of a top-up was used before, with its amount and moment, if the words ask for such a top-up. The ledger is read before the
+/// top-up is made. A fault of its reading is the top-up's too, and is reported there.
 pub(crate) fn used_before<R: Files + RandomSource + AllocGlobal, S: Stores>(
     rt: &R,
     words: &[String],

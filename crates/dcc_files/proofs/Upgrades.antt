@@ -60,7 +60,7 @@ still_before setting a b c same one two =
 pub found_there : (terms : TermsView) (old new : State) → IsUndone old new → ∥ FindsBook terms old.committed.trees (leaves terms new) ∥₁ → ∥ FindsBook terms new.committed.trees (leaves terms new) ∥₁
 found_there terms old new it = subst (λ (d : Database). ∥ FindsBook terms d.trees (leaves terms new) ∥₁) (sym it.committed_is)
 
--- what is told as want of memory once a store is upgraded didn't fail as its database
+-- a fault that is reported as want of memory once a store is upgraded is no failure of its database
 pub not_device : (fault told : OpenFault) → told ≡ f.Memory → (fault ≢ f.Memory → told ≡ f.Device) → fault ≢ f.Device
 not_device fault told is others e =
     let other : fault ≢ f.Memory = λ m. (let no : f.Memory ≡ f.Device = sym m ∙ e in cc) in

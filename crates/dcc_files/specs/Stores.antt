@@ -63,21 +63,21 @@ HasNoBook setting db = (HasSetting setting db × DisagreeIn setting.terms db) �
 abbrev pub SeesCommitted : {S : Type 0} → Ghosts S → Held S → Type 0
 SeesCommitted {S} g conn = HasCleanDisk (state g conn) → (state g conn).now ≡ (state g conn).committed
 
--- the tables are those of a store, and this is so of them under the setting of the shard, where the disk has returned what was written
+-- the tables are those of a store, and this is so of them under the setting of the shard, if the disk has returned the written octets
 abbrev pub IsFound : {S : Type 0} → Ghosts S → PlanView → ℕ → Held S → (Setting → Trees → Type 0) → Type 0
 IsFound {S} g plan shard conn Says =
     (conn.schema ≡ layout) × (setting : Setting) × IsSettingOf plan shard setting × (after : Held S) × (HasCleanDisk (state g after) → Says setting (state g conn).now.trees)
 
 -- The number of the fault for which a database isn't opened as the store of a shard, with its cause: 50 want of memory, 51 the database failed,
--- 53 other tables or another setting, 54 rows of no book, 55 a row of no act or of nobody. The rows are judged where the disk has returned
--- what was written.
+-- 53 other tables or another setting, 54 rows of no book, 55 a row of no act or of nobody. The rows are judged if the disk has returned
+-- the written octets.
 abbrev pub IsOpenFault : {S : Type 0} → Ghosts S → PlanView → ℕ → Held S → ℕ → Type 0
 IsOpenFault {S} g plan shard conn number =
     ((number ≡ 50) ⊎ (number ≡ 51))
     ⊎ (((number ≡ 53) × (HasNoSetting plan shard ⊎ (((conn.schema ≢ no_schema) × (conn.schema ≢ layout)) ⊎ IsFound g plan shard conn HasNeitherSetting)))
     ⊎ (((number ≡ 54) × IsFound g plan shard conn HasNoBook) ⊎ ((number ≡ 55) × IsFound g plan shard conn HasDamage)))
 
--- what opening a file tells: want of memory, or that it failed
+-- the fault that opening a file reports: want of memory, or that it failed
 abbrev pub connect_number : Error → ℕ
 connect_number (SqliteFailure OutOfMemory) = 50
 connect_number _ = 51

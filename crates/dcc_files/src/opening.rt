@@ -1,4 +1,4 @@
-//! The opening of a store, which is upgraded first where it is of layout 1.
+//! The opening of a store, which is upgraded first if it is of layout 1.
 
 ghost use Rattle.std.specs.Prelude.{◌≡◌, ◌≢◌, ◌⊎◌, false, None, length, IfOk, IfErr, IfSome};
 ghost use Rattle.sqlite.specs.Held.{state};
@@ -15,10 +15,10 @@ use sqlite::{Alter, Connection};
 use std::alloc::Global;
 use std::hash::RandomState;
 
-/// The records over a store of this setting. A store of layout 1 is upgraded first, and then the number of its acts is told. A
+/// The records over a store of this setting. A store of layout 1 is upgraded first, and then the number of its acts is returned. A
 /// stop inside leaves the store as it was, or the upgraded one.
 ///
-/// Errors, each with the connection: those of [`SqlRecords::open`] and of [`upgrade`], where [`OpenFault::Layout`] means that the
+/// Errors, each with the connection: those of [`SqlRecords::open`] and of [`upgrade`]. [`OpenFault::Layout`] means that the
 /// setting is another one in either layout. After an upgrade they are [`OpenFault::Memory`] and [`OpenFault::Device`] alone, so
 /// nothing changed after any other. After any but [`OpenFault::Device`] the connection may be used.
 pub fn open_or_upgrade<S: Alter + Drop>(
@@ -58,7 +58,7 @@ pub fn open_or_upgrade<S: Alter + Drop>(
     // A store that is refused stays as it was.
     ensures undone { IfErr result (λ failed. failed.0 ≢ OpenFault.Device → failed.0 ≢ OpenFault.Memory → HasCleanDisk (state S.Store failed.1)
         → (failed.1 ≡ conn) ⊎ IsUndone (state S.Store conn) (state S.Store failed.1)) }
-    // Where memory is refused, the store stays as it was, or is upgraded and stands.
+    // If memory is refused, the store stays as it was, or is upgraded and stands.
     ensures memory { SeesCommitted S.Store conn → IfErr result (λ failed. failed.0 ≡ OpenFault.Memory → HasCleanDisk (state S.Store failed.1)
         → ((failed.1 ≡ conn) ⊎ IsUndone (state S.Store conn) (state S.Store failed.1)) ⊎ ∥ StandsUpgraded setting.now (state S.Store conn) (state S.Store failed.1) ∥₁) }
     ensures left { SeesCommitted S.Store conn → IfErr result (λ failed. Survives (state S.Store conn) (state S.Store failed.1)

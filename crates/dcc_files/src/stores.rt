@@ -42,7 +42,7 @@ impl<'r> FileStores<'r> {
         FileStores { rt }
     }
 
-    /// A connection to the database at a path, which is made where there is none.
+    /// A connection to the database at a path. The database is made if there is none.
     fn connect(&self, path: &str) -> Result<Connection<FileStore<File>>, StoreRefusal>
         ensures sees { IfOk result (λ conn. SeesCommitted ⟦<FileStore<File> as Store>⟧ conn) }
         ensures refused { IfErr result (λ refusal. IsConnectFault refusal.0) }
@@ -71,8 +71,8 @@ impl Stores for FileStores<'_> {
     // Which files there are is the system's word, and has no clause.
     ghost refuses = { λ _ _ plan shard number. IsFileFault ⟦<FileStore<File> as Store>⟧ plan shard number };
 
-    // Where the disk has returned what was written, the setting in the tables is that of the shard under the plan. What else files hold, and in
-    // which folder they are, no clause says.
+    // If the disk has returned the written octets, the setting in the tables is that of the shard under the plan. No clause says what else files
+    // hold, and in which folder they are.
     ghost opens = { λ _ _ plan shard r. HasCleanDisk (file_state r.records.conn) → AreOfShard plan shard (file_state r.records.conn).now.trees };
 
     fn open(
@@ -113,8 +113,8 @@ impl Stores for FileStores<'_> {
     }
 }
 
-/// The records over a database, and how many acts its store had where it was of layout 1 and is upgraded; or none where there is
-/// nothing in it.
+/// The records over a database, and how many acts its store had if it was of layout 1 and is upgraded. None if there is nothing in the
+/// database.
 fn opened<S: Alter + Drop>(
     alloc: Global,
     conn: Connection<S>,
@@ -150,7 +150,7 @@ fn opened<S: Alter + Drop>(
     }
 }
 
-/// The same, and a store is made where there is nothing, and nowhere else.
+/// The same, and a store is made if there is nothing in the database, and only then.
 fn opened_or_made<S: Alter + Drop>(
     alloc: Global,
     conn: Connection<S>,
@@ -189,7 +189,7 @@ fn opened_or_made<S: Alter + Drop>(
     }
 }
 
-/// What a file that isn't opened is told as.
+/// The refusal that reports a file that isn't opened.
 fn unconnected(error: &Error) -> StoreRefusal
     ensures { result.0 ≡ connect_number error.now }
 {
@@ -199,7 +199,7 @@ fn unconnected(error: &Error) -> StoreRefusal
     }
 }
 
-/// What a store that isn't opened is told as; none where there is nothing.
+/// The refusal that reports a store that isn't opened. None if there is nothing in the database.
 fn unopened(fault: OpenFault) -> Option<StoreRefusal>
     ensures some { IfSome result (λ refusal. (refusal.0 ≡ open_number fault) × (fault ≢ OpenFault.Empty)) }
     ensures none { IfNone result (fault ≡ OpenFault.Empty) }
@@ -210,7 +210,7 @@ fn unopened(fault: OpenFault) -> Option<StoreRefusal>
     }
 }
 
-/// What a store that isn't made is told as.
+/// The refusal that reports a store that isn't made.
 fn unmade(fault: CreateFault) -> StoreRefusal
     ensures { result.0 ≡ create_number fault }
 {
@@ -222,7 +222,7 @@ pub fn path_of(alloc: Global, folder: &str, shard: usize) -> Result<String, Allo
     format!(in alloc; "{folder}/shard-{shard}.db")
 }
 
-/// What the store of a shard is of, under a plan: names of visible ASCII are text, and shards are few, so that it is there.
+/// The setting of the store of a shard, under a plan. It is there, since names of visible ASCII are text, and shards are few.
 pub fn setting_of(plan: &Plan, shard: usize) -> Option<Setting<'_>>
     ensures some { IfSome result (IsSettingOf plan.now shard) }
     ensures none { IfNone result (HasNoSetting plan.now shard) }

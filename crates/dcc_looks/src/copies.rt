@@ -19,8 +19,8 @@ pub(crate) enum Copies {
     Octets { db: Vec<u8>, log: Vec<u8> },
 }
 
-/// The octets of the store at a path. Only files that a server could use are copied: another process that has them open is a reason against it. What is
-/// missing is not made.
+/// The octets of the store at a path. Only files that a server could use are copied: another process that has them open is a reason against it. A
+/// missing file is not made.
 pub(crate) fn copies_of(rt: &HostRuntime, folder: &str, path: &str) -> Result<Copies, AllocError> {
     let alloc = rt.alloc();
     if let Some(reason) = folder_reason(rt, folder) {
@@ -35,7 +35,7 @@ pub(crate) fn copies_of(rt: &HostRuntime, folder: &str, path: &str) -> Result<Co
     if fs::symlink_metadata(rt, log.as_str()).is_ok() {
         return both_of(rt, path);
     }
-    // Who has a store open has made its log: so nobody has this one.
+    // A process that has a store open has made its log: so no process has this one open.
     match octets_of(rt, path) {
         Ok(db) => Ok(Copies::Octets {
             db,

@@ -1,7 +1,7 @@
 //! The program `dcc` over the files of its system: one call for a `main` of one line.
 //!
-//! Stands on `dcc_console` for what the program does, with its contracts, on `dcc_files` for the stores, and on `dcc_looks` for looks at them. It stands apart from `main` since a
-//! program's check also links all that the program reaches.
+//! Stands on `dcc_console` for the work of the program, with its contracts, on `dcc_files` for the stores, and on `dcc_looks` for looks at them. It
+//! stands apart from `main` since a program's check also links all that the program reaches.
 #![tactic(auto)]
 
 use dcc_console::execute;

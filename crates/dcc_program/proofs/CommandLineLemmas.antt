@@ -29,7 +29,7 @@ is_free_command : is_simple_and_free dcc_command ≡ true
 unfolding dcc_command clap_on_literals
 is_free_command = refl
 
--- what is asked for where the reader refuses the words by a fault of this kind
+-- the task that is asked for if the reader refuses the words by a fault of this kind
 wished_by : (words : List Text) (kind : ErrorKind) → (kind ≡ OutOfMemory) ⊎ IsAmong kind (fault_of dcc_command words)
     → IfOk (wish_of kind) (Asks words) × IfErr (wish_of kind) (IsTaskFailure words)
 wished_by words DisplayHelp (inl memory) = cc
@@ -110,14 +110,14 @@ asked words Decode given = given
 asked words Help given = inr given
 asked words Version given = absurd given.2
 
--- what a command that was entered asks for with what was found
+-- the task that an entered command asks for with the arguments that were found
 pub named_task : (words : List Text) (name : Text) (found : List Row) (o : Option Task) (task : Task) → fault_of dcc_command words ≡ []
     → subcommand_of dcc_command words ≡ Some (name, found) → IsTaskOf name found o → o ≡ Some task → Asks words task
 named_task words name found o task accepted named given is =
     let of : IsTaskOf name found (Some task) = subst (λ (t : Option Task). IsTaskOf name found t) is given in
     asked words task (found, record { accepted = accepted; named = named ∙ ap (λ (t : Text). Some (t, found)) of.0 }, of.1)
 
--- or that this is nothing
+-- or it asks for nothing
 pub no_task : (words : List Text) (name : Text) (found : List Row) (o : Option Task) → fault_of dcc_command words ≡ []
     → subcommand_of dcc_command words ≡ Some (name, found) → IsTaskOf name found o → o ≡ None → IsNoUse words
 no_task words name found o accepted named given is =
@@ -129,14 +129,14 @@ no_task words name found o accepted named given is =
           none task same.0 (subst (λ (rows : List Row). AsksWith rows task) (sym same.1) asks.2)),
     )
 
--- texts are told apart by their first octets
+-- texts whose first octets differ are not the same
 apart : (a b : Text) → nat_eq (slice_index a 0) (slice_index b 0) ≡ false → a ≡ b → ⊥
 apart a b differ same =
     let alike : nat_eq (slice_index a 0) (slice_index b 0) ≡ nat_eq (slice_index b 0) (slice_index b 0) = ap (λ (t : Text). nat_eq (slice_index t 0) (slice_index b 0)) same in
     let true_is : nat_eq (slice_index b 0) (slice_index b 0) ≡ true = eq-eqb (slice_index b 0) (slice_index b 0) refl in
     cc
 
--- where a command's arguments don't say what it needs, there is no task of its name
+-- if a command's arguments don't say what it needs, there is no task of its name
 pub no_replay : (found : List Row) → first_of (codes "PLAN") found ≡ None → IsTaskOf (codes "replay") found None
 no_replay found none (Replay path) named given = cc
 no_replay found none (TopUp place ask) named given = absurd (apart (codes "replay") (codes "topup") refl named)

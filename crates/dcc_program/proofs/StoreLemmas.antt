@@ -1,4 +1,4 @@
--- What is known of a command over a store where the plan's file is one of which nothing is known.
+-- The facts about a command over a store if nothing is known of the plan's file.
 use Rattle.std.proofs.Common.{◌≡◌, ◌⊎◌, inl, inr, ℕ, List, Option, None, Some, Result, Ok, Err, IfErr, refl}
 use Rattle.std.specs.Prelude.{IsSomeAnd}
 use Rattle.std.specs.Io.KnownBytes.{Keeps}

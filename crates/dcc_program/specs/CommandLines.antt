@@ -1,4 +1,4 @@
--- The command lines of the program, as the reader of command lines is told of them and reads them.
+-- The command lines of the program, as they are declared to the reader of command lines, and as it reads them.
 use Rattle.std.specs.Prelude.{◌≡◌, ◌⊎◌, ⊤, ℕ, true, List, [], codes, Option, Some, None, Result, Ok, Err}
 use Rattle.clap.specs.Words.{App, IsAmong, Row, Rule, Text, fault_of, first_of, new_app, new_rule, subcommand_of, with_rule, with_subcommand}
 use Rattle.clap.specs.declared.builder.ArgAction.TheVariants.{Set, SetTrue}
@@ -113,7 +113,7 @@ AsksWith found Decode = ⊤
 AsksWith found Help = ⊤
 AsksWith found Version = ⊥
 
--- what a command with these arguments asks for, or that there is no such task
+-- the task that a command with these arguments asks for, or that there is no such task
 abbrev pub IsTaskOf : Text → List Row → Option Task → Type 0
 IsTaskOf name found (Some task) = (name ≡ name_of task) × AsksWith found task
 IsTaskOf name found None = (task : Task) → name ≡ name_of task → AsksWith found task → ⊥
@@ -122,7 +122,7 @@ IsTaskOf name found None = (task : Task) → name ≡ name_of task → AsksWith 
 abbrev pub IsAsked : List Text → Task → Type 0
 IsAsked words task = (found : List Row) × IsCommand (name_of task) found words × AsksWith found task
 
--- what is asked for where the words have a fault of this kind: an option for help or for the version is one
+-- the task that is asked for if the words have a fault of this kind: an option for help or for the version is such a fault
 abbrev pub wish_of : ErrorKind → Result Task Failure
 wish_of kind.DisplayHelp = Ok Help
 wish_of kind.DisplayVersion = Ok Version

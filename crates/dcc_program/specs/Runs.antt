@@ -27,7 +27,7 @@ IsDone opens may_leave Decode unread left old new = decode.IsWritten unread old 
 IsDone opens may_leave Help unread left old new = Keeps unread left × Appends old new HELP.now
 IsDone opens may_leave Version unread left old new = Keeps unread left × Appends old new VERSION.now
 
--- of what a task writes, the first octets are written
+-- the first octets of a task's output are written
 abbrev pub IsBegun : Task → (unread old new : Option (List ℕ)) → Type 0
 IsBegun (Replay path) unread old new = (plan : PlanView) × replay.IsBegun plan unread old new
 IsBegun (TopUp place ask) unread old new = IsTopUpBegun None ask old new
@@ -36,7 +36,7 @@ IsBegun Decode unread old new = decode.IsBegun unread old new
 IsBegun Help unread old new = (n : ℕ) × Appends old new (take n HELP.now)
 IsBegun Version unread old new = (n : ℕ) × Appends old new (take n VERSION.now)
 
--- the failures that are told before any of the script is read
+-- the failures that are reported before any of the script is read
 abbrev pub IsBeforeScript : Failure → Type 0
 IsBeforeScript Usage = ⊤
 IsBeforeScript Memory = ⊥
@@ -46,7 +46,7 @@ IsBeforeScript (Store number) = ⊤
 IsBeforeScript (Script line) = ⊥
 IsBeforeScript (Close number) = ⊥
 
--- the failures that the program comes to: usage where the words ask for nothing, and the others where they do
+-- the failures that the program comes to: usage if the words ask for nothing, and the others if they ask for a task
 abbrev pub IsRunFailure : List Text → Option (List ℕ) → Failure → Type 0
 IsRunFailure words script Usage = IsNoUse words
 IsRunFailure words script Memory = ⊤

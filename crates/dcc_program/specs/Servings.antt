@@ -1,4 +1,4 @@
--- `dcc serve`: what is written, and with which failures it ends.
+-- `dcc serve`: its output, and the failures with which it ends.
 use Rattle.std.specs.Prelude.{⊤, ◌≡◌, ◌<◌, ◌⊎◌, ℕ, Bool, List, ◌++◌, codes, length, slice_index_or, take, Option, None}
 use Rattle.std.specs.Io.KnownBytes.{Appends, Keeps}
 use Rattle.std.specs.Net.Text.{socket_text}
@@ -20,7 +20,7 @@ use Rattle.dcc_program.specs.Plans.{IsPlanFailure}
 abbrev pub listening_line : SocketAddr → List ℕ
 listening_line address = codes "listening " ++ socket_text address ++ codes "\n"
 
--- a writer, before and after, has grown by where the server listens, and then by the lines of this many rounds
+-- a writer, before and after, has grown by the line with the server's address, and then by the lines of this many rounds
 abbrev pub IsServed : ℕ → (old new : Option (List ℕ)) → Type 0
 IsServed rounds old new = (address : SocketAddr) × (told : Option (List ℕ)) × Appends old told (listening_line address) × AreTold rounds told new
 
@@ -30,8 +30,8 @@ AreOverStores {R} opens may_leave plan shards =
     (length shards ≡ plan.shards) × ((i : ℕ) (none : StoredView R) → i < length shards → IsOpenedOver (opens i) may_leave (slice_index_or shards i none))
 
 module _ {I O C : Type 0} (remaining : I → Option (List ℕ)) (contents : O → Option (List ℕ)) (tells : C → ℕ → C → Type 0) (closed : Type 0) where
-  -- a writer has grown by where the server listens, and then by the lines of rounds over the stores of a folder under a plan, each round over the
-  -- shards that the one before it left
+  -- a writer has grown by the line with the server's address, and then by the lines of rounds over the stores of a folder under a plan. Each
+  -- round is over the shards that the round before it left.
   pub record IsServedOver {R : Type 0} (opens : PlanView → ℕ → R → Type 0) (is_stopped : R → Bool) (may_leave : R → Content → Type 0) (rounds : RoundsView)
       (old new : Option (List ℕ)) : Type 0 where
     pub plan : PlanView
@@ -55,14 +55,14 @@ IsBeforeServing (Store number) = ⊤
 IsBeforeServing (Script line) = ⊥
 IsBeforeServing (Close number) = ⊥
 
--- by what a writer has grown where a server fails before it waits for a gateway: by nothing, or by the first octets of where it listens
--- where the output failed
+-- the growth of a writer if a server fails before it waits for a gateway: nothing, or, if the output failed, the first octets of the line
+-- with the server's address
 abbrev pub IsTellingBegun : (old new : Option (List ℕ)) → Failure → Type 0
 IsTellingBegun old new failure = (IsBeforeServing failure × Keeps old new)
     ⊎ ((address : SocketAddr) × (n : ℕ) × (failure ≡ Io) × Appends old new (take n (listening_line address)))
 
 module _ {I O C : Type 0} (remaining : I → Option (List ℕ)) (contents : O → Option (List ℕ)) (tells : C → ℕ → C → Type 0) (closed : Type 0) where
-  -- where the server listens is written, and then what a fault of its rounds leaves, for the cause that this fault has
+  -- the line with the server's address is written, and then the text that a fault of its rounds leaves, for the cause that this fault has
   pub record IsServingEnded {R : Type 0} (opens : PlanView → ℕ → R → Type 0) (is_stopped : R → Bool) (may_leave : R → Content → Type 0) (rounds : RoundsView)
       (old new : Option (List ℕ)) (failure : Failure) : Type 0 where
     pub plan : PlanView
@@ -77,7 +77,7 @@ module _ {I O C : Type 0} (remaining : I → Option (List ℕ)) (contents : O �
     pub lines : EndsWith fault rounds.rounds told new
     pub cause : EndsServing remaining contents tells closed clock (record { plan = plan; identity = identity_of plan }) is_stopped may_leave rounds fault shards told new
 
-  -- by what a writer has grown where a server ends with a failure
+  -- the growth of a writer if a server ends with a failure
   abbrev pub IsServedBegun : {R : Type 0} → (opens : PlanView → ℕ → R → Type 0) (is_stopped : R → Bool) (may_leave : R → Content → Type 0) → RoundsView
       → (old new : Option (List ℕ)) → Failure → Type 0
   IsServedBegun opens is_stopped may_leave rounds old new failure =

@@ -32,7 +32,7 @@ pub record IsTopUp {R : Type 0} (opens : PlanView → ℕ → R → Type 0) (may
 abbrev pub IsTopUpBegun : (file : Option (List ℕ)) → TopUpAsk → (old new : Option (List ℕ)) → Type 0
 IsTopUpBegun file ask old new = (plan : PlanView) × IsPlanOf file plan × (after : ShardView) × IsToppedUpBegun plan (identity_of plan) ask after old new
 
--- a writer has grown by the page of a subscriber under the plan of the file, from the store of its shard as opening gives it, where there is one
+-- a writer has grown by the page of a subscriber under the plan of the file, from the store of its shard as opening gives it, if there is one
 pub record IsLedger {R : Type 0} (opens : PlanView → ℕ → R → Type 0) (may_leave : R → Content → Type 0) (file : Option (List ℕ)) (sub : Sub)
     (old new : Option (List ℕ)) : Type 0 where
   pub plan : PlanView

@@ -1,4 +1,4 @@
-//! What a command line asks for.
+//! The task or the server that a command line asks for.
 
 ghost use Rattle.std.specs.Prelude.{◌≡◌, ◌⊎◌, codes, None, IfErr, IfOk, IfSome, map, option_map, string_bytes};
 ghost use Rattle.clap.specs.Words.{app_of, first_of, found_of, rows_of, with_rule};
@@ -27,7 +27,7 @@ pub struct Place<'a> {
     pub folder: &'a str,
 }
 
-/// What a command line asks for.
+/// The task that a command line asks for.
 #[derive(Clone, Copy, Debug, PartialEq, Eq)]
 pub enum Task<'a> {
     /// To replay a script under the plan of the file at this path.
@@ -53,20 +53,20 @@ pub struct ServeAsk<'a> {
     pub rounds: Rounds,
     /// How long a gateway may be silent.
     pub silence: Silence,
-    /// Of a server that stays: so many seconds pass between two sweeps, or none is asked for with 0.
+    /// The seconds that pass between two sweeps of a server that stays. The number 0 asks for no sweep.
     pub sweep: Option<u64>,
 }
 
-/// A server that stays drops a gateway that is silent for so many seconds, where nothing else is said.
+/// A server that stays drops a gateway that is silent for so many seconds, if the words say nothing else.
 const SILENT_SECONDS: u64 = 60;
 
-/// A server that stays sweeps after so many seconds, where nothing else is said.
+/// A server that stays sweeps after so many seconds, if the words say nothing else.
 const SWEEP_SECONDS: u64 = 60;
 
 /// So many seconds at most pass between two sweeps: a day.
 const MOST_SWEEP_SECONDS: u64 = 86_400;
 
-/// The words of the command line; one that is no text is none of the program's.
+/// The words of the command line. A word that is no text is none of the program's.
 pub fn given_words<E: Env + AllocGlobal>(rt: &E) -> Result<Vec<String>, Failure>
     ensures { IfErr result (λ failure. (failure ≡ Memory) ⊎ (failure ≡ Usage)) }
 {
@@ -77,7 +77,7 @@ pub fn given_words<E: Env + AllocGlobal>(rt: &E) -> Result<Vec<String>, Failure>
     }
 }
 
-/// What the words of a command line ask for; the first is the program's name. Words that ask for nothing are a failure of usage.
+/// The task that the words of a command line ask for. The first word is the program's name. Words that ask for nothing are a failure of usage.
 pub fn task_of<'a>(alloc: Global, words: &'a [String]) -> Result<Task<'a>, Failure>
     ensures task { IfOk result (Asks (map string_bytes words.now)) }
     ensures failure { IfErr result (IsTaskFailure (map string_bytes words.now)) }
@@ -95,7 +95,7 @@ pub fn task_of<'a>(alloc: Global, words: &'a [String]) -> Result<Task<'a>, Failu
     }
 }
 
-/// The server that the words of a command line ask for, or none where they ask for something else, which [`task_of`] judges.
+/// The server that the words of a command line ask for. None if they ask for something else, which [`task_of`] judges.
 pub fn serve_of<'a>(alloc: Global, words: &'a [String]) -> Result<Option<ServeAsk<'a>>, Failure> {
     let matches = match command(alloc)?.try_get_matches_from(words) {
         Ok(matches) => matches,
@@ -115,7 +115,7 @@ pub fn serve_of<'a>(alloc: Global, words: &'a [String]) -> Result<Option<ServeAs
     }
 }
 
-/// The server with its options, or none where one isn't in its range or doesn't go with another.
+/// The server with its options. None if an option isn't in its range or doesn't go with another.
 fn serve_ask_of<'a>(found: &ArgMatches<'a>) -> Option<ServeAsk<'a>> {
     let stays = found.get_flag("stay");
     let silent = option_of(found, "silent", if stays { SILENT_SECONDS } else { 0 })?;
@@ -164,7 +164,7 @@ fn sweep_of(found: &ArgMatches<'_>) -> Option<u64> {
     Some(seconds)
 }
 
-/// A number that stands for an option, or this one where the option isn't there.
+/// The number that stands for an option, or `default` if the option isn't there.
 fn option_of(found: &ArgMatches<'_>, name: &str, default: u64) -> Option<u64> {
     match text_of(found, name) {
         Some(text) => any_u64(text.as_bytes()),
@@ -172,7 +172,7 @@ fn option_of(found: &ArgMatches<'_>, name: &str, default: u64) -> Option<u64> {
     }
 }
 
-/// Where is listened: at the port of Diameter on this machine alone, where nothing else is said.
+/// The address to listen at: the port of Diameter on this machine alone, if the words say nothing else.
 fn address_of(found: &ArgMatches<'_>) -> Option<SocketAddrV4> {
     match text_of(found, "listen") {
         Some(text) => SocketAddrV4::parse_ascii(text.as_bytes()).ok(),
@@ -180,7 +180,7 @@ fn address_of(found: &ArgMatches<'_>) -> Option<SocketAddrV4> {
     }
 }
 
-/// What a command asks for with the arguments that were found.
+/// The task that a command asks for with the arguments that were found.
 fn task_named<'a>(name: &str, found: &ArgMatches<'a>) -> Option<Task<'a>>
     ensures { IsTaskOf name.now (rows_of (found_of found.now)) result }
 {
@@ -260,14 +260,14 @@ fn moment_of(found: &ArgMatches<'_>) -> Option<Moment>
     moment(text_of(found, "MOMENT")?.as_bytes())
 }
 
-/// What stands for an argument.
+/// The text that stands for an argument.
 fn text_of<'a>(found: &ArgMatches<'a>, name: &str) -> Option<&'a str>
     ensures { option_map (λ text. text.now) result ≡ first_of name.now (rows_of (found_of found.now)) }
 {
     found.get_str(name)
 }
 
-/// What is asked for where the reader of command lines refuses the words: help and the version are asked for so.
+/// The task that the words ask for, if the reader of command lines refuses them. Words ask for help and for the version in this way.
 fn wish_of<'a>(kind: ErrorKind) -> Result<Task<'a>, Failure>
     ensures { result ≡ wish_of kind }
 {

@@ -13,7 +13,7 @@ use std::io::{Read, Write};
 
 /// Writes the messages of the input as trees of names and values, and its other lines as they are.
 ///
-/// No input is at fault; where the writer fails, a beginning is written.
+/// No input is at fault. If the writer fails, a beginning is written.
 pub fn decode<R: Read, W: Write>(
     alloc: Global,
     input: &mut R,

@@ -12,7 +12,7 @@ use std::io::Write;
 pub struct Ending {
     /// The exit status: 0, or that of the failure.
     pub status: u8,
-    /// Whether the line of a failure was written whole. It is where there was none.
+    /// Whether the line of a failure was written whole. If there was no failure, this is true.
     pub is_told: bool,
 }
 

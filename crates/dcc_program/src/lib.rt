@@ -2,10 +2,10 @@
 //!
 //! Stands on `dcc_replay` for scripts, `dcc_operator` for an operator's commands over stores, `dcc_serve` and `dcc_sockets` for a server,
 //! `dcc_decode` for messages as a person reads them, and `dcc_tariff` for plans. The contract that it gives: [`replay`] is `dcc replay`
-//! over readers of plan and script and a writer, [`top_up`] and [`ledger`] are `dcc topup` and `dcc ledger` over the plan's reader, a
-//! folder's stores and a writer, [`decode`] is `dcc decode`; [`task_of`] is what words ask for, [`run`] judges them and does that, or
-//! prints a text; [`end`] is the line on standard error and the status. [`serve`] is `dcc serve`: clauses say what it writes, none which
-//! words ask for it ([`serve_of`]).
+//! over readers of plan and script and a writer. [`top_up`] and [`ledger`] are `dcc topup` and `dcc ledger` over the plan's reader, a
+//! folder's stores and a writer. [`decode`] is `dcc decode`. [`task_of`] is the task that words ask for. [`run`] judges the words, and does
+//! the task or prints a text. [`end`] is the line on standard error and the status. [`serve`] is `dcc serve`: clauses say what it writes,
+//! but no clause says which words ask for it ([`serve_of`]).
 #![tactic(auto)]
 
 mod command_line;

@@ -19,7 +19,7 @@ pub fn plan_from<R: Read>(alloc: Global, file: &mut R) -> Result<Plan, Failure>
     plan_of(alloc, octets.as_slice())
 }
 
-/// The plan of a file's octets: that of their text, or its first fault; octets that are no text are no TOML document.
+/// The plan of a file's octets: that of their text, or its first fault. Octets that are no text are no TOML document.
 pub fn plan_of(alloc: Global, octets: &[u8]) -> Result<Plan, Failure>
     ensures ok { IfOk result (λ plan. plan_of_octets octets.now ≡ Ok plan) }
     ensures err { IfErr result (IsRefusal (plan_of_octets octets.now)) }

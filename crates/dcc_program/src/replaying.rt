@@ -15,7 +15,7 @@ use std::io::{Read, Write};
 
 /// Replays the script of the input under the plan that the file gives, and writes what is printed of it.
 ///
-/// The plan is judged first, then the script, and both before anything is written; where the writer fails, a beginning is.
+/// The plan is judged first, then the script, and both before anything is written. If the writer fails, a beginning is written.
 pub fn replay<P: Read, R: Read, W: Write>(
     alloc: Global,
     file: &mut P,

@@ -28,9 +28,9 @@ use std::sync::Wait;
 use std::thread::Threads;
 use std::time::Clock;
 
-/// Serves under the plan that the file gives, over the stores of the folder, at an address: writes where it listens, and then the line of
-/// each round. The plan is judged first, then the stores, which are made where they are missing, then the address, and all of them before
-/// anything is written.
+/// Serves under the plan that the file gives, over the stores of the folder, at an address. Writes the address at which it
+/// listens, and then the line of each round. The plan is judged first, then the stores, which are made if they are missing, then the
+/// address, and all of them before anything is written.
 pub fn serve<
     R: Files
         + RandomSource
@@ -128,19 +128,19 @@ fn serve_under<
     Ok(served?)
 }
 
-/// The path of the file that tells a server that stays to end: `stop` in the folder of the stores.
+/// The path of the file that asks a server that stays to end: `stop` in the folder of the stores.
 fn stop_path(alloc: Global, ask: &ServeAsk<'_>) -> Result<String, AllocError> {
     format!(in alloc; "{}/stop", ask.place.folder)
 }
 
-/// Removes the file that tells a server that stays to end, where it is there.
+/// Removes the file that asks a server that stays to end, if it is there.
 fn forget_stop(ask: &ServeAsk<'_>, stop: &str) {
     if ask.sweep.is_some() {
         let _was_there = remove_stop(stop);
     }
 }
 
-/// Listens at an address, and writes where that is.
+/// Listens at an address, and writes the address at which the server listens.
 fn open_door<'r, N: Net<Listener = TcpListener, Stream = TcpStream>, W: Write>(
     rt: &'r N,
     alloc: Global,
@@ -151,7 +151,7 @@ fn open_door<'r, N: Net<Listener = TcpListener, Stream = TcpStream>, W: Write>(
     ensures whole { OnOk result ((address : SocketAddr) × Appends (W.contents output.old) (W.contents output.new) (listening_line address)) }
     ensures part { IfErr result (IsTellingBegun (W.contents output.old) (W.contents output.new)) }
 {
-    // No `?`, which is not proved where a value holds a reference beside a struct with a model.
+    // No `?`: it is not proved if a value holds a reference beside a struct with a model.
     let door = match Door::bind(rt, alloc, ask.address, ask.silence, staying) {
         Ok(door) => door,
         Err(error) => return Err(Failure::from(error)),
@@ -161,7 +161,7 @@ fn open_door<'r, N: Net<Listener = TcpListener, Stream = TcpStream>, W: Write>(
     Ok(door)
 }
 
-/// Writes where the server listens.
+/// Writes the address at which the server listens.
 fn tell_address<W: Write>(alloc: Global, address: SocketAddr, output: &mut W) -> Result<(), Failure>
     ensures whole { OnOk result (Appends (W.contents output.old) (W.contents output.new) (listening_line address)) }
     ensures part { IfErr result (IsTellingBegun (W.contents output.old) (W.contents output.new)) }

@@ -14,10 +14,10 @@ use std::alloc::Global;
 use std::hash::RandomState;
 use std::io::{Read, Write};
 
-/// Makes a top-up under the plan that the file gives, in the store of its subscriber's shard, and writes what it was told.
+/// Makes a top-up under the plan that the file gives, in the store of its subscriber's shard, and writes its answer.
 ///
-/// The plan is judged first, then the store, and both before anything is written; where the writer fails, a beginning is, and the
-/// top-up stands.
+/// The plan is judged first, then the store, and both before anything is written. If the writer fails, a beginning is written, and
+/// the top-up stands.
 pub fn top_up<P: Read, S: Stores, W: Write>(
     alloc: Global,
     file: &mut P,
@@ -46,10 +46,10 @@ pub fn top_up<P: Read, S: Stores, W: Write>(
     }
 }
 
-/// Writes the ledger of a subscriber under the plan that the file gives, from the store of its shard, or that its account is unknown
-/// where there is none.
+/// Writes the ledger of a subscriber under the plan that the file gives, from the store of its shard. If there is no store, writes
+/// that the account is unknown.
 ///
-/// The plan is judged first, then the store, and both before anything is written; where the writer fails, a beginning is.
+/// The plan is judged first, then the store, and both before anything is written. If the writer fails, a beginning is written.
 pub fn ledger<P: Read, S: Stores, W: Write>(
     alloc: Global,
     file: &mut P,

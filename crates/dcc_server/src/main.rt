@@ -1,6 +1,6 @@
 //! The program `dcc`: a server of gateways over TCP, an operator's top-ups and ledgers, scripts that are replayed, and messages as trees.
 //!
-//! What it does stands in `dcc_program`, with its contracts; `dcc_process` gives it the stores of `dcc_files`, and here it is given the process.
+//! Its work stands in `dcc_program`, with its contracts. `dcc_process` gives it the stores of `dcc_files`, and here it is given the process.
 #![tactic(auto)]
 
 use dcc_process::run_process;
