@@ -71,7 +71,7 @@ pub fn event(alloc: Global, action: Action, name: &[u8], number: u32) -> Option<
     Some(Act { moment, kind })
 }
 
-/// What asks for it.
+/// The job that asks for it.
 pub(crate) fn event_job(
     alloc: Global,
     sub: Sub,
@@ -83,14 +83,14 @@ pub(crate) fn event_job(
     Some(job(alloc, sub, act, number))
 }
 
-/// The services of what opens a session.
+/// The services of a job that opens a session.
 fn services(alloc: Global) -> Option<Services> {
     let mut services = Vec::new(alloc);
     services.push(service(alloc)).ok()?;
     Services::from_vec(services)
 }
 
-/// What opens a session.
+/// The job that opens a session.
 pub(crate) fn opening(alloc: Global, sub: Sub, name: &[u8]) -> Option<Job> {
     let moment = after(0)?;
     let key = key(alloc, name, 0)?;

@@ -1,8 +1,8 @@
 //! Shards over any records, under locks, and callers with seats, for tests.
 //!
-//! Stands on `dcc_running`. A [`Caller`] asks for one subscriber at its own seat, and keeps the answers to its debits. [`one`] and [`two`] make
-//! shards under locks of records, [`locked_alone`] of a shard, [`shard_over`] and [`pair`] without locks. The contract: [`are_shards`] is true only of shards that
-//! [`dcc_running::Shards::new`] takes. All else is proved safe, no more.
+//! Stands on `dcc_running`. A [`Caller`] asks for one subscriber at its own seat, and keeps the answers to its debits. [`one`] and [`two`]
+//! make shards under locks of records, and [`locked_alone`] makes them of a shard. [`shard_over`] and [`pair`] make shards without locks.
+//! The contract: [`are_shards`] is true only of shards that [`dcc_running::Shards::new`] takes. All else is proved safe, no more.
 #![tactic(auto)]
 
 mod callers;

@@ -13,7 +13,7 @@ use std::hash::RandomState;
 use std::random::RandomSource;
 use std::test::Fail;
 
-/// These shards under locks, where they may stand as one.
+/// These shards under locks, if they may stand as one.
 fn locked<R: Records + Drop>(
     alloc: Global,
     identity: &Identity,

@@ -1,4 +1,4 @@
-//! Gateways in memory: each sends in two steps, and looks that what it is written is what it waits for.
+//! Gateways in memory: each sends in two steps, and looks that the octets that are written to it are those that it waits for.
 
 use crate::messages::decoded;
 use dcc_gate_records::Gate;
@@ -148,7 +148,7 @@ impl Read for Input<'_> {
     }
 }
 
-/// What a gateway is written.
+/// What is written to a gateway.
 #[derive(Drop)]
 pub(crate) struct Output<'a> {
     talk: &'a Talk,
@@ -221,7 +221,7 @@ impl<'a> Listener<Input<'a>, Output<'a>> for Gateways<'a> {
     }
 }
 
-/// Nobody is told what happens.
+/// Drops each notice.
 #[derive(Drop)]
 pub(crate) struct Untold;
 

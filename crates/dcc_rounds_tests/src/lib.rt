@@ -1,6 +1,6 @@
-//! Tests of connections and of rounds over gateways in memory, which stand apart: a crate with tests of its own is proved a second time
-//! with them. How a connection ends where its reader or its writer fails, that no worker waits for another, and that a sweep by a clock that
-//! is set ends a session, no clause says.
+//! Tests of connections and of rounds over gateways in memory. They stand apart, since a crate with tests of its own is proved a second
+//! time with them. No clause says how a connection ends if its reader or its writer fails, that no worker waits for another, or that a
+//! sweep by a clock that is set ends a session.
 #![tactic(auto)]
 
 #[cfg(test)]

@@ -16,7 +16,7 @@ use std::sync::Wait;
 use std::test::Fail;
 use std::thread::Threads;
 
-/// A clock that tells one moment for so many readings, and then another. Each gateway has its own.
+/// A clock that returns one moment for so many readings, and then another. Each gateway has its own clock.
 #[derive(Clone, Copy)]
 pub(crate) struct Watch {
     pub first: Moment,
@@ -36,7 +36,7 @@ impl Clock for Watch {
     }
 }
 
-/// Serves rounds of a stage's gateways over these shards, and writes their lines: how that ends, or nothing where the shards may not
+/// Serves rounds of a stage's gateways over these shards, and writes their lines. It returns how that ends, or None if the shards may not
 /// stand as one.
 fn serve<W: Threads + Wait + Sync, R: Records + Send + Sync + Drop>(
     rt: &W,
@@ -87,7 +87,7 @@ fn gated<'a, S: RandomSource + AllocGlobal>(
     pair(rt, first, second)
 }
 
-/// Serves rounds over such shards, of which the first waits at the stage's gate, and writes their lines; whether all were served.
+/// Serves rounds over such shards, of which the first waits at the stage's gate, and writes their lines. It returns whether all were served.
 fn serve_gated<S: Threads + Wait + Sync + RandomSource + AllocGlobal>(
     rt: &S,
     server: Server<'_>,

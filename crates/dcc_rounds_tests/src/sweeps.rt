@@ -32,7 +32,7 @@ fn one_session(alloc: Global) -> Result<Talk, Fail> {
     Ok(talk)
 }
 
-/// One that debits all of the money, of which nothing may be reserved.
+/// A gateway that debits all of the money, of which nothing may be reserved.
 fn debit_of_all(alloc: Global) -> Result<Talk, Fail> {
     let (message, answer) = (debit(alloc, ALL, &[])?, debited(alloc, ALL, &[])?);
     let mut talk = Talk::new(alloc)?;

@@ -34,7 +34,7 @@ fn close<R: Records + Drop>(alloc: Global, shards: Shards<R>, seats: Vec<Seat>) 
     }
 }
 
-/// A top-up's ticket and amount, and what it is told.
+/// A top-up's ticket and amount, and its answer.
 type ToldTopUp = (u64, u64, TopUpAnswer);
 
 const ADDED: TopUpAnswer = TopUpAnswer::Done {
@@ -54,7 +54,7 @@ const THREE_TOP_UPS: &[ToldTopUp] = &[
     (2, 0, TopUpAnswer::BadAmount),
 ];
 
-/// Tops up, and asserts what each top-up is told.
+/// Tops up, and asserts the answer of each top-up.
 fn top_up_each<W: Wait + Abort + AllocGlobal, R: Records>(
     rt: &W,
     shards: &Shards<R>,
@@ -149,7 +149,7 @@ fn seat_of_others<W: Wait + Abort + AllocGlobal + RandomSource>(
     seat
 }
 
-/// What the subscriber is told after a top-up, that it is unknown, comes of other shards.
+/// Makes the subscriber's debit at other shards, and asserts that it is unknown there after a top-up.
 fn ask_others<S: Wait + Abort + RandomSource + AllocGlobal>(
     rt: &S,
     caller: &mut Caller,
@@ -161,7 +161,7 @@ fn ask_others<S: Wait + Abort + RandomSource + AllocGlobal>(
     Ok(())
 }
 
-/// A seat whose last receipt is of an act before one that was told as unknown.
+/// A seat whose last receipt is of an act before one that was reported as unknown.
 fn seat_out_of_order<W: Wait + Abort + AllocGlobal + RandomSource, R: Records>(
     rt: &W,
     shards: &Shards<R>,
@@ -198,7 +198,7 @@ fn seats_of<W: Wait + Abort + AllocGlobal + RandomSource>(
     alone(rt.alloc(), seat)
 }
 
-/// What comes of a close without any seat, and of another with these over what that left.
+/// The outcome of a close without any seat, and of a close with these seats over what the first left.
 fn close_twice<R: Records + Drop>(alloc: Global, shards: Shards<R>, seats: Vec<Seat>) -> (u8, u8) {
     match shards.close(alloc, Vec::new(alloc)) {
         Ok(books) => (0, close(alloc, books.into_locks(), seats)),
@@ -209,7 +209,7 @@ fn close_twice<R: Records + Drop>(alloc: Global, shards: Shards<R>, seats: Vec<S
     }
 }
 
-/// The same where there are seats.
+/// The same if there are seats.
 fn close_with<R: Records + Drop>(
     alloc: Global,
     shards: Shards<R>,
@@ -224,7 +224,7 @@ fn close_with<R: Records + Drop>(
     }
 }
 
-/// The faults with which shards close, 0 for none, without any seat and with the one at which this was done.
+/// The faults with which shards close, 0 for none, without any seat and with the seat at which this was done.
 fn faults<W: Wait + Abort + AllocGlobal + RandomSource>(
     rt: &W,
     seated: Seated,
@@ -280,7 +280,7 @@ const CEILING: &[ToldTopUp] = &[
     (1, 7, ADDED_BEFORE),
 ];
 
-/// The seat at which money was topped up to the ceiling, and a refund was told DIAMETER_UNABLE_TO_COMPLY, 5012.
+/// The seat at which money was topped up to the ceiling, and a refund was answered with DIAMETER_UNABLE_TO_COMPLY, 5012.
 fn seat_at_the_ceiling<W: Wait + Abort + AllocGlobal, R: Records>(
     rt: &W,
     shards: &Shards<R>,

@@ -58,7 +58,7 @@ fn identity_of<R: Records>(shards: &[Shard<R>]) -> Result<Identity, Fail> {
     Ok(shards.first().ok_or("a shard")?.identity().copy()?)
 }
 
-/// These shards as one, where they may stand so.
+/// These shards as one, if they may stand so.
 fn as_one<R: Records + Drop>(
     terms: &Terms,
     identity: Identity,
@@ -190,8 +190,7 @@ fn put_events(alloc: Global, events: &mut Vec<Event>) -> Result<(), Fail> {
     Ok(())
 }
 
-/// Asserts that at the end of these outs are that of a sweep which was refused for this subscriber alone, and behind it two busy answers and one
-/// to a debit.
+/// Asserts that these outs end with that of a sweep which was refused for this subscriber alone, two busy answers, and an answer to a debit.
 fn assert_told(rt: &(impl Abort + AllocGlobal), outs: &[Out], sub: Sub) -> Result<(), Fail> {
     let [.., sweep, busy, again, other] = outs else {
         return Err("outs".into());
@@ -217,7 +216,7 @@ fn acts_of<R: Records>(engine: &Engine<R>, sub: Sub) -> usize {
     }
 }
 
-/// Runs all, and asserts what is told, and that of the first subscriber nothing is held from the sweep on.
+/// Runs all, and asserts what is reported, and that nothing is held of the first subscriber from the sweep on.
 fn run_until_stopped<R: Records>(
     rt: &(impl Abort + AllocGlobal),
     engine: &mut Engine<R>,

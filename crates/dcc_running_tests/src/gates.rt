@@ -14,7 +14,7 @@ use std::sync::Wait;
 use std::test::Fail;
 use std::thread::{Threads, join};
 
-/// Each call of the other shard, once an append has come to the gate, which is opened behind them: whether each was answered.
+/// Makes each call of the other shard once an append has come to the gate, and opens the gate behind them. It returns whether each was answered.
 fn call_beside<W: Wait, R: Records>(
     rt: &W,
     alloc: Global,
@@ -92,7 +92,7 @@ fn gated<'a, S: RandomSource + AllocGlobal>(
     )
 }
 
-/// With one lock round both shards the append waits until it fails: its caller is told so.
+/// With one lock round both shards the append waits until it fails, and its call returns so.
 #[test]
 fn a_shard_answers_beside_an_append(rt: HostRuntime) -> Result<(), Fail> {
     let (shut, open) = (Gate::new(), Gate::new());

@@ -1,5 +1,5 @@
-//! Tests of shards under locks and of their receipts, and of an engine whose records fail, which stand apart: a crate with tests of its
-//! own is proved a second time with them. Threads run at once here; that they do, and that no shard waits for another, no clause says.
+//! Tests of shards under locks and of their receipts, and of an engine whose records fail. They stand apart, since a crate with tests of
+//! its own is proved a second time with them. Threads run at once here. No clause says that they do, or that no shard waits for another.
 #![tactic(auto)]
 
 #[cfg(test)]

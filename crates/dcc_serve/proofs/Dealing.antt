@@ -55,7 +55,7 @@ module _ {T : Type 0} where
       ∙ ap (λ (ss : List (Sender T)). lists_of done ++ deal (list.items ∷ lists_of left) ss) given)
       ∙ told
 
-  -- or stays as it is, where no sender is left
+  -- or the list stays as it is, if no sender is left
   pub deal_past : (done next lists left : List (Vec (Sender T))) (list one : Vec (Sender T)) (senders rest : List (Sender T)) (all : List (List (Sender T)))
       → lists ≡ list ∷ left → next ≡ done ++ one ∷ [] → senders ≡ [] → rest ≡ [] → one ≡ list
       → lists_of done ++ deal (lists_of lists) senders ≡ all → lists_of next ++ deal (lists_of left) rest ≡ all

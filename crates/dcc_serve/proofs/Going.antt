@@ -87,7 +87,7 @@ module _ {T : Type 0} where
   all_heard_put r (k ∷ rs) lists h (inl e) x i = firsts_put x lists (heard_item r (firsts lists) (subst (λ (q : Receiver T). IsHeard q (firsts lists)) e h.0) x i)
   all_heard_put r (k ∷ rs) lists h (inr j) x i = rests_put x lists (all_heard_put r rs (rests lists) h.1 j x i)
 
-  -- who put nothing put not this
+  -- a sender that put nothing did not put this
   none_put : (x : T) (ss : List (Sender T)) → AllByRecursion IsNewSender ss → IsAmong x (all_put ss) → ⊥
   none_put x [] new n = n
   none_put x (s ∷ ss) new (inl i) = subst (IsIn x) new.0 i
@@ -410,7 +410,7 @@ module _ {I O C : Type 0} (remaining : I → Option (List ℕ)) (contents : O �
       let on : items_of (taken_of h.0.from) ≡ items_of (taken_of old.from) ++ items_of t.0 = ap items_of t.1 ∙ items_both (taken_of old.from) t.0 in
       taken_by_all h.0 last vs h.2 x (subst (IsIn x) (sym on) (in_left x (items_of (taken_of old.from)) (items_of t.0) i))
 
-  -- what was written to a gateway answers messages that came in, where all that its place took does
+  -- what was written to a gateway answers messages that came in, if all that its place took answers such messages
   visit_answers : (came : List ℕ → Type 0) (old : places.Place I O) (v : Visit I O) (new : places.Place I O) → VisitOf old v new
       → ((octets : List ℕ) → IsIn (Octets octets) (items_of (taken_of new.from)) → AnsweredBy came octets)
       → WritesAnswers remaining contents tells closed clock setting count came v

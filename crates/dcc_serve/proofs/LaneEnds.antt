@@ -108,7 +108,7 @@ pub map_map : {X Y Z : Type 0} (g : Y → Z) (f : X → Y) (xs : List X) → map
 map_map g f [] = refl
 map_map g f (x ∷ xs) = ap (λ zs. g (f x) ∷ zs) (map_map g f xs)
 
--- lanes and senders are tied where the lists that are told of them are
+-- lanes and senders are tied if the lists of them are tied
 pub tied_by : (ends : List Ends) (w i r : List TableId) (a n : List (List TableId)) → filter_map (λ (e : Ends). e.work) ends ≡ w → filter_map (λ (e : Ends). e.asks) ends ≡ a
     → filter_map (λ (e : Ends). e.items) ends ≡ i → filter_map (λ (e : Ends). e.reply) ends ≡ r → filter_map (λ (e : Ends). e.answers) ends ≡ n
     → AreOfLanes w a → AreOfLanes i (r ∷ n) → AreTied ends
@@ -118,7 +118,7 @@ tied_by ends w i r a n w_is a_is i_is r_is n_is asked answered = record {
       (subst (λ x. AreOfLanes i (x ∷ filter_map (λ (e : Ends). e.answers) ends)) (sym r_is) (subst (λ x. AreOfLanes i (r ∷ x)) (sym n_is) answered));
 }
 
--- the lists that are told of some threads
+-- the lists of the lanes and senders of some threads
 record Told (ends : List Ends) (w i r : List TableId) (a n : List (List TableId)) : Type 0 where
   work : filter_map (λ (e : Ends). e.work) ends ≡ w
   asks : filter_map (λ (e : Ends). e.asks) ends ≡ a

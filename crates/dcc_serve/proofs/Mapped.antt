@@ -1,4 +1,4 @@
--- What is handed on to a state, told of what is seen of it.
+-- What is handed on to a state, stated of what is seen of it.
 use Rattle.std.proofs.Common.{ℕ, List, [], ◌∷◌, Option, ap, subst}
 use Rattle.std.specs.List.{FoldsTo, concat}
 use Rattle.dcc_connect.specs.Reading.{HandsOn, Hands, ReadsAndHands}

@@ -16,7 +16,7 @@ module _ {A : Type 0} where
   more_behind None later c = refl
   more_behind (Some x) later c = refl
 
-  -- one came first, or behind the others where others may
+  -- one gateway came first, or behind the others if others may come
   came_more : (first next : Option A) (xs later : List A) (c : A) (stays : Bool) → xs ++ cons_option next [] ≡ cons_option first later → (stays ≡ false → later ≡ [])
       → IfSome next (λ f. Some c ≡ Some f) → (next ≡ None → stays ≡ false → Some c ≡ None)
       → (all : List A) × ((xs ++ c ∷ []) ++ [] ≡ cons_option first all) × (stays ≡ false → all ≡ [])

@@ -28,7 +28,8 @@ abbrev pub Says : Settled → List ℕ → Type 0
 Says (Replied reply) octets = octets ≡ reply.octets
 Says (Asked asked) octets = (answer : RequestAnswer) × IsAnswerTo (job_of asked) answer × (working.octets_in answer ≡ Some octets)
 
--- octets answer a message: they are those of what it comes to, at some moment, to a peer, of one who is found by so many shards where it names nobody
+-- Octets answer a message: they are the octets of its outcome, at some moment, to a peer. If the message names nobody, the outcome is of a
+-- subscriber who is found by so many shards.
 abbrev pub IsAnswerOf : Setting → (count : ℕ) → (message octets : List ℕ) → Type 0
 IsAnswerOf setting count message octets =
     (moment : ℕ) × (old : Peer) × (new : Peer) × (word : Dispatched) × (settled : Settled) × IsDispatched setting moment message old new word

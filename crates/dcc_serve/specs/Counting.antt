@@ -6,11 +6,11 @@ use Rattle.dcc_serve.specs.declared.line.Counts.{Counts}
 use Rattle.dcc_serve.specs.declared.tasks.Task.{Task}
 use Rattle.dcc_serve.specs.declared.tasks.Task.TheVariants.{Work, Time, Place}
 
--- how many acts these receipts are of: each has one that is fresh
+-- how many acts these receipts are of: each act has one receipt that is fresh
 abbrev pub acts_of : List Receipt → ℕ
 acts_of receipts = count_by (λ (receipt : Receipt). receipt.fresh) receipts
 
--- a count that stops at the most that is told
+-- a count that stops at the most that is reported
 abbrev pub at_most : ℕ → ℕ
 at_most count = min count (2 ^ 64 - 1)
 
@@ -37,7 +37,7 @@ module _ {I O : Type 0} where
   acts_in (Time timer) = 0
   acts_in (Place place) = 0
 
-  -- its seat, where it is a worker
+  -- its seat, if it is a worker
   abbrev pub seat_in : Task I O → Option (List Receipt)
   seat_in (Work worker) = Some worker.seat
   seat_in (Time timer) = None

@@ -22,12 +22,12 @@ pub record Ends : Type 0 where
   pub reply : Option TableId
   pub answers : Option (List TableId)
 
--- of some threads the timer and each reader, and so each worker, has a sender of each lane that it puts into
+-- of some threads, the timer, each reader and each worker has a sender of each lane that it puts into
 pub record AreTied (ends : List Ends) : Type 0 where
   pub asked : AreOfLanes (filter_map (λ (e : Ends). e.work) ends) (filter_map (λ (e : Ends). e.asks) ends)
   pub answered : AreOfLanes (filter_map (λ (e : Ends). e.items) ends) (filter_map (λ (e : Ends). e.reply) ends ∷ filter_map (λ (e : Ends). e.answers) ends)
 
--- one more, where there is one
+-- a list with one item more, if there is such an item
 abbrev pub with : {X : Type 0} → List X → Option X → List X
 with xs None = xs
 with xs (Some x) = xs ++ x ∷ []

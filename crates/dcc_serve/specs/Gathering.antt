@@ -15,7 +15,7 @@ use Rattle.dcc_serve.specs.declared.tasks.Task.TheVariants as task
 use Rattle.dcc_serve.specs.declared.work.Work.{Work}
 
 module _ {I O : Type 0} where
-  -- the workers of shards from this one on: each takes of its own lane, has its own senders to the writers, was told nothing, and has swept nothing
+  -- the workers of shards from this one on: each takes of its own lane, has its own senders to the writers, keeps no receipt, and has swept nothing
   abbrev pub workers_from : ℕ → List (Receiver Work) → List (Vec (Sender Item)) → List (Task I O)
   workers_from shard [] senders = []
   workers_from shard (from ∷ receivers) [] = []
@@ -33,7 +33,7 @@ module _ {I O : Type 0} where
         answers = 0;
       })
 
-  -- the places from this one on, each with the gateway that came for it, where one did
+  -- the places from this one on, each with the gateway that came for it, if a gateway came
   abbrev pub places_from : (stays : Bool) → (every gate : ℕ) → List (Option (Connection I O)) → List (Receiver Item) → List (Vec (Sender Work)) → List (Sender Item) → List (Task I O)
   places_from stays every gate [] receivers senders replies = []
   places_from stays every gate (first ∷ firsts) [] senders replies = []
@@ -42,7 +42,7 @@ module _ {I O : Type 0} where
   places_from stays every gate (first ∷ firsts) (from ∷ receivers) (workers ∷ senders) (writer ∷ replies) =
       place_of stays every gate first from workers writer ∷ places_from stays every (gate + 1) firsts receivers senders replies
 
-  -- a gateway came for each place, or for none where places are taken again
+  -- a gateway came for each place, or for none if places are taken again
   abbrev pub HasCome : Bool → Option (Connection I O) → Type 0
   HasCome stays first = is_some first ≡ not stays
 
@@ -55,8 +55,8 @@ module _ {I O : Type 0} where
   abbrev pub timer_of : Bool → Vec (Sender Work) → Task I O
   timer_of stays workers = task.Time (record { stays = stays; workers = workers })
 
-  -- Lanes are made to each shard's worker, with a sender for each place and one for the timer, and to each place's writer, with one for its reader and
-  -- one for each shard; the worker of each shard, the timer, and the places are these.
+  -- A lane is made to each shard's worker, with a sender for each place and one for the timer. A lane is made to each place's writer, with a sender
+  -- for its reader and one for each shard. The threads are the worker of each shard, the timer, and the places.
   pub record AreGathered (shards : ℕ) (rounds : RoundsView) (tasks : List (Task I O)) : Type 0 where
     pub work : Lanes Work
     pub items : Lanes Item

@@ -47,7 +47,7 @@ pub record IsSameReader (old new : Reader) : Type 0 where
   pub workers : lanes_of new.workers.items ≡ lanes_of old.workers.items
   pub writer : lane_of_sender new.writer ≡ lane_of_sender old.writer
 
--- one of what a message to a peer may come to, and where it leaves the peer
+-- one of the outcomes that a message to a peer may have, and the state in which it leaves the peer
 abbrev pub IsDispatched : Setting → ℕ → List ℕ → (old new : Peer) → Dispatched → Type 0
 IsDispatched setting moment message old new word =
     IfCharging word (λ header. received old message ≡ Charging (host_name old) (message_view header message))
@@ -56,8 +56,9 @@ IsDispatched setting moment message old new word =
     × IfCharging word (λ header. new ≡ old)
     × IfReplied word (λ reply. IsRepliedTo setting moment (received old message) old new reply)
 
--- What it comes to once nobody is sought any more. Who opened the session of a request that names nobody is asked of each of so many shards, by the host of
--- the request's peer; it is asked of the one who did, and refused where nobody or several did.
+-- The outcome of a message once nobody is sought any more. For a request that names nobody, each of so many shards is asked, by the host of the
+-- request's peer, who opened its session. If a single subscriber did, the request is asked of this subscriber. If nobody or several did, it is
+-- refused.
 abbrev pub IsSettledBy : Setting → (count : ℕ) → (host message : List ℕ) → Dispatched → Settled → Type 0
 IsSettledBy setting count host message (words.Replied reply) settled = settled ≡ Replied reply
 IsSettledBy setting count host message (words.Asked asked) settled = settled ≡ Asked asked
@@ -71,7 +72,7 @@ abbrev pub IfSettled : Settled → (AskedView → Type 0) → Type 0
 IfSettled (Replied reply) P = Unit {0}
 IfSettled (Asked asked) P = P asked
 
--- the octets of a reply, where there are any
+-- the octets of a reply, if it has any
 abbrev pub replies : List ℕ → List Item
 replies octets = if length octets == 0 then [] else Octets octets ∷ []
 
@@ -82,8 +83,8 @@ job_of asked = record { sub = asked.sub; act = asked.act; header = asked.header;
 abbrev pub one_more : ℕ → ℕ
 one_more count = min (count + 1) (2 ^ 64 - 1)
 
--- A reply goes to the gateway's own writer, and the connection stays or closes as it says. What asks for an act goes to the shard that
--- keeps its subscriber, as this gateway's, and the connection stays.
+-- A reply goes to the gateway's own writer, and the connection stays or closes as the reply says. A request for an act goes to the shard that keeps
+-- its subscriber, as this gateway's, and the connection stays.
 abbrev pub Passes : ℕ → Settled → Handed → Reading → Reading → Type 0
 Passes gate (Replied reply) handed old new =
     (handed ≡ (if reply.close then Closes else Stays))
@@ -115,7 +116,7 @@ AsksSweep moment old new =
       sweeps = record { every = old.sweeps.every; since = since_then old.sweeps };
     }
 
--- a message comes to what is dispatched, that is settled and passed on; then a sweep is asked for where it is due
+-- a message is dispatched, settled and passed on; then a sweep is asked for if it is due
 abbrev pub Hands : Setting → (count : ℕ) → ℕ → List ℕ → Handed → Reader → Reader → Type 0
 Hands setting count moment message handed old new =
     (word : Dispatched) × (settled : Settled) × (between : Reading) × IsDispatched setting moment message old.peer new.peer word

@@ -13,7 +13,7 @@ use Rattle.dcc_serve.specs.declared.lanes.TheConstants.{CAPACITY}
 abbrev pub all_put : {T : Type 0} → List (Sender T) → List (List T)
 all_put senders = map put_of senders
 
--- the first item was taken, where there was one
+-- the first item was taken, if there was any
 abbrev pub TakesFirst : {X : Type 0} → Option X → List X → List X → Type 0
 TakesFirst None old new = (old ≡ []) × (new ≡ [])
 TakesFirst (Some first) old new = old ≡ first ∷ new

@@ -20,8 +20,8 @@ round_lines first (counts ∷ later) = round_line first counts ++ round_lines (f
 abbrev pub AreTold : ℕ → (old new : Option (List ℕ)) → Type 0
 AreTold rounds old new = (ended : List Counts) × (length ended ≡ rounds) × Appends old new (round_lines 1 ended)
 
--- by what a writer has grown where a fault ends a server of this many rounds: the lines of the rounds before; where records failed that of
--- their round too, and where the output or the listener failed a beginning of it
+-- The growth of a writer if a fault ends a server of this many rounds: the lines of the rounds before; if records failed, the line of their round
+-- too; if the output or the listener failed, a beginning of the next line too.
 abbrev pub EndsWith : ServeFault → ℕ → (old new : Option (List ℕ)) → Type 0
 EndsWith Memory rounds old new = (ended : ℕ) × (ended < rounds) × AreTold ended old new
 EndsWith (Close number) rounds old new = (ended : ℕ) × (ended < rounds) × AreTold ended old new

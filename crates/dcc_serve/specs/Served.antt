@@ -26,8 +26,8 @@ abbrev pub AreServed : {S : Type 0} → (S → Counts → S → Type 0) → ℕ 
 AreServed round rounds first last before after =
     (ended : List Counts) × (length ended ≡ rounds) × FoldsTo round first ended last × Appends before after (round_lines 1 ended)
 
--- Why a server of so many rounds ends before these are over: behind good rounds came one that ended by this fault and has no line, or, as 51, one behind which records
--- have failed and which has its line; nothing is said where memory was short or the output or the listener failed.
+-- Why a server of so many rounds ends before these are over. Behind good rounds came a round that ended by this fault and has no line; or, as 51, a
+-- round that has its line and behind which records have failed. Nothing is said if memory was short, or if the output or the listener failed.
 abbrev pub EndsRounds : {S : Type 0} → (good round : S → Counts → S → Type 0) → (ends : S → ServeFault → Type 0) → (stopped : S → Bool) → (fault : ServeFault) → ℕ
     → (first : S) → (before after : Option (List ℕ)) → Type 0
 EndsRounds good round ends stopped Memory rounds first before after = Unit {0}
@@ -82,7 +82,8 @@ module _ {I O C : Type 0} (remaining : I → Option (List ℕ)) (contents : O �
     pub fails : IsFault fault books (filter_map seat_in ended)
     pub numbered : fault_number fault ≡ Some number
 
-  -- why a round has no counts: receipts and books disagree, or, as 80, the sender of a lane is missing; nothing is said where memory was short or a listener failed
+  -- Why a round has no counts: receipts and books disagree, or, as 80, the sender of a lane is missing. Nothing is said if memory was short or a
+  -- listener failed.
   abbrev pub EndsRound : {R : Type 0} → (rounds : RoundsView) → List (StoredView R) → ServeFault → Type 0
   EndsRound rounds old Memory = Unit {0}
   EndsRound rounds old Io = Unit {0}

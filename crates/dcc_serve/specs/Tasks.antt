@@ -11,8 +11,9 @@ use Rattle.dcc_serve.specs.declared.tasks.Task.TheVariants.{Work, Time, Place}
 use Rattle.dcc_serve.specs.declared.timer.SweepTimer.{SweepTimer}
 use Rattle.dcc_serve.specs.declared.worker.Worker.{Worker}
 
--- `remaining` is what an input has left and `contents` what an output was given, where these are known; `tells` is what a reading of a clock may
--- tell, `closed` that no more connections are taken in for places, each reader begins with a copy of `clock`, and `count` is how many shards there are
+-- `remaining` is what an input has left, and `contents` is what an output was given, if these are known. `tells` is what a reading of a clock may
+-- return. `closed` is that no more connections are taken in for places. Each reader begins with a copy of `clock`. `count` is how many shards there
+-- are.
 module _ {I O C : Type 0} (remaining : I → Option (List ℕ)) (contents : O → Option (List ℕ)) (tells : C → ℕ → C → Type 0) (closed : Type 0) (clock : C) (setting : Setting)
     (count : ℕ) where
   -- the worker of a shard that is there works, the timer asks for sweeps, and the gateways of a place are served

@@ -7,7 +7,7 @@ use Rattle.dcc_serve.specs.declared.work.Work.{Work}
 use Rattle.dcc_serve.specs.declared.work.Work.TheVariants as work
 
 module _ {C : Type 0} (tells : C → ℕ → C → Type 0) where
-  -- each worker was asked for a sweep at a moment that the clock told
+  -- each worker was asked for a sweep at a moment that the clock returned
   abbrev pub AsksAt : List (List Work) × C → ℕ → List (List Work) × C → Type 0
   AsksAt old moment new = tells old.1 moment new.1 × (new.0 ≡ put_all (work.Sweep moment) old.0)
 
@@ -16,7 +16,8 @@ module _ {C : Type 0} (tells : C → ℕ → C → Type 0) where
       (moments : List ℕ) × FoldsTo AsksAt (all_put old.workers.items, clock) moments (all_put new.workers.items, later)
       × (lanes_of new.workers.items ≡ lanes_of old.workers.items)
 
-  -- each worker was asked for sweeps, where places are taken again until no more connections are taken in, and else for none; and then told once that nothing more is put
+  -- If places are taken again, each worker was asked for sweeps until no more connections are taken in. Else each worker was asked for none. Then
+  -- the timer said once to each worker that nothing more is put.
   pub record Times (closed : Type 0) (clock : C) (old new : SweepTimer) : Type 0 where
     pub moments : List ℕ
     pub asked : List (List Work)

@@ -31,7 +31,7 @@ abbrev pub Leaves : Reader → Reader → Type 0
 Leaves old new =
     (reading_of new ≡ record (reading_of old) { asked = put_all work.Over (reading_of old).asked }) × IsSameReader old new
 
--- the gateways of a place: first the one that came before the round began, where there is one; others only where the place is taken again
+-- the gateways of a place: first the gateway that came before the round began, if there is one; others only if the place is taken again
 abbrev pub AreComing : {A : Type 0} → Option A → Bool → List A → Type 0
 AreComing {A} first stays came = (later : List A) × (came ≡ cons_option first later) × (stays ≡ false → later ≡ [])
 
@@ -43,7 +43,8 @@ module _ {I O C : Type 0} (remaining : I → Option (List ℕ)) (contents : O �
     pub writes : WritesOut visit.written old.from new.from (contents visit.came.output) (contents visit.output)
     pub answered : new.answers ≡ with_answers old.answers visit.written
 
-  -- these gateways came one after another, each when the one before had gone; a place that is taken again has had its last only where no more are taken in
+  -- These gateways came one after another, each when the gateway before had gone. A place that is taken again has had its last gateway only if no
+  -- more connections are taken in.
   pub record ServesEach (visits : List (Visit I O)) (old new : Place I O) : Type 0 where
     pub last : Place I O
     pub came : AreComing old.first old.stays (map (λ (visit : Visit I O). visit.came) visits)

@@ -22,7 +22,7 @@ use Rattle.dcc_serve.specs.declared.work.Work.{Work}
 use Rattle.dcc_serve.specs.declared.work.Work.TheVariants as work
 use Rattle.dcc_serve.specs.declared.worker.Worker.{Worker}
 
--- what a worker was told, and what it put for each gateway
+-- the receipts that a worker keeps, and the items that it put for each gateway
 pub record Doing : Type 0 where
   pub told : List Receipt
   pub put : List (List Item)
@@ -30,7 +30,7 @@ pub record Doing : Type 0 where
 abbrev pub doing_of : Worker → Doing
 doing_of worker = record { told = worker.seat; put = all_put worker.writers.items }
 
--- the octets of an answer, where there is one
+-- the octets of an answer, if it has any
 abbrev pub octets_in : RequestAnswer → Option (List ℕ)
 octets_in (answers.Done octets at fresh) = Some octets
 octets_in (answers.Unknown octets) = Some octets
@@ -56,7 +56,7 @@ Expires moment old sub new = (answer : ExpiryAnswer) × IsEndOf sub moment answe
 abbrev pub ExpiresEach : ℕ → List Sub → List Receipt → List Receipt → Type 0
 ExpiresEach moment subs old new = FoldsTo (Expires moment) old subs new
 
--- of each subscriber of some shard that has acts, once and in order; or of none, where memory was short for their list
+-- of each subscriber of some shard that has acts, once and in order; or of none, if memory was short for their list
 abbrev pub Sweeps : ℕ → List Receipt → List Receipt → Type 0
 Sweeps moment old new = (new ≡ old) ⊎ ((subs : List Sub) × IsStrictlySortedBy sub_order subs × AreSubs subs × ExpiresEach moment subs old new)
 

@@ -7,7 +7,7 @@ use Rattle.dcc_lane.specs.Ends.{senders_of, taken_of, IsSameReceiver}
 use Rattle.dcc_lane.specs.declared.receiver.Receiver.{Receiver}
 use Rattle.dcc_lane.specs.declared.rule.Tagged.{Tagged}
 
--- where so many had ended, further items were taken until so many had
+-- once `ended` senders had ended, further items were taken until `senders` had ended
 abbrev pub TakesRest : (ended senders : ℕ) → List (Tagged Item) → List (Tagged Item) → Type 0
 TakesRest ended senders old new = (rest : List (Tagged Item)) × (new ≡ old ++ rest) × (ended + ends_in (items_of rest) ≡ senders)
 

@@ -1,4 +1,4 @@
-//! What the server is given from outside: who connects, and who is told of it.
+//! What the server is given from outside: the source of its connections, and the receiver of its notices.
 
 ghost use Rattle.std.specs.Prelude.{◌≡◌, IfNone};
 ghost use Rattle.dcc_serve.specs.declared.face.Tick.TheVariants as end;
@@ -42,7 +42,7 @@ pub trait Listener<I, O> {
     fn enter<W: Wait>(&self, rt: &W) -> Option<Connection<I, O>>
         ensures { IfNone result is_closed };
 
-    /// Waits for a while, and tells what is due behind it.
+    /// Waits for a while, and returns what is due behind it.
     fn tick<W: Wait>(&self, rt: &W) -> Tick
         ensures { result ≡ end.End → is_closed };
 }
@@ -54,7 +54,7 @@ pub trait Shut: Write {
     /// That both halves were ended.
     ghost is_shut: { Self → Type 0 };
 
-    /// Ends both halves at once: who reads the other one finds its end. What was written stays.
+    /// Ends both halves at once: a reader of the other half finds its end. What was written stays.
     fn shut(&mut self)
         ensures kept { Keeps (Self.contents self.old) (Self.contents self.new) }
         ensures shut { is_shut self.new };
@@ -75,7 +75,7 @@ pub enum Notice<'a> {
     Stopped { shard: usize },
 }
 
-/// Who is told what happened, by several threads at once.
+/// The receiver of notices of what happened, from several threads at once.
 pub trait Notices {
     /// Takes a notice. It may wait.
     fn tell<W: Wait>(&self, rt: &W, notice: Notice<'_>);

@@ -12,7 +12,7 @@ use dcc_lane::{Lane, Receiver, Sender};
 use std::alloc::{AllocError, Global};
 use std::sync::Wait;
 
-/// So many items a lane has room for; where it is full, its senders wait.
+/// A lane has room for so many items. If it is full, its senders wait.
 const CAPACITY: usize = 256;
 
 /// The ends of lanes to workers or writers: who takes, and for each that puts its senders, in the order of who takes.
@@ -73,7 +73,7 @@ fn dealt<T: Drop>(
     Ok(dealt)
 }
 
-/// Takes the first item of a list, where there is one.
+/// Takes the first item of a list, if it has any.
 pub(crate) fn first_of<T>(list: &mut Vec<T>) -> Option<T>
     ensures { TakesFirst result list.old.items list.new.items }
 {
@@ -83,7 +83,7 @@ pub(crate) fn first_of<T>(list: &mut Vec<T>) -> Option<T>
     Some(list.remove(0))
 }
 
-/// Puts an item into the lane of this index, where there is one.
+/// Puts an item into the lane of this index, if there is such a lane.
 pub(crate) fn put_into<W: Wait, T: Drop>(rt: &W, lanes: &mut Vec<Sender<T>>, index: usize, item: T)
     ensures put { all_put lanes.new.items ≡ put_into index item (all_put lanes.old.items) }
     ensures lanes { lanes_of lanes.new.items ≡ lanes_of lanes.old.items }
@@ -94,8 +94,8 @@ pub(crate) fn put_into<W: Wait, T: Drop>(rt: &W, lanes: &mut Vec<Sender<T>>, ind
     lanes[index].put(rt, item);
 }
 
-/// Puts an item into the lane of this index, where there is one, and lets who takes of it sleep, until `ring_all`. Where the lane is full, all are
-/// woken before it waits.
+/// Puts an item into the lane of this index, if there is such a lane, and lets the thread that takes of it sleep, until `ring_all`. If the
+/// lane is full, all such threads are woken before it waits.
 pub(crate) fn leave_in<W: Wait, T: Drop>(rt: &W, lanes: &mut Vec<Sender<T>>, index: usize, item: T)
     ensures put { all_put lanes.new.items ≡ put_into index item (all_put lanes.old.items) }
     ensures lanes { lanes_of lanes.new.items ≡ lanes_of lanes.old.items }
@@ -116,7 +116,7 @@ pub(crate) fn ring_all<T: Drop>(lanes: &[Sender<T>]) {
     }
 }
 
-/// Tells each worker that the gateway of this index asks for nothing more.
+/// Says to each worker that the gateway of this index asks for nothing more.
 pub(crate) fn end_all<W: Wait>(rt: &W, workers: &mut Vec<Sender<Work>>, gate: usize)
     ensures put { all_put workers.new.items ≡ put_all (work.End gate) (all_put workers.old.items) }
     ensures lanes { lanes_of workers.new.items ≡ lanes_of workers.old.items }
@@ -136,7 +136,7 @@ pub(crate) fn ask_all_to_sweep<W: Wait>(rt: &W, workers: &mut Vec<Sender<Work>>,
     }
 }
 
-/// Tells each worker that this sender puts nothing more.
+/// Says to each worker that this sender puts nothing more.
 pub(crate) fn leave_all<W: Wait>(rt: &W, workers: &mut Vec<Sender<Work>>)
     ensures put { all_put workers.new.items ≡ put_all work.Over (all_put workers.old.items) }
     ensures lanes { lanes_of workers.new.items ≡ lanes_of workers.old.items }

@@ -8,11 +8,12 @@
 //! ([`Rounds::staying`]). While a gateway is at a place, it has a reader and a writer, each in a thread of its own. Each shard has a worker in a
 //! thread of its own, and a timer asks for sweeps.
 //!
-//! The lane to a worker has a sender for each place and one for the timer; the lane to a place's writer has one for each shard and one for the
-//! place's reader, which answers at once what asks no account. A gateway's reader says to each worker, and to its writer, that the gateway is
-//! gone, each worker passes that on, and the writer takes until all have said so: then the place is free. A place and the timer say at their
-//! end that they put nothing more, and a worker ends after all of these. Behind a round each lane is ended with all its senders: what was taken
-//! of it is a beginning of what each of them put. So what goes out of a round answers what came in ([`answers_are_to_what_came`]).
+//! The lane to a worker has a sender for each place and one for the timer. The lane to a place's writer has a sender for each shard and one
+//! for the place's reader, which answers at once each message that asks no account. A gateway's reader says to each worker, and to its
+//! writer, that the gateway is gone. Each worker passes that on. The writer takes until all have said so: then the place is free. A place
+//! and the timer say at their end that they put nothing more, and a worker ends after all of these. Behind a round each lane is ended with
+//! all its senders: what was taken of it is a beginning of what each of them put. So what goes out of a round answers what came in
+//! ([`answers_are_to_what_came`]).
 #![tactic(auto)]
 
 mod counter;

@@ -10,7 +10,7 @@ use dcc_streams::write_all;
 use std::alloc::{AllocError, Global};
 use std::io::Write;
 
-/// What a round came to.
+/// The counts of a round.
 #[derive(Clone, Copy, Debug, PartialEq, Eq)]
 pub(crate) struct Counts {
     /// So many credit-control requests were handed to shards.
@@ -21,8 +21,8 @@ pub(crate) struct Counts {
     pub acts: u64,
 }
 
-/// Writes what a round came to. It fails where memory is short, and then nothing is written, or where the writer fails, and then a
-/// beginning is.
+/// Writes the line of a round. If memory is short, it fails and writes nothing. If the writer fails, it fails too, and a beginning of the
+/// line is written.
 pub(crate) fn write_line<P: Write>(
     alloc: Global,
     round: u32,

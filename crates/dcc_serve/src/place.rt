@@ -21,7 +21,7 @@ use std::thread::{Threads, join_mut};
 /// A place for gateways, which come one after another: the ends of lanes of its reader and of its writer.
 #[derive(Drop)]
 pub(crate) struct Place<I, O> {
-    /// The gateway that came before the round began, if its gateways do.
+    /// The gateway that came before the round began, if the round's gateways come before it begins.
     pub first: Option<Connection<I, O>>,
     /// Whether the place is taken again once its gateway has gone.
     pub stays: bool,
@@ -54,7 +54,7 @@ impl<I: Read + Send + Drop, O: Shut + Send + Drop> Place<I, O> {
         unreachable!()
     }
 
-    /// The next gateway, where one comes.
+    /// The next gateway, if a gateway comes.
     fn next<W: Wait, R: Records, L: Listener<I, O>, C, N: Notices>(
         &mut self,
         rt: &W,
@@ -140,7 +140,7 @@ fn read_from<W: Wait, R: Records, L, I: Read, C: Clock + Copy, N: Notices>(
     )
 }
 
-/// Tells that a gateway came to a place.
+/// Reports that a gateway came to a place.
 pub(crate) fn tell_came<W: Wait, I, O, N: Notices>(
     rt: &W,
     notices: &N,

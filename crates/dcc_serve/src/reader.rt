@@ -59,7 +59,7 @@ pub(crate) struct Sweeps {
 }
 
 impl Sweeps {
-    /// Counts a message, and tells whether a sweep is due behind it.
+    /// Counts a message, and returns whether a sweep is due behind it.
     fn is_due(&mut self) -> bool
         ensures due { result ≡ is_due self.old }
         ensures every { self.new.every ≡ self.old.every }
@@ -124,7 +124,7 @@ impl<'a, R: Records, N: Notices> Submitter for Judge<'a, R, N> {
 }
 
 impl<'a, R: Records, N: Notices> Judge<'a, R, N> {
-    /// Tells the name of the peer's host, where it is open.
+    /// Reports the name of the peer's host, if the peer is open.
     fn tell_host<W: Wait>(&self, rt: &W) {
         if let Some(host) = self.reader.peer.host() {
             let gate = self.reader.gate.saturating_add(1);
@@ -133,8 +133,8 @@ impl<'a, R: Records, N: Notices> Judge<'a, R, N> {
     }
 }
 
-/// What a message comes to once nobody is sought any more. Who opened the session of a request that names nobody, from the host of the
-/// request's peer, is asked of each shard in turn.
+/// The outcome of a message once nobody is sought any more. For a request that names nobody, it asks each shard in turn who opened the
+/// session of the request from the host of the request's peer.
 fn settle<W: Wait, R: Records>(
     rt: &W,
     alloc: Global,
@@ -224,7 +224,7 @@ impl Reader {
         put_into(rt, &mut self.workers, shard, Work::Request(request));
     }
 
-    /// Counts a message, and asks each shard for a sweep where it is time.
+    /// Counts a message, and asks each shard for a sweep if a sweep is due.
     fn sweep<W: Wait>(&mut self, rt: &W, moment: Moment)
         ensures asked { AsksSweep moment (reading_of self.old) (reading_of self.new) }
         ensures peer { self.new.peer ≡ self.old.peer }
@@ -236,7 +236,7 @@ impl Reader {
         ask_all_to_sweep(rt, &mut self.workers, moment);
     }
 
-    /// Says that it ends to all that take from it.
+    /// Says to all that take from it that it ends.
     fn end<W: Wait>(&mut self, rt: &W)
         ensures ends { Ends self.old.gate (reading_of self.old) (reading_of self.new) }
         ensures same { IsSameReader self.old self.new }
@@ -246,7 +246,7 @@ impl Reader {
     }
 }
 
-/// Puts the octets of a reply into a writer's lane, where there are any.
+/// Puts the octets of a reply into a writer's lane, if the reply has any.
 fn put_reply<W: Wait>(rt: &W, writer: &mut Sender<Item>, octets: OctetString)
     ensures put { put_of writer.new ≡ put_of writer.old ++ replies octets }
     ensures lane { lane_of_sender writer.new ≡ lane_of_sender writer.old }

@@ -34,7 +34,7 @@ use std::io::{self, Read};
 use std::sync::Wait;
 use std::thread::{Threads, for_each_mut};
 
-/// Serves one round over these shards, and hands them out again with what the round came to.
+/// Serves one round over these shards, and hands them out again with the counts of the round.
 pub(crate) fn serve_round<
     W: Threads + Wait + Sync,
     R: Records + Send + Sync + Drop,
@@ -98,7 +98,7 @@ pub(crate) fn serve_round<
     }
 }
 
-/// Makes all that the threads of a round begin with, and accepts its gateways where these come before it begins.
+/// Makes all that the threads of a round begin with, and accepts its gateways if they come before it begins.
 fn gather<W: Wait, R: Records, I: Read + Drop, O: Shut + Drop, L: Listener<I, O>, N: Notices>(
     rt: &W,
     alloc: Global,
@@ -174,7 +174,7 @@ fn add_workers<R: Records, I: Drop, O: Drop>(
     Ok(tasks)
 }
 
-/// Adds each place of a round, with the gateway that it accepts for it, or with none where places are taken again.
+/// Adds each place of a round, with the gateway that it accepts for the place, or without a gateway if places are taken again.
 fn add_places<W: Wait, I: Read + Drop, O: Shut + Drop, L: Listener<I, O>, N: Notices>(
     rt: &W,
     notices: &N,
@@ -219,7 +219,7 @@ fn add_places<W: Wait, I: Read + Drop, O: Shut + Drop, L: Listener<I, O>, N: Not
     Ok(tasks)
 }
 
-/// The gateway that comes for a place before the round begins; none where places are taken again. The only error is the listener's.
+/// The gateway that comes for a place before the round begins. None if places are taken again. The only error is the listener's.
 fn first_at<W: Wait, I, O, L: Listener<I, O>, N: Notices>(
     rt: &W,
     notices: &N,
@@ -307,7 +307,7 @@ fn serve_all<
     );
 }
 
-/// What a round came to.
+/// The counts of a round.
 fn counted<I, O>(tasks: &[Task<I, O>]) -> Counts
     ensures { result ≡ counts_in tasks.now }
 {

@@ -27,8 +27,8 @@ impl Model for Rounds {
 }
 
 impl Rounds {
-    /// So many rounds, 1 to 1,000,000, of so many gateways at once, 1 to 16; each gateway asks for a sweep after each `every` of its
-    /// messages, 0 to 1,000,000, where with 0 there is none. None outside these limits.
+    /// So many rounds, 1 to 1,000,000, of so many gateways at once, 1 to 16. Each gateway asks for a sweep after each `every` of its
+    /// messages, 0 to 1,000,000; with 0 no gateway asks. None outside these limits.
     pub fn new(gates: usize, rounds: u32, every: u32) -> Option<Rounds>
         ensures { result ≡ (if are_rounds gates rounds every then Some (record { gates = gates; rounds = rounds; every = every; stays = false }) else None) }
     {
@@ -44,8 +44,8 @@ impl Rounds {
     }
 
     /// One round with so many places, 1 to 256, each of which is taken again once its gateway has gone. It ends when the listener takes no
-    /// more connections in, and tells itself when a sweep is due; each gateway asks for a sweep after each `every` of its messages too, 0 to
-    /// 1,000,000, where with 0 none does. None outside these limits.
+    /// more connections in. The listener itself reports when a sweep is due. Each gateway asks for a sweep after each `every` of its
+    /// messages too, 0 to 1,000,000; with 0 no gateway asks. None outside these limits.
     pub fn staying(places: usize, every: u32) -> Option<Rounds>
         ensures { result ≡ (if are_places places every then Some (record { gates = places; rounds = 1; every = every; stays = true }) else None) }
     {

@@ -22,7 +22,7 @@ use std::io::{Read, Write};
 use std::sync::Wait;
 use std::thread::Threads;
 
-/// What a server answers by, and who is told of it.
+/// The means by which a server answers, and its notices.
 #[derive(Drop)]
 pub struct Service<'a, C, N> {
     pub plan: &'a Plan,
@@ -38,10 +38,10 @@ pub struct Service<'a, C, N> {
 /// those of [`dcc_running::Shards::new`]: 1 to 8 shards, under these terms and for this server, each of which holds only subscribers
 /// that [`dcc_shard::shard_of`] gives it.
 ///
-/// A round accepts its gateways, serves them until all have ended, and compares what they were told with what the shards hold. Where its
-/// places are taken again ([`Rounds::staying`]) it begins without gateways, and ends when the listener takes no more connections in and all
-/// have gone. A fault of a connection ends that connection alone. A shard whose records fail answers busy from then on, and the others go on.
-/// It waits for gateways, and for threads of its own.
+/// A round accepts its gateways, serves them until all have ended, and compares the receipts of their answers with the books of the shards.
+/// If its places are taken again ([`Rounds::staying`]), it begins without gateways, and ends when the listener takes no more connections in
+/// and all gateways have gone. A fault of a connection ends that connection alone. A shard whose records fail answers busy from then on,
+/// and the others go on. `serve_run` waits for gateways, and for threads of its own.
 ///
 /// Faults: [`ServeFault::Memory`], memory was short for a round; [`ServeFault::Io`], the output or the listener failed;
 /// [`ServeFault::Close`], receipts and books disagree, and no line is written; [`ServeFault::Store`], 51, behind
@@ -90,7 +90,7 @@ pub fn serve_run<
     Ok(())
 }
 
-/// Whether a shard is stopped; tells each that is, also if the round's timer has told it before.
+/// Whether a shard is stopped. It reports each stopped shard, also if the round's timer has reported it before.
 fn tell_stopped<W: Wait, R: Records, N: Notices>(rt: &W, notices: &N, shards: &[Shard<R>]) -> bool
     ensures { result ≡ is_any_stopped R.is_stopped shards.now }
 {

@@ -15,7 +15,7 @@ use std::sync::Wait;
 /// The most shards that a server has.
 const MOST_SHARDS: usize = 8;
 
-/// Asks each worker for a sweep at the clock's moment when the listener tells that one is due, and tells each shard that has stopped.
+/// Asks each worker for a sweep at the clock's moment when the listener reports that a sweep is due, and reports each shard that has stopped.
 #[derive(Drop)]
 pub(crate) struct SweepTimer {
     /// Whether sweeps are due by time: if places are taken again.
@@ -40,7 +40,7 @@ impl SweepTimer {
         leave_all(rt, &mut self.workers);
     }
 
-    /// Asks for a sweep each time that one is due, and tells each shard that has stopped.
+    /// Asks for a sweep each time that one is due, and reports each shard that has stopped.
     fn sweep_on_time<W: Wait, R: Records, I, O, L: Listener<I, O>, C: Clock, N: Notices>(
         &mut self,
         rt: &W,
@@ -64,7 +64,7 @@ impl SweepTimer {
     }
 }
 
-/// Tells each shard whose records have failed, once.
+/// Reports each shard whose records have failed, once.
 fn tell_stopped<W: Wait, R: Records, L, C, N: Notices>(
     rt: &W,
     shared: &Shared<'_, R, L, C, N>,

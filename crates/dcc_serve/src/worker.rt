@@ -58,7 +58,7 @@ impl Worker {
         unreachable!()
     }
 
-    /// Takes one item and does it; whether its sender puts nothing more.
+    /// Takes one item and does it. It returns whether the item's sender puts nothing more.
     fn take_one<W: Wait, R: Records>(
         &mut self,
         rt: &W,
@@ -101,7 +101,7 @@ impl Worker {
         }
     }
 
-    /// How many acts its receipts are of: each has one that is fresh.
+    /// How many acts its receipts are of: each act has one receipt that is fresh.
     pub fn acts(&self) -> u64
         ensures { result ≡ acts_of self.now.seat }
     {
@@ -115,8 +115,8 @@ impl Worker {
     }
 }
 
-/// Takes the next item, and counts those that were there without a wait. Before it waits, the writers are woken that were let sleep; and all that
-/// sleep before what is no request, since a sweep takes long, and an end may have to wait for room.
+/// Takes the next item, and counts the items that were there without a wait. Before it waits, it wakes the writers that were let sleep.
+/// Before an item that is no request, it wakes all that sleep, since a sweep takes long, and an end may have to wait for room.
 fn next<W: Wait>(
     rt: &W,
     from: &mut Receiver<Work>,
@@ -151,7 +151,7 @@ fn wake(writers: &[Sender<Item>], since: u32) {
     }
 }
 
-/// Makes a request and puts its answer into its gateway's lane, whose writer isn't woken yet; where there is none, nothing.
+/// Makes a request and puts its answer into its gateway's lane, whose writer isn't woken yet. If there is no answer, it puts nothing.
 fn answer<W: Wait, R: Records>(
     rt: &W,
     alloc: Global,
@@ -211,7 +211,7 @@ fn expire_each<W: Wait, R: Records>(
     }
 }
 
-/// The octets of an answer, where there is one.
+/// The octets of an answer, if it has any.
 fn octets_of(answer: RequestAnswer) -> Option<OctetString>
     ensures { result ≡ octets_in answer }
 {

@@ -42,8 +42,8 @@ impl<O: Shut> Write for Ending<O> {
     }
 }
 
-/// Writes what a gateway is answered until all that answer it have ended, and ends the connection behind it. Behind the last turn it still takes, so
-/// that nobody waits for room in its lane.
+/// Writes the answers to a gateway until all that answer it have ended, and ends the connection behind them. Behind the last turn it still
+/// takes items, so that nobody waits for room in its lane.
 pub(crate) fn write_gate<W: Wait, O: Shut, N: Notices>(
     rt: &W,
     alloc: Global,
@@ -63,7 +63,7 @@ pub(crate) fn write_gate<W: Wait, O: Shut, N: Notices>(
     end
 }
 
-/// Takes what comes and drops it, where so many senders have ended, until all have.
+/// Takes items and drops them until all senders have ended, of which so many have ended before.
 fn drop_rest<W: Wait>(rt: &W, from: &mut Receiver<Item>, ended: usize)
     requires { ended ≤ senders_of from.old }
     ensures same { IsSameReceiver from.old from.new }

@@ -5,8 +5,8 @@ use Rattle.std.specs.declared.io.ErrorKind.TheVariants as kind
 use Rattle.dcc_sockets.specs.declared.refusal.Refusal.{Refusal}
 use Rattle.dcc_sockets.specs.declared.refusal.Refusal.TheVariants.{Nobody, Lost, Short, Over}
 
--- an error of the system, or not, of this kind: none came in time; one connection was lost, by what happened on its way; the listener is no listener; and else nothing is
--- there to take a connection in with
+-- the meaning of an error of this kind, of the system or not: no connection came in time; one connection was lost, by what happened on its way; the
+-- listener is no listener; and else nothing is there to take a connection in with
 abbrev pub meaning_of : Bool → io.ErrorKind → Refusal
 meaning_of false any = Lost
 meaning_of true kind.WouldBlock = Nobody

@@ -1,8 +1,8 @@
 -- For how long a gateway is waited for.
 use Rattle.std.specs.Prelude.{ℕ, ◌-◌, Bool, nat_eq, nat_lt, nat_le, if◌then◌else◌, Option, Some, None}
 
--- seconds for which a read waits, without an end where there are none: the gateway may be silent for so many, 0 is for ever, and for its first octets it has
--- 10 at most
+-- seconds for which a read waits, without an end if there are none: the gateway may be silent for so many seconds, 0 is for ever, and it has 10 at
+-- most for its first octets
 abbrev pub read_wait : ℕ → Bool → Option ℕ
 read_wait silence has_sent =
     if nat_eq silence 0 then None
@@ -17,14 +17,14 @@ abbrev pub waiting_since : Option ℕ → ℕ → ℕ
 waiting_since None now = now
 waiting_since (Some since) now = since
 
--- nanoseconds that are left of so many behind a wait of so many; none where that was all
+-- nanoseconds that are left of so many behind a wait of so many; none if nothing is left
 abbrev pub left_of : ℕ → ℕ → Option ℕ
 left_of all waited = if nat_lt waited all then Some (all - waited) else None
 
--- nanoseconds for which a write may wait whose octets have waited for so many; none where that was all
+-- nanoseconds for which a write may wait whose octets have waited for so many; none if nothing is left
 abbrev pub wait_left : ℕ → Option ℕ
 wait_left = left_of write_wait
 
--- since when octets wait behind a write that took so many of so many: none do where it took all
+-- since when octets wait behind a write that took so many of so many: none wait if it took all
 abbrev pub waiting_behind : Option ℕ → ℕ → ℕ → Option ℕ
 waiting_behind since taken asked = if nat_lt taken asked then since else None

@@ -7,8 +7,8 @@ use dcc_act::Moment;
 use dcc_tariff::LAST_SECOND;
 use std::alloc::AllocError;
 
-/// The clock of the system, in whole seconds since 1970-01-01T00:00:00Z. Before that, and where there is no clock, it tells the first
-/// moment, and past the last moment the last.
+/// The clock of the system, in whole seconds since 1970-01-01T00:00:00Z. Before that, and if there is no clock, it returns the first
+/// moment. Past the last moment it returns the last.
 pub struct SystemClock<'r, C: std::time::Clock> {
     clock: &'r C,
 }
@@ -30,7 +30,7 @@ impl<C: std::time::Clock> Clone for SystemClock<'_, C> {
 impl<C: std::time::Clock> Copy for SystemClock<'_, C> {}
 
 impl<C: std::time::Clock> dcc_connect::Clock for SystemClock<'_, C> {
-    // What the system's clock tells no clause says.
+    // No clause says what the system's clock returns.
     ghost tells = { λ _ _ _. Unit {0} };
 
     fn moment(&mut self) -> Moment {

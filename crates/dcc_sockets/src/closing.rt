@@ -3,7 +3,7 @@
 use os::unlink;
 use std::sync::atomic::{AtomicBool, Ordering};
 
-/// Whether a server that stays is to end: told once, and seen by all of its threads.
+/// Whether a server that stays is to end: set once, and seen by all of its threads.
 #[derive(Drop)]
 pub struct Closing {
     is_told: AtomicBool,
@@ -17,7 +17,7 @@ impl Closing {
         }
     }
 
-    /// Tells the server to end.
+    /// Stores that the server is to end.
     pub fn tell(&self) {
         self.is_told.store(true, Ordering::SeqCst);
     }
@@ -28,19 +28,19 @@ impl Closing {
     }
 }
 
-/// What a server that stays is told by its operator.
+/// The operator's settings of a server that stays.
 #[derive(Clone, Copy)]
 pub struct Staying<'r> {
     /// When it is to end.
     pub closing: &'r Closing,
-    /// The path of the file whose presence tells it to end.
+    /// The server is to end if a file is at this path.
     pub stop: &'r str,
     /// So many seconds pass between two sweeps, or none is asked for with 0.
     pub sweep: u64,
 }
 
-/// Removes the file that tells a server that stays to end, and reports whether it was there. By the system's own call: a handle for files serves one
-/// thread alone.
+/// Removes the file whose presence says that a server that stays is to end, and returns whether it was there. It uses the system's own
+/// call, since a handle for files serves one thread alone.
 pub fn remove_stop(path: &str) -> bool {
     unlink(path.as_bytes()) == 0
 }

@@ -15,7 +15,7 @@ use std::sync::{Mutex, Wait};
 use std::time::{Clock, Duration};
 use std::{fs, io};
 
-/// So many seconds pass before the next try, where there is nothing to take a connection in with.
+/// So many seconds pass before the next try if there is nothing to take a connection in with.
 pub const SHORT_SECONDS: u64 = 1;
 
 /// So many seconds a server that stays waits at most before it looks whether it is to end.
@@ -30,7 +30,7 @@ pub struct Door<'r, R> {
     silence: Silence,
     /// Of a server that stays: when it ends, and how often it sweeps.
     staying: Option<Staying<'r>>,
-    /// Whether there was nothing to take a connection in with at the last try, which is told once.
+    /// Whether there was nothing to take a connection in with at the last try, which is reported once.
     is_short: bool,
     /// The same for the threads of places, one of which accepts at a time.
     turn: Mutex<bool>,
@@ -39,10 +39,10 @@ pub struct Door<'r, R> {
 }
 
 impl<'r, R: Net<Listener = TcpListener, Stream = TcpStream>> Door<'r, R> {
-    /// Listens at an address, for gateways that may be silent so long, and for places that are taken again if the server stays; port 0 takes
-    /// one that is free.
+    /// Listens at an address, for gateways that may be silent so long, and for places that are taken again if the server stays. Port 0
+    /// takes a port that is free.
     ///
-    /// Error: the system refuses it, as where the address is taken or isn't one of this machine.
+    /// Error: the system refuses it, for instance if the address is taken or isn't one of this machine.
     pub fn bind(
         rt: &'r R,
         alloc: Global,
@@ -70,7 +70,7 @@ impl<'r, R: Net<Listener = TcpListener, Stream = TcpStream>> Door<'r, R> {
 impl<'r, R> Door<'r, R> {
     /// The address that is listened at, with its port.
     ///
-    /// Error: the system doesn't tell.
+    /// Error: the system doesn't report it.
     pub fn address(&self) -> io::Result<SocketAddr> {
         self.listener.local_addr()
     }
@@ -98,8 +98,8 @@ impl<'r, R> Door<'r, R> {
 }
 
 impl<'r, R: Clock + Eprint> Door<'r, R> {
-    /// One try: a connection; none where one was lost, which is told, where none came in time, or where there is nothing to take one in with,
-    /// behind a wait.
+    /// One try: a connection. None if a connection was lost, which is reported, if none came in time, or, behind a wait, if there is
+    /// nothing to take a connection in with.
     ///
     /// Error: the listener takes none any more.
     fn try_accept(
@@ -124,9 +124,9 @@ impl<'r, R: Clock + Eprint> Door<'r, R> {
         }
     }
 
-    /// Tells of an error of accepting, and waits where the next try would have the same.
+    /// Reports an error of accepting, and waits if the next try would have the same error.
     ///
-    /// Error: this one, where the listener takes none any more.
+    /// Error: this error, if the listener takes no connection any more.
     fn bear(&self, is_short: &mut bool, error: io::Error) -> io::Result<()> {
         match meaning_of(&error) {
             Refusal::Nobody => {}
@@ -145,10 +145,10 @@ impl<'r, R: Clock + Eprint> Door<'r, R> {
 }
 
 impl<'r, R: Clock + Eprint> Listener<Input<'r, R>, Output<'r, R>> for Door<'r, R> {
-    // What a listener of the system does no clause says.
+    // No clause says what a listener of the system does.
     ghost is_closed = { Unit {0} };
 
-    /// A connection that can't be taken in costs that connection alone: it is closed, and a line tells of it. Where descriptors or memory are
+    /// A connection that can't be taken in costs that connection alone: it is closed, and a line reports it. If descriptors or memory are
     /// short, the next try is a second later.
     ///
     /// Error: the listener takes none any more.
@@ -166,7 +166,7 @@ impl<'r, R: Clock + Eprint> Listener<Input<'r, R>, Output<'r, R>> for Door<'r, R
         Err(io::Error::from(ErrorKind::TimedOut))
     }
 
-    /// As [`Door::accept`], by one thread at a time. A listener that takes none any more tells the server to end.
+    /// As [`Door::accept`], by one thread at a time. If the listener takes none any more, the server is to end.
     fn enter<W: Wait>(&self, rt: &W) -> Option<Connection<Input<'r, R>, Output<'r, R>>> {
         let staying = self.staying?;
         let mut turn = self.turn.lock(rt);
@@ -189,7 +189,7 @@ impl<'r, R: Clock + Eprint> Listener<Input<'r, R>, Output<'r, R>> for Door<'r, R
         unreachable!()
     }
 
-    /// Waits a second, and looks whether the server is to end: the file that tells so is removed.
+    /// Waits a second, and looks whether the server is to end. It removes the file whose presence says so.
     fn tick<W: Wait>(&self, rt: &W) -> Tick {
         let Some(staying) = self.staying else {
             return Tick::End;

@@ -90,7 +90,7 @@ impl<R: Eprint> Input<'_, R> {
         Ok(())
     }
 
-    /// Reads once, and tells nothing.
+    /// Reads once, and prints nothing.
     fn read_once(&mut self, buf: &mut [u8]) -> io::Result<usize>
         ensures { IfOk result (λ count. count ≤ length buf.old) }
     {
@@ -128,7 +128,7 @@ impl<R: Eprint> Input<'_, R> {
         Err(io::Error::from(ErrorKind::WouldBlock))
     }
 
-    /// Tells that the gateway was silent for so many seconds.
+    /// Reports that the gateway was silent for so many seconds.
     fn tell_silent(&self, seconds: u64) {
         let from = self.from;
         let trouble = if self.has_sent {
@@ -180,14 +180,14 @@ impl<R: Eprint> Output<'_, R> {
         Ok(())
     }
 
-    /// Tells that octets waited too long.
+    /// Reports that octets waited too long.
     fn tell_slow(&self) {
         tell(self.rt, Trouble::Slow { from: self.from });
     }
 }
 
 impl<R: Clock + Eprint> Output<'_, R> {
-    /// Writes once, and tells of octets that waited too long.
+    /// Writes once, and reports octets that waited too long.
     fn write_once(&mut self, buf: &[u8]) -> io::Result<usize>
         ensures { IfOk result (λ count. count ≤ length buf.now) }
     {
@@ -233,11 +233,11 @@ impl<R: Clock + Eprint> Write for Output<'_, R> {
 }
 
 impl<R: Clock + Eprint> Shut for Output<'_, R> {
-    // What a socket does no clause says.
+    // No clause says what a socket does.
     ghost is_shut = { λ _. Unit {0} };
 
-    /// A gateway takes what was written before both halves end, if it can still take it. A connection that is lost already needs no more, so that a
-    /// refusal tells nothing.
+    /// A gateway takes what was written before both halves end, if it can still take it. A connection that is lost already needs no more,
+    /// so that a refusal means nothing.
     fn shut(&mut self) {
         if !self.is_lost {
             self.is_lost = true;

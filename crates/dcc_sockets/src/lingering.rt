@@ -15,7 +15,7 @@ const DROPPED: usize = 4096;
 /// Ends what is sent, and drops what comes, until the gateway ends the connection too, or for [`LINGER_SECONDS`]. The system resets a connection that
 /// is closed with unread octets, and a reset takes from the gateway what it hasn't read yet (RFC 9293, section 3.6.1).
 ///
-/// Error: the system refuses it, as where the connection is lost.
+/// Error: the system refuses it, for instance if the connection is lost.
 pub(crate) fn linger<R: Clock>(rt: &R, stream: &mut TcpStream) -> io::Result<()> {
     stream.shutdown(Shutdown::Write)?;
     let begun = Instant::now(rt)?;

@@ -5,8 +5,8 @@ use std::io;
 use std::net::{TcpListener, TcpStream};
 use std::os::fd::AsRawFd;
 
-/// Has the system ask whether the other end of an idle connection is still there, when its settings say so; where it isn't, reading and writing
-/// fail.
+/// Has the system ask whether the other end of an idle connection is still there, when its settings say so. If the other end isn't there,
+/// reading and writing fail.
 ///
 /// Error: the system refuses that.
 pub(crate) fn keep_alive(stream: &TcpStream) -> io::Result<()> {
@@ -22,7 +22,7 @@ pub(crate) fn keep_alive(stream: &TcpStream) -> io::Result<()> {
     Ok(())
 }
 
-/// Has the system wait for a connection for so many seconds at most; where none comes in time, accepting fails as `WouldBlock`.
+/// Has the system wait for a connection for so many seconds at most. If no connection comes in time, accepting fails as `WouldBlock`.
 ///
 /// Error: the system refuses that.
 pub(crate) fn wait_for_connections(listener: &TcpListener, seconds: u64) -> io::Result<()> {

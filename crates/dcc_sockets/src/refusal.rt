@@ -14,13 +14,13 @@ pub enum Refusal {
     Nobody,
     /// One connection was lost, and the next can be taken in at once.
     Lost,
-    /// There is nothing to take one in with, as descriptors or memory. They wait until there is.
+    /// There is nothing to take a connection in with, as descriptors or memory. Connections wait until there is.
     Short,
     /// The listener takes none any more.
     Over,
 }
 
-/// What an error means with which the system gives no connection. One that isn't the system's is of a connection whose address can't be read.
+/// What an error means with which the system gives no connection. An error that isn't the system's is of a connection whose address can't be read.
 pub fn meaning_of(error: &io::Error) -> Refusal
     ensures { result ≡ meaning_of (is_some (raw_os_error error.now)) (error_kind error.now) }
 {

@@ -5,10 +5,10 @@ ghost use Rattle.dcc_sockets.specs.Waits.{read_wait};
 
 use std::marker::Model;
 
-/// A gateway may be silent for so many seconds at most, where that has an end: a day.
+/// A gateway may be silent for so many seconds at most, if its silence has an end: a day.
 pub const MOST_SILENT_SECONDS: u64 = 86_400;
 
-/// So many seconds a gateway has for its first octets, where silence has an end.
+/// A gateway has so many seconds for its first octets, if silence has an end.
 pub const FIRST_SECONDS: u64 = 10;
 
 /// For how many seconds a gateway may send nothing: 1 to 86,400, or 0, which is for ever.
@@ -41,7 +41,7 @@ impl Silence {
         Some(Silence { seconds })
     }
 
-    /// For how many seconds a read waits for octets of a gateway that has sent some before, or hasn't; none where it waits without an end.
+    /// For how many seconds a read waits for octets of a gateway that has sent some before, or hasn't. None if it waits without an end.
     pub fn read_wait(&self, has_sent: bool) -> Option<u64>
         ensures { result ≡ read_wait self.now has_sent }
     {

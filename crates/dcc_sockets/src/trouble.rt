@@ -53,7 +53,7 @@ impl fmt::Display for Trouble {
     }
 }
 
-/// Tells it. A line that can't be written is left out.
+/// Prints the trouble. A line that can't be written is left out.
 pub(crate) fn tell<P: Eprint>(print: &P, trouble: Trouble) {
     let _lost = print.eprintln(trouble);
 }

@@ -35,7 +35,7 @@ impl Waiting {
         Waiting { since: None }
     }
 
-    /// How long a write may wait that begins now; none where its octets have waited as long as they may.
+    /// How long a write that begins now may wait. None if its octets have waited as long as they may.
     pub fn begin(&mut self, now: Instant) -> Option<Duration>
         ensures since { self.new ≡ Some (waiting_since self.old (instant_nanos now)) }
         ensures left { option_map as_nanos result ≡ wait_left (instant_nanos now - waiting_since self.old (instant_nanos now)) }
@@ -61,7 +61,7 @@ impl Waiting {
     }
 }
 
-/// How much is left of a time behind a wait of so long; none where that was all.
+/// How much is left of a time behind a wait of so long. None if nothing is left.
 pub(crate) fn left_of(all: Duration, waited: Duration) -> Option<Duration>
     ensures { option_map as_nanos result ≡ left_of (as_nanos all) (as_nanos waited) }
 {
