@@ -34,10 +34,14 @@ fn nobody_words<S: Alter>(
     conn: &mut Connection<S>,
 ) -> Result<Option<String>, AllocError> {
     if let Some(place) = of_nobody(conn, "SELECT sub, place FROM entry ORDER BY sub, place") {
-        return Ok(Some(format!(in alloc; "a row of its entries, with place {place}, is of nobody")?));
+        return Ok(Some(format!(in alloc;
+            "a row of its entries, with place {place}, is of nobody"
+        )?));
     }
     match of_nobody(conn, "SELECT sub, acts FROM account ORDER BY sub") {
-        Some(acts) => Ok(Some(format!(in alloc; "a row of its accounts, with {acts} acts, is of nobody")?)),
+        Some(acts) => Ok(Some(format!(in alloc;
+            "a row of its accounts, with {acts} acts, is of nobody"
+        )?)),
         None => Ok(None),
     }
 }
@@ -111,7 +115,11 @@ fn missing_account<S: Alter>(
         return Ok(None);
     };
     for row in &rows {
-        let found = one(conn, "SELECT COUNT(*) FROM account WHERE sub = ?1", blob(row, 0));
+        let found = one(
+            conn,
+            "SELECT COUNT(*) FROM account WHERE sub = ?1",
+            blob(row, 0),
+        );
         if let (0, Some(sub)) = (found, sub_of(row)) {
             let sub = shown(alloc, &sub)?;
             return Ok(Some(format!(in alloc; "the account of subscriber {sub} is missing")?));
@@ -130,7 +138,11 @@ fn missing_act<S: Alter>(
     };
     for row in &rows {
         let place = number(row, 1);
-        let acts = one(conn, "SELECT COUNT(*) FROM act WHERE sub = ?1", blob(row, 0));
+        let acts = one(
+            conn,
+            "SELECT COUNT(*) FROM act WHERE sub = ?1",
+            blob(row, 0),
+        );
         if place < 1 || place > acts {
             if let Some(sub) = sub_of(row) {
                 let sub = shown(alloc, &sub)?;
