@@ -22,33 +22,15 @@ pub(crate) fn damage_words<S: Alter>(
             return Ok(words);
         }
     }
-    if let Some(words) = nobody_words(alloc, conn)? {
-        return Ok(words);
-    }
-    String::from_str(alloc, "a row of its entries or accounts can't be read")
-}
-
-/// The first entry or account of a store that is of nobody.
-fn nobody_words<S: Alter>(
-    alloc: Global,
-    conn: &mut Connection<S>,
-) -> Result<Option<String>, AllocError> {
-    if let Some(place) = of_nobody(conn, "SELECT sub, place FROM entry ORDER BY sub, place") {
-        return Ok(Some(format!(in alloc;
-            "a row of its entries, with place {place}, is of nobody"
-        )?));
-    }
-    match of_nobody(conn, "SELECT sub, acts FROM account ORDER BY sub") {
-        Some(acts) => Ok(Some(format!(in alloc;
-            "a row of its accounts, with {acts} acts, is of nobody"
-        )?)),
-        None => Ok(None),
+    match of_nobody(conn) {
+        Some(acts) => format!(in alloc; "a row of its accounts, with {acts} acts, is of nobody"),
+        None => String::from_str(alloc, "a row of its entries or accounts can't be read"),
     }
 }
 
-/// The number in the first row whose subscriber is none.
-fn of_nobody<S: Alter>(conn: &mut Connection<S>, query: &str) -> Option<i64> {
-    let Ok(rows) = conn.query_all(query, &[]) else {
+/// The number of acts of the first account whose subscriber is none. An entry has the subscriber of an act, or the database isn't opened.
+fn of_nobody<S: Alter>(conn: &mut Connection<S>) -> Option<i64> {
+    let Ok(rows) = conn.query_all("SELECT sub, acts FROM account ORDER BY sub", &[]) else {
         return None;
     };
     for row in &rows {
@@ -83,7 +65,7 @@ fn act_slip(alloc: Global, row: &Row, layout: i64) -> Result<Option<String>, All
     }
 }
 
-/// The first account of a store that its acts or entries don't add up to, or that is missing, or the first entry without an act.
+/// The first account of a store that its acts or entries don't add up to, or that is missing.
 pub(crate) fn disagreement_words<S: Alter>(
     alloc: Global,
     conn: &mut Connection<S>,
@@ -97,9 +79,6 @@ pub(crate) fn disagreement_words<S: Alter>(
         }
     }
     if let Some(words) = missing_account(alloc, conn)? {
-        return Ok(words);
-    }
-    if let Some(words) = missing_act(alloc, conn)? {
         return Ok(words);
     }
     String::from_str(alloc, "the entries of an act are not those that it makes")
@@ -123,33 +102,6 @@ fn missing_account<S: Alter>(
         if let (0, Some(sub)) = (found, sub_of(row)) {
             let sub = shown(alloc, &sub)?;
             return Ok(Some(format!(in alloc; "the account of subscriber {sub} is missing")?));
-        }
-    }
-    Ok(None)
-}
-
-/// The first entry of a store at whose place its subscriber has no act.
-fn missing_act<S: Alter>(
-    alloc: Global,
-    conn: &mut Connection<S>,
-) -> Result<Option<String>, AllocError> {
-    let Ok(rows) = conn.query_all("SELECT sub, place FROM entry ORDER BY sub, place", &[]) else {
-        return Ok(None);
-    };
-    for row in &rows {
-        let place = number(row, 1);
-        let acts = one(
-            conn,
-            "SELECT COUNT(*) FROM act WHERE sub = ?1",
-            blob(row, 0),
-        );
-        if place < 1 || place > acts {
-            if let Some(sub) = sub_of(row) {
-                let sub = shown(alloc, &sub)?;
-                return Ok(Some(format!(in alloc;
-                    "an entry of subscriber {sub} has place {place}, and there is no such act"
-                )?));
-            }
         }
     }
     Ok(None)
