@@ -5,7 +5,7 @@ use crate::doing::done;
 use crate::ending::end_with;
 use crate::explain_word::without_explain;
 use crate::reasons::{Seen, lines_of};
-use crate::top_up::{used_before, with_moment};
+use crate::top_up::{nothing_added, with_moment};
 use crate::watched::{WatchedInput, WatchedOutput};
 use dcc_explain::{Looks, help_of};
 use dcc_operator::Stores;
@@ -81,7 +81,7 @@ fn explained<
     L: Looks,
     W: Write,
 >(rt: &R, words: &[String], stores: &S, looks: &L, errors: &mut W) -> u8 {
-    let used = used_before(rt, words, stores);
+    let used = nothing_added(rt, words, stores);
     let mut input = WatchedInput::new(rt.alloc(), rt.reader());
     let mut output = WatchedOutput::new(io::writer(rt));
     let ended = done(rt, words, stores, &mut input, &mut output);

@@ -1,5 +1,6 @@
-//! A top-up's words: the moment that is left out, and a ticket that was used before.
+//! A top-up's words: the moment that is left out, an amount outside its limits, and a ticket that was used before.
 
+use dcc_act::MAX_AMOUNT;
 use dcc_operator::{Stores, TopUpAsk};
 use dcc_program::{Failure, Place, Task, ledger, task_of};
 use dcc_tariff::LAST_SECOND;
@@ -45,20 +46,31 @@ fn is_use(alloc: Global, words: &[String]) -> Result<bool, Failure> {
     }
 }
 
-/// That the ticket of a top-up was used before, with its amount and moment, if the words ask for such a top-up. The ledger is read before the
-/// top-up is made. A fault of its reading is the top-up's too, and is reported there.
-pub(crate) fn used_before<R: Files + RandomSource + AllocGlobal, S: Stores>(
+/// Why a top-up that the words ask for adds nothing: its amount is outside its limits, or its ticket was used before, with the first amount and
+/// moment. The ledger is read before the top-up is made. A fault of its reading is the top-up's too, and is reported there.
+pub(crate) fn nothing_added<R: Files + RandomSource + AllocGlobal, S: Stores>(
     rt: &R,
     words: &[String],
     stores: &S,
 ) -> Option<String> {
     match task_of(rt.alloc(), words) {
-        Ok(Task::TopUp(place, ask)) => match used_ticket(rt, stores, place, ask) {
-            Ok(found) => found,
-            Err(_) => None,
-        },
+        Ok(Task::TopUp(place, ask)) => {
+            let found = if ask.amount < 1 || ask.amount > MAX_AMOUNT {
+                amount_words(rt.alloc(), ask.amount)
+            } else {
+                used_ticket(rt, stores, place, ask)
+            };
+            match found {
+                Ok(words) => words,
+                Err(_) => None,
+            }
+        }
         _ => None,
     }
+}
+
+fn amount_words(alloc: Global, amount: u64) -> Result<Option<String>, Failure> {
+    Ok(Some(format!(in alloc; "dcc: AMOUNT is {amount}; it has to be 1 to {MAX_AMOUNT}\n")?))
 }
 
 fn used_ticket<R: Files + RandomSource + AllocGlobal, S: Stores>(

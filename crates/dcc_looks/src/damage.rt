@@ -81,7 +81,10 @@ pub(crate) fn disagreement_words<S: Alter>(
     if let Some(words) = missing_account(alloc, conn)? {
         return Ok(words);
     }
-    String::from_str(alloc, "the entries of an act are not those that it makes")
+    String::from_str(
+        alloc,
+        "its acts, entries and accounts disagree, and no row alone shows it",
+    )
 }
 
 /// The first subscriber of a store with acts and without an account.

@@ -52,29 +52,51 @@ fn push_numbers(
     let terms = plan.terms();
     // An opening upgrades a store of layout 1.
     if number(row, 0) != 1 {
-        push_number(words, row, 0, "layout", 2)?;
+        push_number(words, row, 0, "layout", (2, "this program"))?;
     }
     push_number(
         words,
         row,
         1,
         "shard",
-        i64::try_from(shard).unwrap_or(i64::MAX),
+        (
+            i64::try_from(shard).unwrap_or(i64::MAX),
+            "the name of its file",
+        ),
     )?;
-    push_number(words, row, 2, "shards", i64::from(plan.shards()))?;
-    push_number(words, row, 5, "validity", i64::from(terms.validity))?;
-    push_number(words, row, 6, "hold", i64::from(terms.hold))?;
-    push_number(words, row, 7, "currency", i64::from(terms.currency))?;
-    push_number(words, row, 8, "exponent", i64::from(terms.exponent))
+    let of_plan = |number: i64| (number, "the plan");
+    push_number(words, row, 2, "shards", of_plan(i64::from(plan.shards())))?;
+    push_number(
+        words,
+        row,
+        5,
+        "validity",
+        of_plan(i64::from(terms.validity)),
+    )?;
+    push_number(words, row, 6, "hold", of_plan(i64::from(terms.hold)))?;
+    push_number(
+        words,
+        row,
+        7,
+        "currency",
+        of_plan(i64::from(terms.currency)),
+    )?;
+    push_number(
+        words,
+        row,
+        8,
+        "exponent",
+        of_plan(i64::from(terms.exponent)),
+    )
 }
 
-/// A number that differs.
+/// A number that differs from the wanted number, of which a text says where it stands.
 fn push_number(
     words: &mut String,
     row: &Row,
     at: usize,
     name: &str,
-    wanted: i64,
+    (wanted, place): (i64, &str),
 ) -> Result<(), AllocError> {
     match row.get_ref(at) {
         Ok(ValueRef::Int(found)) => {
@@ -82,10 +104,7 @@ fn push_number(
                 return Ok(());
             }
             part(words)?;
-            write!(
-                words,
-                "{name} is {found} in the store, {wanted} in the plan"
-            )
+            write!(words, "{name} is {found} in the store, {wanted} in {place}")
         }
         _ => {
             part(words)?;
