@@ -10,7 +10,7 @@
 //! Nothing is known of a shard under a lock but its type. So what a call does there stands in a function over the shard, whose clauses say that the answer is this
 //! shard's, and that the act and its receipt go together: there an answer that a subscriber is unknown, octet for octet, is refused where the shard holds acts of
 //! it, and so is an act that is told as busy or as none. A call that takes no lock, and answers as a shard without acts does, is refused by tests alone
-//! (`dcc_running_tests`).
+//! (`dcc_serving_tests`).
 #![tactic(auto)]
 
 mod audit;

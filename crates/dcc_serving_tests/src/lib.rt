@@ -1,10 +1,33 @@
-//! Tests of the crates that keep and serve, which stand apart: a crate with tests of its own is proved a second time with
-//! them. What comes of whole runs, also where memory is refused, stands in tests/rows, and is run by the program.
+//! Tests of shards under locks and their receipts, of an engine whose records fail, and of connections and rounds over gateways in memory. They stand
+//! apart, since a crate with tests of its own is proved a second time with them. Threads run at once here. No clause says that they do, that no shard
+//! waits for another, how a connection ends if its reader or its writer fails, or that a sweep by a clock that is set ends a session.
 #![tactic(auto)]
 
 #[cfg(test)]
-mod connect;
+mod at_once;
 #[cfg(test)]
-mod lane;
+mod closing;
 #[cfg(test)]
-mod report;
+mod connection;
+#[cfg(test)]
+mod failing;
+#[cfg(test)]
+mod gates;
+#[cfg(test)]
+mod gateways;
+#[cfg(test)]
+mod messages;
+#[cfg(test)]
+mod peers;
+#[cfg(test)]
+mod receipts;
+#[cfg(test)]
+mod rounds;
+#[cfg(test)]
+mod rows;
+#[cfg(test)]
+mod server;
+#[cfg(test)]
+mod sweeps;
+#[cfg(test)]
+mod workers;

@@ -9,6 +9,3 @@ mod writing;
 
 pub use reading::{MOST_READS, ReadFault, read_all};
 pub use writing::{WriteFault, write_all};
-
-#[cfg(test)]
-mod tests;

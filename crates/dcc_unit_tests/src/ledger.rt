@@ -1,7 +1,7 @@
 //! Ledgers octet for octet.
 
 use dcc_act::{Entry, EntryKind, EntryName, Moment, SessionId, Sub};
-use dcc_report::ledger_text;
+use dcc_report::{account_line, ledger_text};
 use std::alloc::Global;
 use std::process::Abort;
 use std::test::Fail;
@@ -160,4 +160,14 @@ const WIDE: [Line; 4] = [
 #[test]
 fn columns_at_their_greatest_widths(rt: HostRuntime) -> Result<(), Fail> {
     check(&rt, &WIDE, 1_000_000_000_000_000_000, 1 << 64, WIDEST)
+}
+
+#[test]
+fn the_last_line(rt: HostRuntime) -> Result<(), Fail> {
+    let line = account_line(rt.alloc(), -5, 7, 2)?;
+    assert_eq!(&rt;
+        line.as_slice(),
+        b"funds -5 reserved 7 overrun 2\n".as_slice()
+    );
+    Ok(())
 }

@@ -1,6 +1,6 @@
 //! Readers and writers that take their time, or fail.
 
-use crate::{ReadFault, WriteFault, read_all, write_all};
+use dcc_streams::{ReadFault, WriteFault, read_all, write_all};
 use std::io::{self, Error, ErrorKind, Read, Write};
 use std::test::Fail;
 
