@@ -115,7 +115,7 @@ pub fn explain_line(alloc: Global, line: &[u8]) -> Result<LineNote, AllocError>
         });
     };
     if words.len() != form.count() {
-        let words = words_of_count(alloc, form, words.len())?;
+        let words = words_of_count(alloc, form, words.as_slice())?;
         return Ok(LineNote {
             misfit: None,
             words,
@@ -148,11 +148,17 @@ fn words_of_verb(alloc: Global, verb: &[u8]) -> Result<String, AllocError> {
     )
 }
 
-/// Another number of words than the form has.
-fn words_of_count(alloc: Global, form: Form, count: usize) -> Result<String, AllocError> {
-    let (wanted, text) = (form.count(), form.text());
+/// Another number of words than the form has. A word is empty if two spaces stand together, or a space at the end.
+fn words_of_count(alloc: Global, form: Form, words: &[&[u8]]) -> Result<String, AllocError> {
+    let (count, wanted, text) = (words.len(), form.count(), form.text());
+    let Some(at) = words.iter().position(|word| word.is_empty()) else {
+        return format!(in alloc;
+            "it has {count} words, with one space between them, in place of {wanted}; its form is: {text}"
+        );
+    };
+    let number = at.saturating_add(1);
     format!(in alloc;
-        "it has {count} words, with one space between them, in place of {wanted}; its form is: {text}"
+        "word {number} is empty: one space stands between two words, and none at the end; its form is: {text}"
     )
 }
 

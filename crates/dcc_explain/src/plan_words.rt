@@ -1,10 +1,10 @@
 //! The words of a plan's explanation.
 
-use crate::key::Key;
+use crate::key::{Key, PLAN_KEYS, TABLE_KEYS};
 use crate::lines::{Sought, line_of};
 use crate::place::Place;
 use crate::tariffs::{Spot, tables_of};
-use crate::text::shortened;
+use crate::text::{quoted, shortened};
 use dcc_tariff::PlanFault;
 use std::alloc::{AllocError, Global};
 use toml::{Table, Value};
@@ -60,8 +60,13 @@ pub(crate) fn words_of(
     match place {
         Place::Text => format!(in alloc; "the plan is no TOML document"),
         Place::Key(key) => {
+            let value = table.get(key.name());
             let line = line_of(text, Sought::Key(key.name()));
-            words_of_key(alloc, table.get(key.name()), key, line, fault)
+            let words = words_of_key(alloc, value, key, line, fault)?;
+            if value.is_none() {
+                return with_hint(alloc, text, table, key, words);
+            }
+            Ok(words)
         }
         Place::NoAddress => {
             let line = line_of(text, Sought::Key(Key::Address.name()));
@@ -91,6 +96,45 @@ fn words_of_key(
     };
     push_line(&mut words, line)?;
     Ok(words)
+}
+
+/// The words of a key that the plan lacks, and where a tariff has the key, or else a key that no plan has: a plan's keys belong in front of
+/// the first tariff, and a key may be misspelt.
+fn with_hint(
+    alloc: Global,
+    text: &[u8],
+    table: &Table,
+    key: Key,
+    words: String,
+) -> Result<String, AllocError> {
+    let mut words = words;
+    let name = key.name();
+    if let Some(at) = tables_of(table)
+        .iter()
+        .position(|value| value.get(name).is_some())
+    {
+        let number = at.saturating_add(1);
+        write!(
+            words,
+            "; tariff {number} has it, and it belongs in front of the first tariff"
+        )?;
+        push_line(&mut words, line_of(text, Sought::KeyOf(number, name)))?;
+    } else if let Some(other) = stranger_in(table, &PLAN_KEYS) {
+        let found = quoted(alloc, other.as_bytes())?;
+        write!(words, "; a plan has no key {found}")?;
+        push_line(&mut words, line_of(text, Sought::Key(other)))?;
+    }
+    Ok(words)
+}
+
+/// The first key of a table, by its name, that is none of these.
+fn stranger_in<'t>(table: &'t Table, keys: &[Key]) -> Option<&'t str> {
+    for name in table.keys() {
+        if !keys.iter().any(|key| key.name() == name.as_str()) {
+            return Some(name.as_str());
+        }
+    }
+    None
 }
 
 /// What is wrong at a place of the list of tariffs.
@@ -161,8 +205,34 @@ fn words_in_table(
     all.push_str(words.as_str())?;
     if value.is_none() {
         push_line(&mut all, line_of(text, Sought::Table(number)))?;
+        push_stranger(alloc, &mut all, text, table, number)?;
     }
     Ok(all)
+}
+
+/// Behind the words of a key that a table of tariffs lacks: a key that no such table has, if there is one.
+fn push_stranger(
+    alloc: Global,
+    words: &mut String,
+    text: &[u8],
+    table: &Table,
+    number: usize,
+) -> Result<(), AllocError> {
+    let Some(inner) = table_of(table, number) else {
+        return Ok(());
+    };
+    let Some(other) = stranger_in(inner, &TABLE_KEYS) else {
+        return Ok(());
+    };
+    let found = quoted(alloc, other.as_bytes())?;
+    write!(words, "; a tariff has no key {found}")?;
+    push_line(words, line_of(text, Sought::KeyOf(number, other)))
+}
+
+/// A table of tariffs.
+fn table_of(table: &Table, number: usize) -> Option<&Table> {
+    let at = number.checked_sub(1)?;
+    tables_of(table).get(at)?.as_table()
 }
 
 /// The value of a key of a table of tariffs.

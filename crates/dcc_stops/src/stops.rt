@@ -3,11 +3,14 @@
 ghost use Rattle.std.specs.Prelude.{◌≡◌, false, IfSome};
 ghost use Rattle.sqlite.specs.Files.{file_state};
 ghost use Rattle.sqlite.specs.State.{HasCleanDisk};
+ghost use Rattle.dcc_records.specs.Contents.{Content};
 ghost use Rattle.dcc_shard.specs.Shards.{held, AreOwn};
+ghost use Rattle.dcc_shard.specs.Stored.{IsLeft};
 ghost use Rattle.dcc_stops.specs.Stops.{HoldsAgain};
 
 use dcc_message::Identity;
 use dcc_model::acts_come_to_their_own;
+use dcc_records::Records;
 use dcc_shard::Shard;
 use dcc_sqlrec::{Setting, SqlRecords, stop_and_reopen};
 use sqlite::{FileStore, Options};
@@ -36,15 +39,31 @@ pub fn stop_and_reopen_shard<D: Crash + Drop>(
 {
     acts_come_to_their_own();
     let records = shard.into_records();
-    let again = match stop_and_reopen(records, options, setting) {
-        Ok(again) => again,
+    match stop_and_reopen(records, options, setting) {
+        Ok(again) => shard_over(alloc, identity, again, hasher),
         Err(refused) => {
-            // By a call, here and below: what is let go in place is proved part by part.
+            // By a call: the parts of a value that is dropped in place are proved one by one.
             drop(refused);
-            return None;
+            None
         }
-    };
-    match Shard::new(alloc, identity, again, hasher) {
+    }
+}
+
+/// The shard over these records, of any type: over a database its proof is dear.
+fn shard_over<R: Records + Drop>(
+    alloc: Global,
+    identity: &Identity,
+    records: R,
+    hasher: RandomState,
+) -> Option<Shard<R>>
+    ensures terms { IfSome result (λ shard. shard.shard.terms ≡ R.terms records) }
+    ensures identity { IfSome result (λ shard. shard.shard.identity ≡ identity.now) }
+    ensures going { IfSome result (λ shard. R.is_stopped shard.records ≡ R.is_stopped records) }
+    ensures own { IfSome result (λ shard. AreOwn shard.shard) }
+    ensures there { IfSome result (λ shard. R.is_honest shard.records → IsLeft shard.shard.terms (held shard.shard) (R.may_leave shard.records)) }
+    ensures same { IfSome result (λ shard. (found : Content) → R.may_leave shard.records found → R.may_leave records found) }
+{
+    match Shard::new(alloc, identity, records, hasher) {
         Ok(shard) => Some(shard),
         Err(refused) => {
             drop(refused);
