@@ -25,5 +25,5 @@ found line parts (Some misfit) same holds = in_line line parts misfit same holds
 
 pub returns : goal.returns
 returns c =
-    found c.args.line.now c.as_slice.result.now c.in_ok-misfit.misfit
-    (ap (map (λ part. part.now)) c.as_slice.ensures.value ∙ c.in_ok-words.ensures) c.in_ok-misfit.ensures
+    found c.args.line.now c.as_slice-2.result.now c.in_ok-misfit.misfit
+    (ap (map (λ part. part.now)) c.as_slice-2.ensures.value ∙ c.in_ok-words.ensures) c.in_ok-misfit.ensures
