@@ -1,5 +1,5 @@
 -- What a shard holds that stands on what a stop left of another.
-use Rattle.std.proofs.Common.{◌≡◌, inl, inr, Bool, true, false, List, ◌∷◌, ◌++◌, length, take, drop, take-append-drop, append_assoc, sym, ap, subst, ◌∙◌}
+use Rattle.std.proofs.Common.{◌≡◌, inl, inr, Bool, true, false, List, ◌∷◌, ◌++◌, length, take, drop, take-append-drop, append_assoc, sym, ap, subst, ◌∙◌, Option, Some, None, IfSome}
 use Rattle.std.proofs.Math.Logic.{∥∥₁_elim, ∥∥₁_map}
 use Rattle.std.proofs.Props.{props}
 use Rattle.dcc_tariff.specs.Terms.{TermsView}
@@ -11,8 +11,8 @@ use Rattle.dcc_model.specs.Outcomes.{after, is_new}
 use Rattle.dcc_records.specs.Books.{Held}
 use Rattle.dcc_records.specs.Contents.{Content, Kept, IsContentOf}
 use Rattle.dcc_records.specs.Stops.{LeavesOnly}
-use Rattle.dcc_shard.specs.Shards.{held_then}
-use Rattle.dcc_shard.specs.Stored.{IsLeft, GoesOnFrom, LeavesHeld, LeavesOneMore}
+use Rattle.dcc_shard.specs.Shards.{held, held_then}
+use Rattle.dcc_shard.specs.Stored.{StoredView, IsLeft, GoesOnFrom, LeavesHeld, LeavesOneMore}
 use Rattle.dcc_stops.specs.Stops.{AreAlike, HoldsAgain}
 
 -- it holds what was held, and at most one act more of each subscriber
@@ -57,3 +57,17 @@ holds_again terms now one other leaves again was_stopped firsts olds same only m
       repeats = λ sub earlier later act repeat is made like.
           first_again firsts olds terms (one sub) (other sub) earlier later act repeat is (goes_on terms one other leaves again held left back sub).0 made like;
     }
+
+-- so does a shard over what was opened again, if it is made
+pub held_again : {R : Type 0} (may_leave : R → Content → Type 0) (is_stopped : R → Bool) (clean honest : R → Type 0) (terms opened : TermsView) (one : Held)
+    (leaves found : Content → Type 0) (was_stopped went : Bool) (again : Option (StoredView R)) → RepeatsAreFirsts → RepeatsAreOld
+    → (was_stopped ≡ false → LeavesOnly terms one leaves) → (was_stopped ≡ true → LeavesOneMore terms one leaves) → LeavesHeld one leaves
+    → opened ≡ terms → went ≡ false → ((r : R) → clean r → is_stopped r ≡ false → honest r) → ((content : Content) → found content → ∥ leaves content ∥₁)
+    → IfSome again (λ s. s.shard.terms ≡ opened) → IfSome again (λ s. is_stopped s.records ≡ went)
+    → IfSome again (λ s. honest s.records → IsLeft s.shard.terms (held s.shard) (may_leave s.records))
+    → IfSome again (λ s. (content : Content) → may_leave s.records content → found content)
+    → IfSome again (λ s. clean s.records → HoldsAgain was_stopped terms one (held s.shard))
+held_again may_leave is_stopped clean honest terms opened one leaves found was_stopped went None firsts olds only more kept same going whole back terms_are stopped_is there left = tt
+held_again may_leave is_stopped clean honest terms opened one leaves found was_stopped went (Some s) firsts olds only more kept same going whole back terms_are stopped_is there left = λ is.
+    holds_again terms s.shard.terms one (held s.shard) leaves (may_leave s.records) was_stopped firsts olds (terms_are ∙ same) only more kept
+    (there (whole s.records is (stopped_is ∙ going))) (λ content it. back content (left content it))
