@@ -208,6 +208,15 @@ def of_definitions(text):
     return text if "{-" in text else re.sub(r"(?m)^ *--(?: .*)?\n", "", text)
 
 
+def without_comments(path, text):
+    """A file of a crate without the comments that fill a line, unless these may stand in a text or hold others."""
+    if path.endswith(".antt"):
+        return of_definitions(text)
+    lines = [it for it in text.split("\n") if not re.match(r" *//", it)]
+    is_unsure = "/*" in text or re.search(r"""\br#*\"""", text) or any(len(re.findall(r'(?<!\\)"', re.sub(r"""'\\?"'""", "", it))) % 2 for it in lines)
+    return text if is_unsure else "\n".join(lines)
+
+
 def files_of(folder, part):
     """The files of a part of a crate, by their paths in it, in order."""
     found = {}
