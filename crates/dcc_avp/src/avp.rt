@@ -10,11 +10,11 @@ use crate::fault::AvpFault;
 use dcc_octets::{u32_at, u32_in, u64_in};
 use std::marker::Model;
 
-/// The bits of an AVP's flags that this server looks at (RFC 6733, section 4.1). Values of the others are ignored.
+/// The bits of an AVP's flags that this server reads (RFC 6733, section 4.1). It ignores the others.
 pub mod flags {
     /// V: a Vendor-ID follows the length.
     pub const VENDOR: u8 = 0x80;
-    /// M: who doesn't know the AVP has to refuse the message.
+    /// M: a receiver that doesn't know the AVP has to reject the message.
     pub const MANDATORY: u8 = 0x40;
 }
 
@@ -25,8 +25,8 @@ pub(crate) fn header_len(flags: u8) -> usize
     if flags & flags::VENDOR != 0 { 12 } else { 8 }
 }
 
-/// An attribute-value pair (RFC 6733, section 4). It has a vendor exactly where its flags have V, and contracts see it
-/// as an `AvpView`.
+/// An attribute-value pair (RFC 6733, section 4). It has a vendor if and only if its flags have V. Contracts see it as
+/// an `AvpView`.
 #[derive(Debug, Drop)]
 pub struct Avp<'a> {
     code: u32,
@@ -104,7 +104,7 @@ impl<'a> Avp<'a> {
         }
     }
 
-    /// The octets of header and data, without padding: what AVP Length counts.
+    /// The number of octets of header and data, without padding, as AVP Length has it.
     pub fn length(&self) -> usize
         ensures counted { result ≡ avp_len self.now }
         ensures header { result ≡ 8 + length (vendor_octets self.now.vendor) + length self.now.value }
@@ -114,7 +114,7 @@ impl<'a> Avp<'a> {
         header_len(self.flags) + self.value.len()
     }
 
-    /// The octets of header, data and padding.
+    /// The number of octets of header, data and padding.
     pub fn padded_length(&self) -> usize
         ensures { result ≡ padded_len self.now }
     {
@@ -157,7 +157,7 @@ impl<'a> Avp<'a> {
         self.code() == code && !self.is_vendor()
     }
 
-    /// The Vendor-ID, which is there exactly where the flags have V.
+    /// The Vendor-ID. It is there if and only if the flags have V.
     pub fn vendor(&self) -> Option<u32>
         ensures { result ≡ self.now.vendor }
     {
@@ -171,21 +171,21 @@ impl<'a> Avp<'a> {
         self.value
     }
 
-    /// The data as an Unsigned32 or as an Enumerated; fault 4 where it isn't of four octets.
+    /// The data as an Unsigned32 or as an Enumerated; fault 4 if the data hasn't four octets.
     pub fn as_u32(&self) -> Result<u32, AvpFault>
         ensures { result ≡ unsigned_of w32 self.now.value }
     {
         u32_in(self.value).ok_or(AvpFault::WrongSize)
     }
 
-    /// The data as an Unsigned64; fault 4 where it isn't of eight octets.
+    /// The data as an Unsigned64; fault 4 if the data hasn't eight octets.
     pub fn as_u64(&self) -> Result<u64, AvpFault>
         ensures { result ≡ unsigned_of w64 self.now.value }
     {
         u64_in(self.value).ok_or(AvpFault::WrongSize)
     }
 
-    /// The data as an Integer32; fault 4 where it isn't of four octets.
+    /// The data as an Integer32; fault 4 if the data hasn't four octets.
     pub fn as_i32(&self) -> Result<i32, AvpFault>
         ensures { result ≡ signed_of w32 self.now.value }
     {
@@ -195,7 +195,7 @@ impl<'a> Avp<'a> {
         }
     }
 
-    /// The data as an Integer64; fault 4 where it isn't of eight octets.
+    /// The data as an Integer64; fault 4 if the data hasn't eight octets.
     pub fn as_i64(&self) -> Result<i64, AvpFault>
         ensures { result ≡ signed_of w64 self.now.value }
     {

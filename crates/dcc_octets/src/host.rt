@@ -31,7 +31,7 @@ impl Model for Host {
 }
 
 impl Host {
-    /// The host of this name, or none where it isn't of 1 to 255 octets. It takes no memory.
+    /// The host of this name. None if the name hasn't 1 to 255 octets. It takes no memory.
     pub fn from_octets(octets: OctetString) -> Option<Host>
         ensures { result ≡ (if is_short octets then Some octets else None) }
     {
@@ -41,7 +41,7 @@ impl Host {
         Some(Host { octets })
     }
 
-    /// The host of a name that has 1 to 255 octets, where memory suffices; the only error is want of it.
+    /// The host of a name that has 1 to 255 octets. The only error is want of memory.
     pub fn of(alloc: Global, name: &[u8]) -> Result<Host, AllocError>
         requires { is_short name.now ≡ true }
         ensures { IfOk result (λ host. host ≡ name.now) }
@@ -59,7 +59,7 @@ impl Host {
         self.octets.as_slice()
     }
 
-    /// An equal name, where memory suffices; the only error is want of it.
+    /// An equal name. The only error is want of memory.
     pub fn copy(&self) -> Result<Host, AllocError>
         ensures { IfOk result (λ copy. copy ≡ self.now) }
     {
@@ -84,7 +84,8 @@ impl Eq for Host {
 }
 
 impl Hash for Host {
-    // At once: a hasher takes whole words of the octets, where it takes them one by one of a slice that is hashed as one.
+    // All octets are written at once, since a hasher then takes them as whole words. If the slice itself were hashed, it
+    // would take them one by one.
     ghost hash_input = { λ s. s ∷ [] };
 
     ghost respects_eq = { Prim.search (hashing, rules) };

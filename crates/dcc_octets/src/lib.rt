@@ -1,8 +1,8 @@
 //! Octets: numbers in them, texts of visible characters, names of hosts, and strings of them that contracts see as lists.
 //!
-//! Stands on nothing of this repository, and all that reads or writes octets stands on it. The contract that it gives: a
-//! number in octets has its highest octet first, as everything in Diameter has (RFC 6733, section 3), and each limit on
-//! octets that several crates have is told by one test with one definition.
+//! Stands on nothing of this repository, and each crate that reads or writes octets stands on it. The contract that it
+//! gives: a number in octets has its highest octet first, as each number of Diameter has (RFC 6733, section 3), and each
+//! limit on octets that several crates share has one test with one definition.
 #![tactic(auto)]
 
 mod host;

@@ -3,7 +3,7 @@
 ghost use Rattle.std.specs.Prelude.{◌≡◌};
 ghost use Rattle.dcc_octets.specs.Names.{are_visible, is_short, is_name};
 
-/// The first visible character of ASCII, an exclamation mark: what stands before it are controls and the space.
+/// The first visible character of ASCII, an exclamation mark. Only controls and the space stand before it.
 pub const FIRST_VISIBLE: u8 = 0x21;
 
 /// The last visible character of ASCII, a tilde.
@@ -12,7 +12,7 @@ pub const LAST_VISIBLE: u8 = 0x7E;
 /// The most octets of a name: of a Session-Id, of a host or of a realm.
 pub const MAX_NAME: usize = 255;
 
-/// Whether each octet is a visible character of ASCII, 0x21 to 0x7E. No octets are.
+/// Whether each octet is a visible character of ASCII, 0x21 to 0x7E. It is true without octets.
 pub fn are_visible(octets: &[u8]) -> bool
     ensures { result ≡ are_visible octets.now }
 {

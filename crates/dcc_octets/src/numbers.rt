@@ -4,7 +4,7 @@ ghost use Rattle.std.specs.Prelude.{◌≡◌, ◌+◌, ◌<◌, ◌≤◌, ◌^
 ghost use Rattle.std.specs.Int.{w32, w64, bytes_high_first};
 ghost use Rattle.dcc_octets.specs.Numbers.{number_in, u24_at, u32_at};
 
-/// The number of just four octets; none where there are fewer or more.
+/// The number in exactly four octets. None if there are fewer or more.
 pub fn u32_in(octets: &[u8]) -> Option<u32>
     ensures { result ≡ number_in w32 octets.now }
 {
@@ -14,7 +14,7 @@ pub fn u32_in(octets: &[u8]) -> Option<u32>
     }
 }
 
-/// The number of just eight octets; none where there are fewer or more.
+/// The number in exactly eight octets. None if there are fewer or more.
 pub fn u64_in(octets: &[u8]) -> Option<u64>
     ensures { result ≡ number_in w64 octets.now }
 {
@@ -41,7 +41,7 @@ pub fn u32_at(octets: &[u8], at: usize) -> u32
     u32::from_be_bytes([octets[at], octets[at + 1], octets[at + 2], octets[at + 3]])
 }
 
-/// The three octets of a number that fits them.
+/// The three octets of a number below 2^24.
 pub fn u24_octets(number: u32) -> [u8; 3]
     requires { number < 2 ^ 24 }
     ensures { result ≡ bytes_high_first 3 number }
@@ -50,7 +50,7 @@ pub fn u24_octets(number: u32) -> [u8; 3]
     [high, middle, low]
 }
 
-/// Writes octets over those from `at` on, which have to be there.
+/// Writes octets over as many octets of `all` from `at` on, which have to be there.
 pub fn put_over(all: &mut [u8], at: usize, octets: &[u8])
     requires { at + length octets.now ≤ length all.old }
     ensures { all.new ≡ take at all.old ++ (octets.now ++ drop (at + length octets.now) all.old) }

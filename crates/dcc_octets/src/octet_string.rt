@@ -29,7 +29,7 @@ impl OctetString {
         }
     }
 
-    /// These octets, without memory.
+    /// These octets. It takes no memory.
     pub fn from_vec(items: Vec<u8>) -> Self
         ensures { result ≡ items.items }
     {
@@ -51,7 +51,7 @@ impl OctetString {
         items
     }
 
-    /// Equal octets, where memory suffices; the only error is want of it.
+    /// Equal octets. The only error is want of memory.
     pub fn copy(&self) -> Result<OctetString, AllocError>
         ensures { IfOk result (λ copy. copy ≡ self.now) }
     {

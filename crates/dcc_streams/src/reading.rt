@@ -7,10 +7,10 @@ ghost use Rattle.dcc_streams.specs.declared.reading.ReadFault.TheVariants as fau
 use std::alloc::{AllocError, Global};
 use std::io::{ErrorKind, Read};
 
-/// As many octets are asked for at a time.
+/// The octets that one read asks for.
 const PIECE: usize = 4096;
 
-/// After so many reads a text has ended, in the program.
+/// The most reads of a text in the program.
 pub const MOST_READS: u32 = u32::MAX;
 
 /// Why a text isn't read whole.
@@ -18,7 +18,7 @@ pub const MOST_READS: u32 = u32::MAX;
 pub enum ReadFault {
     /// Memory was short.
     Memory,
-    /// The reader failed, or had not ended after as many reads as it had.
+    /// The reader failed, or it had not ended after the given number of reads.
     Io,
 }
 
@@ -30,8 +30,8 @@ impl From<AllocError> for ReadFault {
     }
 }
 
-/// All that a reader gives up to its end. A reader that fails, or has not told its end after so many reads, is fault `Io`; where
-/// memory is short, also within the reader, it is `Memory`. A read that is interrupted is made again.
+/// All octets that a reader gives up to its end. The fault is `Io` if the reader fails or has not ended after `reads` reads, and
+/// `Memory` if memory is short, also within the reader. An interrupted read is repeated, and counts as a read.
 pub fn read_all<R: Read>(alloc: Global, input: &mut R, reads: u32) -> Result<Vec<u8>, ReadFault>
     ensures whole { IfOk result (λ text. IfSome (R.remaining input.old) (λ given. text.items ≡ given)) }
     ensures end { IfOk result (λ _. IsAtEnd (R.remaining input.new)) }

@@ -8,12 +8,12 @@ use std::io::{ErrorKind, Write};
 /// Why a text isn't written whole.
 #[derive(Clone, Copy, Debug, PartialEq, Eq)]
 pub struct WriteFault {
-    /// So many of its octets, from the first on, the writer took. It took all where it failed to send them on.
+    /// The number of octets that the writer took, from the first on. It took all if only the flush failed.
     pub written: usize,
 }
 
-/// Writes a whole text, and sends it on. A writer may take less than it is given at a time; one that takes nothing has failed. A
-/// write that is interrupted is made again.
+/// Writes a whole text, and flushes the writer. A write may take fewer octets than it is given. A write that takes none has
+/// failed. An interrupted write is repeated.
 pub fn write_all<W: Write>(output: &mut W, text: &[u8]) -> Result<(), WriteFault>
     ensures whole { OnOk result (Appends (W.contents output.old) (W.contents output.new) text.now) }
     ensures part { IfErr result (λ fault. (fault.written ≤ length text.now)
@@ -26,7 +26,7 @@ pub fn write_all<W: Write>(output: &mut W, text: &[u8]) -> Result<(), WriteFault
     Ok(())
 }
 
-/// How many octets of a text, from the first on, the writer took until it had all or failed.
+/// The number of octets of a text, from the first on, that the writer took until it had all or failed.
 fn taken<W: Write>(output: &mut W, text: &[u8]) -> usize
     ensures within { result ≤ length text.now }
     ensures octets { Appends (W.contents output.old) (W.contents output.new) (take result text.now) }
