@@ -9,13 +9,13 @@ use Rattle.dcc_avp.specs.declared.avp.flags.TheConstants.{MANDATORY}
 abbrev pub sent : ℕ → List ℕ → AvpView
 sent code value = record { code = code; flags = MANDATORY; vendor = None; value = value }
 
--- of a number in four octets, and in eight
+-- an AVP that is sent, of a number in four octets, and of a number in eight
 abbrev pub sent32 : ℕ → ℕ → AvpView
 sent32 code n = sent code (to_be_bytes w32 n)
 
 abbrev pub sent64 : ℕ → ℕ → AvpView
 sent64 code n = sent code (to_be_bytes w64 n)
 
--- of other AVPs, each with its padding (RFC 6733, section 4.4)
+-- an AVP that is sent, of other AVPs, each with its padding (RFC 6733, section 4.4)
 abbrev pub grouped : ℕ → List AvpView → AvpView
 grouped code avps = sent code (flat_map padded avps)

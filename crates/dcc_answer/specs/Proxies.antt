@@ -1,4 +1,4 @@
--- The proxies that an answer takes over from its request (RFC 6733, section 6.2).
+-- The proxies that an answer copies from its request (RFC 6733, section 6.2).
 use Rattle.std.specs.Prelude.{◌≡◌, ℕ, true, List, filter}
 use Rattle.std.specs.List.{flat_map, AllByRecursion}
 use Rattle.dcc_avp.specs.Spelling.{AvpView, padded, has_code, HasSpelling}

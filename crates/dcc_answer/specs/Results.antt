@@ -1,4 +1,4 @@
--- What an answer's octets tell of its result.
+-- The result in an answer's octets.
 use Rattle.std.specs.Prelude.{ℕ, Bool, false, ◌==◌, List, drop, Option, None, Some, option_and_then, Result, Ok, Err}
 use Rattle.std.specs.Int.{w32}
 use Rattle.std.specs.List.{find}
@@ -9,7 +9,7 @@ use Rattle.dcc_avp.specs.declared.codes.TheConstants.{RESULT_CODE}
 use Rattle.dcc_message.specs.declared.length.TheConstants.{HEADER_LENGTH}
 use Rattle.dcc_answer.specs.declared.protocol_error.TheConstants.{TOO_BUSY}
 
--- the number of the first Result-Code that is no vendor's, where it has four octets
+-- the number of the first Result-Code that is no vendor's, if it has four octets
 abbrev pub result_in : List AvpView → Option ℕ
 result_in avps = option_and_then (λ (avp : AvpView). number_in w32 avp.value) (find (has_code RESULT_CODE) avps)
 
@@ -22,7 +22,7 @@ is_just wanted (Some n) = n == wanted
 abbrev pub are_busy : List AvpView → Bool
 are_busy avps = is_just TOO_BUSY (result_in avps)
 
--- what was read says so; what can't be read says nothing
+-- the AVPs that were read say so; a list that can't be read says nothing
 abbrev pub says_busy : Result (List AvpView) FaultView → Bool
 says_busy (Ok avps) = are_busy avps
 says_busy (Err fault) = false

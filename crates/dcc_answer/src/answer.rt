@@ -1,4 +1,4 @@
-//! An answer's octets: its header, and behind its AVPs those that it takes over.
+//! An answer's octets: its header, its AVPs, and behind these the proxies of its request.
 
 ghost use Rattle.std.specs.Prelude.{◌≡◌, ◌++◌, ◌≤◌, drop, length, replicate, vec_len, IfOk};
 ghost use Rattle.dcc_message.specs.Headers.{message};
@@ -10,16 +10,16 @@ use crate::proxies::Proxies;
 use dcc_message::{HEADER_LENGTH, Header, begin_message, command_flags, finish_message};
 use std::alloc::{AllocError, Global};
 
-/// The octets that are taken for an answer at first, which most answers fit.
+/// The octets that are reserved for an answer at first. Most answers fit.
 const ROOM: usize = 256;
 
 /// The most octets of an answer without its proxies: they and the proxies fit the three octets of a message's length.
 pub const MAX_OWN: usize = 100_000;
 
-/// The most octets of an answer: those of its own and its proxies' are fewer.
+/// The most octets of an answer with its proxies, which together have fewer.
 pub const MAX_ANSWER: usize = 200_000;
 
-/// Begins an answer: room for its header, behind which its AVPs are appended. At want of memory there is none.
+/// Begins an answer: room for its header, behind which its AVPs are appended. The only error is want of memory.
 pub fn begin_answer(alloc: Global) -> Result<Vec<u8>, AllocError>
     ensures items { IfOk result (λ begun. begun.items ≡ replicate HEADER_LENGTH 0) }
     ensures len { IfOk result (λ begun. vec_len begun ≡ HEADER_LENGTH) }
@@ -27,9 +27,9 @@ pub fn begin_answer(alloc: Global) -> Result<Vec<u8>, AllocError>
     begin_message(alloc, ROOM)
 }
 
-/// The answer whose AVPs, of at most 100,000 octets and each with its padding, stand behind the room for a header: with the
-/// request's proxies behind them, and under the request's header with these bits beside P. At want of memory there is
-/// none.
+/// Finishes an answer whose AVPs stand behind the room for a header, each with its padding. They have at most 100,000
+/// octets. The request's proxies go behind them. The header is the request's with these bits beside P. The only error is
+/// want of memory.
 #[tactic(auto, using(crate::proofs::Appended::behind_header))]
 pub fn finish_answer(
     mut begun: Vec<u8>,
@@ -48,7 +48,7 @@ pub fn finish_answer(
     Ok(begun)
 }
 
-/// The header of an answer: of the request's flags P alone, and these bits.
+/// The header of an answer: its flags are P of the request, and these bits.
 fn answer_header(request: &Header, bits: u8) -> Header
     ensures { result ≡ header_of_answer request.now bits }
 {

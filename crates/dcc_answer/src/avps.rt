@@ -8,8 +8,8 @@ ghost use Rattle.dcc_answer.specs.Sizes.{Grows};
 use dcc_avp::{Avp, flags, write_avp, write_u32, write_u64};
 use std::alloc::AllocError;
 
-/// Appends an AVP of these data, with its padding: of at most 2^24 - 9 octets, which an AVP Length of three octets can tell.
-/// At want of memory nothing is appended.
+/// Appends an AVP with this data and its padding. The data has at most 2^24 - 9 octets, so that the AVP Length fits three
+/// octets. The only error is want of memory; then nothing is appended.
 pub fn put(out: &mut Vec<u8>, code: u32, value: &[u8]) -> Result<(), AllocError>
     requires { 8 + length value.now < 2 ^ 24 }
     ensures ok { OnOk result (out.new.items ≡ out.old.items ++ padded (sent code value.now)) }
@@ -19,7 +19,7 @@ pub fn put(out: &mut Vec<u8>, code: u32, value: &[u8]) -> Result<(), AllocError>
     write_avp(out, &Avp::new(code, flags::MANDATORY, value))
 }
 
-/// Appends an AVP of a number in four octets. At want of memory nothing is appended.
+/// Appends an AVP of a number in four octets. The only error is want of memory; then nothing is appended.
 pub fn put_u32(out: &mut Vec<u8>, code: u32, number: u32) -> Result<(), AllocError>
     ensures ok { OnOk result (out.new.items ≡ out.old.items ++ padded (sent32 code number)) }
     ensures err { OnErr result (out.new.items ≡ out.old.items) }
@@ -28,7 +28,7 @@ pub fn put_u32(out: &mut Vec<u8>, code: u32, number: u32) -> Result<(), AllocErr
     write_u32(out, code, flags::MANDATORY, number)
 }
 
-/// Appends an AVP of a number in eight octets. At want of memory nothing is appended.
+/// Appends an AVP of a number in eight octets. The only error is want of memory; then nothing is appended.
 pub fn put_u64(out: &mut Vec<u8>, code: u32, number: u64) -> Result<(), AllocError>
     ensures ok { OnOk result (out.new.items ≡ out.old.items ++ padded (sent64 code number)) }
     ensures err { OnErr result (out.new.items ≡ out.old.items) }

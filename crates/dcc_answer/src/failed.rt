@@ -1,4 +1,4 @@
-//! Failed-AVP: what an answer shows its request's sender as wrong.
+//! Failed-AVP: the AVPs that an answer reports as wrong.
 
 ghost use Rattle.std.specs.Prelude.{◌≡◌, ◌+◌, ◌*◌, ◌≤◌, ◌++◌, take, vec_len, OnOk, OnErr};
 ghost use Rattle.std.specs.List.{flat_map, sum_by, AllByRecursion};
@@ -13,7 +13,8 @@ use dcc_request::Failed;
 use std::alloc::AllocError;
 
 /// Appends the Failed-AVP of a refusal (RFC 6733, section 7.5), with copies of its AVPs, which together have at most the
-/// octets of two messages; nothing where there are none. At want of memory nothing is appended.
+/// octets of two messages. A refusal without AVPs has no Failed-AVP. The only error is want of memory; then nothing is
+/// appended.
 pub fn put_failed(out: &mut Vec<u8>, failed: &Failed<'_>) -> Result<(), AllocError>
     requires { sum_by padded_len (failed_in failed.now) ≤ 2 * MAX_LENGTH }
     ensures ok { OnOk result (out.new.items ≡ out.old.items ++ flat_map padded (failed_avps (failed_in failed.now))) }
@@ -29,7 +30,7 @@ pub fn put_failed(out: &mut Vec<u8>, failed: &Failed<'_>) -> Result<(), AllocErr
     appended
 }
 
-/// Appends the Failed-AVP. At want of memory a part of it may stand behind the octets that were there.
+/// Appends the Failed-AVP. If memory is refused, a part of it may stand behind the octets that were there.
 fn append_failed(out: &mut Vec<u8>, failed: &Failed<'_>) -> Result<(), AllocError>
     requires { sum_by padded_len (failed_in failed.now) ≤ 2 * MAX_LENGTH }
     ensures ok { OnOk result (out.new.items ≡ out.old.items ++ flat_map padded (failed_avps (failed_in failed.now))) }

@@ -26,9 +26,9 @@ pub fn numbers_are_given()
     ensures answer { MAX_ANSWER ≡ 200_000 }
 {}
 
-/// Whether an answer is the busy one is told by its own AVPs alone, where they can be spelled: by the first Result-Code, for
-/// proxies are Proxy-Info. So an answer that reports a protocol error is busy just where its code is. Each answer has at
-/// least a header.
+/// Whether an answer is the busy one depends on its own AVPs alone, if they can be spelled: on its first Result-Code, since
+/// proxies are Proxy-Info. So an answer that reports a protocol error is busy if and only if its code is TOO_BUSY. Each
+/// answer has at least a header.
 pub fn busy_by_result()
     ensures told { (request : HeaderView) (bits : ℕ) (avps : List AvpView) (proxies : List ℕ) →
         AllByRecursion HasSpelling avps → SpellProxies proxies →
@@ -44,13 +44,13 @@ pub fn busy_by_result()
     dcc_avp::read_back();
 }
 
-/// The proxies that an answer copies of a list that was read are Proxy-Info that can be spelled.
+/// The proxies that an answer copies from a list that was read are Proxy-Info that can be spelled.
 pub fn proxies_are_spelled()
     ensures { (octets : List ℕ) (avps : List AvpView) → Spells octets avps → SpellProxies (proxies_of avps) }
 {}
 
-/// What is written is read back, where it can be spelled: the AVPs, with the proxies behind the others, and the header with
-/// the length of the message, which the codec reads up to 65,532 octets. What an answer holds that reports a protocol error
+/// A written answer is read back, if its AVPs can be spelled: the AVPs, with the proxies behind the others, and the header
+/// with the length of the message, if that is at most 65,532 octets. The AVPs of an answer that reports a protocol error
 /// can be spelled, and so can a Failed-AVP of AVPs that fit a message.
 pub fn read_back()
     ensures list { (request : HeaderView) (bits : ℕ) (avps proxies : List AvpView) →

@@ -1,9 +1,9 @@
-//! What the answers to all commands have in common: the AVPs that are sent, what an answer takes over from its request,
-//! its header, and the answer that reports a protocol error.
+//! What the answers to all commands have in common: the AVPs that are sent, the copies from the request, the header,
+//! and the answer that reports a protocol error.
 //!
-//! Stands on `dcc_request`, `dcc_message`, `dcc_avp` and `dcc_octets`, and what answers a command stands on it. The contract that it
-//! gives: each call writes just the octets of its definition or, at want of memory, nothing that is used; an answer is read
-//! back as it was written; and whether it is the busy answer is told by its Result-Code alone.
+//! Stands on `dcc_request`, `dcc_message`, `dcc_avp` and `dcc_octets`, and each crate that answers a command stands on it. The
+//! contract that it gives: each call writes exactly the octets of its definition or, if memory is refused, no octets that are sent;
+//! an answer is read back as it was written; and the Result-Code alone decides whether an answer is the busy one.
 #![tactic(auto)]
 
 mod answer;

@@ -21,9 +21,8 @@ use std::alloc::{AllocError, Global};
 /// DIAMETER_TOO_BUSY (RFC 6733, section 7.1.3): the request was not served, and nothing changed.
 pub const TOO_BUSY: u32 = 3004;
 
-/// Writes the answer that reports a protocol error (RFC 6733, section 7.2): with E set, under the request's identifiers and
-/// P bit, this Result-Code, the request's Session-Id, if there is one, and its Proxy-Info. At want of memory there is no
-/// message.
+/// Writes the answer that reports a protocol error (RFC 6733, section 7.2). It has E, the request's identifiers and P bit,
+/// this Result-Code, the request's Session-Id, if there is any, and its Proxy-Info. The only error is want of memory.
 pub fn write_error(
     alloc: Global,
     identity: &Identity,
@@ -41,7 +40,7 @@ pub fn write_error(
     error_within(alloc, identity, code, session, request, proxies)
 }
 
-/// The answer, and what is known of all that it holds.
+/// The answer, and what is known of the names in it.
 #[tactic(auto, unfolding(crate::specs::Answers::error_octets))]
 fn error_within(
     alloc: Global,
@@ -82,7 +81,7 @@ fn put_error(
     put(out, codes::ORIGIN_REALM, identity.realm.as_slice())
 }
 
-/// Writes the answer to a request that isn't served now: DIAMETER_TOO_BUSY, a protocol error.
+/// Writes the answer to a request that isn't served now: DIAMETER_TOO_BUSY, a protocol error. The only error is want of memory.
 pub fn write_busy(
     alloc: Global,
     identity: &Identity,

@@ -1,4 +1,4 @@
-//! The proxies that an answer takes over from its request.
+//! The proxies that an answer copies from its request.
 
 ghost use Rattle.std.specs.Prelude.{◌≡◌, ◌≤◌, ◌++◌, [], filter, length, vec_len, IfOk, OnOk};
 ghost use Rattle.std.specs.List.{sum_by};
@@ -42,7 +42,7 @@ impl Proxies {
         }
     }
 
-    /// The Proxy-Info of a message's list.
+    /// The Proxy-Info of a message's list, which has with its padding at most 65,532 octets. The only error is want of memory.
     pub fn of(alloc: Global, avps: &[Avp<'_>]) -> Result<Self, AllocError>
         requires { sum_by padded_len avps.now ≤ MAX_LENGTH }
         ensures { IfOk result (λ proxies. proxies ≡ proxies_of avps.now) }

@@ -1,4 +1,4 @@
-//! The name of a session that an answer takes over from its request.
+//! The name of a session that an answer copies from its request.
 
 ghost use Rattle.std.specs.Prelude.{◌≡◌, true};
 ghost use Rattle.dcc_octets.specs.Names.{is_short};
@@ -26,7 +26,7 @@ impl<'a> Model for Session<'a> {
 }
 
 impl<'a> Session<'a> {
-    /// The session of this name, or none where it isn't of 1 to 255 octets.
+    /// The session of this name. None if the name hasn't 1 to 255 octets.
     pub fn new(octets: &'a [u8]) -> Option<Session<'a>>
         ensures { result ≡ session_named octets.now }
     {
@@ -45,7 +45,7 @@ impl<'a> Session<'a> {
     }
 }
 
-/// The session of a list: its first Session-Id that is no vendor's, where that has 1 to 255 octets.
+/// The session of a list: its first Session-Id that is no vendor's, if that has 1 to 255 octets.
 #[tactic(auto, unfolding(dcc_request::specs::Sessions::session_of))]
 pub fn session_id<'a>(avps: &[Avp<'a>]) -> Option<Session<'a>>
     ensures { result ≡ session_of avps.now }

@@ -1,4 +1,4 @@
--- What contracts see of a header.
+-- A header, as contracts see it.
 use Rattle.std.specs.Prelude.{ℕ}
 
 -- the fields of a message's header behind its version (RFC 6733, section 3)

@@ -11,7 +11,7 @@ use Rattle.dcc_message.specs.declared.command_flags.TheConstants.{REQUEST, ERROR
 use Rattle.dcc_message.specs.HeaderView.{HeaderView}
 use Rattle.dcc_message.specs.Streams.{length_field, length_fault}
 
--- what fits into a header
+-- each field fits its octets, and the length is that of a message
 pub record IsHeader (h : HeaderView) : Type 0 where
   pub flags : h.flags < 2 ^ 8
   pub code : h.code < 2 ^ 24
@@ -44,7 +44,7 @@ header h =
 unfoldable pub message : HeaderView → List ℕ → List ℕ
 message h avps = header (record h { length = HEADER_LENGTH + length avps }) ++ avps
 
--- the fields where they stand
+-- the fields of a header at the front
 abbrev pub header_at : List ℕ → HeaderView
 header_at octets = record {
   length = u24_at octets 1;

@@ -9,14 +9,14 @@ use Rattle.dcc_message.specs.declared.length.TheConstants.{MAX_LENGTH, HEADER_LE
 abbrev pub length_field : List ℕ → ℕ
 length_field octets = u24_at octets 1
 
--- what is wrong with a stated length: it is too great, or that of no message
+-- the fault of a stated length: it is too great, or no message can have it
 abbrev pub length_fault : ℕ → Option LengthFault
 length_fault stated =
     if nat_lt MAX_LENGTH stated then Some TooLong
     else if nat_lt stated HEADER_LENGTH || not (stated % 4 == 0) then Some BadLength
     else None
 
--- what is wrong with the length at the front of a stream, once its octets are there
+-- the fault of the length at the front of a stream, once its octets are there
 abbrev pub fault_at : List ℕ → Option LengthFault
 fault_at stream = if nat_lt (length stream) 4 then None else length_fault (length_field stream)
 
@@ -28,7 +28,7 @@ begins_whole stream = nat_le 4 (length stream) && is_none (fault_at stream) && n
 abbrev pub octets_of : {Z : Type 0} → Vec ℕ Z → List ℕ
 octets_of octets = octets.items
 
--- the whole message at the front, and what stands after it
+-- the whole message at the front, and the octets behind it
 abbrev pub first_message : List ℕ → Option (List ℕ)
 first_message stream = if begins_whole stream then Some (take (length_field stream) stream) else None
 
@@ -41,11 +41,11 @@ messages_up_to zero stream = []
 messages_up_to (suc more) stream =
     if begins_whole stream then take (length_field stream) stream ∷ messages_up_to more (drop (length_field stream) stream) else []
 
--- the whole messages at the front of a stream: up to its end, a rest that is less than its length says, or a bad length
+-- the whole messages at the front of a stream: up to its end, to a message that isn't whole, or to a bad length
 unfoldable pub messages : List ℕ → List (List ℕ)
 messages stream = messages_up_to (length stream) stream
 
--- and what is left after so many of them
+-- the octets that are left behind so many of them
 abbrev pub rest_up_to : ℕ → List ℕ → List ℕ
 rest_up_to zero stream = stream
 rest_up_to (suc more) stream = if begins_whole stream then rest_up_to more (drop (length_field stream) stream) else stream
@@ -53,7 +53,7 @@ rest_up_to (suc more) stream = if begins_whole stream then rest_up_to more (drop
 unfoldable pub rest : List ℕ → List ℕ
 rest stream = rest_up_to (length stream) stream
 
--- the messages that come out where all that are whole are taken after each piece
+-- the messages of pieces, if all whole messages are taken after each piece; and the octets that are left
 abbrev pub messages_by_pieces : List ℕ → List (List ℕ) → List (List ℕ)
 messages_by_pieces held [] = []
 messages_by_pieces held (piece ∷ pieces) = messages (held ++ piece) ++ messages_by_pieces (rest (held ++ piece)) pieces

@@ -10,13 +10,13 @@ use std::collections::VecDeque;
 use std::marker::Model;
 use std::mem;
 
-/// A reader of messages from a stream that comes in pieces. It stands for the octets fed and not yet given.
+/// A reader of messages from a stream that comes in pieces. Its value is the octets that were fed and not yet returned.
 #[derive(Drop)]
 pub struct Framer {
     alloc: Global,
     /// Whole messages, in order.
     ready: VecDeque<Vec<u8>>,
-    /// The octets after them, which are less than a message.
+    /// The octets behind them, which are no whole message.
     begun: Vec<u8>,
 }
 
@@ -44,7 +44,7 @@ impl Framer {
         }
     }
 
-    /// Feeds a piece of the stream. Where memory is refused, nothing was fed.
+    /// Feeds a piece of the stream. The only error is want of memory; then nothing was fed.
     pub fn feed(&mut self, piece: &[u8]) -> Result<(), AllocError>
         ensures ok { OnOk result (self.new ≡ self.old ++ piece.now) }
         ensures err { OnErr result (self.new ≡ self.old) }
@@ -62,8 +62,9 @@ impl Framer {
         Ok(())
     }
 
-    /// Takes the first whole message off, without memory. Without one it is the fault of a bad length field, which
-    /// stays, or `None` where more has to come; then nothing changes.
+    /// Takes the first whole message off the stream, without memory. If no whole message stands at the front, nothing
+    /// changes: the error is the fault of a bad length field, which stays, and `None` means that more octets have to
+    /// come.
     pub fn next(&mut self) -> Result<Option<Vec<u8>>, LengthFault>
         ensures message { IfOk result (λ found. option_map octets_of found ≡ first_message self.old) }
         ensures left { self.new ≡ after_first self.old }
@@ -79,7 +80,7 @@ impl Framer {
     }
 }
 
-/// How many octets of the piece complete the message that is begun, where the piece has as many.
+/// How many octets of the piece complete the message that is begun. None if the piece has fewer.
 fn missing(begun: &[u8], piece: &[u8]) -> Option<usize>
     requires { begins_whole begun.now ≡ false }
     ensures some { IfSome result (λ count. Completes begun.now piece.now count) }
@@ -114,7 +115,7 @@ fn octet_at(front: &[u8], back: &[u8], index: usize) -> u8
     }
 }
 
-/// The messages of octets, and what is left.
+/// The messages of octets, and the octets that are left.
 #[derive(Drop)]
 struct Pieces {
     ready: VecDeque<Vec<u8>>,

@@ -14,7 +14,7 @@ use std::marker::Model;
 /// A message's header. Its version is 1.
 #[derive(Clone, Copy, Debug, PartialEq, Eq)]
 pub struct Header {
-    /// The octets of the message with its header, as read. A message that is written has its own length.
+    /// The octets of the message with its header, as read. Writing states the written message's own length instead.
     pub length: u32,
     /// The Command Flags (`command_flags`), with the reserved bits as they were read.
     pub flags: u8,
@@ -64,12 +64,12 @@ impl Header {
     }
 }
 
-/// Why octets are no message, in the order in which it is looked for: fault 10, then 12, then 11.
+/// Why octets are no message, in the order of the tests: fault 10, then 12, then 11.
 #[derive(Clone, Copy, Debug, PartialEq, Eq)]
 pub enum HeaderFault {
     /// Fault 10: the version isn't 1.
     Version,
-    /// Fault 12 or 11: the length field is that of no message, or isn't the number of the octets.
+    /// Fault 12 or 11: no message can have the length field, or the field isn't the number of the octets.
     Length(LengthFault),
 }
 
@@ -109,7 +109,7 @@ impl HeaderFault {
 pub fn read_header(octets: &[u8]) -> Result<Header, HeaderFault>
     ensures exact { result ≡ header_of octets.now }
 
-    // What is read stands at the front, and states the length of the octets.
+    // The header that is read stands at the front, and states the length of the octets.
     ensures found { IfOk result (λ h. IsHeader h × (octets.now ≡ spelled h ++ drop HEADER_LENGTH octets.now) × (h.length ≡ length octets.now)) }
 
     // A header that states the length of the octets is read.
@@ -140,7 +140,7 @@ fn judged(octets: &[u8]) -> Result<Header, HeaderFault>
     Ok(header_in(octets))
 }
 
-/// The fields where they stand.
+/// The fields of a header at the front.
 fn header_in(octets: &[u8]) -> Header
     requires { HEADER_LENGTH ≤ length octets.now }
     ensures { result ≡ header_at octets.now }
@@ -155,8 +155,9 @@ fn header_in(octets: &[u8]) -> Header
     }
 }
 
-/// Writes a message at the end of `out`: the header, with the length of both, and the AVPs, which are spelled already.
-/// Where memory is refused, nothing is written.
+/// Writes a message at the end of `out`: the header, with the length of the whole message, and the AVPs, which are
+/// spelled already. Header and AVPs together are whole words of four octets, and fewer than 2^24 octets. The only error
+/// is want of memory; then nothing is written.
 #[tactic(auto, unfolding(crate::specs::Headers::message))]
 pub fn write_message(out: &mut Vec<u8>, header: &Header, avps: &[u8]) -> Result<(), AllocError>
     requires whole { (HEADER_LENGTH + length avps.now) % 4 ≡ 0 }
@@ -171,7 +172,7 @@ pub fn write_message(out: &mut Vec<u8>, header: &Header, avps: &[u8]) -> Result<
     Ok(())
 }
 
-/// Appends a header that states this length, for which there is room.
+/// Appends a header that states this length. `out` has room for it.
 #[tactic(auto, unfolding(crate::specs::Headers::header))]
 fn append_header(out: &mut Vec<u8>, header: &Header, len: u32)
     requires room { vec_len out.old + HEADER_LENGTH ≤ vec_capacity out.old }
@@ -184,8 +185,8 @@ fn append_header(out: &mut Vec<u8>, header: &Header, len: u32)
     out.extend_from_slice(&identifier_octets(header)).unwrap();
 }
 
-/// A message that is begun: room for its header, in a vector of this capacity. The AVPs are to be written behind it,
-/// and then `finish_message` writes the header.
+/// A message that is begun: room for its header, in a vector of at least this capacity. The caller writes the AVPs
+/// behind it, and then `finish_message` writes the header. The only error is want of memory.
 pub fn begin_message(alloc: Global, capacity: usize) -> Result<Vec<u8>, AllocError>
     ensures items { IfOk result (λ out. out.items ≡ replicate HEADER_LENGTH 0) }
     ensures len { IfOk result (λ out. vec_len out ≡ HEADER_LENGTH) }
@@ -196,8 +197,9 @@ pub fn begin_message(alloc: Global, capacity: usize) -> Result<Vec<u8>, AllocErr
     Ok(out)
 }
 
-/// Makes all of `out` one message, in place: the header, with the length of all, over the first 20 octets, and what
-/// stands behind them the AVPs, which are spelled already. It takes no memory.
+/// Makes all of `out` one message, in place: the header, with the length of `out`, goes over the first 20 octets, and
+/// the octets behind are the AVPs, which are spelled already. `out` has at least 20 octets and fewer than 2^24, in
+/// whole words of four. It takes no memory.
 #[tactic(auto, unfolding(crate::specs::Headers::message))]
 pub fn finish_message(out: &mut Vec<u8>, header: &Header)
     requires room { HEADER_LENGTH ≤ vec_len out.old }
@@ -210,7 +212,7 @@ pub fn finish_message(out: &mut Vec<u8>, header: &Header)
     put_header(out.as_mut_slice(), header, length);
 }
 
-/// Writes a header that states this length over the first octets. In two pieces it is cheaper than in one.
+/// Writes a header that states this length over the first octets. Two pieces are cheaper than one.
 #[tactic(auto, unfolding(crate::specs::Headers::header))]
 fn put_header(all: &mut [u8], header: &Header, len: u32)
     requires room { HEADER_LENGTH ≤ length all.old }

@@ -25,7 +25,7 @@ impl Model for DiameterIdentity {
 }
 
 impl DiameterIdentity {
-    /// The name of these octets, or none where they are outside the limits. It takes no memory.
+    /// The name of these octets. None if they are outside the limits. It takes no memory.
     pub fn from_vec(octets: Vec<u8>) -> Option<DiameterIdentity>
         ensures { result ≡ (if is_name octets.items then Some octets.items else None) }
     {
@@ -52,7 +52,7 @@ impl DiameterIdentity {
         octets
     }
 
-    /// An equal name, where memory suffices.
+    /// An equal name. The only error is want of memory.
     pub fn copy(&self) -> Result<DiameterIdentity, AllocError>
         ensures { IfOk result (λ copy. copy ≡ self.now) }
     {
@@ -62,7 +62,7 @@ impl DiameterIdentity {
     }
 }
 
-/// Who a server is: what stands in Origin-Host, Origin-Realm and Host-IP-Address of its answers.
+/// Who a server is: the Origin-Host, the Origin-Realm and the Host-IP-Address of its answers.
 #[derive(Debug, Drop)]
 pub struct Identity {
     pub host: DiameterIdentity,
@@ -72,7 +72,7 @@ pub struct Identity {
 }
 
 impl Identity {
-    /// The same names and address, where memory suffices.
+    /// The same names and address. The only error is want of memory.
     pub fn copy(&self) -> Result<Identity, AllocError>
         ensures { IfOk result (λ copy. copy ≡ self.now) }
     {

@@ -29,20 +29,20 @@ pub fn numbers_are_given()
     ensures retransmitted { command_flags.RETRANSMITTED ≡ 0x10 }
 {}
 
-/// The header of a message that was written is read back, where it fits: with the length of the message, which is of
-/// whole words up to 65,532 octets.
+/// The header of a written message is read back, with the length of the message, if its fields fit and the length is in
+/// whole words of four octets and at most 65,532 octets.
 pub fn header_read_back()
     ensures { (h : HeaderView) (avps : List ℕ) → let written = record h { length = HEADER_LENGTH + length avps } in
         IsHeader written → header_of (message h avps) ≡ Ok written }
 {}
 
-/// However a stream is cut, its messages are the same: whether the whole messages are taken once at the end or after each piece, and wherever the
-/// pieces begin and end, the messages are those of the whole stream, and so is what is left.
+/// However a stream is cut into pieces, its messages are the same: those that are taken after each piece are those of the whole stream, and so
+/// are the octets that are left.
 pub fn any_pieces()
     ensures messages { (pieces : List (List ℕ)) → messages_by_pieces [] pieces ≡ messages (concat pieces) }
     ensures left { (pieces : List (List ℕ)) → rest_by_pieces [] pieces ≡ rest (concat pieces) }
 
-    // Taking the first message leaves the others.
+    // The first message stands before the messages of the octets behind it.
     ensures first { (stream : List ℕ) → begins_whole stream ≡ true →
         messages stream ≡ take (length_field stream) stream ∷ messages (drop (length_field stream) stream) }
     ensures none { (stream : List ℕ) → begins_whole stream ≡ false → messages stream ≡ [] }

@@ -5,7 +5,7 @@ ghost use Rattle.dcc_message.specs.Streams.{length_field, length_fault, fault_at
 
 use dcc_octets::u24_at;
 
-/// The most octets that a message that comes in may have: 65,532.
+/// The most octets that a received message may have: 65,532, a limit of this server.
 pub const MAX_LENGTH: usize = 65_532;
 
 /// The octets of a header (RFC 6733, section 3).
@@ -17,8 +17,8 @@ pub(crate) const LENGTH_END: usize = 4;
 /// A length field that no message can have.
 #[derive(Clone, Copy, Debug, PartialEq, Eq)]
 pub enum LengthFault {
-    /// Fault 11: below 20 octets, no multiple of 4, or, where the header of a whole message is read, another number than
-    /// that of its octets; or the octets end before the field does.
+    /// Fault 11: below 20 octets, or no multiple of 4. In the header of a whole message also: another number than that
+    /// of its octets, or cut by the end of the octets.
     BadLength,
     /// Fault 12: above 65,532 octets.
     TooLong,
@@ -46,7 +46,7 @@ pub fn length_of(octets: &[u8]) -> usize
     u24_at(octets, 1) as usize
 }
 
-/// What is wrong with the length field, once it is there.
+/// The fault of the length field, if it is there and is at fault.
 pub fn fault_in(octets: &[u8]) -> Option<LengthFault>
     ensures { result ≡ fault_at octets.now }
 {
@@ -56,7 +56,7 @@ pub fn fault_in(octets: &[u8]) -> Option<LengthFault>
     fault_of_length(length_of(octets))
 }
 
-/// What is wrong with a stated length.
+/// The fault of a stated length, if it has any.
 pub fn fault_of_length(stated: usize) -> Option<LengthFault>
     ensures { result ≡ length_fault stated }
 {

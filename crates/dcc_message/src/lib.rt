@@ -1,7 +1,7 @@
 //! Diameter messages: the header, messages in a stream of octets, and who answers them.
 //!
-//! Stands on `dcc_octets`. The contract that it gives: a header is read exactly where the octets spell it, and a stream of
-//! octets gives its messages, the same ones however it was cut into pieces (RFC 6733, section 3).
+//! Stands on `dcc_octets`. The contract that it gives: a header is read if and only if the octets spell it, and a stream
+//! of octets has the same messages however it is cut into pieces (RFC 6733, section 3).
 #![tactic(auto)]
 
 pub mod applications;

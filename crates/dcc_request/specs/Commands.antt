@@ -25,7 +25,7 @@ served header =
     else if is_command commands.CREDIT_CONTROL applications.CREDIT_CONTROL header then Some CreditControl
     else None
 
--- the command of a request, or what is wrong with its header: both R and E; the application; the command
+-- the command of a request, or the fault of its header: both R and E; the application; the command
 abbrev pub command_of : HeaderView → Result Command Cause
 command_of header =
     if is_request header && is_error header then Err causes.InvalidHeaderBits
@@ -37,7 +37,7 @@ abbrev pub is_event_type : Option ℕ → Bool
 is_event_type None = false
 is_event_type (Some n) = n == EVENT_TYPE
 
--- the first CC-Request-Type has four octets that spell EVENT_REQUEST (RFC 8506, section 8.3)
+-- the first CC-Request-Type has four octets with EVENT_REQUEST (RFC 8506, section 8.3)
 abbrev pub is_event : List AvpView → Bool
 is_event avps = option_map_or (λ (avp : AvpView). is_event_type (number_in w32 avp.value)) (find (has_code CC_REQUEST_TYPE) avps) false
 
@@ -46,7 +46,7 @@ abbrev pub is_report_type : Option ℕ → Bool
 is_report_type None = false
 is_report_type (Some n) = n == UPDATE_TYPE || n == TERMINATION_TYPE
 
--- the first CC-Request-Type has four octets that spell UPDATE_REQUEST or TERMINATION_REQUEST
+-- the first CC-Request-Type has four octets with UPDATE_REQUEST or TERMINATION_REQUEST (RFC 8506, section 8.3)
 abbrev pub is_report : List AvpView → Bool
 is_report avps = option_map_or (λ (avp : AvpView). is_report_type (number_in w32 avp.value)) (find (has_code CC_REQUEST_TYPE) avps) false
 

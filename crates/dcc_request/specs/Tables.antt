@@ -1,4 +1,4 @@
--- What stands in a list how often: rows of a code and its times, in the order of checking.
+-- How often AVPs stand in a list: rows of a code and its times, in the order of checking.
 use Rattle.std.specs.Prelude.{ℕ, ◌==◌, ◌||◌, if◌then◌else◌, List, [], Option, Some, None}
 use Rattle.dcc_avp.specs.declared.codes.TheConstants.{SUBSCRIPTION_ID, REQUESTED_SERVICE_UNIT, USED_SERVICE_UNIT, MULTIPLE_SERVICES_CREDIT_CONTROL}
 use Rattle.dcc_request.specs.declared.table.Times.{Times}

@@ -1,4 +1,4 @@
--- The values of AVPs as what they have to be, or their refusals.
+-- The values of AVPs as values of their kinds, or their refusals.
 use Rattle.std.specs.Prelude.{ℕ, ◌&&◌, nat_le, if◌then◌else◌, List, find, Result, Ok, Err}
 use Rattle.std.specs.Option.{ok_or}
 use Rattle.std.specs.Int.{w32, w64}

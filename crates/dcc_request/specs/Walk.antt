@@ -19,7 +19,7 @@ pub record GroupView : Type 0 where
   pub list : ListView
   pub inside : List ListView
 
--- a fault of a group's list: where too few octets are left for a header, it has the code and flags of the group
+-- a fault of a group's list: if too few octets are left for a header, it has the code and flags of the group
 abbrev pub in_group : AvpView → FaultView → FaultView
 in_group group (Short code flags) = Short group.code group.flags
 in_group group (LengthBelowHeader code flags) = LengthBelowHeader code flags
@@ -33,11 +33,11 @@ group_list group (Err fault) = Err (unread (in_group group fault))
 unfoldable pub list_of : AvpView → Result ListView Refusal
 list_of group = group_list group (avps_of group.value)
 
--- an amount of units that is asked for, or was used
+-- an AVP is an amount of units, asked for or used
 abbrev pub is_units : AvpView → Bool
 is_units avp = has_code REQUESTED_SERVICE_UNIT avp || has_code USED_SERVICE_UNIT avp
 
--- an AVP of a message's list that is a walked group
+-- an AVP of a message's list is a walked group
 abbrev pub is_walked : Command → AvpView → Bool
 is_walked CapabilitiesExchange avp = has_code VENDOR_SPECIFIC_APPLICATION_ID avp
 is_walked DeviceWatchdog avp = false
@@ -48,7 +48,7 @@ is_walked CreditControl avp = has_code SUBSCRIPTION_ID avp || has_code MULTIPLE_
 abbrev pub inside_of : ListView → Result (List ListView) Refusal
 inside_of list = if list.code == MULTIPLE_SERVICES_CREDIT_CONTROL then each list_of (filter is_units list.avps) else Ok []
 
--- a group, and those inside it
+-- a group, and the walked groups inside it
 unfoldable pub group_of : AvpView → Result GroupView Refusal
 group_of avp = do
   list ← list_of avp

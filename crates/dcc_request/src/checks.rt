@@ -1,4 +1,4 @@
-//! The checks that look at each list of a message: for AVPs that aren't known, that stand too often, and that are missing.
+//! The checks of each list of a message: for unknown AVPs, for AVPs that stand too often, and for missing AVPs.
 
 ghost use Rattle.std.specs.Prelude.{◌≡◌, [], ◌∷◌, count_by, find, option_copied};
 ghost use Rattle.dcc_avp.specs.Spelling.{has_code};
@@ -17,25 +17,25 @@ use crate::table::{Row, table_of};
 use crate::walk::{Group, List};
 use dcc_avp::{Avp, codes, flags, known};
 
-/// What is looked for in each list of a message, before the next thing is.
+/// A check of every list of a message, made before the next check.
 #[derive(Clone, Copy, Debug)]
 pub enum Check {
-    /// AVPs that aren't known, and have to be.
+    /// Unknown AVPs that have M.
     Unknown,
     /// AVPs beyond the most that there may be.
     TooMany,
-    /// AVPs that aren't there, and have to be.
+    /// Missing AVPs that have to be there.
     Missing,
 }
 
-/// Whether an AVP isn't known, and has to be.
+/// Whether an AVP is unknown: it has M and no vendor, and the dictionary doesn't have its code.
 fn is_unknown(avp: &Avp<'_>) -> bool
     ensures { result ≡ is_unknown avp.now }
 {
     avp.vendor().is_none() && avp.is_mandatory() && known(avp.code()).is_none()
 }
 
-/// The refusal of the first AVP that isn't known, and has to be.
+/// The refusal of the first unknown AVP.
 fn unknown_in<'a>(avps: &[Avp<'a>]) -> Option<Refused<'a>>
     ensures { result ≡ unknown_in avps.now }
 {
@@ -44,7 +44,7 @@ fn unknown_in<'a>(avps: &[Avp<'a>]) -> Option<Refused<'a>>
         .map(|avp| Refused::one(Cause::AvpUnsupported, avp.copy()))
 }
 
-/// The AVP of a code behind so many others of it.
+/// The first AVP of a code behind so many others of the code.
 fn beyond<'m, 'a>(avps: &'m [Avp<'a>], code: u32, most: usize) -> Option<&'m Avp<'a>>
     ensures { option_copied result ≡ beyond avps.now code most }
 {
@@ -88,7 +88,7 @@ pub(crate) fn count_of(avps: &[Avp<'_>], code: u32) -> usize
     avps.iter().filter(|avp| avp.has_code(code)).count()
 }
 
-/// Whether there are fewer AVPs of a row's code than have to be.
+/// Whether there are fewer AVPs of a row's code than there have to be.
 fn is_lacking(avps: &[Avp<'_>], row: &Row) -> bool
     ensures { result ≡ is_lacking avps.now row.now }
 {
@@ -107,7 +107,7 @@ fn missing_avp(code: u32) -> Avp<'static>
     Avp::new(code, flags, least_data(code))
 }
 
-/// The refusal of a request without an AVP of this code that has to be there: `MissingAvp`, with the AVP that stands for it.
+/// The refusal of a request without a required AVP of this code: `MissingAvp`, with the AVP that stands for it.
 pub fn missing(code: u32) -> Refused<'static>
     ensures { result ≡ refusal MissingAvp (missing_avp code) }
 {
@@ -125,7 +125,7 @@ fn missing_in<'a>(table: &[Row], avps: &[Avp<'a>]) -> Option<Refused<'a>>
 }
 
 impl Check {
-    /// What the check finds in a list.
+    /// The fault that the check finds in a list.
     #[tactic(auto, unfolding(crate::specs::Checks::fault_in))]
     fn fault_in<'a>(self, table: &[Row], avps: &[Avp<'a>]) -> Option<Refused<'a>>
         ensures { result ≡ fault_in self table.now avps.now }
@@ -137,14 +137,14 @@ impl Check {
         }
     }
 
-    /// In the list of a walked group.
+    /// The fault in the list of a walked group.
     fn fault_of<'a>(self, list: &List<'a>) -> Option<Refused<'a>>
         ensures { result ≡ fault_of self list.now }
     {
         self.fault_in(table_of(list.code()), list.avps())
     }
 
-    /// In the first of several lists where anything is found.
+    /// The fault in the first of several lists that has any.
     fn fault_in_lists<'a>(self, lists: &[List<'a>]) -> Option<Refused<'a>>
         ensures { result ≡ first_some (fault_of self) lists.now }
     {
@@ -156,7 +156,7 @@ impl Check {
         None
     }
 
-    /// In a walked group, and then in those inside it.
+    /// The fault in a walked group, or else in the groups inside it.
     fn fault_in_group<'a>(self, group: &Group<'a>) -> Option<Refused<'a>>
         ensures { result ≡ fault_in_group self group.now }
     {
@@ -166,7 +166,7 @@ impl Check {
         }
     }
 
-    /// In the first of the walked groups where anything is found.
+    /// The fault in the first of the walked groups that has any.
     fn fault_in_groups<'a>(self, groups: &[Group<'a>]) -> Option<Refused<'a>>
         ensures { result ≡ first_some (fault_in_group self) groups.now }
     {
@@ -178,7 +178,7 @@ impl Check {
         None
     }
 
-    /// In the message's list, and then in the walked groups.
+    /// The fault in the message's list, or else in the walked groups.
     #[tactic(auto, unfolding(crate::specs::Checks::fault_anywhere))]
     fn fault_anywhere<'a>(
         self,
@@ -195,7 +195,7 @@ impl Check {
     }
 }
 
-/// The first fault of the checks that count. Where all fits, each row is counted once.
+/// The first fault of the checks that count AVPs. If all lists fit, each row is counted once.
 fn count_fault<'a>(table: &[Row], avps: &[Avp<'a>], groups: &[Group<'a>]) -> Option<Refused<'a>>
     ensures { result ≡ first_some (fault_anywhere table.now avps.now groups.now) (TooMany ∷ Missing ∷ []) }
 {
@@ -210,7 +210,7 @@ fn count_fault<'a>(table: &[Row], avps: &[Avp<'a>], groups: &[Group<'a>]) -> Opt
     None
 }
 
-/// The first fault, each check over the whole message before the next.
+/// The first fault: each check is made over the whole message before the next.
 pub(crate) fn first_fault<'a>(
     table: &[Row],
     avps: &[Avp<'a>],

@@ -46,10 +46,10 @@ fn served(header: &Header) -> Option<Command>
     }
 }
 
-/// The command of a request, or what is wrong with its header (RFC 6733, section 7.1.3), in this order:
-/// `InvalidHeaderBits` where it has both R and E; `ApplicationUnsupported` where the application is neither the base
-/// protocol nor credit control; `CommandUnsupported` where that application doesn't have the command here. All other bits
-/// of the flags are as they may be. A message without R is an answer, and is not asked about.
+/// The command of a request, or the fault of its header (RFC 6733, section 7.1.3). The faults come in this order:
+/// `InvalidHeaderBits` if the flags have both R and E; `ApplicationUnsupported` if the application is neither the base
+/// protocol nor credit control; `CommandUnsupported` if that application doesn't have the command here. The other bits of
+/// the flags may have any value. A message without R is an answer; this function is for requests only.
 pub fn command_of(header: &Header) -> Result<Command, Cause>
     ensures { result ≡ command_of header.now }
 {
@@ -62,7 +62,7 @@ pub fn command_of(header: &Header) -> Result<Command, Cause>
     served(header).ok_or(Cause::CommandUnsupported)
 }
 
-/// Whether the first CC-Request-Type has four octets that spell EVENT_REQUEST (RFC 8506, section 8.3).
+/// Whether the first CC-Request-Type has four octets with EVENT_REQUEST (RFC 8506, section 8.3).
 fn is_event(avps: &[Avp<'_>]) -> bool
     ensures { result ≡ is_event avps.now }
 {
@@ -72,7 +72,7 @@ fn is_event(avps: &[Avp<'_>]) -> bool
     }
 }
 
-/// Whether the first CC-Request-Type has four octets that spell UPDATE_REQUEST or TERMINATION_REQUEST (RFC 8506, section 8.3).
+/// Whether the first CC-Request-Type has four octets with UPDATE_REQUEST or TERMINATION_REQUEST (RFC 8506, section 8.3).
 fn is_report(avps: &[Avp<'_>]) -> bool
     ensures { result ≡ is_report avps.now }
 {
@@ -86,7 +86,7 @@ fn is_report(avps: &[Avp<'_>]) -> bool
 }
 
 impl Command {
-    /// What may and has to stand in the message's list, which for a Credit-Control request depends on its type.
+    /// The table of the message's list. For a Credit-Control request it depends on the request's type.
     #[tactic(auto, unfolding(crate::specs::Commands::table_for))]
     pub(crate) fn table_for(self, avps: &[Avp<'_>]) -> &'static [Row]
         ensures { result.now ≡ table_for self avps.now }
@@ -102,25 +102,25 @@ impl Command {
     }
 }
 
-/// Checks the list of a message that is a request of this command: its walked groups in the order in which they stand,
-/// each read once, or the first fault.
+/// Checks the list of a message that is a request of this command. The result is its walked groups in the order in
+/// which they stand, each read once, or the first fault.
 ///
-/// Walked are, of a Credit-Control request, each Subscription-Id, Requested-Service-Unit, Used-Service-Unit and
-/// Multiple-Services-Credit-Control, and in this the units inside it; of a Capabilities-Exchange request each
-/// Vendor-Specific-Application-Id; of others nothing. No other group is looked into. AVPs of vendors count nowhere.
+/// The walked groups of a Credit-Control request are each Subscription-Id, Requested-Service-Unit, Used-Service-Unit
+/// and Multiple-Services-Credit-Control, and in the latter the units inside it; of a Capabilities-Exchange request each
+/// Vendor-Specific-Application-Id; of another request none. No other group is read. AVPs of vendors count nowhere.
 ///
-/// Each check is made over the message's list, and then over the walked groups as they stand, each before those inside it;
-/// and only then the next check:
+/// Each check is made over the message's list, and then over the walked groups in their order, each before the groups
+/// inside it. Only then the next check is made:
 ///
-/// - `InvalidAvpLength`, of a walked group: as `unread` tells it; but where fewer octets are left than a header has, of
-///   the code and flags of the innermost walked group whose list ends so;
-/// - `AvpUnsupported`: the first AVP with M, and of no vendor, that the dictionary doesn't have;
+/// - `InvalidAvpLength`, of a walked group: the refusal `unread`; but if fewer octets are left than a header has, it
+///   shows the code and the flags of the innermost walked group whose list ends so;
+/// - `AvpUnsupported`: the first AVP with M and without a vendor that the dictionary doesn't have;
 /// - `AvpOccursTooManyTimes`: by the table's rows, the first AVP beyond the most that there may be;
 /// - `MissingAvp`: by the table's rows, an AVP that stands for the missing one, with M (Product-Name with no flag;
 ///   RFC 6733, section 5.3.7) and the least data of its format in zeros.
 ///
-/// What refusals show are the message's AVPs themselves, bare, without the groups round them. Where there is no memory for
-/// the groups, nothing is said of the request.
+/// A refusal shows the message's AVPs themselves, without the groups round them. The only other error is want of memory
+/// for the groups.
 #[tactic(auto, unfolding(crate::specs::Checks::checked))]
 pub fn check<'a>(
     alloc: Global,

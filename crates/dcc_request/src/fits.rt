@@ -1,5 +1,5 @@
-//! Whether all lists of a message have what their tables ask for and no more. A message that is fit is the common one, and
-//! is told so by counting each row once.
+//! Whether all lists of a message have the AVPs that their tables require and no more. Most messages fit, and one count of
+//! each row shows it.
 
 ghost use Rattle.std.specs.Prelude.{◌≡◌};
 ghost use Rattle.std.specs.List.{list_all};
@@ -10,7 +10,7 @@ use crate::table::{Row, table_of};
 use crate::walk::{Group, List};
 use dcc_avp::Avp;
 
-/// Whether of a row there are neither too few nor too many, counted once.
+/// Whether there are neither too few nor too many AVPs of a row's code, by one count.
 fn row_fits(avps: &[Avp<'_>], row: &Row) -> bool
     ensures { result ≡ row_fits avps.now row.now }
 {
@@ -33,14 +33,14 @@ fn list_fits(list: &List<'_>) -> bool
     fits(table_of(list.code()), list.avps())
 }
 
-/// Whether each does.
+/// Whether the lists of these walked groups fit their own tables.
 fn lists_fit(lists: &[List<'_>]) -> bool
     ensures { result ≡ list_all list_fits lists.now }
 {
     lists.iter().all(|list| list_fits(list))
 }
 
-/// Whether a group and those inside it do.
+/// Whether the lists of a group and of the groups inside it fit.
 #[tactic(auto, unfolding(crate::specs::inner::Fits::group_fits))]
 fn group_fits(group: &Group<'_>) -> bool
     ensures { result ≡ group_fits group.now }
@@ -48,14 +48,14 @@ fn group_fits(group: &Group<'_>) -> bool
     list_fits(group.list()) && lists_fit(group.inside())
 }
 
-/// Whether each does.
+/// Whether the lists of these groups, and of the groups inside them, fit.
 fn groups_fit(groups: &[Group<'_>]) -> bool
     ensures { result ≡ list_all group_fits groups.now }
 {
     groups.iter().all(|group| group_fits(group))
 }
 
-/// Whether the message's list and all walked groups do.
+/// Whether the message's list and the lists of all walked groups fit.
 #[tactic(auto, unfolding(crate::specs::inner::Fits::all_fit))]
 pub(crate) fn all_fit(table: &[Row], avps: &[Avp<'_>], groups: &[Group<'_>]) -> bool
     ensures { result ≡ all_fit table.now avps.now groups.now }

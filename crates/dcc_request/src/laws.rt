@@ -1,4 +1,5 @@
-//! The laws of numbers, and of how many octets reading and checking find. Each is the contract of a function that does nothing.
+//! The laws of numbers, and of how many octets the AVPs of reading and checking have. Each is the contract of a function that
+//! does nothing.
 
 ghost use Rattle.std.specs.Prelude.{◌≡◌, ℕ, ◌≤◌, List, length, IfOk, IfErr};
 ghost use Rattle.std.specs.Int.{next_multiple_of};
@@ -22,9 +23,9 @@ pub fn numbers_are_given()
     ensures event { EVENT_TYPE ≡ 4 }
 {}
 
-/// What checking finds has few octets where the message's list has: with their padding, the AVPs that a refusal shows have
-/// together at most the octets of a message, and so has each AVP of the list and of the walked groups. An AVP that stands for
-/// a broken or a missing one has at most 24 octets.
+/// If the message's list has at most the octets of a message, with padding, then the AVPs that a refusal shows have together
+/// at most as many, and so has each AVP of the list and of the walked groups. An AVP that stands for a broken or a missing
+/// one has at most 24 octets.
 pub fn shown_within()
     ensures refused { (command : Command) (avps : List AvpView) → sum_by padded_len avps ≤ MAX_LENGTH →
         IfErr (checked command avps) (λ refusal. sum_by padded_len refusal.failed ≤ MAX_LENGTH) }
@@ -35,7 +36,8 @@ pub fn shown_within()
     ensures missing { (code : ℕ) → padded_len (missing_avp code) ≤ 24 }
 {}
 
-/// The AVPs that were read of octets have together, with their padding, at most these octets in whole words of four.
+/// The AVPs that were read from octets have together, with their padding, at most as many octets as these, rounded up
+/// to whole words of four.
 pub fn list_within()
     ensures { (octets : List ℕ) → IfOk (message_list octets) (λ avps. sum_by padded_len avps ≤ next_multiple_of (length octets) 4) }
 {}

@@ -1,4 +1,4 @@
-//! Layout: lists of AVPs that can't be read, and what a refusal shows in place of the AVP that broke them.
+//! Layout: lists of AVPs that can't be read, and the AVP that a refusal shows in place of the AVP that broke its list.
 
 ghost use Rattle.std.specs.Prelude.{◌≡◌, option_map};
 ghost use Rattle.dcc_request.specs.Answers.{Gives};
@@ -10,7 +10,7 @@ use crate::stop::Stop;
 use dcc_avp::{Avp, AvpFault, flags, known, least_len, read_list};
 use std::alloc::Global;
 
-/// The least data of a code in zeros, none where the dictionary doesn't have the code.
+/// The least data of a code in zeros. It is empty if the dictionary doesn't have the code.
 pub(crate) fn least_data(code: u32) -> &'static [u8]
     ensures { result.now ≡ least_data code }
 {
@@ -25,8 +25,8 @@ pub(crate) fn least_data(code: u32) -> &'static [u8]
     }
 }
 
-/// The AVP that stands for one with a length that it can't have: with its code, its flags but V, and the least data of its
-/// format in zeros; without data where it was a vendor's, or the dictionary doesn't have its code.
+/// The AVP that stands for an AVP with an invalid length. It has that AVP's code, its flags but V, and the least data of
+/// its format in zeros. It has no data if the AVP is a vendor's, or if the dictionary doesn't have its code.
 fn stand_in(code: u32, flags: u8) -> Avp<'static>
     ensures { result ≡ stand_in code flags }
 {
@@ -37,12 +37,12 @@ fn stand_in(code: u32, flags: u8) -> Avp<'static>
     }
 }
 
-/// The refusal of a list that can't be read: `InvalidAvpLength`, with an AVP that stands for the one that broke the list
-/// (RFC 6733, section 7.1.5). Where fewer octets are left than a header has, that is one without data, of the code and
-/// flags that the fault has: what the first four octets left spell (0 where there are fewer), and M alone. Else it has the
-/// code of that AVP, all its flags but V, and the least data of its format in zeros; no data where it was a vendor's,
-/// or the dictionary doesn't have its code. There is no refusal for want of memory, nor for a number of another size,
-/// which no reading of a list answers.
+/// The refusal of a list that can't be read: `InvalidAvpLength`, with an AVP that stands for the AVP that broke the list
+/// (RFC 6733, section 7.1.5). If fewer octets are left than a header has, the shown AVP has no data, and the code and the
+/// flags of the fault: the number in the first four octets left (0 if there are fewer), and M alone. Else it has the code
+/// of the broken AVP, all its flags but V, and the least data of its format in zeros; no data if the AVP is a vendor's, or
+/// if the dictionary doesn't have its code. None for want of memory, and for a number of another size, which no reading of
+/// a list returns.
 pub fn unread(fault: &AvpFault) -> Option<Refused<'static>>
     ensures { result ≡ option_map unread (layout_fault fault.now) }
 {
@@ -56,7 +56,7 @@ pub fn unread(fault: &AvpFault) -> Option<Refused<'static>>
     Some(Refused::one(Cause::InvalidAvpLength, avp))
 }
 
-/// How reading stops at a fault.
+/// The end of reading at a fault.
 pub(crate) fn stop_at(fault: &AvpFault) -> Stop<'static>
     ensures { result ≡ stop_at fault.now }
 {
@@ -66,7 +66,8 @@ pub(crate) fn stop_at(fault: &AvpFault) -> Stop<'static>
     }
 }
 
-/// The AVPs of a message, whose octets stand behind its header; or the refusal `unread` of what can't be read of them.
+/// The AVPs of a message, from the octets behind its header; or the refusal `unread` of a list that can't be read. The
+/// only other error is want of memory.
 #[tactic(auto, unfolding(crate::specs::Layout::message_list))]
 pub fn read_message_list(alloc: Global, octets: &[u8]) -> Result<Vec<Avp<'_>>, Stop<'_>>
     ensures { Gives (λ avps. avps.items) result (message_list octets.now) }

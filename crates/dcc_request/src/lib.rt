@@ -1,18 +1,18 @@
-//! Requests checked against tables: what is wrong with a request of any command, before its values are looked at.
+//! Requests checked against tables: the faults of a request of any command that come before the faults of its values.
 //!
 //! Stands on `dcc_message` for headers, on `dcc_avp` for lists of AVPs and the dictionary, and on `dcc_octets` for names.
-//! What AVPs a request has to have, and how often each may stand, are tables (`table`), and so is what stands in the groups
-//! that are walked. The contract that it gives: `check` answers the walked groups of a request, each read once, or the
-//! first fault, where each check is made over the whole message before the next one (RFC 6733, section 7.1):
+//! Tables (`table`) say which AVPs a request has to have and how often each may stand, in the message's list and in the
+//! walked groups. The contract that it gives: `check` returns the walked groups of a request, each read once, or the first
+//! fault. Each check is made over the whole message before the next one (RFC 6733, section 7.1):
 //!
 //! 1. the header: flags, application, command (`command_of`);
 //! 2. layout: the message's list (`read_message_list`), then the walked groups, each before those inside it;
-//! 3. AVPs that aren't known, and have to be;
+//! 3. unknown AVPs that have M;
 //! 4. AVPs that stand too often;
 //! 5. AVPs that are missing.
 //!
-//! Values come after, and are the business of the command's own crate: it reads them by `required`, `number` and the like.
-//! A refusal (`Refused`) lends its AVPs from the octets of the message, so that refusing takes no memory and never fails.
+//! The command's own crate checks the values after these: it reads them by `required`, `number` and the like. A refusal
+//! (`Refused`) lends its AVPs from the octets of the message, so that refusing takes no memory and never fails.
 #![tactic(auto)]
 
 mod cause;

@@ -1,4 +1,4 @@
-//! A refusal: why, and what its answer shows.
+//! A refusal: its cause, and the AVPs that its answer shows.
 
 ghost use Rattle.std.specs.Prelude.{◌≡◌, [], ◌∷◌};
 ghost use Rattle.dcc_request.specs.Refusals.{Refusal, refusal, bare, failed_in, clear};
@@ -7,7 +7,7 @@ use crate::cause::Cause;
 use dcc_avp::Avp;
 use std::marker::Model;
 
-/// What the Failed-AVP of the answer holds (RFC 6733, section 7.5).
+/// The AVPs in the Failed-AVP of the answer (RFC 6733, section 7.5).
 #[derive(Debug, Drop)]
 pub enum Failed<'a> {
     /// No AVP, and then the answer has no Failed-AVP.
@@ -18,9 +18,9 @@ pub enum Failed<'a> {
     Two(Avp<'a>, Avp<'a>),
 }
 
-/// A refusal of a request. Its AVPs are those of the message, or stand for AVPs that it should have had; they lend their
-/// data from the octets of the message, so it outlives the lists that were read and takes no memory. Contracts see it
-/// as a `Refusal`.
+/// A refusal of a request. Its AVPs are those of the message, or stand for missing or broken AVPs. They lend their data
+/// from the octets of the message, so that the refusal outlives the lists that were read, and takes no memory. Contracts
+/// see it as a `Refusal`.
 #[derive(Debug, Drop)]
 pub struct Refused<'a> {
     cause: Cause,
@@ -66,14 +66,14 @@ impl<'a> Refused<'a> {
         }
     }
 
-    /// Why.
+    /// The cause.
     pub fn cause(&self) -> Cause
         ensures { result ≡ self.now.cause }
     {
         self.cause
     }
 
-    /// What the Failed-AVP of the answer holds.
+    /// The AVPs in the Failed-AVP of the answer.
     pub fn failed(&self) -> &Failed<'a>
         ensures { failed_in result.now ≡ self.now.failed }
     {
@@ -81,7 +81,7 @@ impl<'a> Refused<'a> {
     }
 }
 
-/// Nothing, or the refusal that was found: what makes a test that may find one a step before the next.
+/// `Ok` if no refusal was found, else the refusal as an error: so a test becomes a step with `?`.
 pub fn clear<'a>(found: Option<Refused<'a>>) -> Result<(), Refused<'a>>
     ensures { result ≡ clear found.entry }
 {

@@ -1,4 +1,4 @@
-//! How reading a request ends without one.
+//! Why reading a request ends without a request.
 
 ghost use Rattle.std.specs.Prelude.{◌≡◌};
 ghost use Rattle.dcc_request.specs.declared.stop.Stop.TheVariants.{Memory, Refused};
@@ -9,9 +9,9 @@ use std::alloc::{AllocError, AllocFailed};
 /// Why a message gives no request.
 #[derive(Debug, Drop)]
 pub enum Stop<'a> {
-    /// It is refused.
+    /// The request is refused.
     Refused(Refused<'a>),
-    /// There was no memory to read it.
+    /// Memory was short.
     Memory,
 }
 

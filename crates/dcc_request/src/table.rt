@@ -1,5 +1,5 @@
-//! How often an AVP stands in a list, as data: a table for the list of each command's requests, and for that of each walked
-//! group. The rows stand in the order in which they are checked, first what has to be there.
+//! How often an AVP stands in a list, as data: a table for the list of each command's requests, and a table for the list of
+//! each kind of walked group. The rows stand in the order of checking, required AVPs first.
 
 ghost use Rattle.std.specs.Prelude.{◌≡◌};
 ghost use Rattle.dcc_request.specs.Tables.{least_times, most_times, table_of};
@@ -9,7 +9,7 @@ use dcc_avp::codes;
 /// How often an AVP stands in a list.
 #[derive(Clone, Copy, Debug, PartialEq, Eq)]
 pub enum Times {
-    /// Just once.
+    /// Exactly once.
     Once,
     /// Once or not at all.
     AtMostOnce,
@@ -20,7 +20,7 @@ pub enum Times {
 }
 
 impl Times {
-    /// How often at least.
+    /// The least number of AVPs.
     pub(crate) fn least(self) -> usize
         ensures { result ≡ least_times self }
     {
@@ -30,7 +30,7 @@ impl Times {
         }
     }
 
-    /// How often at most, where there is a limit.
+    /// The greatest number of AVPs, if there is a limit.
     pub(crate) fn most(self) -> Option<usize>
         ensures { result ≡ most_times self }
     {
@@ -79,8 +79,8 @@ pub const DISCONNECT: [Row; 3] = [
     (codes::DISCONNECT_CAUSE, Times::Once),
 ];
 
-/// A Credit-Control request (RFC 8506, section 3.1) that is neither an event nor an update or a termination: an initial request, or one
-/// of a type that there isn't.
+/// A Credit-Control request (RFC 8506, section 3.1) that is neither an event nor an update or a termination: an initial request, or a
+/// request of an unknown type.
 pub const SESSION: [Row; 13] = [
     (codes::SESSION_ID, Times::Once),
     (codes::ORIGIN_HOST, Times::Once),
@@ -100,8 +100,8 @@ pub const SESSION: [Row; 13] = [
     ),
 ];
 
-/// A Credit-Control request that is an update or a termination. It may lack a Subscription-Id
-/// (RFC 8506, section 3.1): its session names the subscriber.
+/// A Credit-Control request that is an update or a termination. It may lack a Subscription-Id (RFC 8506, section 3.1),
+/// since its session names the subscriber.
 pub const REPORT: [Row; 12] = [
     (codes::SESSION_ID, Times::Once),
     (codes::ORIGIN_HOST, Times::Once),
@@ -120,7 +120,7 @@ pub const REPORT: [Row; 12] = [
     ),
 ];
 
-/// A Credit-Control request that is an event. Its Requested-Action has to be there, and so stands before what hasn't.
+/// A Credit-Control request that is an event. It has to have a Requested-Action, whose row so stands before the optional AVPs.
 pub const EVENT: [Row; 13] = [
     (codes::SESSION_ID, Times::Once),
     (codes::ORIGIN_HOST, Times::Once),

@@ -1,4 +1,4 @@
-//! What the readers of a command's values share: the first AVP of a code, and its data as what it has to be.
+//! What the readers of a command's values share: the first AVP of a code, and its data as a value of its kind.
 
 ghost use Rattle.std.specs.Prelude.{◌≡◌, find, option_map};
 ghost use Rattle.dcc_avp.specs.Spelling.{has_code};
@@ -18,7 +18,7 @@ pub fn first<'m, 'a>(avps: &'m [Avp<'a>], code: u32) -> Option<&'m Avp<'a>>
     avps.iter().find(|avp| avp.has_code(code))
 }
 
-/// The first AVP of a code and of no vendor; or `MissingAvp`, as `check` tells it.
+/// The first AVP of a code and of no vendor; `MissingAvp`, as of `check`, if there is none.
 pub fn required<'m, 'a>(avps: &'m [Avp<'a>], code: u32) -> Result<&'m Avp<'a>, Refused<'a>>
     ensures { seen (λ avp. avp.now) result ≡ required avps.now code }
 {
@@ -28,7 +28,7 @@ pub fn required<'m, 'a>(avps: &'m [Avp<'a>], code: u32) -> Result<&'m Avp<'a>, R
     }
 }
 
-/// The data, where it has the 1 to 255 octets of a name; or `InvalidAvpLength` with the AVP. They may be any octets.
+/// The data, if it has the 1 to 255 octets of a name, of any values; else `InvalidAvpLength` with the AVP.
 pub fn name_octets<'a>(avp: &Avp<'a>) -> Result<&'a [u8], Refused<'a>>
     ensures { seen (λ octets. octets.now) result ≡ name_octets avp.now }
 {
@@ -39,7 +39,7 @@ pub fn name_octets<'a>(avp: &Avp<'a>) -> Result<&'a [u8], Refused<'a>>
     }
 }
 
-/// The data as an Unsigned32 or as an Enumerated; or `InvalidAvpLength` with the AVP, where it isn't of four octets.
+/// The data as an Unsigned32 or as an Enumerated; `InvalidAvpLength` with the AVP if the data hasn't four octets.
 #[tactic(auto, unfolding(crate::specs::Values::number))]
 pub fn number<'a>(avp: &Avp<'a>) -> Result<u32, Refused<'a>>
     ensures { result ≡ number avp.now }
@@ -50,7 +50,7 @@ pub fn number<'a>(avp: &Avp<'a>) -> Result<u32, Refused<'a>>
     }
 }
 
-/// The data as an Unsigned64; or `InvalidAvpLength` with the AVP, where it isn't of eight octets.
+/// The data as an Unsigned64; `InvalidAvpLength` with the AVP if the data hasn't eight octets.
 #[tactic(auto, unfolding(crate::specs::Values::long_number))]
 pub fn long_number<'a>(avp: &Avp<'a>) -> Result<u64, Refused<'a>>
     ensures { result ≡ long_number avp.now }
@@ -61,8 +61,8 @@ pub fn long_number<'a>(avp: &Avp<'a>) -> Result<u64, Refused<'a>>
     }
 }
 
-/// The data as a number of four octets, from `low` to `high`; or `InvalidAvpLength` with the AVP, where it isn't of four
-/// octets, or `InvalidAvpValue` with it, where the number lies outside.
+/// The data as a number of four octets, from `low` to `high`; `InvalidAvpLength` with the AVP if the data hasn't four
+/// octets, `InvalidAvpValue` with the AVP if the number lies outside.
 #[tactic(auto, unfolding(crate::specs::Values::number_within))]
 pub fn number_within<'a>(avp: &Avp<'a>, low: u32, high: u32) -> Result<u32, Refused<'a>>
     ensures { result ≡ number_within avp.now low high }

@@ -67,8 +67,7 @@ impl<'a> Group<'a> {
         &self.list
     }
 
-    /// The walked groups inside it, as they stand: the amounts of units in a Multiple-Services-Credit-Control, and none in
-    /// another group.
+    /// The walked groups inside it, in their order: the units of a Multiple-Services-Credit-Control, and none in another group.
     pub fn inside(&self) -> &[List<'a>]
         ensures { result.now ≡ self.now.inside }
     {
@@ -76,7 +75,7 @@ impl<'a> Group<'a> {
     }
 }
 
-/// An amount of units that is asked for, or was used.
+/// Whether an AVP is an amount of units, asked for or used.
 fn is_units(avp: &Avp<'_>) -> bool
     ensures { result ≡ is_units avp.now }
 {
@@ -98,7 +97,7 @@ fn is_walked(command: Command, avp: &Avp<'_>) -> bool
     }
 }
 
-/// A fault of a group's list: where too few octets are left for a header, the code and flags are those of the group.
+/// A fault of a group's list: if too few octets are left for a header, the code and flags are those of the group.
 fn in_group(avp: &Avp<'_>, fault: AvpFault) -> AvpFault
     ensures { layout_fault result ≡ option_map (in_group avp.now) (layout_fault fault) }
 {
@@ -138,7 +137,7 @@ fn units_in<'a>(alloc: Global, avps: &[Avp<'a>]) -> Result<Vec<List<'a>>, Stop<'
     Ok(lists)
 }
 
-/// A group, and those inside it.
+/// A group, and the walked groups inside it; or the refusal of the first that can't be read.
 #[tactic(auto, unfolding(crate::specs::Walk::group_of))]
 fn group_of<'a>(alloc: Global, avp: &Avp<'a>) -> Result<Group<'a>, Stop<'a>>
     ensures { Gives (λ group. group) result (group_of avp.now) }
@@ -152,7 +151,7 @@ fn group_of<'a>(alloc: Global, avp: &Avp<'a>) -> Result<Group<'a>, Stop<'a>>
     Ok(Group { list, inside })
 }
 
-/// The walked groups of a message's list.
+/// The walked groups of a message's list, or the refusal of the first that can't be read.
 pub(crate) fn groups_of<'a>(
     alloc: Global,
     command: Command,

@@ -7,7 +7,7 @@ use Rattle.dcc_message.specs.Streams.{octets_of, length_field, begins_whole}
 abbrev pub joined : {Z : Type 0} → List (Vec ℕ Z) → List ℕ
 joined messages = flat_map octets_of messages
 
--- a whole message and nothing after it
+-- a whole message and nothing behind it
 pub record IsMessage (octets : List ℕ) : Type 0 where
   pub whole : begins_whole octets ≡ true
   pub exact : length_field octets ≡ length octets
@@ -15,12 +15,12 @@ pub record IsMessage (octets : List ℕ) : Type 0 where
 abbrev pub AreMessages : {Z : Type 0} → List (Vec ℕ Z) → Type 0
 AreMessages messages = AllByRecursion (λ message. IsMessage message.items) messages
 
--- whole messages, and then less than one
+-- whole messages, and octets behind them that are no whole message
 pub record IsHeld {Z : Type 0} (ready : List (Vec ℕ Z)) (begun : List ℕ) : Type 0 where
   pub messages : AreMessages ready
   pub less : begins_whole begun ≡ false
 
--- these octets are so cut
+-- the octets are cut into these messages and these octets behind them
 pub record IsCut {Z : Type 0} (octets : List ℕ) (ready : List (Vec ℕ Z)) (begun : List ℕ) : Type 0 where
   pub held : IsHeld ready begun
   pub all : octets ≡ joined ready ++ begun

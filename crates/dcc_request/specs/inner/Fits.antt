@@ -1,4 +1,4 @@
--- Lists that have all that their tables ask for, and no more.
+-- Lists that have all AVPs that their tables require, and no more.
 use Rattle.std.specs.Prelude.{ℕ, Bool, not, ◌&&◌, List}
 use Rattle.std.specs.List.{list_all}
 use Rattle.dcc_avp.specs.Spelling.{AvpView}
@@ -7,7 +7,7 @@ use Rattle.dcc_request.specs.Tables.{Table, table_of}
 use Rattle.dcc_request.specs.Walk.{ListView, GroupView}
 use Rattle.dcc_request.specs.Checks.{is_over, is_lacking}
 
--- of a row there are neither too many nor too few
+-- of a row's code there are neither too many AVPs nor too few
 abbrev pub row_fits : List AvpView → ℕ × Times → Bool
 row_fits avps row = not (is_lacking avps row) && not (is_over avps row)
 
