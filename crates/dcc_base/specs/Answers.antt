@@ -18,7 +18,7 @@ use Rattle.dcc_base.specs.declared.effect.Effect.{Effect}
 abbrev pub is_capabilities : HeaderView → Bool
 is_capabilities header = is_command commands.CAPABILITIES_EXCHANGE applications.BASE header
 
--- what each answer begins with
+-- the AVPs with which each answer begins
 abbrev pub origin_avps : Identity → ℕ → List AvpView
 origin_avps identity code = sent32 RESULT_CODE code ∷ sent ORIGIN_HOST identity.host ∷ sent ORIGIN_REALM identity.realm ∷ []
 
@@ -26,17 +26,17 @@ origin_avps identity code = sent32 RESULT_CODE code ∷ sent ORIGIN_HOST identit
 abbrev pub address_octets : List ℕ → List ℕ
 address_octets address = FAMILY ++ address
 
--- What the server tells of itself: its address, that no vendor made it, its name, for which M isn't set (section 5.3.7), and its application.
+-- The server's own capabilities: its address, that no vendor made it, its name, for which M isn't set (section 5.3.7), and its application.
 abbrev pub own_capabilities : Identity → List AvpView
 own_capabilities identity =
     sent HOST_IP_ADDRESS (address_octets identity.address) ∷ sent32 VENDOR_ID OWN_VENDOR ∷ plain PRODUCT_NAME 0 PRODUCT ∷
     sent32 AUTH_APPLICATION_ID applications.CREDIT_CONTROL ∷ []
 
--- which it does in the exchange of capabilities
+-- the server's own capabilities in the exchange of capabilities, and else nothing
 abbrev pub own_avps : Identity → HeaderView → List AvpView
 own_avps identity request = if is_capabilities request then own_capabilities identity else []
 
--- the AVPs of an answer, with this Result-Code and these in its Failed-AVP
+-- the AVPs of an answer, with this Result-Code and these AVPs in its Failed-AVP
 abbrev pub answer_avps : Identity → HeaderView → ℕ → List AvpView → List AvpView
 answer_avps identity request code failed = origin_avps identity code ++ own_avps identity request ++ failed_avps failed
 
@@ -44,12 +44,12 @@ answer_avps identity request code failed = origin_avps identity code ++ own_avps
 abbrev pub is_protocol_error : ℕ → Bool
 is_protocol_error code = nat_le 3000 code && nat_lt code 4000
 
--- what an answer takes over from its request
+-- the session and the proxies that an answer copies from its request
 pub record Taken : Type 0 where
   pub session : Option (List ℕ)
   pub proxies : List ℕ
 
--- the answer with this Result-Code: a protocol error is told in fewer AVPs, with E set
+-- the answer to a refused request: a protocol error is reported in fewer AVPs, with E set
 abbrev pub refused_octets : Identity → HeaderView → Taken → Refusal → List ℕ
 refused_octets identity request taken refusal =
     if is_protocol_error (cause_number refusal.cause)

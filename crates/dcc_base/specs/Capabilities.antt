@@ -1,4 +1,4 @@
--- What a peer tells of itself: the name of its host, the applications that it shares and the security that it wants (RFC 6733, section 5.3).
+-- A peer's capabilities: the name of its host, the applications that it shares and the security that it wants (RFC 6733, section 5.3).
 use Rattle.std.specs.Prelude.{ℕ, Bool, false, ◌&&◌, ◌||◌, if◌then◌else◌, List, find, Option, Some, None, is_none, option_map, Result, Ok, Err}
 use Rattle.std.specs.Int.{w32}
 use Rattle.std.specs.List.{list_any}
@@ -31,15 +31,15 @@ misshapen_in code avps = option_map (refusal InvalidAvpLength) (find (λ avp. ha
 
 -- ---- applications
 
--- the application is credit control, or that of relays, who forward any (section 2.4)
+-- the application is credit control, or that of relays, which forward any (section 2.4)
 abbrev pub is_shared : AvpView → Bool
 is_shared avp = tells applications.CREDIT_CONTROL avp || tells applications.RELAY avp
 
--- the first Auth-Application-Id inside a Vendor-Specific-Application-Id, which alone counts (section 6.11)
+-- the first Auth-Application-Id inside a Vendor-Specific-Application-Id; no other inside it counts (section 6.11)
 abbrev pub application_in : GroupView → Option AvpView
 application_in group = find (has_code AUTH_APPLICATION_ID) group.list.avps
 
--- its refusal where it is no number of four octets
+-- its refusal, if it is no number of four octets
 abbrev pub refused_if_misshapen : Option AvpView → Option Refusal
 refused_if_misshapen None = None
 refused_if_misshapen (Some avp) = if is_misshapen avp then Some (refusal InvalidAvpLength avp) else None
@@ -47,7 +47,7 @@ refused_if_misshapen (Some avp) = if is_misshapen avp then Some (refusal Invalid
 abbrev pub misshapen_inside : GroupView → Option Refusal
 misshapen_inside group = refused_if_misshapen (application_in group)
 
--- an Auth-Application-Id of the message, or the first inside a Vendor-Specific-Application-Id, is of an application that is shared
+-- an Auth-Application-Id of the message, or the first inside a Vendor-Specific-Application-Id, is of a shared application
 abbrev pub names_shared : AvpView → Bool
 names_shared avp = has_code AUTH_APPLICATION_ID avp && is_shared avp
 
@@ -65,7 +65,7 @@ shares_application avps groups = any_shared avps || any_shared_inside groups
 
 -- ---- security
 
--- there is no Inband-Security-Id, or one says that no security is wanted (section 6.10)
+-- there is no Inband-Security-Id, or an Inband-Security-Id wants no security (section 6.10)
 abbrev pub wants_none : AvpView → Bool
 wants_none avp = has_code INBAND_SECURITY_ID avp && tells NO_INBAND_SECURITY avp
 
@@ -77,12 +77,12 @@ shares_security avps = is_none (find (has_code INBAND_SECURITY_ID) avps) || any_
 
 -- ---- all values of the request
 
--- it has to hold, or this is why the request is refused
+-- `Ok` if the demand holds, else the refusal with this cause
 abbrev pub demand : Bool → Cause → Result (Unit {0}) Refusal
 demand holds cause = if holds then Ok tt else Err (bare cause)
 
--- The name of the peer's host, or the first refusal: of that name, of a number's size in the message's list and then in its groups,
--- for want of an application that both have, and for want of a security that both have.
+-- The name of the peer's host, or the first refusal: of that name; of a number's size in the message's list and then in its groups;
+-- for want of an application that both have; for want of a security that both have.
 unfoldable pub host_of : List AvpView → List GroupView → Result (List ℕ) Refusal
 host_of avps groups = do
   origin ← required avps ORIGIN_HOST

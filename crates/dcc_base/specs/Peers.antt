@@ -1,4 +1,4 @@
--- What a peer is answered, when its connection is closed, and what it is then (RFC 6733, sections 5.3 to 5.6).
+-- The reply of a peer to a message, the end of its connection, and the peer afterwards (RFC 6733, sections 5.3 to 5.6).
 use Rattle.std.specs.Prelude.{ℕ, Bool, true, false, not, ◌&&◌, if◌then◌else◌, List, [], Option, Some, None, Result, Ok, Err}
 use Rattle.dcc_avp.specs.Reading.{FaultView}
 use Rattle.dcc_message.specs.HeaderView.{HeaderView}
@@ -35,23 +35,24 @@ silent = record { octets = []; close = false }
 abbrev pub shut : Reply
 shut = record { octets = []; close = true }
 
--- what an answer takes over from a message: nothing where its list can't be read
+-- the session and the proxies that an answer copies from a message: none if its list can't be read
 abbrev pub taken_from : Read → Taken
 taken_from (Ok avps) = record { session = session_of avps; proxies = proxies_of avps }
 taken_from (Err fault) = record { session = None; proxies = [] }
 
--- what an accepted request makes of a peer
+-- the peer after an accepted request
 abbrev pub becomes : Peer → Effect → Peer
 becomes peer (Opens host) = Open host
 becomes peer Stays = peer
 becomes peer Closes = Closed
 
--- and a refused one, where that ends the connection and where it doesn't: the exchange of capabilities is not tried twice
+-- the peer after a request; a refused exchange of capabilities closes it, since the exchange is not tried twice, and another
+-- refusal leaves it as it is
 abbrev pub after : Peer → HeaderView → Result Effect Refusal → Peer
 after peer request (Ok effect) = becomes peer effect
 after peer request (Err refusal) = if is_capabilities request then Closed else peer
 
--- a request that was judged: its answer, behind which the connection is closed where the peer is then, and the peer
+-- a judged request: its answer, behind which the connection is closed if the peer is closed then, and the peer afterwards
 abbrev pub concluded : Identity → Peer → HeaderView → Taken → Result Effect Refusal → Reply × Peer
 concluded identity peer request taken verdict =
     (record { octets = answered identity request taken verdict; close = is_closed (after peer request verdict) }, after peer request verdict)
@@ -63,24 +64,24 @@ asked identity peer request read = concluded identity peer request (taken_from r
 abbrev pub is_credit_control : HeaderView → Bool
 is_credit_control header = not (is_error header) && is_command commands.CREDIT_CONTROL applications.CREDIT_CONTROL header
 
--- A message that is answered: by a peer that waits a request to exchange capabilities, by one that is open each request but those of
--- Credit-Control.
+-- A message is answered: by a waiting peer a request to exchange capabilities, by an open peer each request but those of
+-- Credit-Control without E, by a closed peer none.
 abbrev pub hears : Peer → HeaderView → Bool
 hears Wait header = is_request header && is_capabilities header
 hears (Open host) header = is_request header && not (is_credit_control header)
 hears Closed header = false
 
--- What becomes of a peer by any other message: the first on a connection closes it, and later ones are ignored.
+-- The reply to any other message, and the peer afterwards: a waiting peer is closed, and an open or closed peer ignores the message.
 abbrev pub unheard : Peer → Reply × Peer
 unheard Wait = (shut, Closed)
 unheard (Open host) = (silent, Open host)
 unheard Closed = (silent, Closed)
 
--- what a peer is answered to a message, and what it is then
+-- the reply of a peer to a message, and the peer afterwards
 unfoldable pub replied : Identity → Peer → HeaderView → Read → Reply × Peer
 replied identity peer header read = if hears peer header then asked identity peer header read else unheard peer
 
--- To a message whose list has this fault of layout. Without one nothing is known of the message, and nothing is answered.
+-- The reply to a message whose list has this fault of layout, and the peer afterwards. Without such a fault nothing is answered.
 abbrev pub replied_to_fault : Identity → Peer → HeaderView → Option FaultView → Reply × Peer
 replied_to_fault identity peer header None = (silent, peer)
 replied_to_fault identity peer header (Some fault) = replied identity peer header (Err fault)

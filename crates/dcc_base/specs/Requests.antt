@@ -1,4 +1,4 @@
--- What accepted requests of the base protocol do to their peers, and the refusals of the others (RFC 6733, sections 5.3 to 5.5).
+-- The effects of accepted requests of the base protocol on their peers, and the refusals of the others (RFC 6733, sections 5.3 to 5.5).
 use Rattle.std.specs.Prelude.{List, Result, Ok, Err}
 use Rattle.dcc_avp.specs.Spelling.{AvpView}
 use Rattle.dcc_avp.specs.Reading.{FaultView}
@@ -17,7 +17,7 @@ use Rattle.dcc_base.specs.declared.effect.Effect.TheVariants.{Opens, Stays, Clos
 use Rattle.dcc_base.specs.declared.requests.TheConstants.{LAST_DISCONNECT_CAUSE}
 use Rattle.dcc_base.specs.Capabilities.{host_of}
 
--- what is read of a message behind its header: its AVPs, or why they can't be read
+-- the AVPs behind a message's header, or the fault of a list that can't be read
 abbrev pub Read : Type 0
 Read = Result (List AvpView) FaultView
 
@@ -28,13 +28,13 @@ capabilities avps = do
   host ← host_of avps groups
   Ok (Opens host)
 
--- to show that the connection lives (section 5.5)
+-- a request for a sign of life of the connection (section 5.5)
 unfoldable pub watchdog : List AvpView → Result Effect Refusal
 watchdog avps = do
   groups ← checked DeviceWatchdog avps
   Ok Stays
 
--- and to end it, for one of the causes that there are (sections 5.4 and 5.4.3)
+-- a request to end the connection, for one of the known causes (sections 5.4 and 5.4.3)
 unfoldable pub disconnect : List AvpView → Result Effect Refusal
 disconnect avps = do
   groups ← checked DisconnectPeer avps
@@ -42,7 +42,7 @@ disconnect avps = do
   cause ← number_within avp 0 LAST_DISCONNECT_CAUSE
   Ok Closes
 
--- A request of a command of the base protocol. A Credit-Control request is none: nothing is looked at in it, and it does nothing.
+-- A request of a command of the base protocol. A Credit-Control request is none: nothing in it is checked, and it has no effect.
 abbrev pub accepted : Command → List AvpView → Result Effect Refusal
 accepted CapabilitiesExchange avps = capabilities avps
 accepted DeviceWatchdog avps = watchdog avps
@@ -57,7 +57,7 @@ named_by (Err cause) = Err (bare cause)
 abbrev pub named : HeaderView → Result Command Refusal
 named header = named_by (command_of header)
 
--- a request, of which the header is judged first, then the layout, then all else
+-- a request: the header is judged first, then the layout, then all else
 unfoldable pub judged : HeaderView → Read → Result Effect Refusal
 judged header read = do
   command ← named header

@@ -40,7 +40,7 @@ pub(crate) fn is_capabilities(header: &Header) -> bool
     header.is_command(commands::CAPABILITIES_EXCHANGE, applications::BASE)
 }
 
-/// Appends what each answer begins with.
+/// Appends the AVPs with which each answer begins.
 fn put_origin(out: &mut Vec<u8>, identity: &Identity, code: u32) -> Result<(), AllocError>
     ensures ok { OnOk result (out.new.items ≡ out.old.items ++ flat_map padded (origin_avps identity.now code)) }
     ensures server { OnOk result (IsServer identity.now) }
@@ -69,7 +69,7 @@ fn put_product(out: &mut Vec<u8>) -> Result<(), AllocError>
     write_avp(out, &Avp::new(codes::PRODUCT_NAME, 0, &PRODUCT))
 }
 
-/// Appends what the server tells of itself.
+/// Appends the server's own capabilities.
 fn put_capabilities(out: &mut Vec<u8>, identity: &Identity) -> Result<(), AllocError>
     ensures ok { OnOk result (out.new.items ≡ out.old.items ++ flat_map padded (own_capabilities identity.now)) }
     ensures four { OnOk result (length identity.now.address ≡ 4) }
@@ -89,7 +89,7 @@ fn put_capabilities(out: &mut Vec<u8>, identity: &Identity) -> Result<(), AllocE
     )
 }
 
-/// Appends that in the exchange of capabilities.
+/// Appends the server's own capabilities in the exchange of capabilities, and else nothing.
 fn put_own(out: &mut Vec<u8>, identity: &Identity, request: &Header) -> Result<(), AllocError>
     ensures ok { OnOk result (out.new.items ≡ out.old.items ++ flat_map padded (own_avps identity.now request.now)) }
     ensures spelled { OnOk result (AllByRecursion HasSpelling (own_avps identity.now request.now)) }
@@ -122,7 +122,7 @@ fn write_answer(
     answer_within(alloc, identity, request, code, failed, proxies)
 }
 
-/// The answer, and what is known of all that it holds.
+/// The answer, and what is known of its parts.
 fn answer_within(
     alloc: Global,
     identity: &Identity,
@@ -183,7 +183,7 @@ pub(crate) fn write_refused(
     }
 }
 
-/// The Result-Code of a refusal, which none has for want of time.
+/// The Result-Code of a refusal. No refusal has that of the busy answer.
 fn code_of(refused: &Refused<'_>) -> u32
     ensures value { result ≡ cause_number refused.now.cause }
     ensures other { (result == TOO_BUSY) ≡ false }

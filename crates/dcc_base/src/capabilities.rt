@@ -53,7 +53,7 @@ fn application_in<'m, 'a>(group: &'m Group<'a>) -> Option<&'m Avp<'a>>
     first(group.list().avps(), codes::AUTH_APPLICATION_ID)
 }
 
-/// The refusal of that one, where it is no number of four octets.
+/// The refusal of that AVP, if it is no number of four octets.
 fn misshapen_inside<'a>(group: &Group<'a>) -> Option<Refused<'a>>
     ensures { result ≡ misshapen_inside group.now }
 {
@@ -65,7 +65,7 @@ fn misshapen_inside<'a>(group: &Group<'a>) -> Option<Refused<'a>>
     }
 }
 
-/// The first such refusal.
+/// The first such refusal of several groups.
 fn misshapen_in_groups<'a>(groups: &[Group<'a>]) -> Option<Refused<'a>>
     ensures { result ≡ first_some misshapen_inside groups.now }
 {
@@ -77,7 +77,7 @@ fn misshapen_in_groups<'a>(groups: &[Group<'a>]) -> Option<Refused<'a>>
     None
 }
 
-/// Whether the first Auth-Application-Id inside is of an application that is shared.
+/// Whether the first Auth-Application-Id inside a group is of a shared application.
 fn names_shared_inside(group: &Group<'_>) -> bool
     ensures { result ≡ names_shared_inside group.now }
 {
@@ -112,14 +112,14 @@ fn any_wants_none(avps: &[Avp<'_>]) -> bool
     avps.iter().any(|avp| avp.has_code(codes::INBAND_SECURITY_ID) && tells(NO_INBAND_SECURITY, avp))
 }
 
-/// Whether no security is named, or that none is wanted.
+/// Whether no Inband-Security-Id is there, or an Inband-Security-Id wants no security.
 fn shares_security(avps: &[Avp<'_>]) -> bool
     ensures { result ≡ shares_security avps.now }
 {
     first(avps, codes::INBAND_SECURITY_ID).is_none() || any_wants_none(avps)
 }
 
-/// It has to hold, or this is why the request is refused.
+/// `Ok` if the demand holds, else the refusal with this cause.
 fn demand(holds: bool, cause: Cause) -> Result<(), Refused<'static>>
     ensures { result ≡ demand holds cause }
 {

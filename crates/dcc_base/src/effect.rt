@@ -1,13 +1,13 @@
-//! What an accepted request does to its peer.
+//! The effect of an accepted request on its peer.
 
 use dcc_octets::Host;
 
-/// What an accepted request of the base protocol does to its peer.
+/// The effect of an accepted request of the base protocol on its peer.
 #[derive(Debug, Drop)]
 pub enum Effect {
     /// The peer is open, under this host's name.
     Opens(Host),
-    /// It stays as it is.
+    /// The peer stays as it is.
     Stays,
     /// Its connection is closed.
     Closes,

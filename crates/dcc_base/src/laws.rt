@@ -31,8 +31,8 @@ pub fn numbers_are_given()
     ensures cause { LAST_DISCONNECT_CAUSE ≡ 2 }
 {}
 
-/// No reply is the busy answer, where the server's names and its address are within their limits, the list fits a message
-/// and its proxies can be spelled. What is replied to a message that is heard has at least a header.
+/// No reply is the busy answer, if the server's names and address are within their limits, the list fits a message, and
+/// its proxies can be spelled. The reply to a heard message has at least a header.
 pub fn told_apart()
     ensures read { (identity : Identity) (peer : PeerView) (header : HeaderView) (avps : List AvpView) →
         IsServer identity → length identity.address ≡ 4 → sum_by padded_len avps ≤ MAX_LENGTH → SpellProxies (proxies_of avps) →

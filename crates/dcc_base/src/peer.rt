@@ -18,10 +18,10 @@ use dcc_octets::{Host, OctetString};
 use dcc_request::{Refused, Stop, shown_within, unread};
 use std::alloc::{AllocError, Global};
 
-/// A peer, by what its connection has come to (RFC 6733, section 5.6).
+/// A peer, by the state of its connection (RFC 6733, section 5.6).
 #[derive(Debug, Drop)]
 pub enum Peer {
-    /// The connection is there, and no capabilities were exchanged on it.
+    /// The connection is there, and no capabilities were exchanged on it yet.
     Wait,
     /// Capabilities were exchanged: the peer's host has this name, by the last exchange.
     Open(Host),
@@ -50,28 +50,28 @@ impl Peer {
         }
     }
 
-    /// Takes a message whose list was read: what it is replied, and what the peer is then.
+    /// Takes a message whose list was read, and returns the reply to it.
     ///
-    /// A request to exchange capabilities (RFC 6733, section 5.3) that is accepted opens the peer, the first and each
-    /// later one, under the name of its Origin-Host; one that is refused is answered and closes the connection. Until one was
-    /// accepted, any other message closes the connection without an answer. On an open peer a watchdog request
-    /// (section 5.5) is answered; so is a request to disconnect (section 5.4), behind whose answer the connection is closed,
-    /// since the server doesn't wait for the peer to close it; what else is refused leaves the peer as it is. Answers
-    /// that come in are ignored, and so are Credit-Control requests without E, which others answer. To a closed peer
-    /// nothing is replied.
+    /// A request to exchange capabilities (RFC 6733, section 5.3) that is accepted opens the peer, the first and each later
+    /// one, under the name of its Origin-Host. If it is refused, it is answered, and the connection is closed. A waiting peer
+    /// closes the connection without an answer at any other message. An open peer answers a watchdog request (section 5.5).
+    /// It answers a request to disconnect (section 5.4), and then the connection is closed, since the server doesn't wait for
+    /// the peer to close it. Any other refusal leaves the peer as it is. An open peer ignores answers that come in, and
+    /// Credit-Control requests without E, which others answer. A closed peer replies nothing.
     ///
     /// A refusal is that of the first check that fails, in this order: the header (DIAMETER_INVALID_HDR_BITS, 3008,
-    /// DIAMETER_APPLICATION_UNSUPPORTED, 3007, DIAMETER_COMMAND_UNSUPPORTED, 3001; section 7.1.3), what `dcc_request::check`
-    /// looks for (5014, 5001, 5009, 5005; section 7.1.5), and the values: of a request to disconnect that its
-    /// Disconnect-Cause is 0 to 2 (5014, 5004); of one to exchange capabilities that the Origin-Host has 1 to 255
-    /// octets, that the numbers of its applications and securities, and of the first Auth-Application-Id inside each
-    /// Vendor-Specific-Application-Id, have four octets (5014), that one of those applications is credit control or that of
-    /// relays (DIAMETER_NO_COMMON_APPLICATION, 5010), and that no Inband-Security-Id is there or one is
-    /// NO_INBAND_SECURITY (DIAMETER_NO_COMMON_SECURITY, 5017). A protocol error, 3xxx, is told in the short layout of
-    /// section 7.2, with E set and the request's Session-Id if that is good.
-    /// A reply to a message that is heard is a whole message, and to another it's empty; none says that the server is busy.
+    /// DIAMETER_APPLICATION_UNSUPPORTED, 3007, DIAMETER_COMMAND_UNSUPPORTED, 3001; section 7.1.3), the checks of
+    /// `dcc_request::check` (5014, 5001, 5009, 5005; section 7.1.5), and the values. In a request to disconnect, the
+    /// Disconnect-Cause has to be 0 to 2 (5014, 5004). In a request to exchange capabilities, the Origin-Host has to have 1
+    /// to 255 octets. The numbers of its applications and securities, and of the first Auth-Application-Id inside each
+    /// Vendor-Specific-Application-Id, have to have four octets (5014). One of these applications has to be credit control
+    /// or that of relays (DIAMETER_NO_COMMON_APPLICATION, 5010). There has to be no Inband-Security-Id, or one with
+    /// NO_INBAND_SECURITY (DIAMETER_NO_COMMON_SECURITY, 5017). A protocol error, 3xxx, is reported in the short layout of
+    /// section 7.2, with E set and with the request's Session-Id if that has 1 to 255 octets.
     ///
-    /// The only error is want of memory, and then the peer is as it was.
+    /// The reply to a heard message is a whole message, and the reply to another is empty. No reply is the busy answer.
+    ///
+    /// The list has with its padding at most 65,532 octets. The only error is want of memory, and then the peer is as it was.
     pub fn take(
         &mut self,
         alloc: Global,
@@ -101,10 +101,10 @@ impl Peer {
         }
     }
 
-    /// Takes a message whose list can't be read, by the fault of its layout: as `take`, but where the header is right, the
-    /// refusal is DIAMETER_INVALID_AVP_LENGTH (5014), with the AVP that stands for the broken one; and the answer takes
-    /// nothing over from the list, neither a session nor proxies. The fault has to be of the layout, as each fault is that the
-    /// reading of a list returns and that isn't want of memory.
+    /// Takes a message whose list can't be read, by the fault of its layout, and returns the reply to it. It is as `take`, but
+    /// if the header has no fault, the refusal is DIAMETER_INVALID_AVP_LENGTH (5014), with the AVP that stands for the broken
+    /// one. The answer copies neither a session nor proxies from the list. The fault has to be of the layout: each error of
+    /// reading a list is, except want of memory.
     ///
     /// The only error is want of memory, and then the peer is as it was.
     pub fn take_unread(
@@ -136,8 +136,9 @@ impl Peer {
         }
     }
 
-    /// Whether a message under this header is answered, as `take` says, if memory suffices: by a peer that waits a request to
-    /// exchange capabilities, by one that is open each request but those of Credit-Control without E, by a closed one none.
+    /// Whether the peer answers a message under this header, as `take` says, if memory suffices. A waiting peer answers a
+    /// request to exchange capabilities, an open peer each request but those of Credit-Control without E, and a closed peer
+    /// none.
     pub fn hears(&self, header: &Header) -> bool
         ensures { result ≡ answers_to self.now header.now }
     {
@@ -148,8 +149,8 @@ impl Peer {
         }
     }
 
-    /// Takes a message that isn't heard, whatever its list: it closes a peer that waits, and an open or closed one ignores it. It
-    /// takes no memory.
+    /// Takes a message that isn't heard, whatever its list. A waiting peer is closed; an open or closed peer ignores the message.
+    /// It takes no memory.
     pub fn pass_over(&mut self, alloc: Global) -> Reply
         ensures turn { (result, self.new) ≡ unheard self.old }
         ensures none { result.octets ≡ [] }
@@ -223,7 +224,7 @@ impl Peer {
     }
 }
 
-/// Whether a message is a Credit-Control one without E, which is not of the base protocol.
+/// Whether a message is of Credit-Control and without E, and so not of the base protocol.
 fn is_credit_control(header: &Header) -> bool
     ensures { result ≡ is_charging header.now }
 {

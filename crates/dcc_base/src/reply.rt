@@ -1,4 +1,4 @@
-//! What is done on a connection for a message that came on it.
+//! The reply to a message: its answer, and the end of its connection.
 
 ghost use Rattle.std.specs.Prelude.{◌≡◌};
 ghost use Rattle.dcc_base.specs.Peers.{silent as silence, shut as shutting};
@@ -6,10 +6,10 @@ ghost use Rattle.dcc_base.specs.Peers.{silent as silence, shut as shutting};
 use dcc_octets::OctetString;
 use std::alloc::Global;
 
-/// What is done on a connection for a message that came on it.
+/// The reply to a message on a connection.
 #[derive(Debug, Drop)]
 pub struct Reply {
-    /// The octets of the answer; none where there is no answer.
+    /// The octets of the answer; empty if there is no answer.
     pub octets: OctetString,
     /// Whether the connection is closed, behind the answer if there is one.
     pub close: bool,

@@ -25,7 +25,7 @@ fn capabilities<'a>(alloc: Global, avps: &[Avp<'a>]) -> Result<Effect, Stop<'a>>
     Ok(Effect::Opens(Host::of(alloc, host)?))
 }
 
-/// A request that asks whether the connection lives.
+/// A request for a sign of life of the connection.
 #[tactic(auto, unfolding(crate::specs::Requests::watchdog))]
 fn watchdog<'a>(alloc: Global, avps: &[Avp<'a>]) -> Result<Effect, Stop<'a>>
     ensures { Gives (λ effect. effect) result (watchdog avps.now) }
@@ -55,7 +55,7 @@ pub(crate) fn named(header: &Header) -> Result<Command, Refused<'static>>
     }
 }
 
-/// A request, its header first.
+/// The effect of a request, or its refusal. The header is judged first.
 #[tactic(auto, unfolding(crate::specs::Requests::judged))]
 pub(crate) fn judged<'a>(
     alloc: Global,

@@ -15,7 +15,7 @@ pub record AmountsView : Type 0 where
   pub time : ℕ
   pub units : ℕ
 
--- what a Requested-Service-Unit or a Used-Service-Unit says
+-- the numbers in a Requested-Service-Unit or a Used-Service-Unit
 pub record UnitsView : Type 0 where
   pub time : Option ℕ
   pub total : Option ℕ
@@ -23,7 +23,7 @@ pub record UnitsView : Type 0 where
   pub output : Option ℕ
   pub units : Option ℕ
 
--- the sizes of its numbers, in this order
+-- the numbers of a list of units, their sizes checked in this order
 unfoldable pub units_in : List AvpView → Result UnitsView Refusal
 units_in avps = do
   time ← number_of avps CC_TIME
@@ -33,7 +33,7 @@ units_in avps = do
   units ← long_number_of avps CC_SERVICE_SPECIFIC_UNITS
   Ok (record { time = time; total = total; input = input; output = output; units = units })
 
--- what isn't there is 0
+-- a number that isn't there is 0
 abbrev pub or_0 : Option ℕ → ℕ
 or_0 (Some n) = n
 or_0 None = 0
@@ -46,44 +46,44 @@ all_or None parts = parts
 abbrev pub octets_of : UnitsView → ℕ
 octets_of said = all_or said.total (or_0 said.input + or_0 said.output)
 
--- what is said is counted to what was counted before
+-- the amounts of an AVP are added to the amounts before
 abbrev pub plus : AmountsView → UnitsView → AmountsView
 plus sum said = record { octets = sum.octets + octets_of said; time = sum.time + or_0 said.time; units = sum.units + or_0 said.units }
 
 abbrev pub nothing : AmountsView
 nothing = record { octets = 0; time = 0; units = 0 }
 
--- in no unit more than there may be
+-- in no unit more than 10^12
 abbrev pub is_within : AmountsView → Bool
 is_within amounts = nat_le amounts.octets MAX_UNITS && nat_le amounts.time MAX_UNITS && nat_le amounts.units MAX_UNITS
 
--- that, or the refusal of the AVP with which it is passed
+-- the amounts within that limit, or the refusal of the AVP with which they pass it
 abbrev pub limited : AvpView → AmountsView → Result AmountsView Refusal
 limited avp amounts = if is_within amounts then Ok amounts else Err (refusal InvalidAvpValue avp)
 
--- what an AVP says is counted to what was counted before: its sizes, and then the amounts
+-- the amounts of an AVP are added to the amounts before: the sizes are checked first, and then the amounts
 unfoldable pub added : AmountsView → AvpView → Result AmountsView Refusal
 added sum avp = do
   avps ← message_list avp.value
   said ← units_in avps
   limited avp (plus sum said)
 
--- what is asked for in a list, where anything is: by the first Requested-Service-Unit
+-- the amounts that a list asks for, if it asks for any: those of the first Requested-Service-Unit
 unfoldable pub asked_in : List AvpView → Result (Option AmountsView) Refusal
 asked_in avps = if_there (added nothing) (find (has_code REQUESTED_SERVICE_UNIT) avps)
 
--- what was counted, if anything was
+-- the amounts so far, if there are any
 abbrev pub or_nothing : Option AmountsView → AmountsView
 or_nothing (Some amounts) = amounts
 or_nothing None = nothing
 
--- each is counted to those before it, one after another
+-- each AVP is added to those before it, one after another
 abbrev pub counted : Option AmountsView → List AvpView → Result (Option AmountsView) Refusal
 counted sum [] = Ok sum
 counted sum (avp ∷ avps) = do
   more ← added (or_nothing sum) avp
   counted (Some more) avps
 
--- what was used in a list, where anything was: the sum of all Used-Service-Units
+-- the amounts that a list reports as used, if it reports any: the sum of all Used-Service-Units
 unfoldable pub used_in : List AvpView → Result (Option AmountsView) Refusal
 used_in avps = counted None (filter (has_code USED_SERVICE_UNIT) avps)

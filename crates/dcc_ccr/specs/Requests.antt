@@ -21,7 +21,7 @@ use Rattle.dcc_ccr.specs.Subscribers.{subscriber_of}
 use Rattle.dcc_ccr.specs.Services.{ServiceView, service_in, multi_of, services_of}
 use Rattle.dcc_ccr.specs.Contradictions.{repeated, contradiction}
 
--- what a request says: whose, where it names anybody, in which session, which, of what type, and its services
+-- a request: its subscriber, if it names any, its session, its number, its type, and its services
 pub record RequestView : Type 0 where
   pub sub : Option SubView
   pub session : List ℕ
@@ -29,15 +29,15 @@ pub record RequestView : Type 0 where
   pub type : RequestType
   pub services : List ServiceView
 
--- at most so many services as there may be, and no two of one key
+-- at most 32 services, and no two of one key
 abbrev pub are_services : List ServiceView → Bool
 are_services services = nat_le (length services) MAX_SERVICES && is_none (repeated [] services)
 
--- one in single form stands alone
+-- a service in single form is the only service
 abbrev pub stand_right : List ServiceView → Bool
 stand_right services = nat_le (length services) 1 || list_all (λ service. is_multi service.form) services
 
--- the Service-Identifiers of all
+-- the number of Service-Identifiers of all services
 abbrev pub count_ids : List ServiceView → ℕ
 count_ids services = sum_by (λ service. length service.ids) services
 
@@ -59,7 +59,7 @@ request_from v = record {
   services = services_of v.type v.single v.multi;
 }
 
--- the values of a message whose lists have all that they have to, in the order in which they are looked at
+-- the values of a message whose lists passed their checks, in the order in which they are read
 unfoldable pub values_of : List AvpView → Result ValuesView Refusal
 values_of avps = do
   session ← required avps SESSION_ID >>= name_octets
@@ -72,7 +72,7 @@ values_of avps = do
   multi ← multi_of avps
   Ok (record { sub = sub; session = session; number = number; type = type; single = single; multi = multi })
 
--- The request of a message, or its first fault: all lists are there whole, then the values, then the contradictions.
+-- The request of a message, or its first fault: the checks of the lists come first, then the values, then the contradictions.
 unfoldable pub request_of : List AvpView → Result RequestView Refusal
 request_of avps = do
   groups ← checked CreditControl avps
@@ -80,7 +80,7 @@ request_of avps = do
   agrees ← clear (contradiction values.type values.multi avps)
   Ok (request_from values)
 
--- what a refusal shows fits a message
+-- the AVPs that a refusal shows fit a message
 abbrev pub IsStopWithin : Stop → Type 0
 IsStopWithin (Refused refusal) = sum_by padded_len refusal.failed ≤ MAX_LENGTH
 IsStopWithin Memory = Unit {0}

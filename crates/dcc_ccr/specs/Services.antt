@@ -14,7 +14,7 @@ use Rattle.dcc_ccr.specs.Types.{is_event}
 use Rattle.dcc_ccr.specs.Steps.{number_of}
 use Rattle.dcc_ccr.specs.Amounts.{AmountsView, asked_in, used_in}
 
--- one service: its Rating-Group and Service-Identifiers as sent, and what is asked for and was used, where anything is
+-- one service: its Rating-Group and Service-Identifiers as sent, and the amounts asked for and used, if there are any
 pub record ServiceView : Type 0 where
   pub form : Form
   pub group : Option ℕ
@@ -22,11 +22,11 @@ pub record ServiceView : Type 0 where
   pub asked : Option AmountsView
   pub used : Option AmountsView
 
--- seconds that are asked for fit a CC-Time (RFC 8506, section 8.21)
+-- the seconds asked for fit a CC-Time (RFC 8506, section 8.21)
 abbrev pub FitsSeconds : Option AmountsView → Type 0
 FitsSeconds asked = ForSome asked (λ amounts. amounts.time ≤ MAX_SECONDS)
 
--- the service of a group in a list: the identifiers, what is asked for, and what was used
+-- the service of a group in a list: the identifiers, the amounts asked for, and the amounts used
 unfoldable pub service_in : Form → Option ℕ → List AvpView → Result ServiceView Refusal
 service_in form group avps = do
   ids ← each number (filter (has_code SERVICE_IDENTIFIER) avps)
@@ -41,11 +41,11 @@ service_of avp = do
   group ← number_of avps RATING_GROUP
   service_in Multi group avps
 
--- all of them, as they stand
+-- all of them, in their order
 unfoldable pub multi_of : List AvpView → Result (List ServiceView) Refusal
 multi_of avps = each service_of (filter (has_code MULTIPLE_SERVICES_CREDIT_CONTROL) avps)
 
--- anything of the service stands at the level of the message
+-- some part of the service stands at the level of the message
 abbrev pub has_any : List ℕ → Bool
 has_any [] = false
 has_any (id ∷ ids) = true
@@ -53,7 +53,7 @@ has_any (id ∷ ids) = true
 abbrev pub is_there : ServiceView → Bool
 is_there service = has_any service.ids || is_some service.asked || is_some service.used
 
--- Those in Multiple-Services-Credit-Control; where there is none, the one of the message, if anything of it is there. An event always has one.
+-- The services in Multiple-Services-Credit-Control; without any, that of the message, if some part of it is there. An event always has a service.
 abbrev pub services_of : RequestType → ServiceView → List ServiceView → List ServiceView
 services_of type single [] = if is_event type || is_there single then single ∷ [] else []
 services_of type single (service ∷ services) = service ∷ services

@@ -1,4 +1,4 @@
--- Whose account a request is for (RFC 8506, sections 8.46 to 8.48).
+-- The subscriber whose account a request is for (RFC 8506, sections 8.46 to 8.48).
 use Rattle.std.specs.Prelude.{ℕ, ◌==◌, if◌then◌else◌, List, filter, find, slice_get, Option, Some, None, Result, Ok, Err}
 use Rattle.std.specs.Option.{option_or}
 use Rattle.dcc_avp.specs.Spelling.{AvpView, has_code}
@@ -16,7 +16,7 @@ pub record SubscriptionView : Type 0 where
   pub type : AvpView
   pub name : AvpView
 
--- the size of its type; that its data is there was checked
+-- a Subscription-Id whose type has the size of a number; the checks of lists have shown that its data is there
 unfoldable pub subscription_of : AvpView → Result SubscriptionView Refusal
 subscription_of avp = do
   avps ← message_list avp.value
@@ -29,7 +29,7 @@ subscription_of avp = do
 abbrev pub chosen : List SubscriptionView → Option SubscriptionView
 chosen subscriptions = option_or (find (λ s. s.kind == E164) subscriptions) (slice_get subscriptions 0)
 
--- the type of the one that is chosen, and then its data
+-- the subscriber of the chosen Subscription-Id: its type is judged first, and then its data
 unfoldable pub sub_of : SubscriptionView → Result SubView Refusal
 sub_of subscription = do
   kind ← number_within subscription.type 0 4
@@ -37,12 +37,13 @@ sub_of subscription = do
       then Ok (record { kind = kind; name = subscription.name.value })
       else Err (refusal InvalidAvpValue subscription.name)
 
--- of none there is no subscriber
+-- without a Subscription-Id there is no subscriber
 abbrev pub sub_of_chosen : Option SubscriptionView → Result (Option SubView) Refusal
 sub_of_chosen None = Ok None
 sub_of_chosen (Some subscription) = sub_of subscription >>= λ sub. Ok (Some sub)
 
--- the sizes of all Subscription-Ids, as they stand, and then the one that is chosen; that there is one, where there has to be, was checked
+-- the sizes of all Subscription-Ids are checked in their order, and then the chosen one is judged; the checks of lists have shown that one
+-- is there if one has to be
 unfoldable pub subscriber_of : List AvpView → Result (Option SubView) Refusal
 subscriber_of avps = do
   subscriptions ← each subscription_of (filter (has_code SUBSCRIPTION_ID) avps)

@@ -1,4 +1,4 @@
--- What is asked for: CC-Request-Type and, in events, Requested-Action (RFC 8506, sections 8.3 and 8.41).
+-- The type of a request: CC-Request-Type and, in events, Requested-Action (RFC 8506, sections 8.3 and 8.41).
 use Rattle.std.specs.Prelude.{ℕ, Bool, true, false, ◌==◌, if◌then◌else◌, List, Result, Ok}
 use Rattle.dcc_avp.specs.Spelling.{AvpView}
 use Rattle.dcc_avp.specs.declared.codes.TheConstants.{REQUESTED_ACTION}
@@ -16,7 +16,7 @@ is_event Initial = false
 is_event Update = false
 is_event Termination = false
 
--- it is of a session that was opened before: an update or a termination
+-- the request belongs to a session that was opened before: it is an update or a termination
 abbrev pub is_report : RequestType → Bool
 is_report (Event action) = false
 is_report Initial = false
@@ -34,7 +34,7 @@ action_of avps = do
   n ← number_within avp 0 3
   Ok (action_from n)
 
--- the type of a number from 1 to 4; in an event alone is the action looked at
+-- the type of a number from 1 to 4; the action is read in an event alone
 unfoldable pub type_of : List AvpView → ℕ → Result RequestType Refusal
 type_of avps n =
     if n == EVENT_TYPE then (action_of avps >>= λ action. Ok (Event action))

@@ -14,7 +14,7 @@ use dcc_tariff::MAX_UNITS;
 use std::alloc::Global;
 use std::marker::Model;
 
-/// An amount in each unit in which it may be counted: at most 10^12 in each. Which of them counts is said by the plan.
+/// An amount in each unit in which it may be counted: at most 10^12 in each. The plan says which unit counts.
 #[derive(Clone, Copy, Debug, PartialEq, Eq)]
 pub struct Amounts {
     octets: u64,
@@ -61,7 +61,7 @@ impl Amounts {
     }
 }
 
-/// What a Requested-Service-Unit or a Used-Service-Unit says.
+/// The numbers in a Requested-Service-Unit or a Used-Service-Unit.
 #[derive(Drop)]
 struct Units {
     time: Option<u32>,
@@ -79,14 +79,14 @@ impl Model for Units {
     ghost view = { λ u. record { time = u.time; total = u.total; input = u.input; output = u.output; units = u.units } };
 }
 
-/// Nothing, to which amounts are counted.
+/// No amounts, to which the first amounts are added.
 const NOTHING: Amounts = Amounts {
     octets: 0,
     time: 0,
     units: 0,
 };
 
-/// The numbers of a list of units, in the order in which their sizes are looked at.
+/// The numbers of a list of units, in the order in which their sizes are checked.
 #[tactic(auto, unfolding(crate::specs::Amounts::units_in))]
 fn units_in<'a>(avps: &[Avp<'a>]) -> Result<Units, Refused<'a>>
     ensures { result ≡ units_in avps.now }
@@ -100,7 +100,7 @@ fn units_in<'a>(avps: &[Avp<'a>]) -> Result<Units, Refused<'a>>
     })
 }
 
-/// The octets in all, which two numbers of eight octets together may not fit.
+/// The octets in all. They may be more than eight octets can count, since they may be the sum of two numbers.
 fn octets_of(said: &Units) -> u128
     ensures value { result ≡ octets_of said.now }
     ensures bound { result < 2 ^ 65 }
@@ -111,8 +111,8 @@ fn octets_of(said: &Units) -> u128
     }
 }
 
-/// What was counted before and what is said now, together; or `InvalidAvpValue` with the AVP that says it, where in any
-/// unit that is more than there may be.
+/// The sum of the amounts before and of the amounts of this AVP; `InvalidAvpValue` with the AVP if the sum in any unit
+/// is over 10^12.
 fn limited<'a>(sum: &Amounts, said: &Units, avp: &Avp<'a>) -> Result<Amounts, Refused<'a>>
     ensures value { result ≡ limited avp.now (plus sum.now said.now) }
     ensures seconds { IfOk result (λ amounts. amounts.time ≤ sum.now.time + MAX_SECONDS) }
@@ -132,7 +132,7 @@ fn limited<'a>(sum: &Amounts, said: &Units, avp: &Avp<'a>) -> Result<Amounts, Re
     }
 }
 
-/// What a unit's AVP says, counted to what was counted before.
+/// The amounts of a unit's AVP, added to the amounts before.
 #[tactic(auto, unfolding(crate::specs::Amounts::added))]
 fn added<'a>(alloc: Global, sum: &Amounts, avp: &Avp<'a>) -> Result<Amounts, Stop<'a>>
     ensures value { Gives (λ amounts. amounts) result (added sum.now avp.now) }
@@ -143,7 +143,7 @@ fn added<'a>(alloc: Global, sum: &Amounts, avp: &Avp<'a>) -> Result<Amounts, Sto
     Ok(limited(sum, &said, avp)?)
 }
 
-/// What is asked for in a list, where anything is.
+/// The amounts that a list asks for, if it has a Requested-Service-Unit.
 #[tactic(auto, unfolding(crate::specs::Amounts::asked_in))]
 pub(crate) fn asked_in<'a>(alloc: Global, avps: &[Avp<'a>]) -> Result<Option<Amounts>, Stop<'a>>
     ensures value { Gives (λ asked. asked) result (asked_in avps.now) }
@@ -155,7 +155,7 @@ pub(crate) fn asked_in<'a>(alloc: Global, avps: &[Avp<'a>]) -> Result<Option<Amo
     }
 }
 
-/// What was used in a list, where anything was: each Used-Service-Unit is counted to those before it.
+/// The amounts that a list reports as used, if it has a Used-Service-Unit: the sum of all of them.
 #[tactic(auto, unfolding(crate::specs::Amounts::used_in))]
 pub(crate) fn used_in<'a>(alloc: Global, avps: &[Avp<'a>]) -> Result<Option<Amounts>, Stop<'a>>
     ensures { Gives (λ used. used) result (used_in avps.now) }

@@ -17,14 +17,14 @@ fn multi_at<'m, 'a>(avps: &'m [Avp<'a>], i: usize) -> Option<&'m Avp<'a>>
         .nth(i)
 }
 
-/// Both AVPs are shown.
+/// The refusal with both AVPs.
 fn contradicting<'a>(first: &Avp<'a>, second: &Avp<'a>) -> Refused<'a>
     ensures { result ≡ contradicting first.now second.now }
 {
     Refused::two(Cause::ContradictingAvps, first.copy(), second.copy())
 }
 
-/// The Multiple-Services-Credit-Control at two places, where both are there.
+/// The refusal with the Multiple-Services-Credit-Control at two places, if both are there.
 #[tactic(auto, unfolding(crate::specs::Contradictions::both_at))]
 fn both_at<'a>(avps: &[Avp<'a>], first: usize, second: usize) -> Option<Refused<'a>>
     ensures { result ≡ both_at avps.now first second }
@@ -32,7 +32,7 @@ fn both_at<'a>(avps: &[Avp<'a>], first: usize, second: usize) -> Option<Refused<
     Some(contradicting(multi_at(avps, first)?, multi_at(avps, second)?))
 }
 
-/// Units at the level of the message, asked for or else used, beside a Multiple-Services-Credit-Control.
+/// The refusal of units at the level of the message, asked for or else used, beside a Multiple-Services-Credit-Control.
 #[tactic(auto, unfolding(crate::specs::Contradictions::units_beside))]
 fn units_beside<'a>(avps: &[Avp<'a>]) -> Option<Refused<'a>>
     ensures { result ≡ units_beside avps.now }
@@ -44,7 +44,7 @@ fn units_beside<'a>(avps: &[Avp<'a>]) -> Option<Refused<'a>>
     Some(contradicting(units, multi_at(avps, 0)?))
 }
 
-/// An event with more than one Multiple-Services-Credit-Control.
+/// The refusal of an event with more than one Multiple-Services-Credit-Control.
 fn several_in_event<'a>(kind: RequestType, avps: &[Avp<'a>]) -> Option<Refused<'a>>
     ensures { result ≡ several_in_event kind avps.now }
 {
@@ -94,7 +94,7 @@ fn place_of(service: &Service, services: &[Service]) -> Option<usize>
     None
 }
 
-/// The places of the first service that has the key of one before it, and of that one.
+/// The places of the first service that has the key of a service before it, and of that service before.
 fn repeated(services: &[Service]) -> Option<(usize, usize)>
     ensures { result ≡ repeated [] services.now }
 {
@@ -108,7 +108,7 @@ fn repeated(services: &[Service]) -> Option<(usize, usize)>
     None
 }
 
-/// Two services of one key: the earliest pair by its second.
+/// The refusal of two services with one key: of the pair whose second service comes first.
 fn same_keys<'a>(services: &[Service], avps: &[Avp<'a>]) -> Option<Refused<'a>>
     ensures { result ≡ same_keys services.now avps.now }
 {
@@ -116,7 +116,7 @@ fn same_keys<'a>(services: &[Service], avps: &[Avp<'a>]) -> Option<Refused<'a>>
     both_at(avps, first, second)
 }
 
-/// The first contradiction of a request of this type, whose services in Multiple-Services-Credit-Control are these.
+/// The first contradiction of a request of this type with these services in Multiple-Services-Credit-Control.
 #[tactic(auto, unfolding(crate::specs::Contradictions::contradiction))]
 pub(crate) fn contradiction<'a>(
     kind: RequestType,

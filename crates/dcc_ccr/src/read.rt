@@ -56,7 +56,7 @@ impl<'a> Model for Values<'a> {
     ghost invariant = { λ v. is_short v.session.now ≡ true };
 }
 
-/// The values of a message whose lists have all that they have to, in the order in which they are looked at.
+/// The values of a message whose lists passed their checks, in the order in which they are read.
 #[tactic(auto, using(crate::proofs::Limits::multi_length, crate::proofs::Forms::multi_forms), unfolding(crate::specs::Requests::values_of))]
 fn values_of<'a>(alloc: Global, avps: &[Avp<'a>]) -> Result<Values<'a>, Stop<'a>>
     ensures value { Gives (λ values. values) result (values_of avps.now) }
@@ -86,31 +86,32 @@ fn values_of<'a>(alloc: Global, avps: &[Avp<'a>]) -> Result<Values<'a>, Stop<'a>
     })
 }
 
-/// Reads the request that a message holds, whose header is that of a credit-control request (`command_of` says so) and
-/// whose list is this; or its first fault, each check over the whole message before the next (RFC 8506, section 3.1):
+/// Reads the request in a message's list, or returns its first fault. Each check is made over the whole message before the
+/// next (RFC 8506, section 3.1). The message's header has to be that of a credit-control request, which `command_of`
+/// shows. The faults are:
 ///
-/// - what `dcc_request::check` finds;
+/// - the faults of `dcc_request::check`;
 /// - `InvalidAvpLength` and `InvalidAvpValue`, of the values as the crate's page orders them: an AVP that has another size
-///   than its format, a Session-Id of none or over 255 octets; an Auth-Application-Id other than 4, a CC-Request-Type outside
-///   1 to 4, a Requested-Action outside 0 to 3 in an event, a Subscription-Id-Type over 4 or data other than 1 to 64 visible
-///   characters in the Subscription-Id that is chosen; a Requested-Service-Unit of more than 10^12 in any unit, and the
-///   Used-Service-Unit with which the sum of its service passes that;
+///   than its format, a Session-Id of no octets or over 255 octets; an Auth-Application-Id other than 4, a CC-Request-Type
+///   outside 1 to 4, a Requested-Action outside 0 to 3 in an event, a Subscription-Id-Type over 4 or data other than 1 to
+///   64 visible characters in the chosen Subscription-Id; a Requested-Service-Unit of more than 10^12 in any unit, and the
+///   Used-Service-Unit with which the sum of its service passes 10^12;
 /// - `ContradictingAvps`, with both AVPs: a Requested-Service-Unit or else a Used-Service-Unit at the level of the message
 ///   beside the first Multiple-Services-Credit-Control; the first two of these in an event; the first two of one service
 ///   key, which is the Rating-Group and the first Service-Identifier.
 ///
-/// AVPs inside groups are shown bare. Where there is no memory, nothing is said of the request.
+/// AVPs inside groups are shown without the groups. The only other error is want of memory.
 ///
-/// The list stands behind a header in at most 65,532 octets, the padding of its last AVP counted too.
+/// The list and its message's header together have at most 65,532 octets, with the padding of the last AVP.
 #[tactic(auto, unfolding(crate::specs::Requests::request_of))]
 pub fn read_ccr<'a>(alloc: Global, avps: &[Avp<'a>]) -> Result<Request<'a>, Stop<'a>>
     requires small { HEADER_LENGTH + sum_by padded_len avps.now ≤ MAX_LENGTH }
     ensures value { Gives (λ request. request) result (request_of avps.now) }
-    // The session that a busy answer would take over is the request's.
+    // The session that a busy answer would copy is the request's.
     ensures session { IfOk result (λ request. session_of avps.now ≡ Some request.session) }
     // Only an update or a termination names nobody.
     ensures named { IfOk result (λ request. request.sub ≡ None → is_report request.type ≡ true) }
-    // What a refusal shows fits a message.
+    // The AVPs that a refusal shows fit a message.
     ensures shown { IfErr result IsStopWithin }
 {
     shown_within();

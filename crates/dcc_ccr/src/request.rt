@@ -43,8 +43,8 @@ impl<'a> Model for Request<'a> {
         × (stand_right r.services.items ≡ true) × (is_event r.kind ≡ true → length r.services.items ≡ 1) };
 }
 
-/// Whose account the request is for: the type and the data of its first Subscription-Id of type E164, or else of its first
-/// (RFC 8506, section 8.46). An update or a termination may have none, and then names nobody.
+/// The subscriber whose account the request is for: the type and the data of its first Subscription-Id of type E164, or
+/// else of its first (RFC 8506, section 8.46). An update or a termination may have none, and then names nobody.
 pub fn subscriber(request: &Request<'_>) -> Option<Sub>
     ensures { result ≡ request.now.sub }
 {
@@ -67,15 +67,16 @@ impl<'a> Request<'a> {
         self.number
     }
 
-    /// The CC-Request-Type, in an event with the Requested-Action.
+    /// The CC-Request-Type, and of an event also the Requested-Action.
     pub fn request_type(&self) -> RequestType
         ensures { result ≡ self.now.type }
     {
         self.kind
     }
 
-    /// The services, in their order: at most 16, each with a key of its own (`same_key`), and with at most 5,460
-    /// Service-Identifiers together. One in single form stands alone, and an event has just one.
+    /// The services, in their order: at most 32, each with a key of its own (`same_key`), and with at most 5,460
+    /// Service-Identifiers together. A service in single form is the only service, and an event has exactly one
+    /// service.
     pub fn services(&self) -> &[Service]
         ensures value { result.now ≡ self.now.services }
         ensures limits { are_services self.now.services ≡ true }

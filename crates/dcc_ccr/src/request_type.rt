@@ -1,4 +1,4 @@
-//! What a request asks for.
+//! The type of a request, and the action of an event.
 
 ghost use Rattle.std.specs.Prelude.{◌≡◌};
 ghost use Rattle.dcc_ccr.specs.Types.{is_event, action_from, action_of, type_of};
@@ -8,16 +8,16 @@ use dcc_avp::{Avp, codes};
 use dcc_request::table::EVENT_TYPE;
 use dcc_request::{Refused, number_within, required};
 
-/// Which request of a session it is, or an event (CC-Request-Type, RFC 8506, section 8.3).
+/// The type of a request (CC-Request-Type, RFC 8506, section 8.3).
 #[derive(Clone, Copy, Debug, PartialEq, Eq)]
 pub enum RequestType {
     /// INITIAL_REQUEST, 1: opens a session.
     Initial,
-    /// UPDATE_REQUEST, 2: of an open session.
+    /// UPDATE_REQUEST, 2: belongs to an open session.
     Update,
     /// TERMINATION_REQUEST, 3: ends a session.
     Termination,
-    /// EVENT_REQUEST, 4: outside sessions.
+    /// EVENT_REQUEST, 4: belongs to no session.
     Event(Action),
 }
 
@@ -51,7 +51,7 @@ fn action_of<'a>(avps: &[Avp<'a>]) -> Result<Action, Refused<'a>>
     Ok(action_from(number))
 }
 
-/// The type of a number from 1 to 4. The action is looked at in an event alone.
+/// The type of a number from 1 to 4. The action is read in an event alone.
 #[tactic(auto, unfolding(crate::specs::Types::type_of))]
 pub(crate) fn type_of<'a>(avps: &[Avp<'a>], number: u32) -> Result<RequestType, Refused<'a>>
     ensures { result ≡ type_of avps.now number }

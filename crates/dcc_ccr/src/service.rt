@@ -39,14 +39,14 @@ impl Model for Service {
 }
 
 impl Service {
-    /// Where it stands.
+    /// The form of the service: at the level of the message, or in a Multiple-Services-Credit-Control.
     pub fn form(&self) -> Form
         ensures { result ≡ self.now.form }
     {
         self.form
     }
 
-    /// The Rating-Group as sent (RFC 8506, section 8.29). At the level of the message it has no use, and there is none.
+    /// The Rating-Group as sent (RFC 8506, section 8.29). A service at the level of the message has none.
     pub fn group(&self) -> Option<u32>
         ensures { result ≡ self.now.group }
     {
@@ -67,7 +67,7 @@ impl Service {
         self.ids
     }
 
-    /// What is asked for, where a Requested-Service-Unit is there (RFC 8506, section 8.18); at most 2^32 - 1 seconds.
+    /// The amounts asked for, if a Requested-Service-Unit is there (RFC 8506, section 8.18); at most 2^32 - 1 seconds.
     pub fn asked(&self) -> Option<Amounts>
         ensures value { result ≡ self.now.asked }
         ensures limit { FitsSeconds self.now.asked }
@@ -75,7 +75,7 @@ impl Service {
         self.asked
     }
 
-    /// What was used, where a Used-Service-Unit is there: the sum of all (RFC 8506, section 8.19).
+    /// The amounts used, if a Used-Service-Unit is there: the sum of all of them (RFC 8506, section 8.19).
     pub fn used(&self) -> Option<Amounts>
         ensures { result ≡ self.now.used }
     {
@@ -83,7 +83,7 @@ impl Service {
     }
 }
 
-/// The Service-Identifiers of a list, as they stand; or `InvalidAvpLength` with the first that isn't of four octets.
+/// The Service-Identifiers of a list, in their order; `InvalidAvpLength` with the first that hasn't four octets.
 fn ids_in<'a>(alloc: Global, avps: &[Avp<'a>]) -> Result<Vec<u32>, Stop<'a>>
     ensures { Gives (λ ids. ids.items) result (each number_in (filter (has_code SERVICE_IDENTIFIER) avps.now)) }
 {
@@ -96,7 +96,7 @@ fn ids_in<'a>(alloc: Global, avps: &[Avp<'a>]) -> Result<Vec<u32>, Stop<'a>>
     Ok(ids)
 }
 
-/// The service of a group in a list: the identifiers, what is asked for, and what was used.
+/// The service of a group in a list: the identifiers, the amounts asked for, and the amounts used.
 #[tactic(auto, unfolding(crate::specs::Services::service_in))]
 pub(crate) fn service_in<'a>(
     alloc: Global,
@@ -125,7 +125,7 @@ fn service_of<'a>(alloc: Global, avp: &Avp<'a>) -> Result<Service, Stop<'a>>
     service_in(alloc, Form::Multi, group, &avps)
 }
 
-/// The services of all Multiple-Services-Credit-Control, as they stand.
+/// The services of all Multiple-Services-Credit-Control, in their order.
 #[tactic(auto, unfolding(crate::specs::Services::multi_of))]
 pub(crate) fn multi_of<'a>(alloc: Global, avps: &[Avp<'a>]) -> Result<Vec<Service>, Stop<'a>>
     ensures { Gives (λ services. services.items) result (multi_of avps.now) }
@@ -139,14 +139,15 @@ pub(crate) fn multi_of<'a>(alloc: Global, avps: &[Avp<'a>]) -> Result<Vec<Servic
     Ok(services)
 }
 
-/// Whether anything of a service is there.
+/// Whether any part of a service is there.
 fn is_there(service: &Service) -> bool
     ensures { result ≡ is_there service.now }
 {
     !service.ids.is_empty() || service.asked.is_some() || service.used.is_some()
 }
 
-/// The services of a request: those in Multiple-Services-Credit-Control, or else that of the message, if it has one.
+/// The services of a request: those in Multiple-Services-Credit-Control, or else that of the message, if it is there or
+/// the request is an event.
 pub(crate) fn services_of<'a>(
     kind: RequestType,
     single: Service,

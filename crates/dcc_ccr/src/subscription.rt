@@ -1,4 +1,4 @@
-//! Whose account a request is for.
+//! The subscriber whose account a request is for.
 
 ghost use Rattle.std.specs.Prelude.{◌≡◌, ◌==◌, if◌then◌else◌, filter, find, option_copied, Some, None};
 ghost use Rattle.dcc_avp.specs.Spelling.{has_code};
@@ -33,7 +33,7 @@ impl<'a> Model for Subscription<'a> {
     ghost view = { λ s. record { kind = s.kind; type = s.type_avp; name = s.name } };
 }
 
-/// A Subscription-Id; or `InvalidAvpLength` with its type, where it isn't of four octets.
+/// A Subscription-Id; `InvalidAvpLength` with its type if that hasn't four octets.
 #[tactic(auto, unfolding(crate::specs::Subscribers::subscription_of))]
 fn subscription_of<'a>(alloc: Global, avp: &Avp<'a>) -> Result<Subscription<'a>, Stop<'a>>
     ensures { Gives (λ subscription. subscription) result (subscription_of avp.now) }
@@ -49,7 +49,7 @@ fn subscription_of<'a>(alloc: Global, avp: &Avp<'a>) -> Result<Subscription<'a>,
     })
 }
 
-/// All Subscription-Ids, as they stand.
+/// All Subscription-Ids, in their order.
 fn subscriptions_of<'a>(alloc: Global, avps: &[Avp<'a>]) -> Result<Vec<Subscription<'a>>, Stop<'a>>
     ensures { Gives (λ all. all.items) result (each subscription_of (filter (has_code SUBSCRIPTION) avps.now)) }
 {
@@ -76,7 +76,7 @@ fn chosen<'m, 'a>(all: &'m [Subscription<'a>]) -> Option<&'m Subscription<'a>>
     first_e164(all).or(all.first())
 }
 
-/// The subscriber of a type and data.
+/// The subscriber of a type and data, if they are within the limits.
 fn sub_with(kind: u32, name: &[u8]) -> Option<Sub>
     ensures { result ≡ (if is_sub kind name.now then Some (record { kind = kind; name = name.now }) else None) }
 {
@@ -86,7 +86,7 @@ fn sub_with(kind: u32, name: &[u8]) -> Option<Sub>
     Sub::new(kind as u8, name)
 }
 
-/// The subscriber of the one that is chosen; or `InvalidAvpValue` with its type, where that is over 4, or else with its data.
+/// The subscriber of the chosen Subscription-Id; `InvalidAvpValue` with its type if that is over 4, or else with its data.
 #[tactic(auto, unfolding(crate::specs::Subscribers::sub_of))]
 fn sub_of<'a>(subscription: &Subscription<'a>) -> Result<Sub, Refused<'a>>
     ensures { result ≡ sub_of subscription.now }
@@ -98,7 +98,7 @@ fn sub_of<'a>(subscription: &Subscription<'a>) -> Result<Sub, Refused<'a>>
     }
 }
 
-/// The subscriber of the one that is chosen, where there is one.
+/// The subscriber of the chosen Subscription-Id, if there is any.
 fn sub_of_chosen<'a>(chosen: Option<&Subscription<'a>>) -> Result<Option<Sub>, Refused<'a>>
     ensures { result ≡ sub_of_chosen (option_copied chosen.entry) }
 {
@@ -108,7 +108,7 @@ fn sub_of_chosen<'a>(chosen: Option<&Subscription<'a>>) -> Result<Option<Sub>, R
     }
 }
 
-/// The subscriber of a message, where it names one.
+/// The subscriber of a message, if it names a subscriber.
 #[tactic(auto, unfolding(crate::specs::Subscribers::subscriber_of))]
 pub(crate) fn subscriber_of<'a>(alloc: Global, avps: &[Avp<'a>]) -> Result<Option<Sub>, Stop<'a>>
     ensures { Gives (λ sub. sub) result (subscriber_of avps.now) }
