@@ -26,39 +26,39 @@ abbrev pub group_of : PlanView → Option ℕ → ℕ
 group_of plan (Some group) = group
 group_of plan None = plan.default_group
 
--- of the amounts that were sent, the one that the plan counts in; a group that the plan doesn't have counts nothing
+-- the amount in the unit of the plan, out of the amounts that were sent; a group that the plan doesn't have counts nothing
 abbrev pub amount_in : Option UnitKind → AmountsView → ℕ
 amount_in None amounts = 0
 amount_in (Some Octets) amounts = amounts.octets
 amount_in (Some Time) amounts = amounts.time
 amount_in (Some Units) amounts = amounts.units
 
--- an amount that is asked for, where 0 stands for another
+-- an amount asked for, or another in place of 0
 abbrev pub or_instead : ℕ → ℕ → ℕ
 or_instead n other = if n == 0 then other else n
 
--- what 0 stands for in a session: the plan's quantum, of which no more seconds than fit a CC-Time (RFC 8506, section 8.21)
+-- the amount for which 0 stands in a session: the plan's quantum, in seconds at most as many as fit a CC-Time (RFC 8506, section 8.21)
 abbrev pub quantum_in : PlanView → UnitKind → ℕ
 quantum_in plan Octets = plan.quantum
 quantum_in plan Time = min plan.quantum MAX_SECONDS
 quantum_in plan Units = plan.quantum
 
--- what a service of a session asks for, where a Requested-Service-Unit is there
+-- the units that a service of a session asks for, if it has a Requested-Service-Unit
 abbrev pub session_asks : PlanView → Option UnitKind → AmountsView → ℕ
 session_asks plan None amounts = 0
 session_asks plan (Some counted) amounts = or_instead (amount_in (Some counted) amounts) (quantum_in plan counted)
 
--- what a one-time event asks for: where that is nothing, or 0, it stands for 1
+-- the units that a one-time event asks for: no amount, or 0, stands for 1
 abbrev pub event_asks : Option UnitKind → Option AmountsView → ℕ
 event_asks None asked = 0
 event_asks (Some counted) None = 1
 event_asks (Some counted) (Some amounts) = or_instead (amount_in (Some counted) amounts) 1
 
--- what a service asks for in a request of this type: in an event always something
+-- the units that a service asks for in a request of this type; an event always asks for units
 abbrev pub asked_in : RequestType → PlanView → Option UnitKind → Option AmountsView → Option ℕ
 asked_in type plan unit asked = if is_event type then Some (event_asks unit asked) else option_map (session_asks plan unit) asked
 
--- a service of a request of this type, with what the plan says of its group at a moment
+-- a service of a request of this type, with the unit and the tariff that the plan has for its group at a moment
 abbrev pub service_of : PlanView → ℕ → RequestType → requests.ServiceView → ServiceView
 service_of plan moment type service =
     let group = group_of plan service.group in
@@ -81,7 +81,7 @@ key_of request = record { sid = request.session; number = request.number }
 abbrev pub session_of : PlanView → ℕ → RequestView → SessionRequest
 session_of plan moment request = record { key = key_of request; services = map (service_of plan moment request.type) request.services }
 
--- the service of an event, which has just one; without it there would be one of which nothing is said
+-- the service of an event, which has exactly one; the empty service stands for none
 abbrev pub only_service : List requests.ServiceView → requests.ServiceView
 only_service [] = record { form = Single; group = None; ids = []; asked = None; used = None }
 only_service (service ∷ others) = service
@@ -91,7 +91,8 @@ abbrev pub event_of : PlanView → ℕ → RequestView → Action → OneTimeEve
 event_of plan moment request action =
     record { key = key_of request; action = action; service = service_of plan moment request.type (only_service request.services) }
 
--- What a request from a peer of this host asks for, by its type. An initial request keeps the host, and the limit of many sessions.
+-- The kind of a request's act, from a peer of this host, by the request's type. An initial request keeps the host, and the limit of
+-- many sessions.
 abbrev pub kind_of : PlanView → (host : List ℕ) → ℕ → RequestView → RequestType → Kind
 kind_of plan host moment request Initial = kind.Initial (session_of plan moment request) Many (Some host)
 kind_of plan host moment request Update = kind.Update (session_of plan moment request)

@@ -43,32 +43,32 @@ amount_avp Units units = sent64 CC_SERVICE_SPECIFIC_UNITS units
 abbrev pub granted : Grant → AvpView
 granted grant = grouped GRANTED_SERVICE_UNIT (amount_avp grant.unit grant.units ∷ [])
 
--- the request is one of a session
+-- the request belongs to a session
 abbrev pub in_session : RequestType → Bool
 in_session Initial = true
 in_session Update = true
 in_session Termination = true
 in_session Event = false
 
--- for how many seconds a grant may be used (section 8.33); an event's is used at once
+-- the seconds for which a grant may be used (section 8.33); the grant of an event is used at once
 abbrev pub validity_avps : RequestType → TermsView → Option Grant → List AvpView
 validity_avps type terms None = []
 validity_avps type terms (Some grant) = if in_session type then sent32 VALIDITY_TIME terms.validity ∷ [] else []
 
--- that the service ends once the granted units are used, where they are the last (sections 8.34 and 8.35)
+-- the service ends once the granted units are used, if they are the last (sections 8.34 and 8.35)
 abbrev pub final_avps : Bool → List AvpView
 final_avps false = []
 final_avps true = grouped FINAL_UNIT_INDICATION (sent32 FINAL_UNIT_ACTION TERMINATE ∷ []) ∷ []
 
--- of one service the grant, the identifiers and the group as sent, how long the grant may be used, the result, and whether the
--- grant is the last (section 8.16)
+-- the AVPs of one service: the grant, the identifiers and the group as sent, the seconds for which the grant may be used, the
+-- result, and whether the grant is the last (section 8.16)
 abbrev pub service_parts : RequestType → TermsView → ServiceAnswer → List AvpView
 service_parts type terms service =
     option_to_list (option_map granted service.grant) ++ map (sent32 SERVICE_IDENTIFIER) service.ids ++
     option_to_list (option_map (sent32 RATING_GROUP) service.group) ++ validity_avps type terms service.grant ++
     sent32 RESULT_CODE (result_number service.result) ∷ final_avps service.is_final
 
--- one at the message's level shows its grant alone among the services
+-- a service at the message's level shows its grant alone among the services
 abbrev pub service_avps : RequestType → TermsView → Form → ServiceAnswer → List AvpView
 service_avps type terms Single service = option_to_list (option_map granted service.grant)
 service_avps type terms Multi service = grouped MULTIPLE_SERVICES_CREDIT_CONTROL (service_parts type terms service) ∷ []
@@ -83,8 +83,8 @@ abbrev pub single_validity : RequestType → TermsView → Form → ServiceAnswe
 single_validity type terms Single service = validity_avps type terms service.grant
 single_validity type terms Multi service = []
 
--- a price in minor units: its digits, and the power of ten that a minor unit is of the currency, in two's complement where it's
--- below nothing (RFC 8506, sections 8.8 to 8.10)
+-- a price in minor units: its digits, and the exponent of ten of a minor unit in the currency, in two's complement if it is
+-- negative (RFC 8506, sections 8.8 to 8.10)
 abbrev pub unit_value : TermsView → ℕ → AvpView
 unit_value terms cost = grouped UNIT_VALUE (sent64 VALUE_DIGITS cost ∷ sent32 EXPONENT (cast_unsigned w32 terms.exponent) ∷ [])
 
@@ -92,12 +92,12 @@ unit_value terms cost = grouped UNIT_VALUE (sent64 VALUE_DIGITS cost ∷ sent32 
 abbrev pub cost_avp : TermsView → ℕ → AvpView
 cost_avp terms cost = grouped COST_INFORMATION (unit_value terms cost ∷ sent32 CURRENCY_CODE terms.currency ∷ [])
 
--- whether what is free covers the price (section 8.6)
+-- whether the free money covers the price (section 8.6)
 abbrev pub balance_avp : Balance → AvpView
 balance_avp balance = sent32 CHECK_BALANCE_RESULT (balance_number balance)
 
--- what an answer tells behind its beginning: the services, a price, which grant is the last, a balance, and how long a grant may
--- be used (section 3.2)
+-- the AVPs of an answer behind its beginning: the services, a price, which grant is the last, a balance, and the seconds for
+-- which a grant may be used (section 3.2)
 abbrev pub told_avps : TermsView → Answer → List AvpView
 told_avps terms answer =
     flat_map (λ service. service_avps answer.request terms service.form service) answer.services ++
@@ -105,7 +105,7 @@ told_avps terms answer =
     option_to_list (option_map balance_avp answer.balance) ++
     flat_map (λ service. single_validity answer.request terms service.form service) answer.services
 
--- what each answer to a request begins with
+-- the AVPs with which each answer to a request begins
 abbrev pub head_avps : Identity → RequestType → RequestKey → ℕ → List AvpView
 head_avps identity type key code =
     sent SESSION_ID key.sid ∷ sent32 RESULT_CODE code ∷ sent ORIGIN_HOST identity.host ∷ sent ORIGIN_REALM identity.realm ∷

@@ -25,11 +25,11 @@ use Rattle.dcc_answer.specs.Answers.{answer_with}
 use Rattle.dcc_answer.specs.Failed.{failed_avps}
 use Rattle.dcc_request.specs.Sessions.{session_of}
 
--- the number of the first AVP of a code, where it has four octets
+-- the number of the first AVP of a code, if it has four octets
 abbrev pub number_of : ℕ → List AvpView → Option ℕ
 number_of code avps = option_and_then (λ (avp : AvpView). number_in w32 avp.value) (find (has_code code) avps)
 
--- what a refusal takes over from its request beside the proxies: its session, type and number, each where it can be read
+-- the values that a refusal copies from its request beside the proxies: its session, type and number, each if it can be read
 pub record Taken : Type 0 where
   pub session : Option (List ℕ)
   pub type : Option ℕ
@@ -38,15 +38,15 @@ pub record Taken : Type 0 where
 unfoldable pub taken_from : List AvpView → Taken
 taken_from avps = record { session = session_of avps; type = number_of CC_REQUEST_TYPE avps; number = number_of CC_REQUEST_NUMBER avps }
 
--- from a list that can't be read, nothing
+-- the values of a list that can't be read: none
 abbrev pub nothing : Taken
 nothing = record { session = None; type = None; number = None }
 
--- from a request of this type and key that was read, all
+-- the values of a request of this type and key that was read: all
 abbrev pub taken : ℕ → RequestKey → Taken
 taken type key = record { session = Some key.sid; type = Some type; number = Some key.number }
 
--- from an update or a termination, by its act; of any other act nothing
+-- the values of an update or a termination, by its act; none of any other act
 abbrev pub taken_of : Kind → Taken
 taken_of (kind.TopUp top_up) = nothing
 taken_of (kind.Initial request limit host) = nothing
@@ -55,11 +55,11 @@ taken_of (kind.Termination request) = taken TERMINATION_TYPE request.key
 taken_of (kind.Event event) = nothing
 taken_of kind.Expiry = nothing
 
--- a number in its AVP, where there is one
+-- a number in its AVP, if there is any
 abbrev pub number_avps : ℕ → Option ℕ → List AvpView
 number_avps code n = option_to_list (option_map (sent32 code) n)
 
--- the result, who answers, and for which application
+-- the result, the names of the server, and the application
 abbrev pub origin_avps : Identity → ℕ → List AvpView
 origin_avps identity code =
     sent32 RESULT_CODE code ∷ sent ORIGIN_HOST identity.host ∷ sent ORIGIN_REALM identity.realm ∷
@@ -75,11 +75,11 @@ refusal_avps identity over refused =
 unfoldable pub refusal_octets : Identity → HeaderView → Taken → List ℕ → Refusal → List ℕ
 refusal_octets identity request over proxies refused = answer_with request 0 (refusal_avps identity over refused) proxies
 
--- and of one whose list has this fault of layout
+-- the refusal of a request whose list has this fault of layout
 abbrev pub unread_octets : Identity → HeaderView → FaultView → List ℕ
 unread_octets identity request fault = refusal_octets identity request nothing [] (unread fault)
 
--- and of an update or a termination that names no subscriber, where its session doesn't tell one: a Subscription-Id is missing
+-- the refusal of an update or a termination that names nobody and whose subscriber was not found: a Subscription-Id is missing
 unfoldable pub unfound_octets : Identity → HeaderView → Act → List ℕ → List ℕ
 unfound_octets identity request act proxies =
     refusal_octets identity request (taken_of act.kind) proxies (refusal MissingAvp (missing_avp SUBSCRIPTION_ID))

@@ -20,12 +20,13 @@ use std::alloc::{AllocError, Global};
 /// The act that a request from a peer of this host asks for at a moment (RFC 8506, sections 5 and 6). An initial request keeps the
 /// host, and the limit of 1,024 sessions ([`SessionLimit::Many`]).
 ///
-/// Each service is charged by its Rating-Group, or by the plan's default where none was sent: that gives the unit, in which the
-/// request's amounts are counted, and the tariff, if one holds at the moment. Of a group that the plan doesn't have there is no unit
-/// and no tariff, and the amounts are 0.
+/// Each service is charged by its Rating-Group, or by the plan's default if none was sent. The group gives the unit in which the
+/// request's amounts are counted, and the tariff, if the group has any at the moment. A group that the plan doesn't have gives
+/// neither unit nor tariff, and then the amounts are 0.
 ///
-/// In a session units are asked for where a Requested-Service-Unit is there, and an amount of 0 stands for the plan's
-/// quantum. In an event 1 is asked for where no amount is, or 0. Without memory there is no act.
+/// A service of a session asks for units if it has a Requested-Service-Unit; an amount of 0 stands for the plan's
+/// quantum, or for 2^32 - 1 seconds if a quantum of seconds is greater. An event always asks for units; no amount, or
+/// 0, stands for 1. The only error is want of memory.
 #[tactic(auto, unfolding(crate::specs::Acts::act_of))]
 pub fn to_act(
     alloc: Global,
@@ -116,7 +117,7 @@ fn services_of(
     Ok(Services::from_vec(made).unwrap())
 }
 
-/// A service of a request of this type, with what the plan says of its group at a moment.
+/// A service of a request of this type, with the unit and the tariff that the plan has for its group at a moment.
 fn service_of(
     alloc: Global,
     plan: &Plan,
@@ -141,7 +142,7 @@ fn service_of(
     })
 }
 
-/// What a service asks for in a group's unit, in a request of this type.
+/// The units that a service asks for in a group's unit, in a request of this type.
 fn asked_in(
     kind: RequestType,
     plan: &Plan,
@@ -164,7 +165,7 @@ fn asked_in(
     }
 }
 
-/// What a service of a session asks for in a group's unit: 0 stands for the plan's quantum.
+/// The units that a service of a session asks for in a group's unit: 0 stands for the plan's quantum.
 fn session_asks(plan: &Plan, unit: Option<UnitKind>, amounts: Amounts) -> u64
     requires { amounts.time ≤ MAX_SECONDS }
     ensures value { result ≡ session_asks plan.now unit amounts }
@@ -179,7 +180,7 @@ fn session_asks(plan: &Plan, unit: Option<UnitKind>, amounts: Amounts) -> u64
     }
 }
 
-/// What 0 stands for in a session.
+/// The amount for which 0 stands in a session: the plan's quantum, in seconds at most 2^32 - 1.
 fn quantum_in(plan: &Plan, counted: UnitKind) -> u64
     ensures value { result ≡ quantum_in plan.now counted }
     ensures some { 1 ≤ result }
@@ -192,7 +193,7 @@ fn quantum_in(plan: &Plan, counted: UnitKind) -> u64
     }
 }
 
-/// What a one-time event asks for in a group's unit: where that is nothing, or 0, it stands for 1.
+/// The units that a one-time event asks for in a group's unit: no amount, or 0, stands for 1.
 fn event_asks(unit: Option<UnitKind>, asked: Option<Amounts>) -> u64
     requires { FitsSeconds asked }
     ensures value { result ≡ event_asks unit asked }
@@ -208,14 +209,14 @@ fn event_asks(unit: Option<UnitKind>, asked: Option<Amounts>) -> u64
     }
 }
 
-/// An amount that is asked for, where 0 stands for another.
+/// An amount asked for, or another in place of 0.
 fn or_instead(n: u64, other: u64) -> u64
     ensures { result ≡ or_instead n other }
 {
     if n == 0 { other } else { n }
 }
 
-/// What is reported as used in a group's unit, where anything is.
+/// The units that are reported as used in a group's unit, if any are reported.
 fn used_in(unit: Option<UnitKind>, used: Option<Amounts>) -> Option<u64>
     ensures value { result ≡ option_map (amount_in unit) used }
     ensures in_range { ForSome result (λ units. units ≤ MAX_UNITS) }
@@ -227,7 +228,7 @@ fn used_in(unit: Option<UnitKind>, used: Option<Amounts>) -> Option<u64>
     }
 }
 
-/// Of the amounts that were sent, the one in a group's unit.
+/// The amount in a group's unit, out of the amounts that were sent.
 fn amount_in(unit: Option<UnitKind>, amounts: Amounts) -> u64
     ensures value { result ≡ amount_in unit amounts }
     ensures in_range { result ≤ MAX_UNITS }

@@ -27,7 +27,7 @@ use std::alloc::{AllocError, Global};
 pub const USER_UNKNOWN: u32 = 5030;
 
 /// Writes the answer of an outcome to a request, under the request's identifiers and P bit, with its Proxy-Info at the
-/// end. It is no busy answer. At want of memory there is no message.
+/// end. The answer is not the busy one. The only error is want of memory.
 pub fn write_cca(
     alloc: Global,
     identity: &Identity,
@@ -46,7 +46,7 @@ pub fn write_cca(
     answer_within(alloc, identity, terms, request, proxies, outcome)
 }
 
-/// The answer of an outcome, and what is known of all that it holds.
+/// The answer of an outcome, and what is known of its parts.
 #[tactic(auto, unfolding(crate::specs::Answers::answer_octets))]
 fn answer_within(
     alloc: Global,
@@ -94,7 +94,7 @@ fn put_answer(
     }
 }
 
-/// Appends what an answer tells behind its beginning.
+/// Appends the AVPs of an answer behind its beginning.
 fn put_told(out: &mut Vec<u8>, terms: &Terms, answer: &Answer) -> Result<(), AllocError>
     ensures ok { OnOk result (out.new.items ≡ out.old.items ++ flat_map padded (told_avps terms.now answer.now)) }
     ensures limits { AreAnswers answer.now.services }
@@ -107,7 +107,7 @@ fn put_told(out: &mut Vec<u8>, terms: &Terms, answer: &Answer) -> Result<(), All
     put_validities(out, answer.request, terms, &answer.services)
 }
 
-/// Appends what each answer to a request begins with.
+/// Appends the AVPs with which each answer to a request begins.
 fn put_head(
     out: &mut Vec<u8>,
     identity: &Identity,

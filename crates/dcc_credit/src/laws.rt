@@ -31,8 +31,8 @@ pub fn numbers_are_given()
     ensures terminate { TERMINATE ≡ 0 }
 {}
 
-/// No answer of an outcome and no refusal is the busy answer, where the names, the outcome and what a refusal shows are within
-/// their limits and the proxies are Proxy-Info that can be spelled. Each of them has at least a header.
+/// No answer of an outcome and no refusal is the busy answer, if the names, the outcome and the AVPs that a refusal shows are
+/// within their limits, and the proxies are Proxy-Info that can be spelled. Each of them has at least a header.
 pub fn told_apart()
     ensures answered { (identity : Identity) (terms : TermsView) (request : HeaderView) (proxies : List ℕ) (outcome : Outcome) →
         IsServer identity → HasLimits outcome → SpellProxies proxies →
@@ -56,8 +56,8 @@ pub fn told_apart()
     shown_within();
 }
 
-/// What is written is read back, where the names and the outcome are within their limits: the AVPs, with the proxies
-/// behind the others, and the header with the length of the message, which the codec reads up to 65,532 octets.
+/// A written answer is read back, if the names and the outcome are within their limits: the AVPs, with the proxies
+/// behind the others, and the header with the length of the message, if that is at most 65,532 octets.
 pub fn read_back()
     ensures answered { (identity : Identity) (terms : TermsView) (request : HeaderView) (proxies : List AvpView) (outcome : Outcome) →
         IsServer identity → HasLimits outcome → AllByRecursion HasSpelling proxies →

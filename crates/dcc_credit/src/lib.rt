@@ -1,10 +1,10 @@
-//! From a credit-control request to the act that it asks for, and from an outcome, or a refusal, to the octets of an answer.
+//! From a credit-control request to its act, and from an outcome or a refusal to the octets of an answer.
 //!
 //! Stands on `dcc_ccr` for requests, on `dcc_answer` for what all answers have in common, on `dcc_message`, `dcc_avp` and
 //! `dcc_octets` for octets, on `dcc_act` for acts and outcomes, and on `dcc_tariff` for the plan. The contract that it gives:
-//! a request's act is the one that the definition gives under the plan, and an answer's octets are those of the
-//! definition, for each outcome that a request can have and for each refusal of a request (RFC 8506); and an answer is
-//! told from the busy one by its octets.
+//! a request's act is the act that the definition gives under the plan. An answer's octets are those of the definition, for
+//! each outcome that a request can have and for each refusal of a request (RFC 8506). No answer of this crate is the busy
+//! one, by its octets.
 #![tactic(auto)]
 
 mod act;

@@ -28,7 +28,7 @@ use dcc_request::{Refused, first, missing, shown_within, unread};
 use std::alloc::{AllocError, Global};
 use std::marker::Model;
 
-/// What a refusal takes over from its request beside the proxies. Contracts see it as `Taken`.
+/// The values that a refusal copies from its request beside the proxies. Contracts see it as `Taken`.
 #[derive(Drop)]
 struct TakenOver<'a> {
     session: Option<Session<'a>>,
@@ -44,10 +44,10 @@ impl<'a> Model for TakenOver<'a> {
     ghost view = { λ t. record { session = t.session; type = t.request_type; number = t.number } };
 }
 
-/// Writes the refusal of a request whose list was read: its Result-Code and, where it shows any AVPs, its Failed-AVP (RFC
-/// 6733, sections 7.1.5 and 7.5), under the request's identifiers and P bit, with its Proxy-Info at the end. The first
-/// Session-Id is taken over where it has 1 to 255 octets, CC-Request-Type and CC-Request-Number where the first of each has
-/// four. It is no busy answer. At want of memory there is no message.
+/// Writes the refusal of a request whose list was read: its Result-Code and, if it shows any AVPs, its Failed-AVP (RFC
+/// 6733, sections 7.1.5 and 7.5), under the request's identifiers and P bit, with its Proxy-Info at the end. It copies the
+/// first Session-Id if that has 1 to 255 octets, and the first CC-Request-Type and the first CC-Request-Number if each has
+/// four. The shown AVPs have at most 65,532 octets. The answer is not the busy one. The only error is want of memory.
 pub fn write_refusal(
     alloc: Global,
     identity: &Identity,
@@ -74,10 +74,10 @@ pub fn write_refusal(
     )
 }
 
-/// Writes the refusal of a request whose list can't be read, by the fault of its layout: DIAMETER_INVALID_AVP_LENGTH
-/// (5014, RFC 6733, section 7.1.5) with the AVP that stands for the broken one. Nothing is taken over from the list, so a
-/// client that matches answers by their Session-Id finds none. The fault has to be of the layout, as each fault is that the
-/// reading of a list returns and that isn't want of memory. At want of memory there is no message.
+/// Writes the refusal of a request whose list can't be read, by the fault of its layout: DIAMETER_INVALID_AVP_LENGTH (5014,
+/// RFC 6733, section 7.1.5) with the AVP that stands for the broken one. It copies nothing from the list, so a client that
+/// matches answers by their Session-Id finds none. The fault has to be of the layout: each error of reading a list is,
+/// except want of memory. The only error is want of memory.
 pub fn write_unread(
     alloc: Global,
     identity: &Identity,
@@ -99,9 +99,9 @@ pub fn write_unread(
     refusal_within(alloc, identity, request, &nothing(), &proxies, &refused)
 }
 
-/// Writes the refusal of an update or a termination that names no subscriber, by the act that it asks for, where its session doesn't tell
-/// one either: DIAMETER_MISSING_AVP (5005, RFC 6733, section 7.1.5) with an empty Subscription-Id. It takes over what the refusal of the
-/// request's list would: session, type and number. Of any other act it takes over nothing. At want of memory there is no message.
+/// Writes the refusal of an update or a termination that names nobody and whose subscriber was not found, by its act:
+/// DIAMETER_MISSING_AVP (5005, RFC 6733, section 7.1.5) with an empty Subscription-Id. It copies the session, the type and the number, as
+/// the refusal of the request's list would. For any other act it copies nothing. The only error is want of memory.
 #[tactic(auto, unfolding(crate::specs::Refusals::unfound_octets))]
 pub fn write_unfound(
     alloc: Global,
@@ -128,7 +128,7 @@ pub fn write_unfound(
     )
 }
 
-/// The refusal, and what is known of all that it holds.
+/// The refusal, and what is known of its parts.
 #[tactic(auto, unfolding(crate::specs::Refusals::refusal_octets))]
 fn refusal_within(
     alloc: Global,
@@ -173,7 +173,7 @@ fn put_refusal(
     put_failed(out, refused.failed())
 }
 
-/// Appends the Session-Id, where there is one.
+/// Appends the Session-Id, if there is any.
 fn put_session(out: &mut Vec<u8>, session: &Option<Session<'_>>) -> Result<(), AllocError>
     ensures ok { OnOk result (out.new.items
         ≡ out.old.items ++ flat_map padded (option_to_list (option_map (sent SESSION_ID) session.now))) }
@@ -186,7 +186,7 @@ fn put_session(out: &mut Vec<u8>, session: &Option<Session<'_>>) -> Result<(), A
     }
 }
 
-/// Appends the Result-Code, who answers, and for which application.
+/// Appends the Result-Code, the names of the server, and the application.
 fn put_origin(out: &mut Vec<u8>, identity: &Identity, code: u32) -> Result<(), AllocError>
     ensures ok { OnOk result (out.new.items ≡ out.old.items ++ flat_map padded (origin_avps identity.now code)) }
     ensures server { OnOk result (IsServer identity.now) }
@@ -202,7 +202,7 @@ fn put_origin(out: &mut Vec<u8>, identity: &Identity, code: u32) -> Result<(), A
     )
 }
 
-/// Appends a number, where there is one.
+/// Appends a number, if there is any.
 fn put_number(out: &mut Vec<u8>, code: u32, number: Option<u32>) -> Result<(), AllocError>
     ensures ok { OnOk result (out.new.items ≡ out.old.items ++ flat_map padded (number_avps code number)) }
     ensures grows { OnOk result (Grows (vec_len out.old) (vec_len out.new) 15) }
@@ -213,7 +213,7 @@ fn put_number(out: &mut Vec<u8>, code: u32, number: Option<u32>) -> Result<(), A
     }
 }
 
-/// What a refusal takes over from a list.
+/// The values that a refusal copies from a list.
 #[tactic(auto, unfolding(crate::specs::Refusals::taken_from))]
 fn taken_from<'a>(avps: &[Avp<'a>]) -> TakenOver<'a>
     ensures { result ≡ taken_from avps.now }
@@ -225,7 +225,7 @@ fn taken_from<'a>(avps: &[Avp<'a>]) -> TakenOver<'a>
     }
 }
 
-/// What a refusal takes over from an update or a termination, by its act.
+/// The values that a refusal copies from an update or a termination, by its act.
 fn taken_of(kind: &Kind) -> TakenOver<'_>
     ensures { result ≡ taken_of kind.now }
 {
@@ -236,7 +236,7 @@ fn taken_of(kind: &Kind) -> TakenOver<'_>
     }
 }
 
-/// From a list that can't be read, nothing.
+/// The values of a list that can't be read: none.
 fn nothing<'a>() -> TakenOver<'a>
     ensures { result ≡ nothing }
 {
@@ -247,7 +247,7 @@ fn nothing<'a>() -> TakenOver<'a>
     }
 }
 
-/// From a request of this type and key, all.
+/// The values of a request of this type and key: all.
 fn taken(request_type: u32, key: &RequestKey) -> TakenOver<'_>
     ensures { result ≡ taken request_type key.now }
 {
@@ -258,7 +258,7 @@ fn taken(request_type: u32, key: &RequestKey) -> TakenOver<'_>
     }
 }
 
-/// The number of the first AVP of a code, where it has four octets.
+/// The number of the first AVP of a code, if it has four octets.
 fn number_of(code: u32, avps: &[Avp<'_>]) -> Option<u32>
     ensures { result ≡ number_of code avps.now }
 {

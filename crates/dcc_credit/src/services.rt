@@ -36,7 +36,7 @@ pub(crate) fn put_services(
     Ok(())
 }
 
-/// Appends one service: at the message's level its grant alone, else a group of its own.
+/// Appends one service: its grant alone for a service at the message's level, else a group of its own.
 fn put_service(
     out: &mut Vec<u8>,
     request: RequestType,
@@ -77,7 +77,7 @@ fn put_group(
     Ok(())
 }
 
-/// Appends what a service's group holds.
+/// Appends the AVPs in a service's group.
 fn put_parts(
     out: &mut Vec<u8>,
     request: RequestType,
@@ -109,7 +109,7 @@ pub(crate) fn put_finals(out: &mut Vec<u8>, services: &ServiceAnswers) -> Result
     Ok(())
 }
 
-/// Appends the Final-Unit-Indication of a service at the message's level, where its grant is the last.
+/// Appends the Final-Unit-Indication of a service at the message's level, if its grant is the last.
 fn put_single_final(out: &mut Vec<u8>, service: &ServiceAnswer) -> Result<(), AllocError>
     ensures ok { OnOk result (out.new.items ≡ out.old.items ++ flat_map padded (single_final service.now.form service.now)) }
     ensures grows { OnOk result (Grows (vec_len out.old) (vec_len out.new) 30) }
@@ -137,7 +137,7 @@ pub(crate) fn put_validities(
     Ok(())
 }
 
-/// Appends the Validity-Time of a service at the message's level, where it has a grant of a session.
+/// Appends the Validity-Time of a service at the message's level, if it has a grant of a session.
 fn put_single_validity(
     out: &mut Vec<u8>,
     request: RequestType,
@@ -165,7 +165,7 @@ fn put_identifiers(out: &mut Vec<u8>, ids: &[u32]) -> Result<(), AllocError>
     Ok(())
 }
 
-/// Appends a Granted-Service-Unit, where there is a grant (RFC 8506, section 8.17).
+/// Appends a Granted-Service-Unit, if there is a grant (RFC 8506, section 8.17).
 fn put_grant(out: &mut Vec<u8>, grant: Option<Grant>) -> Result<(), AllocError>
     ensures ok { OnOk result (out.new.items ≡ out.old.items ++ flat_map padded (option_to_list (option_map granted grant))) }
     ensures grows { OnOk result (Grows (vec_len out.old) (vec_len out.new) 35) }

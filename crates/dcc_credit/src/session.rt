@@ -5,7 +5,7 @@ ghost use Rattle.std.specs.Prelude.{◌≡◌};
 use dcc_act::SessionId;
 use dcc_answer::Session;
 
-/// The name of a session that is kept, lent.
+/// The name of a stored session, lent.
 pub fn lend_session(sid: &SessionId) -> Session<'_>
     ensures { result ≡ sid.now }
 {

@@ -1,4 +1,4 @@
-//! What the answer to a one-time event tells beside its service: a price, and whether the balance covers it.
+//! The AVPs in the answer to a one-time event beside its service: a price, and whether the balance covers it.
 
 ghost use Rattle.std.specs.Prelude.{◌≡◌, ◌++◌, vec_len, option_map, OnOk};
 ghost use Rattle.std.specs.List.{flat_map};
@@ -13,7 +13,7 @@ use dcc_avp::{begin_group, codes, end_group, flags};
 use dcc_tariff::Terms;
 use std::alloc::AllocError;
 
-/// Appends the Cost-Information of a price in minor units, where there is one (RFC 8506, section 8.7).
+/// Appends the Cost-Information of a price in minor units, if there is a price (RFC 8506, section 8.7).
 pub(crate) fn put_cost(
     out: &mut Vec<u8>,
     terms: &Terms,
@@ -44,7 +44,7 @@ fn put_unit_value(out: &mut Vec<u8>, terms: &Terms, cost: u64) -> Result<(), All
     Ok(())
 }
 
-/// Appends the Check-Balance-Result, where there is one (RFC 8506, section 8.6).
+/// Appends the Check-Balance-Result, if there is any (RFC 8506, section 8.6).
 pub(crate) fn put_balance(out: &mut Vec<u8>, balance: Option<Balance>) -> Result<(), AllocError>
     ensures ok { OnOk result (out.new.items ≡ out.old.items ++ flat_map padded (option_to_list (option_map balance_avp balance))) }
     ensures grows { OnOk result (Grows (vec_len out.old) (vec_len out.new) 15) }

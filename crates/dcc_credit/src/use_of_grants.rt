@@ -1,4 +1,4 @@
-//! How a grant may be used: for how long, and what follows once it's used up.
+//! How a grant may be used: for how long, and what happens once it is used up.
 
 ghost use Rattle.std.specs.Prelude.{◌≡◌, ◌++◌, vec_len, OnOk};
 ghost use Rattle.std.specs.List.{flat_map};
@@ -15,7 +15,7 @@ use std::alloc::AllocError;
 /// TERMINATE (Final-Unit-Action, RFC 8506, section 8.35): the service ends.
 pub const TERMINATE: u32 = 0;
 
-/// Whether a request is one of a session.
+/// Whether a request belongs to a session.
 fn in_session(request: RequestType) -> bool
     ensures { result ≡ in_session request }
 {
@@ -25,7 +25,7 @@ fn in_session(request: RequestType) -> bool
     }
 }
 
-/// Appends the Validity-Time of a grant, where there is one and in a session (RFC 8506, section 8.33).
+/// Appends the Validity-Time of a grant, if there is a grant and the request belongs to a session (RFC 8506, section 8.33).
 pub(crate) fn put_validity(
     out: &mut Vec<u8>,
     request: RequestType,
@@ -41,7 +41,7 @@ pub(crate) fn put_validity(
     put_u32(out, codes::VALIDITY_TIME, terms.validity)
 }
 
-/// Appends the Final-Unit-Indication, where the grant is the last (RFC 8506, section 8.34).
+/// Appends the Final-Unit-Indication, if the grant is the last (RFC 8506, section 8.34).
 pub(crate) fn put_final(out: &mut Vec<u8>, is_final: bool) -> Result<(), AllocError>
     ensures ok { OnOk result (out.new.items ≡ out.old.items ++ flat_map padded (final_avps is_final)) }
     ensures grows { OnOk result (Grows (vec_len out.old) (vec_len out.new) 30) }

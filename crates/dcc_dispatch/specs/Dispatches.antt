@@ -1,4 +1,4 @@
--- What a message to a peer comes to, and where it leaves the peer.
+-- The decision on a message to a peer, and the peer afterwards.
 use Rattle.std.specs.Prelude.{◌≡◌, ℕ, true, false, ◌&&◌, List, Option, option_map, is_some, MatchBool}
 use Rattle.dcc_message.specs.HeaderView.{HeaderView}
 use Rattle.dcc_message.specs.declared.identity.Identity.{Identity}
@@ -23,7 +23,7 @@ use Rattle.dcc_dispatch.specs.declared.settled.Settled.TheVariants as settleds
 use Rattle.dcc_dispatch.specs.declared.verdict.Verdict.{Verdict}
 use Rattle.dcc_dispatch.specs.declared.verdict.Verdict.TheVariants.{Asks, Seeks, Refused}
 
--- the session that an act's key names, where it is a request's (RFC 8506, section 8.2)
+-- the session in an act's key, if the act is a request's (RFC 8506, section 8.2)
 abbrev pub session_of_key : Act → Option (List ℕ)
 session_of_key act = option_map (λ (key : RequestKey). key.sid) (request_key act.kind)
 
@@ -36,7 +36,7 @@ pub record IsAsked (message : MessageView) (verdict : Verdict) (asked : Asked) :
   pub header_is : asked.header ≡ message.header
   pub proxies_are : asked.proxies ≡ messages.proxies message
 
--- A message of this verdict seeks who is asked for an act: an update or a termination of the message's own session.
+-- A message of this verdict seeks the subscriber who is asked for an act: of an update or a termination of the message's own session.
 pub record IsSought (message : MessageView) (verdict : Verdict) (sought : SoughtView) : Type 0 where
   pub verdict_is : verdict ≡ Seeks sought.act
   pub session_is : messages.session message ≡ session_of_key sought.act
@@ -44,26 +44,26 @@ pub record IsSought (message : MessageView) (verdict : Verdict) (sought : Sought
   pub header_is : sought.header ≡ message.header
   pub proxies_are : sought.proxies ≡ messages.proxies message
 
--- A message of this verdict is refused for what it says; or for want of memory it is answered busy, or not at all.
+-- A message of this verdict is refused for its fault; or if memory is refused, it is answered busy, or not at all.
 abbrev pub IsRefused : Identity → MessageView → Verdict → List ℕ → Type 0
 IsRefused identity message verdict octets =
     MatchBool (is_refusal octets) (IsBusyOrNothing identity message octets) (verdict ≡ Refused octets)
 
--- A message of this verdict, for which nobody is sought any more, is asked of its subscriber, or refused, behind which the connection stays.
+-- A message of this verdict whose subscriber is known, or was not found: its subscriber is asked, or it is refused, and then the connection stays.
 abbrev pub IsSettled : Identity → MessageView → Verdict → Settled → Type 0
 IsSettled identity message verdict (settleds.Asked asked) = IsAsked message verdict asked
 IsSettled identity message verdict (settleds.Replied reply) = IsRefused identity message verdict reply.octets × (reply.close ≡ false)
 
--- Any other message is replied by its definition, and the peer is what that leaves; or for want of memory it is answered busy, or not at
--- all, and the peer is as it was. What isn't heard takes no memory.
+-- Any other message has the reply of its definition, and leaves the peer as that says; or if memory is refused, it is answered busy, or
+-- not at all, and the peer is as it was. A message that isn't heard takes no memory.
 abbrev pub IsReplied : Identity → (old new : Peer) → MessageView → Reply → Type 0
 IsReplied identity old new message reply =
     MatchBool (hears old message.header && is_refusal reply.octets)
     (IsBusyOrNothing identity message reply.octets × (reply.close ≡ false) × (new ≡ old))
     ((reply, new) ≡ replied identity old message.header message.list)
 
--- What is replied at once, and the peer then: to a closed peer nothing; what is no message closes the connection without an answer; a
--- credit-control request that asks for nothing leaves the connection and the peer as they are.
+-- A reply at once, and the peer afterwards: a closed peer replies nothing; octets that are no message close the connection without an
+-- answer; a refused credit-control request leaves the connection and the peer as they are.
 abbrev pub IsRepliedTo : Setting → ℕ → Received → (old new : Peer) → Reply → Type 0
 IsRepliedTo setting moment Received.Ignored old new reply = (reply ≡ silent) × (new ≡ old)
 IsRepliedTo setting moment Received.Broken old new reply = (reply ≡ shut) × (new ≡ Closed)
@@ -71,7 +71,7 @@ IsRepliedTo setting moment (Received.Charging host message) old new reply =
     IsRefused setting.identity message (verdict_of setting moment host message) reply.octets × (reply.close ≡ false) × (new ≡ old)
 IsRepliedTo setting moment (Received.Base from message) old new reply = IsReplied setting.identity old new message reply
 
--- what holds of what is asked, of what is sought, of the header of either, and of what is replied
+-- a fact of the asked act, of the sought act, of the header of either, or of the reply
 abbrev pub IfAsked : Dispatched → (Asked → Type 0) → Type 0
 IfAsked (dispatcheds.Asked asked) P = P asked
 IfAsked (dispatcheds.Sought sought) P = Unit {0}

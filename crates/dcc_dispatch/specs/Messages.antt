@@ -1,4 +1,4 @@
--- What the octets of a message are to a peer.
+-- The kinds of messages to a peer, by their octets.
 use Rattle.std.specs.Prelude.{ℕ, Bool, false, ◌&&◌, if◌then◌else◌, List, [], drop, Option, Some, None, Result, Ok, Err}
 use Rattle.dcc_avp.specs.Spelling.{AvpView}
 use Rattle.dcc_avp.specs.Reading.{FaultView, avps_of}
@@ -12,7 +12,7 @@ use Rattle.dcc_base.specs.Peers.{is_credit_control, is_closed}
 use Rattle.dcc_base.specs.declared.peer.Peer.{Peer}
 use Rattle.dcc_base.specs.declared.peer.Peer.TheVariants.{Wait, Open, Closed}
 
--- a message: its header, and the list behind it or why that can't be read
+-- a message: its header, and the list behind it or the fault of a list that can't be read
 pub record MessageView : Type 0 where
   pub header : HeaderView
   pub list : Result (List AvpView) FaultView
@@ -21,7 +21,7 @@ pub record MessageView : Type 0 where
 abbrev pub message_view : HeaderView → List ℕ → MessageView
 message_view header octets = record { header = header; list = avps_of (drop HEADER_LENGTH octets) }
 
--- what an answer takes over: nothing from a list that can't be read
+-- the values that an answer copies: none from a list that can't be read
 
 abbrev pub session_of_list : Result (List AvpView) FaultView → Option (List ℕ)
 session_of_list (Ok avps) = session_of avps
@@ -38,7 +38,7 @@ abbrev pub proxies : MessageView → List ℕ
 proxies message = proxies_of_list message.list
 
 pub data Received : Type 0 where
-  -- nobody is there to receive it
+  -- the peer is closed, so that nobody receives it
   Ignored : Received
   -- it is no message, and its connection is closed
   Broken : Received
@@ -47,13 +47,13 @@ pub data Received : Type 0 where
   -- it is any other message, to this peer, of the base protocol
   Base : Peer → MessageView → Received
 
--- a credit-control request without E, to a peer that is open
+-- a credit-control request without E, to an open peer
 abbrev pub is_charging : Peer → HeaderView → Bool
 is_charging Wait header = false
 is_charging (Open host) header = is_request header && is_credit_control header
 is_charging Closed header = false
 
--- the name of the host of a peer that is open; of any other there is none, but from that nothing is charged
+-- the name of an open peer's host; another peer has none, and no charging message comes from it
 abbrev pub host_name : Peer → List ℕ
 host_name Wait = []
 host_name (Open host) = host
@@ -69,7 +69,7 @@ received_with peer (Err fault) octets = Broken
 unfoldable pub received : Peer → List ℕ → Received
 received peer octets = if is_closed peer then Ignored else received_with peer (header_of octets) octets
 
--- of a peer that isn't connected, or is closed, nothing is received
+-- nothing is received from a peer that isn't connected, or is closed
 abbrev pub received_on : Option Peer → List ℕ → Received
 received_on None octets = Ignored
 received_on (Some peer) octets = received peer octets

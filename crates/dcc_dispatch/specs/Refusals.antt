@@ -1,4 +1,4 @@
--- How a message is turned away where memory is short.
+-- How a message is refused if memory is short.
 use Rattle.std.specs.Prelude.{◌≡◌, ℕ, Bool, ◌||◌, ◌==◌, List, [], length, Option, ◌⊎◌}
 use Rattle.dcc_message.specs.HeaderView.{HeaderView}
 use Rattle.dcc_message.specs.declared.identity.Identity.{Identity}

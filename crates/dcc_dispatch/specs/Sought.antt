@@ -1,4 +1,4 @@
--- What is kept of a message whose subscriber is sought.
+-- The parts of a message that are kept while its subscriber is sought.
 use Rattle.std.specs.Prelude.{ℕ, Bool, true, false, List}
 use Rattle.dcc_message.specs.HeaderView.{HeaderView}
 use Rattle.dcc_act.specs.declared.act.Act.{Act}
@@ -14,7 +14,7 @@ is_report (kind.Termination request) = true
 is_report (kind.Event event) = false
 is_report kind.Expiry = false
 
--- the act that is asked of who is found, the header under which that is answered, and the proxies of the answer
+-- the act that is asked of the found subscriber, the header under which it is answered, and the proxies of the answer
 pub record SoughtView : Type 0 where
   pub act : Act
   pub header : HeaderView

@@ -1,10 +1,10 @@
-//! What asks a subscriber's account for an act.
+//! An act that is asked of a subscriber's account.
 
 use dcc_act::{Act, Sub};
 use dcc_answer::Proxies;
 use dcc_message::Header;
 
-/// A subscriber's account is asked for an act; the answer is written under this header, with these proxies.
+/// An act that is asked of a subscriber's account. The answer is written under this header, with these proxies.
 #[derive(Debug, Drop)]
 pub struct Asked {
     pub sub: Sub,

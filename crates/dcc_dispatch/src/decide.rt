@@ -1,4 +1,4 @@
-//! What a message to a peer comes to.
+//! The decision on a message to a peer.
 
 ghost use Rattle.std.specs.Prelude.{◌≡◌, true, Some, is_some};
 ghost use Rattle.dcc_base.specs.Peers.{host_of_peer};
@@ -23,24 +23,25 @@ use dcc_octets::{Host, OctetString};
 use dcc_tariff::Plan;
 use std::alloc::Global;
 
-/// What a message to a peer comes to.
+/// The decision on a message to a peer.
 #[derive(Debug, Drop)]
 pub enum Dispatched {
-    /// It is answered with these octets, or by nothing, and the connection stays or is closed behind them.
+    /// It is answered with these octets, or without octets not at all, and the connection stays or is closed behind them.
     Replied(Reply),
     /// Its subscriber's account is asked for an act.
     Asked(Asked),
-    /// It names nobody: who opened its session from the host of its peer is sought, and then asked for an act.
+    /// It names nobody: the subscriber who opened its session from the host of its peer is sought, and then asked for an act.
     Sought(Sought),
 }
 
-/// What a message to a peer comes to, of all its octets, at the moment at which it came (RFC 6733, section 3; RFC 8506, section 3).
+/// Decides on a message to a peer, from all its octets, at the moment at which it came (RFC 6733, section 3; RFC 8506, section 3).
 ///
-/// To a closed peer nothing is replied. What has no header closes the peer without an answer. A credit-control request to an open
-/// peer leaves the peer as it is: it asks its subscriber for the act that the plan makes of it, which keeps the peer's host if it opens a
-/// session; or, as an update or a termination that names no subscriber, it asks for that act whoever opened its session from that host; or it
-/// is replied the refusal of what it says. Any other message is replied as `Peer::take` says, and leaves the peer where
-/// that says. For want of memory the reply is the busy answer, or none where the busy answer finds no memory either; then the connection
+/// A closed peer replies nothing. Octets without a header close the peer without an answer. A credit-control request to an open peer leaves
+/// the peer as it is. It asks its subscriber for the act that the definitions give under the plan, which keeps the peer's host if it opens a
+/// session. If it is an update or a termination that names no subscriber, it asks the subscriber who opened its session from that host for
+/// that act. If it has a fault, the reply is its refusal. The reply to any other message, and the peer afterwards, are as `Peer::take` says.
+/// If memory is refused, the reply is the busy answer, or none if memory is refused for that too; then the connection stays and the peer is
+/// as it was.
 /// stays and the peer is as it was.
 pub fn dispatch(
     alloc: Global,
@@ -50,13 +51,13 @@ pub fn dispatch(
     moment: Moment,
     octets: &[u8],
 ) -> Dispatched
-    // Only of a credit-control request to an open peer is an account asked, or sought.
+    // Only a credit-control request to an open peer asks an account, or seeks one.
     ensures charging { IfCharging result (λ header.
         received peer.old octets.now ≡ Charging (host_name peer.old) (message_view header octets.now)) }
-    // It is asked for the request's act, from the peer's host, which is answered under the request's header, with its proxies.
+    // The account is asked for the request's act, from the peer's host. The answer will have the request's header and proxies.
     ensures asked { IfAsked result (λ asked. IsAsked (message_view asked.header octets.now) (verdict_of
         (record { plan = plan.now; identity = identity.now }) moment (host_name peer.old) (message_view asked.header octets.now)) asked) }
-    // And so is whoever is sought, where the request names nobody.
+    // If the request names nobody, the same holds of the sought subscriber.
     ensures sought { IfSought result (λ sought. IsSought (message_view sought.header octets.now) (verdict_of
         (record { plan = plan.now; identity = identity.now }) moment (host_name peer.old) (message_view sought.header octets.now)) sought) }
     // The act is a request's.
@@ -64,7 +65,7 @@ pub fn dispatch(
     // Then the peer is as it was, and has a host.
     ensures kept { IfCharging result (λ header. peer.new ≡ peer.old) }
     ensures open { IfCharging result (λ header. host_of_peer peer.old ≡ Some (host_name peer.old)) }
-    // Each other message is replied by its definition, and leaves the peer where that says.
+    // Any other message has the reply of its definition, and leaves the peer as that says.
     ensures replied { IfReplied result (λ reply. IsRepliedTo (record { plan = plan.now; identity = identity.now })
         moment (received peer.old octets.now) peer.old peer.new reply) }
 {
@@ -86,7 +87,7 @@ pub fn dispatch(
     }
 }
 
-/// What a credit-control request from a peer of this host comes to, of all its octets.
+/// Decides on a credit-control request from a peer of this host, from all its octets.
 fn charge(
     alloc: Global,
     plan: &Plan,
@@ -112,7 +113,7 @@ fn charge(
     }
 }
 
-/// A message asks for this act of this subscriber.
+/// The message as an act that is asked of this subscriber.
 fn ask(message: Message<'_>, sub: Sub, act: Act) -> Asked
     ensures { result ≡ record { sub = sub; act = act; header = message.entry.header; proxies = proxies message.entry } }
 {
@@ -129,7 +130,7 @@ fn ask(message: Message<'_>, sub: Sub, act: Act) -> Asked
     }
 }
 
-/// A message asks for this act of who opened its session.
+/// The message as an act that is asked of the subscriber who opened its session.
 fn seek(message: Message<'_>, act: Act) -> Sought
     requires { is_report act.kind ≡ true }
     ensures { result ≡ record { act = act; header = message.entry.header; proxies = proxies message.entry } }

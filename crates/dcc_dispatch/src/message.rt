@@ -1,4 +1,4 @@
-//! A message: what its first octets say of it, its list, and what an answer takes over.
+//! A message: its kind by its first octets, its list, and the values that an answer copies.
 
 ghost use Rattle.std.specs.Prelude.{◌≡◌, ◌≤◌, ◌&&◌, [], true, false, length, Ok, Err, Some, IfOk, OnOk, OnErr, MatchBool};
 ghost use Rattle.dcc_message.specs.declared.length.TheConstants.{HEADER_LENGTH};
@@ -18,9 +18,9 @@ use dcc_octets::OctetString;
 use std::alloc::{AllocError, Global};
 use std::marker::Model;
 
-/// What the first octets of a message say of it.
+/// The kind of a message by its first octets.
 pub(crate) enum Heading {
-    /// Nobody is there to receive it.
+    /// The peer is closed, so that nobody receives it.
     Ignored,
     /// It is no message.
     Broken,
@@ -30,7 +30,7 @@ pub(crate) enum Heading {
     Base(Header),
 }
 
-/// What a message to a peer is.
+/// The kind of a message to a peer.
 #[tactic(auto, unfolding(crate::specs::Messages::received))]
 pub(crate) fn receive(peer: &Peer, octets: &[u8]) -> Heading
     ensures received { received peer.now octets.now ≡ received_as peer.now result octets.now }
@@ -46,14 +46,14 @@ pub(crate) fn receive(peer: &Peer, octets: &[u8]) -> Heading
     }
 }
 
-/// Whether a message is a credit-control request to a peer that is open, who doesn't hear it.
+/// Whether a message is a credit-control request to an open peer, which doesn't hear it.
 fn is_charging(peer: &Peer, header: &Header) -> bool
     ensures { result ≡ is_charging peer.now header.now }
 {
     matches!(peer, Peer::Open(_)) && header.is_request() && !peer.hears(header)
 }
 
-/// A message: the header, and the list behind it or why that can't be read.
+/// A message: the header, and the list behind it or the fault of a list that can't be read.
 #[derive(Drop)]
 pub(crate) struct Message<'a> {
     pub(crate) header: Header,
@@ -97,7 +97,7 @@ impl<'a> Message<'a> {
         }
     }
 
-    /// A message whose list can't be read, or want of memory where that was the fault. The size of a number is none of a list.
+    /// A message whose list can't be read; or want of memory if that is the fault. Reading a list never returns a wrong size.
     fn unread(alloc: Global, header: Header, fault: AvpFault) -> Result<Message<'a>, AllocError>
         ensures message { IfOk result (λ message. message ≡ record { header = header; list = Err (fault_of fault) }) }
         ensures layout { OnOk result (layout_fault fault ≡ Some (fault_of fault)) }
@@ -112,7 +112,7 @@ impl<'a> Message<'a> {
         }
     }
 
-    /// The Session-Id that a busy answer takes over.
+    /// The Session-Id that a busy answer copies.
     fn session(&self) -> Option<Session<'a>>
         ensures { result ≡ session self.now }
     {
@@ -122,7 +122,7 @@ impl<'a> Message<'a> {
         }
     }
 
-    /// The busy answer, or nothing where memory is short for it too.
+    /// The busy answer, or nothing if memory is refused for it too.
     pub(crate) fn busy(&self, alloc: Global, identity: &Identity) -> OctetString
         ensures busy { IsBusyOrNothing identity.now self.now result }
         ensures refused { is_refusal result ≡ true }
@@ -130,7 +130,7 @@ impl<'a> Message<'a> {
         busy_or_nothing(alloc, identity, self.session(), &self.header, &self.proxies)
     }
 
-    /// What a peer replies to it. The only error is want of memory, and then the peer is as it was.
+    /// The peer's reply to the message. The only error is want of memory, and then the peer is as it was.
     pub(crate) fn put_to(
         &self,
         alloc: Global,

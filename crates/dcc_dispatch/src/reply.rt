@@ -1,4 +1,4 @@
-//! What a peer is replied to a message of the base protocol.
+//! The reply of a peer to a message of the base protocol.
 
 ghost use Rattle.std.specs.Prelude.{◌≡◌, true, false};
 ghost use Rattle.dcc_dispatch.specs.Refusals.{IsBusyOrNothingUnder, is_refusal};
@@ -14,8 +14,8 @@ use dcc_message::{Header, Identity};
 use dcc_octets::OctetString;
 use std::alloc::Global;
 
-/// What a peer replies to a message, of all its octets. One that isn't heard is passed over before its list is read; one that is
-/// heard is answered, or for want of memory busy or by nothing, and then the peer is as it was.
+/// The reply of a peer to a message, from all its octets. A message that isn't heard is passed over before its list is read. A
+/// heard message is answered; if memory is refused, the answer is the busy one or nothing, and then the peer is as it was.
 pub(crate) fn reply_to(
     alloc: Global,
     identity: &Identity,
@@ -38,7 +38,7 @@ pub(crate) fn reply_to(
     }
 }
 
-/// The busy answer under a header, or nothing where memory is short for it too.
+/// The busy answer under a header, or nothing if memory is refused for it too.
 pub(crate) fn busy_or_nothing(
     alloc: Global,
     identity: &Identity,
@@ -55,7 +55,7 @@ pub(crate) fn busy_or_nothing(
     }
 }
 
-/// A reply of these octets, or of nothing, behind which the connection stays.
+/// A reply of these octets, behind which the connection stays. Without octets there is no answer.
 pub(crate) fn staying(octets: OctetString) -> Reply
     ensures { result ≡ record { octets = octets; close = false } }
 {

@@ -1,4 +1,4 @@
-//! What a message comes to whose subscriber was sought.
+//! The decision on a message whose subscriber was sought.
 
 ghost use Rattle.std.specs.Prelude.{◌≡◌, Some, Option, MatchBool};
 ghost use Rattle.dcc_act.specs.declared.act.Act.{Act as AnAct};
@@ -20,10 +20,10 @@ use dcc_message::Identity;
 use dcc_octets::OctetString;
 use std::alloc::Global;
 
-/// What a message comes to for which nobody is sought any more.
+/// The decision on a message whose subscriber is known, or was not found.
 #[derive(Debug, Drop)]
 pub enum Settled {
-    /// It is answered with these octets, or by nothing, and the connection stays.
+    /// It is answered with these octets, or without octets not at all, and the connection stays.
     Replied(Reply),
     /// A subscriber's account is asked for an act.
     Asked(Asked),
@@ -40,9 +40,9 @@ impl Sought {
         }
     }
 
-    /// What the message comes to once its subscriber was sought: the one who was found is asked for the act. Where nobody was found, the
-    /// message is refused by DIAMETER_MISSING_AVP (5005) with an empty Subscription-Id; or for want of memory it is answered busy, or not
-    /// at all.
+    /// Decides on the message by the finding. If a subscriber was found, the subscriber's account is asked for the act. If nobody was found,
+    /// the message is refused by DIAMETER_MISSING_AVP (5005) with an empty Subscription-Id; if memory is refused for that, it is answered
+    /// busy, or not at all.
     pub fn settle(self, alloc: Global, identity: &Identity, found: Option<Sub>) -> Settled
         ensures { (message : MessageView) (verdict : Verdict) (find : AnAct → Option ASub) → IsSought message verdict self
             → find self.act ≡ found → IsSettled identity.now message (settled identity.now message find verdict) result }

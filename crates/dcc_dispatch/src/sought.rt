@@ -1,12 +1,12 @@
-//! What seeks whose account is asked for an act.
+//! An act whose subscriber is sought.
 
 use dcc_act::Act;
 use dcc_answer::Proxies;
 use dcc_message::Header;
 use std::marker::Model;
 
-/// Whoever opened the session of an update or a termination is asked for its act; the answer is written under its header, with its
-/// proxies. Contracts see it as a `SoughtView`.
+/// An act that is asked of the subscriber who opened the session of an update or a termination. The answer is written under its
+/// header, with its proxies. Contracts see it as a `SoughtView`.
 #[derive(Debug, Drop)]
 pub struct Sought {
     pub(crate) act: Act,

@@ -1,4 +1,4 @@
-//! What a credit-control message comes to.
+//! The verdict on a credit-control message.
 
 ghost use Rattle.std.specs.Prelude.{◌≡◌, IfOk};
 ghost use Rattle.dcc_credit.specs.Acts.{act_of};
@@ -15,19 +15,19 @@ use dcc_request::Stop;
 use dcc_tariff::Plan;
 use std::alloc::{AllocError, Global};
 
-/// What a credit-control message comes to.
+/// The verdict on a credit-control message.
 #[derive(Drop)]
 pub enum Verdict {
     /// Its subscriber's account is asked for an act.
     Asks { sub: Sub, act: Act },
-    /// It names nobody: who opened the act's session is asked for the act.
+    /// It names nobody: the subscriber who opened the act's session is asked for the act.
     Seeks { act: Act },
-    /// It is refused for what it says, by these octets.
+    /// It is refused for its fault, by these octets.
     Refused(OctetString),
 }
 
 impl<'a> Message<'a> {
-    /// What a credit-control message from a peer of this host comes to at a moment. The only error is want of memory.
+    /// The verdict on a credit-control message from a peer of this host at a moment. The only error is want of memory.
     #[tactic(auto, unfolding(crate::specs::Verdicts::verdict_of))]
     pub(crate) fn verdict(
         &self,
@@ -59,7 +59,8 @@ impl<'a> Message<'a> {
     }
 }
 
-/// What a request from a peer of this host asks, and of whom.
+/// The act that a request from a peer of this host asks for, and its subscriber if it names any. The only error is want
+/// of memory.
 fn asked(
     alloc: Global,
     plan: &Plan,

@@ -1,4 +1,4 @@
--- What is known where an answer was written.
+-- What is known of the parts of a written answer.
 use Rattle.std.specs.Prelude.{◌≡◌, true}
 use Rattle.dcc_octets.specs.Names.{is_short}
 use Rattle.dcc_message.specs.declared.identity.Identity.{Identity}
@@ -7,7 +7,7 @@ use Rattle.dcc_act.specs.declared.outcome.Outcome.TheVariants.{Unknown, Answered
 use Rattle.dcc_act.specs.Answers.{AreAnswers}
 use Rattle.dcc_answer.specs.Answers.{IsServer}
 
--- what an answer holds is within its limits; a top-up's or an expiry's has nothing
+-- the parts of an answer are within their limits; the outcome of a top-up or an expiry has none
 abbrev pub IsAnswerable : Identity → Outcome → Type 0
 IsAnswerable identity (Unknown type key) = IsServer identity × (is_short key.sid ≡ true)
 IsAnswerable identity (Answered answer) = IsServer identity × (is_short answer.key.sid ≡ true) × AreAnswers answer.services

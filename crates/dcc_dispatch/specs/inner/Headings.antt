@@ -1,4 +1,4 @@
--- What the first octets of a message say of it.
+-- The kind of a message by its first octets.
 use Rattle.std.specs.Prelude.{◌≡◌, ℕ, ◌≤◌, ◌+◌, ◌%◌, List, length, Result, Ok, Err, Some}
 use Rattle.std.specs.List.{sum_by}
 use Rattle.dcc_avp.specs.Spelling.{AvpView, padded_len}
@@ -15,7 +15,7 @@ use Rattle.dcc_dispatch.specs.Messages.Received.{Ignored, Broken, Charging, Base
 use Rattle.dcc_dispatch.specs.declared.message.Heading.{Heading}
 use Rattle.dcc_dispatch.specs.declared.message.Heading.TheVariants as headings
 
--- the message to a peer that it heads
+-- the message to a peer with this heading
 abbrev pub received_as : Peer → Heading → List ℕ → Received
 received_as peer headings.Ignored octets = Ignored
 received_as peer headings.Broken octets = Broken
@@ -28,14 +28,14 @@ pub record IsWhole (octets : List ℕ) : Type 0 where
   pub most : length octets ≤ MAX_LENGTH
   pub words : length octets % 4 ≡ 0
 
--- as one has that is headed; and a peer that charges has a host
+-- a message with a header is whole; and the peer of a charging message has a host
 abbrev pub IsHeaded : Peer → Heading → List ℕ → Type 0
 IsHeaded peer headings.Ignored octets = Unit {0}
 IsHeaded peer headings.Broken octets = Unit {0}
 IsHeaded peer (headings.Charging header) octets = IsWhole octets × (host_of_peer peer ≡ Some (host_name peer))
 IsHeaded peer (headings.Base header) octets = IsWhole octets
 
--- what a fault says of a list's layout; the last two say nothing, and no message has them
+-- the fault of a list's layout; the last two are no faults of layout, and no message has them
 abbrev pub fault_of : AvpFault → FaultView
 fault_of (faults.Short code flags) = Short code flags
 fault_of (faults.LengthBelowHeader code flags) = LengthBelowHeader code flags
@@ -48,7 +48,7 @@ abbrev pub list_with : {X : Type 0} → (X → List AvpView) → Result X AvpFau
 list_with view (Ok avps) = Ok (view avps)
 list_with view (Err fault) = Err (fault_of fault)
 
--- with its padding, what was read fits a message behind a header; and the fault is one of layout
+-- the list fits a message behind a header, with its padding; and a fault is a fault of layout
 abbrev pub IsListed : {X : Type 0} → (X → List AvpView) → Result X AvpFault → Type 0
 IsListed view (Ok avps) = HEADER_LENGTH + sum_by padded_len (view avps) ≤ MAX_LENGTH
 IsListed view (Err fault) = layout_fault fault ≡ Some (fault_of fault)
