@@ -2,13 +2,13 @@
 use Rattle.std.specs.Prelude.{◌≡◌, ℕ, ℤ, pos, neg_ℤ, ◌-ℤ◌, ◌≤ℤ◌, ◌≤◌, ◌⊎◌}
 use Rattle.dcc_escrow.specs.declared.limits.TheConstants.{MOST_MONEY}
 
--- money in minor units: what is committed, and how much of it open requests have reserved
+-- money in minor units: the committed money, and the part of it that open requests have reserved
 pub record PoolView : Type 0 where
   pub id : ℕ
   pub committed : ℤ
   pub reserved : ℕ
 
--- a part of a pool that is reserved: of which pool, and how much
+-- a reserved part of a pool: the pool, and the amount
 pub record HoldView : Type 0 where
   pub pool : ℕ
   pub amount : ℕ
@@ -17,11 +17,11 @@ pub record HoldView : Type 0 where
 abbrev pub free : PoolView → ℤ
 free pool = pool.committed -ℤ pos pool.reserved
 
--- a decrement is admitted where it takes nothing, or leaves the least value at or above nothing
+-- a decrement is admitted if it takes nothing, or leaves the least value at 0 or above
 abbrev pub IsCovered : PoolView → ℕ → Type 0
 IsCovered pool amount = (amount ≡ 0) ⊎ (pos amount ≤ℤ free pool)
 
--- funds stay within 10^18 on either side
+-- the funds are -10^18 or above, and 10^18 or below
 abbrev pub IsAboveFloor : ℤ → Type 0
 IsAboveFloor funds = neg_ℤ (pos MOST_MONEY) ≤ℤ funds
 

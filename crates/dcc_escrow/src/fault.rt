@@ -1,10 +1,10 @@
-//! Why a pool refuses. A refusal changes nothing.
+//! Why a pool refuses a call. A refusal changes nothing.
 
 ghost use Rattle.std.specs.Prelude.{◌≡◌};
 
 use thiserror::Error;
 
-/// Fault 30: what is free doesn't reach.
+/// Fault 30: the free money doesn't cover the amount.
 #[derive(Clone, Copy, Debug, PartialEq, Eq, Error)]
 #[error("what is free doesn't reach")]
 pub struct Short;

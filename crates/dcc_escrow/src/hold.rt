@@ -4,8 +4,8 @@ ghost use Rattle.std.specs.Prelude.{◌≡◌};
 
 use std::marker::Model;
 
-/// Money of a pool that is reserved. It can't be let go: the only ways out are `Pool::settle`, `Pool::release` and
-/// [`Hold::park`], and the compiler refuses a program in which one is lost.
+/// Reserved money of a pool. It can't be let go: the only ways out are `Pool::settle`, `Pool::release` and
+/// [`Hold::park`], and the compiler rejects a program in which a hold is lost.
 #[derive(Debug)]
 pub struct Hold {
     pub(crate) pool: u64,
@@ -21,14 +21,14 @@ impl Model for Hold {
 }
 
 impl Hold {
-    /// Of which pool it is.
+    /// The id of its pool.
     pub fn pool(&self) -> u64
         ensures { result ≡ self.now.pool }
     {
         self.pool
     }
 
-    /// How much is reserved, in minor units.
+    /// The reserved money, in minor units.
     pub fn amount(&self) -> u64
         ensures { result ≡ self.now.amount }
     {
@@ -44,8 +44,7 @@ impl Hold {
     }
 }
 
-/// A hold that is put away. It is plain data and may lie wherever a value may, but it can't be copied, so that no hold is
-/// parked twice.
+/// A hold that is put away. It is plain data and may be stored anywhere, but it can't be copied, so that no hold is parked twice.
 #[derive(Debug, Drop)]
 pub struct Parked {
     pub(crate) pool: u64,
@@ -61,14 +60,14 @@ impl Model for Parked {
 }
 
 impl Parked {
-    /// Of which pool it is.
+    /// The id of its pool.
     pub fn pool(&self) -> u64
         ensures { result ≡ self.now.pool }
     {
         self.pool
     }
 
-    /// How much is reserved, in minor units.
+    /// The reserved money, in minor units.
     pub fn amount(&self) -> u64
         ensures { result ≡ self.now.amount }
     {

@@ -1,9 +1,9 @@
 //! A pool of money and the holds on it (O'Neil, The Escrow Transactional Method, ACM TODS 11(4), 1986).
 //!
-//! Stands on nothing of this repository. The contract that it gives: what is free is what is committed less what open holds
-//! have reserved; a decrement is admitted exactly where it takes nothing or what is free covers it; a charge may pass its
-//! hold, and the part beyond it is told; a refusal changes nothing; and a [`Hold`] can't be lost, since a program in which
-//! one is neither settled, released nor parked doesn't compile. No call takes memory.
+//! Stands on nothing of this repository. The contract that it gives: the free money is the committed money less the money
+//! that open holds have reserved. A decrement is admitted if and only if it is 0 or the free money covers it. A charge may
+//! pass its hold, and the part beyond the hold is reported. A refusal changes nothing. A [`Hold`] can't be lost, since a
+//! program in which a hold is neither settled, released nor parked doesn't compile. No call takes memory.
 #![tactic(auto)]
 
 mod fault;

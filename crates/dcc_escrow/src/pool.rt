@@ -8,7 +8,7 @@ use crate::hold::{Hold, Parked};
 use crate::limits::MOST_MONEY;
 use std::marker::Model;
 
-/// Money in minor units, of which open requests have reserved a part.
+/// Money in minor units, a part of which is reserved for open requests.
 #[derive(Debug, Drop)]
 pub struct Pool {
     id: u64,
@@ -28,14 +28,14 @@ impl Model for Pool {
     ghost invariant = { λ p. IsAboveFloor p.committed × IsBelowCeiling p.committed × (p.reserved ≤ MOST_MONEY) };
 }
 
-/// What a settled charge took beyond its hold, in minor units.
+/// The part of a charge beyond its hold, in minor units.
 #[derive(Clone, Copy, Debug, PartialEq, Eq)]
 pub struct Settled {
     pub overrun: u64,
 }
 
 impl Pool {
-    /// A pool without money, under a number that tells its holds from those of others.
+    /// A pool without money, under a number that tells its holds from those of other pools.
     pub fn new(id: u64) -> Pool
         ensures { result ≡ record { id = id; committed = pos 0; reserved = 0 } }
     {
@@ -46,14 +46,14 @@ impl Pool {
         }
     }
 
-    /// What tells the pool's holds from those of others.
+    /// The number that tells the pool's holds from those of other pools.
     pub fn id(&self) -> u64
         ensures { result ≡ self.now.id }
     {
         self.id
     }
 
-    /// The money that is there, in minor units: -10^18 to 10^18.
+    /// The committed money, in minor units: -10^18 to 10^18.
     pub fn committed(&self) -> i128
         ensures value { result ≡ self.now.committed }
         ensures floor { IsAboveFloor result }
@@ -62,22 +62,21 @@ impl Pool {
         self.committed
     }
 
-    /// How much of it open holds have reserved, in minor units.
+    /// The part of it that open holds have reserved, in minor units.
     pub fn reserved(&self) -> u64
         ensures { result ≡ self.now.reserved }
     {
         self.reserved
     }
 
-    /// What is free: the least that open requests can leave, in minor units. It is below 0 where charges have passed their
-    /// holds.
+    /// The free money: the least that open requests can leave, in minor units. It is below 0 if charges have passed their holds.
     pub fn free(&self) -> i128
         ensures { result ≡ free self.now }
     {
         self.committed - i128::from(self.reserved)
     }
 
-    /// Reserves an amount, exactly where it is 0 or within what is free. [`Short`] (30) changes nothing.
+    /// Reserves an amount, in minor units, if and only if it is 0 or within the free money. [`Short`] (30) changes nothing.
     pub fn take(&mut self, amount: u64) -> Result<Hold, Short>
         ensures given { IsOk result ↔ IsCovered self.old amount }
         ensures hold { IfOk result (λ hold. hold ≡ record { pool = self.old.id; amount = amount }) }
@@ -94,7 +93,8 @@ impl Pool {
         })
     }
 
-    /// Ends a hold with a charge, in minor units, which may pass it: the part beyond it is told.
+    /// Ends a hold of this pool with a charge, in minor units, which may pass the hold: the part beyond it is returned.
+    /// The charge has to leave the committed money at -10^18 or above.
     pub fn settle(&mut self, hold: Hold, charge: u64) -> Settled
         requires hold { IsOf self.old hold }
         requires floor { IsAboveFloor (self.old.committed -ℤ pos charge) }
@@ -109,7 +109,7 @@ impl Pool {
         }
     }
 
-    /// Ends a hold without a charge.
+    /// Ends a hold of this pool without a charge.
     pub fn release(&mut self, hold: Hold)
         requires { IsOf self.old hold }
         ensures { self.new ≡ record self.old { reserved = self.old.reserved - hold.amount } }
@@ -118,7 +118,7 @@ impl Pool {
         self.reserved -= amount;
     }
 
-    /// Takes a hold up again that was parked, of this pool.
+    /// Makes a parked hold of this pool a hold again.
     pub fn unpark(&self, parked: Parked) -> Hold
         requires { IsOf self.now parked }
         ensures { result ≡ parked }
@@ -127,7 +127,8 @@ impl Pool {
         Hold { pool, amount }
     }
 
-    /// Charges an amount at once, exactly where it is 0 or within what is free. [`Short`] (30) changes nothing.
+    /// Charges an amount, in minor units, at once, if and only if it is 0 or within the free money. [`Short`] (30)
+    /// changes nothing.
     pub fn debit(&mut self, amount: u64) -> Result<(), Short>
         ensures admitted { IsOk result ↔ IsCovered self.old amount }
         ensures ok { OnOk result (self.new ≡ record self.old { committed = self.old.committed -ℤ pos amount }) }
@@ -140,7 +141,8 @@ impl Pool {
         Ok(())
     }
 
-    /// Charges a report that has no hold, whatever is free, down to -10^18. [`Floor`] (31) changes nothing.
+    /// Charges a report that has no hold, in minor units, whatever is free, if it leaves the committed money at -10^18
+    /// or above. [`Floor`] (31) changes nothing.
     pub fn force(&mut self, amount: u64) -> Result<(), Floor>
         ensures admitted { IsOk result ↔ IsAboveFloor (self.old.committed -ℤ pos amount) }
         ensures ok { OnOk result (self.new ≡ record self.old { committed = self.old.committed -ℤ pos amount }) }
@@ -154,7 +156,7 @@ impl Pool {
         Ok(())
     }
 
-    /// Adds money, up to 10^18. [`Ceiling`] (32) changes nothing.
+    /// Adds money, in minor units, if it leaves the committed money at 10^18 or below. [`Ceiling`] (32) changes nothing.
     pub fn credit(&mut self, amount: u64) -> Result<(), Ceiling>
         ensures admitted { IsOk result ↔ IsBelowCeiling (self.old.committed +ℤ pos amount) }
         ensures ok { OnOk result (self.new ≡ record self.old { committed = self.old.committed +ℤ pos amount }) }

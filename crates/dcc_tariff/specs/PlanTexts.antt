@@ -1,4 +1,4 @@
--- What the text of a plan file means, a TOML document: a plan, or the first fault in the order of the keys.
+-- The plan of a text, a TOML document, or its first fault in the order of the keys.
 use Rattle.std.specs.Prelude.{◌≡◌, ℕ, suc, ◌+◌, ◌-◌, ◌*◌, ◌^◌, Bool, true, ◌&&◌, ◌==◌, bytes_eq, nat_lt, nat_le, if◌then◌else◌}
 use Rattle.std.specs.Prelude.{ℤ, pos, negsuc, int_le, int_div, unsigned_abs, List, [], ◌∷◌, length, codes, slice_index, Option, Some}
 use Rattle.std.specs.Prelude.{None, is_some, Result, Ok, Err, ok_or}
@@ -34,7 +34,7 @@ in_range fits x = if fits then Ok x else Err Range
 abbrev pub found_at : List ℕ → Members → Result Data PlanFault
 found_at key table = required (get_member key table)
 
--- the value of a key, where it has the type that is looked for
+-- the value of a key, if it has this type
 abbrev pub value_at : {A : Type 0} → (Data → Option A) → List ℕ → Members → Result A PlanFault
 value_at as_type key table = found_at key table >>= λ value. required (as_type value)
 
@@ -78,12 +78,12 @@ unit_at key table = value_at as_str key table >>= λ name. ok_or (unit_named nam
 abbrev pub fits_at : ℕ → ℕ → Bool
 fits_at form c = if form == 48 then is_ascii_digit c else c == form
 
--- the text has the form's characters, and any digit where that has a 0
+-- the text has the form's characters, and any digit for each 0 of the form
 abbrev pub has_form : List ℕ → List ℕ → Bool
 has_form form text =
     (length text == length form) && list_all (λ pair. fits_at pair.0 pair.1) (zip form text)
 
--- the whole seconds since 1970 that the instant comes after it, within the limit
+-- the whole seconds from 1970 to the instant, if they are within the limit
 abbrev pub moment_of_instant : {E : Type 0} → Result ℤ E → Option ℕ
 moment_of_instant (Ok nanos) =
     let seconds = int_div nanos (pos 1_000_000_000) in
@@ -118,7 +118,7 @@ place version [] = version ∷ []
 place version (other ∷ others) =
     if precedes other version then other ∷ place version others else version ∷ other ∷ others
 
--- the versions that the tables are, one after another, each put in its place among those so far
+-- the versions of the tables, one after another, each put in its place among those so far
 unfoldable pub versions_onto : List Version → Items → Result (List Version) PlanFault
 versions_onto placed no_items = Ok placed
 versions_onto placed (item value values) =
@@ -145,7 +145,7 @@ terms_of table = do
   exponent ← integer_at (codes "exponent") (negsuc 8) (pos 9) table
   Ok (record { validity = validity; hold = hold; currency = currency; exponent = exponent })
 
--- the keys in the order in which their faults count; last, whether the versions agree and the default group has one
+-- the keys in the order in which their faults count; last, that the versions agree and that the default group has one
 unfoldable pub plan_of : Members → Result PlanView PlanFault
 plan_of table = do
   host ← identity_at (codes "host") table
@@ -168,11 +168,11 @@ plan_of table = do
     versions = versions;
   })
 
--- what a plan file says
+-- the plan of a file's text, or its first fault
 unfoldable pub plan_of_text : List ℕ → Result PlanView PlanFault
 plan_of_text text = ok_or (parse_document text) NotToml >>= plan_of
 
--- what was read, seen so, is what is meant, unless memory ran out
+-- the result of reading, seen so, is the meaning of the text, unless memory ran out
 abbrev pub GivesBy : {X Y : Type 0} → (X → Y) → Result X PlanFault → Result Y PlanFault → Type 0
 GivesBy seen (Ok x) meant = meant ≡ Ok (seen x)
 GivesBy seen (Err Memory) meant = Unit {0}

@@ -1,4 +1,4 @@
--- What a plan is: who the server says it is, its terms, and the tariffs of each rating group.
+-- A plan: the server's names and address, its terms, and the tariffs of each rating group.
 use Rattle.std.specs.Prelude.{ℕ, Bool, true, not, ◌&&◌, ◌||◌, ◌==◌, nat_lt, nat_le, if◌then◌else◌, List, [], ◌∷◌}
 use Rattle.std.specs.Prelude.{filter, Option, Some, None, option_map}
 use Rattle.std.specs.List.{find, list_all}
@@ -7,7 +7,7 @@ use Rattle.dcc_tariff.specs.declared.tariff.UnitKind.{UnitKind}
 use Rattle.dcc_tariff.specs.declared.tariff.UnitKind.TheVariants.{Octets, Time, Units}
 use Rattle.dcc_tariff.specs.declared.version.Version.{Version}
 
--- the versions of all groups stand by group, and those of one group by the moment from which they hold
+-- a plan; the versions of all groups stand by group, and those of one group by the moment from which they hold
 pub record PlanView : Type 0 where
   pub host : List ℕ
   pub realm : List ℕ
@@ -18,15 +18,15 @@ pub record PlanView : Type 0 where
   pub terms : TermsView
   pub versions : List Version
 
--- the version is one of the group
+-- the version belongs to the group
 abbrev pub is_of : ℕ → Version → Bool
 is_of group version = version.group == group
 
--- the version is one of the group, and holds at the moment or held before it
+-- the version belongs to the group, and holds at the moment or held before it
 abbrev pub has_begun : ℕ → ℕ → Version → Bool
 has_begun group moment version = is_of group version && nat_le version.from moment
 
--- of a version and one from after it in the list, where there is one: that with the greater from
+-- of a version and a version behind it in the list, if there is any: that with the greater from
 abbrev pub later : Version → Option Version → Option Version
 later version None = Some version
 later version (Some other) = if nat_le version.from other.from then Some other else Some version
@@ -40,7 +40,7 @@ latest (version ∷ versions) = later version (latest versions)
 unfoldable pub unit_of : PlanView → ℕ → Option UnitKind
 unit_of plan group = option_map (λ version. version.unit) (find (is_of group) plan.versions)
 
--- the tariff of a group at a moment: the version with the greatest from at or before the moment, if there is one
+-- the unit and the tariff of a group at a moment: the version with the greatest from at or before the moment, if there is one
 unfoldable pub tariff_at : PlanView → ℕ → ℕ → Option (UnitKind × TariffView)
 tariff_at plan group moment =
     option_map (λ version. (version.unit, version.tariff)) (latest (filter (has_begun group moment) plan.versions))
@@ -61,13 +61,13 @@ kind_number Octets = 1
 kind_number Time = 2
 kind_number Units = 3
 
--- two versions of one group count one kind of unit, and hold from different moments
+-- two versions of one group count the same unit, and hold from different moments
 abbrev pub agrees : Version → Version → Bool
 agrees version other =
     not (version.group == other.group)
     || ((kind_number version.unit == kind_number other.unit) && not (version.from == other.from))
 
--- each two versions do
+-- each two versions agree
 abbrev pub all_agree : List Version → Bool
 all_agree [] = true
 all_agree (version ∷ versions) = list_all (agrees version) versions && all_agree versions

@@ -1,4 +1,4 @@
--- What units cost, and how many of them an amount of money affords.
+-- The price of units, and the units that an amount of money affords.
 use Rattle.std.specs.Prelude.{ℕ, zero, suc, ◌*◌, Bool, ◌||◌, ◌==◌, nat_le, if◌then◌else◌, ℤ, pos, int_le}
 use Rattle.dcc_tariff.specs.Terms.{TariffView}
 
@@ -16,14 +16,14 @@ greatest passes (suc n) = if passes (suc n) then suc n else greatest passes n
 abbrev pub blocks : TariffView → ℕ → ℕ
 blocks tariff units = least (λ count. nat_le units (count * tariff.block)) units
 
--- a price is that of the blocks that are begun
+-- the price of the blocks that are begun
 unfoldable pub price : TariffView → ℕ → ℕ
 price tariff units = blocks tariff units * tariff.price
 
--- what costs nothing is always covered, and all else by as much money
+-- a cost of nothing is always covered, and any other by at least as much money
 abbrev pub covers : ℤ → ℕ → Bool
 covers money cost = (cost == 0) || int_le (pos cost) money
 
--- the greatest amount up to the one asked whose price is nothing or within the free money
+-- the greatest amount up to the amount asked whose price is nothing or within the free money
 unfoldable pub best : TariffView → ℕ → ℤ → ℕ
 best tariff asked free = greatest (λ units. covers free (price tariff units)) asked

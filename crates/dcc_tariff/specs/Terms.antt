@@ -1,4 +1,4 @@
--- What contracts see of a tariff and of a plan's terms, and their limits.
+-- A tariff and a plan's terms, as contracts see them, and their limits.
 use Rattle.std.specs.Prelude.{ℕ, ◌≤◌, ℤ, pos, negsuc, ◌≤ℤ◌}
 use Rattle.dcc_tariff.specs.declared.limits.TheConstants.{MAX_BLOCK_PRICE, MAX_HOLD, MAX_UNITS}
 
@@ -12,7 +12,7 @@ pub record IsTariff (tariff : TariffView) : Type 0 where
   pub block_begun : 1 ≤ tariff.block
   pub block : tariff.block ≤ MAX_UNITS
 
--- seconds that a grant is valid, seconds that a session is held, the currency's number, and the power of ten of a minor unit
+-- the seconds of a grant's validity, the seconds of a session's hold, the currency's number, and the exponent of ten of a minor unit
 pub record TermsView : Type 0 where
   pub validity : ℕ
   pub hold : ℕ

@@ -7,7 +7,7 @@ ghost use Rattle.dcc_tariff.specs.declared.fault.PlanFault.TheVariants.{Memory};
 use std::alloc::{AllocError, AllocFailed};
 use thiserror::Error;
 
-/// Why a plan file could not be read: the first thing that is wrong in it, in the order of its keys.
+/// Why a plan file could not be read: the first fault in it, in the order of its keys.
 #[derive(Clone, Copy, Debug, PartialEq, Eq, Error)]
 pub enum PlanFault {
     /// Fault 20: the text is no TOML document.
@@ -22,7 +22,7 @@ pub enum PlanFault {
     /// Fault 23: the moment from which a tariff holds is no date and time of the calendar, or past the limit of moments.
     #[error("a tariff of the plan begins at no moment")]
     BadMoment,
-    /// There was no memory for the plan.
+    /// Memory was short.
     #[error("out of memory")]
     Memory,
 }

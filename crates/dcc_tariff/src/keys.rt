@@ -1,4 +1,4 @@
-//! The values of a table's keys: each of its type, within its limits.
+//! The values of a table's keys. Each has its type and is within its limits, or it is a fault.
 
 ghost use Rattle.std.specs.Prelude.{◌≡◌, ◌≤◌, ◌<◌, ◌≤ℤ◌, ◌^◌, true, string_bytes, IfOk};
 ghost use Rattle.toml.specs.Data.{as_str};
@@ -16,7 +16,7 @@ use std::alloc::Global;
 use std::net::Ipv4Addr;
 use toml::{Table, Value};
 
-/// The value of a key.
+/// The value of a key; fault 21 if the key is missing.
 pub(crate) fn found_at<'a>(table: &'a Table, key: &str) -> Result<&'a Value, PlanFault>
     ensures { seen_by (λ v. view v.now) result ≡ found_at key.now (table_view table.now) }
 {
@@ -26,7 +26,7 @@ pub(crate) fn found_at<'a>(table: &'a Table, key: &str) -> Result<&'a Value, Pla
     }
 }
 
-/// The text of a key.
+/// The text of a key; fault 21 if the key is missing or has another type.
 pub(crate) fn text_at<'a>(table: &'a Table, key: &str) -> Result<&'a str, PlanFault>
     ensures { seen_by (λ t. t.now) result ≡ value_at as_str key.now (table_view table.now) }
 {
@@ -36,7 +36,8 @@ pub(crate) fn text_at<'a>(table: &'a Table, key: &str) -> Result<&'a str, PlanFa
     }
 }
 
-/// The number of a key, from the low to the high limit.
+/// The number of a key, from the low to the high limit; fault 21 if the key is missing or has another type, fault 22
+/// outside the limits.
 #[tactic(auto, unfolding(crate::specs::PlanTexts::integer_at))]
 pub(crate) fn integer_at(table: &Table, key: &str, low: i64, high: i64) -> Result<i64, PlanFault>
     ensures value { result ≡ integer_at key.now low high (table_view table.now) }
@@ -50,7 +51,7 @@ pub(crate) fn integer_at(table: &Table, key: &str, low: i64, high: i64) -> Resul
     }
 }
 
-/// The number of a key, none of them negative.
+/// The number of a key, from the low to the high limit, neither of which is negative; with the same faults.
 #[tactic(auto, unfolding(crate::specs::PlanTexts::number_at))]
 pub(crate) fn number_at(table: &Table, key: &str, low: u64, high: u64) -> Result<u64, PlanFault>
     requires low { low < 2 ^ 63 }
@@ -63,7 +64,7 @@ pub(crate) fn number_at(table: &Table, key: &str, low: u64, high: u64) -> Result
     Ok(number as u64)
 }
 
-/// A name of the server.
+/// A name of the server, 1 to 255 visible characters of ASCII; fault 22 outside these limits.
 #[tactic(auto, unfolding(crate::specs::PlanTexts::identity_at))]
 pub(crate) fn identity_at(alloc: Global, table: &Table, key: &str) -> Result<String, PlanFault>
     ensures value { GivesBy string_bytes result (identity_at key.now (table_view table.now)) }
@@ -76,7 +77,7 @@ pub(crate) fn identity_at(alloc: Global, table: &Table, key: &str) -> Result<Str
     Ok(String::from_str(alloc, text)?)
 }
 
-/// The IPv4 address of a key.
+/// The IPv4 address of a key; fault 22 if the text is no address.
 #[tactic(auto, unfolding(crate::specs::PlanTexts::address_at))]
 pub(crate) fn address_at(table: &Table, key: &str) -> Result<[u8; 4], PlanFault>
     ensures { result ≡ address_at key.now (table_view table.now) }
@@ -93,7 +94,7 @@ fn address_of(text: &str) -> Option<[u8; 4]>
     }
 }
 
-/// The kind of unit of a key.
+/// The kind of unit of a key; fault 22 if the text names none.
 #[tactic(auto, unfolding(crate::specs::PlanTexts::unit_at))]
 pub(crate) fn unit_at(table: &Table, key: &str) -> Result<UnitKind, PlanFault>
     ensures { result ≡ unit_at key.now (table_view table.now) }
@@ -113,7 +114,7 @@ fn unit_named(name: &str) -> Option<UnitKind>
     }
 }
 
-/// The moment of a key.
+/// The moment of a key; fault 23 if the text is no moment.
 #[tactic(auto, unfolding(crate::specs::PlanTexts::moment_at))]
 pub(crate) fn moment_at(table: &Table, key: &str) -> Result<u64, PlanFault>
     ensures { result ≡ moment_at key.now (table_view table.now) }

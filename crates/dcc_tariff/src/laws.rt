@@ -25,7 +25,7 @@ pub fn prices_never_fall()
     ensures { (tariff : TariffView) (fewer more : ℕ) → fewer ≤ more → price tariff fewer ≤ price tariff more }
 {}
 
-/// The best grant is at most what was asked, the money covers it, and it covers no greater amount up to what was asked.
+/// The best grant is at most the amount asked, the money covers it, and the money covers no greater amount up to the one asked.
 pub fn best_grant_is_the_greatest_covered()
     ensures up_to_asked { (tariff : TariffView) (asked : ℕ) (free : ℤ) → best tariff asked free ≤ asked }
     ensures covered { (tariff : TariffView) (asked : ℕ) (free : ℤ) → IsTrue (covers free (price tariff (best tariff asked free))) }

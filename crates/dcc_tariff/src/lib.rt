@@ -1,15 +1,14 @@
-//! What units cost, and what a plan file says.
+//! The price of units, and the plan in a file.
 //!
-//! Its one job: the operator's plan, read whole or refused with the first thing that is wrong in it, and the prices that
-//! rest on it. Stands on `dcc_octets` for the limits of names; TOML is read by `toml`, and moments by `jiff`.
+//! Its one job: the operator's plan, read whole or rejected with its first fault, and the prices that rest on it. Stands
+//! on `dcc_octets` for the limits of names; `toml` reads TOML, and `jiff` reads moments.
 //!
 //! The contract that it gives:
-//! - [`price_of`] is the price of the blocks that some units begin, and [`most_units`] the greatest amount up to the one
+//! - [`price_of`] is the price of the blocks that some units begin, and [`most_units`] the greatest amount up to the amount
 //!   asked whose price is nothing or within the money. Neither takes memory.
-//! - [`Plan::read`] gives the plan that a text means, or its first fault in the order of the keys, or says that memory
-//!   ran out.
+//! - [`Plan::read`] returns the plan of a text, or its first fault in the order of the keys, or want of memory.
 //! - [`Plan::at`] is the version of a group's tariff with the greatest `from` at or before a moment. The versions are kept
-//!   in order, and found where the group's number says or else by halving, without memory.
+//!   in order. A look-up tries the place of the group's number first and then searches by halving, without memory.
 #![tactic(auto)]
 
 mod fault;

@@ -1,4 +1,4 @@
-//! Moments, as the text of a plan has them.
+//! Moments in the text of a plan.
 
 ghost use Rattle.std.specs.Prelude.{◌≡◌};
 ghost use Rattle.std.specs.List.{list_all, zip};
@@ -10,7 +10,8 @@ use jiff::Timestamp;
 /// The form of a moment's text, with a 0 for each digit.
 const FORM: &[u8] = b"0000-00-00T00:00:00Z";
 
-/// The seconds since 1970 of a UTC date and time, as `2025-06-01T00:00:00Z`, if there is such a moment within the limit.
+/// The seconds since 1970 of a UTC date and time, as `2025-06-01T00:00:00Z`. None if the text has another form, or names
+/// no moment from 1970 to 2099-12-31T23:59:59Z.
 #[tactic(auto, unfolding(crate::specs::PlanTexts::moment_of))]
 pub(crate) fn moment_of(text: &str) -> Option<u64>
     ensures { result ≡ moment_of text.now }
@@ -30,7 +31,7 @@ pub(crate) fn moment_of(text: &str) -> Option<u64>
     }
 }
 
-/// Whether the text has the form's characters, and any digit where that has a 0.
+/// Whether the text has the form's characters, and any digit for each 0 of the form.
 fn has_form(form: &[u8], text: &[u8]) -> bool
     ensures { result ≡ has_form form.now text.now }
 {

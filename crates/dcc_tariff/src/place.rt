@@ -1,15 +1,16 @@
-//! Where a look-up begins.
+//! The places at which look-ups begin.
 
 ghost use Rattle.std.specs.Prelude.{◌≡◌, ◌≤◌, ◌%◌, IfOk, length, slice_get, unwrap_or};
 
 use crate::version::Version;
 use std::alloc::{AllocError, Global};
 
-/// How many remainders groups are told apart by: twice as many as a plan has versions at most.
+/// The number of remainders by which groups are told apart: more than twice as many as a plan has versions at most.
 const PLACES: usize = 2_048;
 
-/// For each remainder of a group's number the place of the last version whose group has it, 0 where there is none. What
-/// stands at a place is tested, so that other places would only make a look-up slower.
+/// For each remainder of a group's number the place of the last version whose group has it, or 0 if no group has it. A
+/// look-up tests the version at the place, so a wrong place would only make it slower. The only error is want of
+/// memory.
 pub(crate) fn places_of(alloc: Global, versions: &[Version]) -> Result<Vec<u16>, AllocError>
     requires { length versions.now ≤ 1000 }
     ensures { IfOk result (λ places. length places.items ≡ PLACES) }

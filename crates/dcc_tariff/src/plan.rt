@@ -1,4 +1,4 @@
-//! A plan, as the file of an operator says it.
+//! A plan, as an operator's file has it.
 
 ghost use Rattle.std.specs.Prelude.{◌≡◌, ◌≤◌, ◌^◌, true, Some, IsSome, IfSome, IfOk};
 ghost use Rattle.dcc_tariff.specs.Plans.{unit_of, tariff_at};
@@ -12,7 +12,7 @@ use crate::version::{Version, version_at, version_of_group};
 use std::alloc::AllocError;
 use std::marker::Model;
 
-/// Who the server says it is, its terms, and the tariffs of each rating group.
+/// A plan: the server's names and address, its terms, and the tariffs of each rating group.
 #[derive(Debug, Drop)]
 pub struct Plan {
     pub(crate) host: String,
@@ -23,7 +23,7 @@ pub struct Plan {
     pub(crate) quantum: u64,
     pub(crate) terms: Terms,
     pub(crate) versions: Vec<Version>,
-    /// Where a look-up begins.
+    /// The places at which look-ups begin.
     pub(crate) places: Vec<u16>,
 }
 
@@ -56,14 +56,14 @@ impl Plan {
         self.realm.as_bytes()
     }
 
-    /// The IPv4 address that the server tells its peers (Host-IP-Address, RFC 6733, section 5.3.5).
+    /// The server's IPv4 address (Host-IP-Address, RFC 6733, section 5.3.5).
     pub fn address(&self) -> [u8; 4]
         ensures { result ≡ self.now.address }
     {
         self.address
     }
 
-    /// Among how many shards the subscribers are divided, 1 to 8.
+    /// The number of shards among which the subscribers are divided, 1 to 8.
     pub fn shards(&self) -> u8
         ensures value { result ≡ self.now.shards }
         ensures some { 1 ≤ result }
@@ -80,7 +80,7 @@ impl Plan {
         self.default_group
     }
 
-    /// How many units an asked amount of 0 stands for in a session, 1 to 10^12; an event that asks for 0 asks for 1.
+    /// The units for which an asked amount of 0 stands in a session, 1 to 10^12. In an event 0 stands for 1.
     pub fn quantum(&self) -> u64
         ensures value { result ≡ self.now.quantum }
         ensures some { 1 ≤ result }
@@ -96,7 +96,7 @@ impl Plan {
         &self.terms
     }
 
-    /// An equal plan, where memory suffices.
+    /// An equal plan. The only error is want of memory.
     pub fn copy(&self) -> Result<Plan, AllocError>
         ensures { IfOk result (λ copy. copy ≡ self.now) }
     {
@@ -113,7 +113,7 @@ impl Plan {
         })
     }
 
-    /// What a group's units count, if the plan has the group.
+    /// The unit of a group, if the plan has the group.
     pub fn unit(&self, group: u32) -> Option<UnitKind>
         ensures { result ≡ unit_of self.now group }
     {

@@ -18,8 +18,8 @@ use std::alloc::Global;
 use toml::Table;
 
 impl Plan {
-    /// The plan that a TOML document says: exactly its keys' values, or the first fault in the order of the keys.
-    /// Keys of other names are passed over.
+    /// The plan of a TOML document, or its first fault (20 to 23) in the order of the keys. Keys of other names are
+    /// ignored. The only other error is want of memory.
     #[tactic(auto, unfolding(crate::specs::PlanTexts::plan_of_text))]
     pub fn read(alloc: Global, text: &str) -> Result<Plan, PlanFault>
         ensures { Gives result (plan_of_text text.now) }
@@ -78,7 +78,7 @@ fn terms_of(table: &Table) -> Result<Terms, PlanFault>
     })
 }
 
-/// Whether some version is one of the group.
+/// Whether the group has a version.
 fn has_group(versions: &[Version], group: u32) -> bool
     ensures { result ≡ list_any (is_of group) versions.now }
 {

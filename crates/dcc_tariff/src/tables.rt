@@ -18,7 +18,8 @@ use std::alloc::{AllocError, Global};
 use toml::value::Array;
 use toml::{Table, Value};
 
-/// The tables of a key, 1 to 1,000.
+/// The tables of a key, 1 to 1,000; fault 21 if the key is missing or its value is no list of tables, fault 22 outside
+/// these limits.
 #[tactic(auto, unfolding(crate::specs::PlanTexts::tables_at))]
 pub(crate) fn tables_at<'a>(table: &'a Table, key: &str) -> Result<&'a Array, PlanFault>
     ensures value { seen_by (λ tables. array_view tables.now) result ≡ tables_at key.now (table_view table.now) }
@@ -49,7 +50,7 @@ fn are_tables(values: &[Value]) -> bool
     values.iter().all(|value| value.is_table())
 }
 
-/// The versions that the tables are, in their order.
+/// The versions of the tables, in the order of versions.
 pub(crate) fn versions_of(alloc: Global, tables: &[Value]) -> Result<Vec<Version>, PlanFault>
     ensures value { GivesBy (λ v. v.items) result (versions_onto [] (items_view tables.now)) }
     ensures ordered { IfOk result (λ v. are_ordered v.items ≡ true) }
@@ -86,7 +87,7 @@ fn version_of_value(value: &Value) -> Result<Version, PlanFault>
     }
 }
 
-/// One version of a group's tariff.
+/// One version of a group's tariff, or the first fault in the order of its keys.
 #[tactic(auto, unfolding(crate::specs::PlanTexts::version_of))]
 fn version_of(table: &Table) -> Result<Version, PlanFault>
     ensures { result ≡ version_of (table_view table.now) }

@@ -1,8 +1,8 @@
-//! A tariff, and what it counts.
+//! A tariff, and the unit that it counts.
 
 use std::marker::Model;
 
-/// What the units of a rating group count (RFC 8506, sections 8.17 to 8.26).
+/// The unit that a rating group counts (RFC 8506, sections 8.17 to 8.26).
 #[derive(Clone, Copy, Debug, PartialEq, Eq)]
 pub enum UnitKind {
     /// Octets in both directions together.
@@ -13,12 +13,12 @@ pub enum UnitKind {
     Units,
 }
 
-/// What units cost: `price` minor units for each block of `block` units that is begun.
+/// The price of units: `price` minor units for each block of `block` units that is begun.
 #[derive(Clone, Copy, Debug, PartialEq, Eq)]
 pub struct Tariff {
-    /// In minor units a block, at most 1,000,000.
+    /// Minor units for a block, at most 1,000,000.
     pub price: u32,
-    /// In units, 1 to 10^12.
+    /// Units in a block, 1 to 10^12.
     pub block: u64,
 }
 

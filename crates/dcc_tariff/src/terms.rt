@@ -5,13 +5,13 @@ use std::marker::Model;
 /// The terms of a plan.
 #[derive(Clone, Copy, Debug, PartialEq, Eq)]
 pub struct Terms {
-    /// How long a grant may be used, in seconds, 1 to 1,000,000 (Validity-Time, RFC 8506, section 8.33).
+    /// The seconds for which a grant may be used, 1 to 1,000,000 (Validity-Time, RFC 8506, section 8.33).
     pub validity: u32,
-    /// How long a session is held after its last request, in seconds, 1 to 1,000,000.
+    /// The seconds for which a session is held after its last request, 1 to 1,000,000.
     pub hold: u32,
     /// The currency's number in ISO 4217, 0 to 999 (Currency-Code, RFC 8506, section 8.11).
     pub currency: u32,
-    /// The power of ten that a minor unit is of the currency, -9 to 9 (Exponent, RFC 8506, section 8.9).
+    /// The exponent of ten of a minor unit in the currency, -9 to 9 (Exponent, RFC 8506, section 8.9).
     pub exponent: i32,
 }
 

@@ -11,11 +11,11 @@ use crate::tariff::{Tariff, UnitKind};
 pub struct Version {
     /// The Rating-Group (RFC 8506, section 8.29).
     pub group: u32,
-    /// What the group's units count, the same in each version of the group.
+    /// The unit that the group counts, the same in each version of the group.
     pub unit: UnitKind,
     /// The moment from which the version holds, in seconds since 1970.
     pub from: u64,
-    /// What units cost from then on, until the next version of the group.
+    /// The price of units from then on, until the next version of the group.
     pub tariff: Tariff,
 }
 
@@ -27,14 +27,14 @@ impl Version {
         self.group < other.group || self.group == other.group && self.from < other.from
     }
 
-    /// Whether this version is one of the group, and holds at the moment or held before it.
+    /// Whether this version belongs to the group, and holds at the moment or held before it.
     fn has_begun(&self, group: u32, moment: u64) -> bool
         ensures { result ≡ has_begun group moment self.now }
     {
         self.group == group && self.from <= moment
     }
 
-    /// Whether both count one kind of unit and hold from different moments, where they are of one group.
+    /// Whether the two versions agree: versions of one group count the same unit and hold from different moments.
     pub(crate) fn agrees_with(&self, other: &Version) -> bool
         ensures { result ≡ agrees self.now other.now }
     {
@@ -55,7 +55,7 @@ pub(crate) fn agree(versions: &[Version]) -> bool
     true
 }
 
-/// Some version of the group.
+/// The first version of the group, if there is any.
 pub(crate) fn version_of_group(versions: &[Version], group: u32) -> Option<&Version>
     requires { are_ordered versions.now ≡ true }
     ensures { option_copied result ≡ find (is_of group) versions.now }
@@ -69,7 +69,7 @@ pub(crate) fn version_of_group(versions: &[Version], group: u32) -> Option<&Vers
     }
 }
 
-/// The version at a place, if it is the one of the group that holds at the moment.
+/// The version at a place, if it is the version of the group that holds at the moment.
 fn version_if(versions: &[Version], place: u16, group: u32, moment: u64) -> Option<&Version>
     requires { are_ordered versions.now ≡ true }
     ensures { IfSome result (λ version. latest (filter (has_begun group moment) versions.now) ≡ Some version.now) }
@@ -87,8 +87,8 @@ fn version_if(versions: &[Version], place: u16, group: u32, moment: u64) -> Opti
     Some(version)
 }
 
-/// The version of the group that holds at the moment. What stands at a place is tested first, and the others are found
-/// by halving: which place it is changes the time alone.
+/// The version of the group that holds at the moment. The version at the place is tested first, and then the versions
+/// are searched by halving: the place changes the time alone.
 pub(crate) fn version_at(
     versions: &[Version],
     place: u16,
@@ -101,7 +101,7 @@ pub(crate) fn version_at(
     if let Some(version) = version_if(versions, place, group, moment) {
         return Some(version);
     }
-    // Which way a test goes can't be foretold, and a branch on it would cost more than both halves of it.
+    // A processor can't predict the outcome of the test, so a branch on it would cost more than both halves of it.
     let end = versions.partition_point(|version| {
         (version.group < group) | (version.group == group) & (version.from <= moment)
     });

@@ -1,4 +1,4 @@
--- What a plan shows of its fields, and what holds of every plan.
+-- The view of a plan's fields, and what holds of every plan.
 use Rattle.std.specs.Prelude.{◌≡◌, ◌≤◌, true, length, string_bytes}
 use Rattle.std.specs.List.{list_any}
 use Rattle.dcc_octets.specs.Names.{is_name}

@@ -1,4 +1,4 @@
--- What was read, as contracts see it.
+-- The result of reading, as contracts see it.
 use Rattle.std.specs.Prelude.{Result}
 use Rattle.std.specs.Result.{result_map_both}
 use Rattle.dcc_tariff.specs.declared.fault.PlanFault.{PlanFault}
