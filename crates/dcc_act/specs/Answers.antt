@@ -1,4 +1,4 @@
--- Limits of what a request's services come to.
+-- Limits of the outcomes of a request's services.
 use Rattle.std.specs.Prelude.{◌≤◌, List, length, sum_by}
 use Rattle.dcc_act.specs.declared.limits.TheConstants.{MAX_SERVICES, MAX_IDS}
 use Rattle.dcc_act.specs.declared.outcome.ServiceAnswer.{ServiceAnswer}
@@ -10,6 +10,6 @@ pub record AreAnswers (answers : List ServiceAnswer) : Type 0 where
   pub few : length answers ≤ MAX_SERVICES
   pub few_ids : sum_by (λ answer. length answer.ids) answers ≤ MAX_IDS
 
--- by what the service of an answer is known among those of its session
+-- the key of an answer's service among those of its session
 abbrev pub answer_key : ServiceAnswer → ServiceKey
 answer_key answer = key_of answer.group answer.ids

@@ -2,7 +2,7 @@
 use Rattle.std.specs.Prelude.{ℕ, zero, suc, List, slice_get, Option, None}
 use Rattle.dcc_act.specs.declared.act.Act.{Act}
 
--- stored acts in their order, and for how many more there is memory
+-- stored acts in their order, and the number of further acts for which there is memory
 pub record JournalView : Type 0 where
   pub acts : List Act
   pub spare : ℕ

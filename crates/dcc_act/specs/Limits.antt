@@ -1,4 +1,4 @@
--- Limits that an act is judged by.
+-- The limits by which an act is judged.
 use Rattle.std.specs.Prelude.{ℕ}
 use Rattle.dcc_act.specs.declared.limits.TheConstants.{FEW_SESSIONS, MAX_SESSIONS}
 use Rattle.dcc_act.specs.declared.session_limit.SessionLimit.{SessionLimit}

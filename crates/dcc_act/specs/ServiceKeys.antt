@@ -1,4 +1,4 @@
--- By what services are told apart.
+-- The keys of services.
 use Rattle.std.specs.Prelude.{ℕ, Bool, true, false, not, ◌&&◌, ◌==◌, List, [], ◌∷◌, Option, Some, None}
 use Rattle.std.specs.List.{list_any}
 use Rattle.dcc_act.specs.declared.service_key.ServiceKey.{ServiceKey}

@@ -12,10 +12,10 @@ abbrev pub is_sub : ℕ → List ℕ → Bool
 is_sub kind name =
     nat_le kind 4 && nat_le 1 (length name) && nat_le (length name) 64 && are_visible name
 
--- whether two subscribers are one: the same type and the same data
+-- two subscribers are the same: they have the same type and the same data
 abbrev pub same_sub : SubView → SubView → Bool
 same_sub a b = (a.kind == b.kind) && bytes_eq a.name b.name
 
--- that is, where they are equal
+-- two subscribers are the same if and only if they are equal
 abbrev pub SameAreEqual : Type 0
 SameAreEqual = (a b : SubView) → (same_sub a b ≡ true) ↔ (a ≡ b)

@@ -10,30 +10,30 @@ use crate::top_up::TopUp;
 use dcc_octets::Host;
 use std::alloc::AllocError;
 
-/// What happens to an account.
+/// The kind of an act: a top-up, a request, or an expiry.
 #[derive(Debug, Drop)]
 pub enum Kind {
     TopUp(TopUp),
     /// INITIAL_REQUEST (RFC 8506, section 8.3): opens a session.
     Initial {
         request: SessionRequest,
-        /// It is refused while so many sessions are open.
+        /// The request is refused if so many sessions are open.
         limit: SessionLimit,
-        /// The host of its peer, by the exchange of capabilities last before it (Origin-Host, RFC 6733, sections 5.3 and 6.3), where
-        /// it is known.
+        /// The host of its peer, by the last exchange of capabilities before it (Origin-Host, RFC 6733, sections 5.3 and 6.3), if
+        /// the host is known.
         host: Option<Host>,
     },
-    /// UPDATE_REQUEST: reports what was used in an open session, and asks for more.
+    /// UPDATE_REQUEST: reports used units in an open session, and asks for more.
     Update(SessionRequest),
-    /// TERMINATION_REQUEST: reports what was used, and ends the session.
+    /// TERMINATION_REQUEST: reports used units, and ends the session.
     Termination(SessionRequest),
     Event(OneTimeEvent),
-    /// The sessions whose time of holding is over at the moment end.
+    /// Ends the sessions whose deadline is the moment or before it.
     Expiry,
 }
 
 impl Kind {
-    /// An equal kind, where memory suffices.
+    /// An equal kind. The only error is want of memory.
     pub fn copy(&self) -> Result<Kind, AllocError>
         ensures { IfOk result (λ copy. copy ≡ self.now) }
     {
@@ -59,7 +59,7 @@ impl Kind {
     }
 }
 
-/// What happens to an account, and when.
+/// An act: one thing that happens to an account, and its moment.
 #[derive(Debug, Drop)]
 pub struct Act {
     pub moment: Moment,
@@ -67,7 +67,7 @@ pub struct Act {
 }
 
 impl Act {
-    /// An equal act, where memory suffices.
+    /// An equal act. The only error is want of memory.
     pub fn copy(&self) -> Result<Act, AllocError>
         ensures { IfOk result (λ copy. copy ≡ self.now) }
     {

@@ -6,7 +6,7 @@ use crate::moment::Moment;
 use crate::session_id::SessionId;
 use std::alloc::AllocError;
 
-/// What an entry stands for.
+/// The kind of an act for which an entry stands.
 #[derive(Clone, Copy, Debug, PartialEq, Eq)]
 pub enum EntryKind {
     /// A top-up that was added.
@@ -15,11 +15,11 @@ pub enum EntryKind {
     Debit,
     /// A refund.
     Refund,
-    /// What a request of a session reported.
+    /// The charge for a report of a session's request.
     Charge,
 }
 
-/// By what an entry is known.
+/// The name of an entry.
 #[derive(Debug, PartialEq, Eq, Drop)]
 pub enum EntryName {
     /// The ticket of a top-up.
@@ -29,7 +29,7 @@ pub enum EntryName {
 }
 
 impl EntryName {
-    /// An equal name, where memory suffices.
+    /// An equal name. The only error is want of memory.
     pub fn copy(&self) -> Result<EntryName, AllocError>
         ensures { IfOk result (λ copy. copy ≡ self.now) }
     {
@@ -40,10 +40,10 @@ impl EntryName {
     }
 }
 
-/// One line in the books of an account: what an act changed the funds by.
+/// One line in the books of an account: an act's change of the funds.
 #[derive(Debug, PartialEq, Eq, Drop)]
 pub struct Entry {
-    /// The place of its act among the acts of the subscriber, from 1.
+    /// The place of its act among the made acts of the subscriber, from 1.
     pub place: u64,
     /// The moment of its act.
     pub moment: Moment,
@@ -52,13 +52,13 @@ pub struct Entry {
     pub group: Option<u32>,
     /// The units that were charged, 0 for a top-up.
     pub units: u64,
-    /// What the funds change by, in minor units.
+    /// The change of the funds, in minor units.
     pub amount: i64,
     pub name: EntryName,
 }
 
 impl Entry {
-    /// An equal entry, where memory suffices.
+    /// An equal entry. The only error is want of memory.
     pub fn copy(&self) -> Result<Entry, AllocError>
         ensures { IfOk result (λ copy. copy ≡ self.now) }
     {

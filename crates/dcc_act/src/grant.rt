@@ -7,11 +7,11 @@ use crate::limits::MAX_SECONDS;
 use dcc_tariff::{MAX_UNITS, Tariff, UnitKind};
 use std::marker::Model;
 
-/// Units that were granted, and at what tariff (Granted-Service-Unit, RFC 8506, section 8.17).
+/// Granted units, and their tariff (Granted-Service-Unit, RFC 8506, section 8.17).
 #[derive(Clone, Copy, Debug, PartialEq, Eq)]
 pub struct Grant {
     pub unit: UnitKind,
-    /// How many: at most 10^12, and in time at most 2^32 - 1.
+    /// The number of units: at most 10^12, and of seconds at most 2^32 - 1.
     pub units: u64,
     pub tariff: Tariff,
 }
@@ -29,7 +29,7 @@ impl Model for Grant {
 }
 
 impl Grant {
-    /// So many units at this tariff, or none where they are more than 10^12, or in time more than 2^32 - 1.
+    /// So many units at this tariff. None if they are more than 10^12, or seconds and more than 2^32 - 1.
     pub fn new(unit: UnitKind, units: u64, tariff: Tariff) -> Option<Grant>
         ensures limits { IsSome result ↔ IsGrant unit units }
         ensures value { IfSome result (λ grant. grant ≡ record { unit = unit; units = units; tariff = tariff }) }

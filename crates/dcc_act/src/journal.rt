@@ -9,7 +9,7 @@ use crate::looks::Looks;
 use std::alloc::{AllocError, Global};
 use std::marker::Model;
 
-/// Stored acts, in the order in which they were made. An act is read only by a call that counts it.
+/// Stored acts, in the order in which they were made. Only a call that counts a look reads one.
 #[derive(Drop)]
 pub struct Journal {
     acts: Vec<Act>,
@@ -44,7 +44,7 @@ impl Journal {
         })
     }
 
-    /// How many acts there are: fewer than 2^63.
+    /// The number of acts: fewer than 2^63.
     pub fn len(&self) -> usize
         ensures value { result ≡ length self.now.acts }
         ensures few { result < 2 ^ 63 }
@@ -52,7 +52,7 @@ impl Journal {
         self.acts.len()
     }
 
-    /// For how many more there is memory.
+    /// The number of further acts for which there is memory.
     pub fn spare(&self) -> usize
         ensures { result ≡ self.now.spare }
     {
@@ -68,7 +68,7 @@ impl Journal {
         self.acts.push_reserved(act);
     }
 
-    /// The act at a place, counted from 1, which is one look.
+    /// The act at a place, counted from 1. The call is one look.
     pub fn get(&self, place: u64, looks: &mut Looks) -> Option<&Act>
         requires { looks.old + 1 < 2 ^ 64 }
         ensures value { option_copied result ≡ act_at self.now.acts place }
@@ -79,7 +79,7 @@ impl Journal {
         self.acts.get(before as usize)
     }
 
-    /// The act behind so many others, which there is: one look.
+    /// The act behind so many others, which has to be there. The call is one look.
     pub fn behind(&self, before: usize, looks: &mut Looks) -> &Act
         requires there { before < length self.now.acts }
         requires room { looks.old + 1 < 2 ^ 64 }

@@ -19,7 +19,7 @@ pub fn numbers_are_given()
     ensures identifiers { MAX_IDS ≡ 5_460 }
 {}
 
-/// Two subscribers are one exactly where their types and their data are equal.
+/// Two subscribers are the same if and only if their types and their data are equal.
 pub fn same_subscribers_are_equal()
     ensures { SameAreEqual }
 {}

@@ -1,9 +1,9 @@
-//! Who has an account, when something happens to it, and what: the acts of a subscriber, what they come to, and the
-//! entries that they leave in the books.
+//! The acts of a subscriber: who has the account, what happens to it and when; their outcomes; and the entries that
+//! they leave in the books.
 //!
-//! Stands on `dcc_tariff`, and on `dcc_octets` for what is visible and what is short. The contract that it gives: each
-//! type keeps its limits, so that whoever holds a value knows them, a copy equals what was copied, and two subscribers are
-//! told apart by type and data alone. What is stored in a [`Journal`] is read only by a call that counts its [`Looks`].
+//! Stands on `dcc_tariff`, and on `dcc_octets` for visible octets and short names. The contract that it gives: each type
+//! keeps its limits, so that the owner of a value knows them. A copy equals its original. Type and data alone tell two
+//! subscribers apart. Only a call that counts its [`Looks`] reads an act in a [`Journal`].
 #![tactic(auto)]
 
 mod act;

@@ -1,6 +1,6 @@
 //! Limits of amounts, each once.
 
-/// The most that one top-up may add, and the farthest that funds may be from nothing, in minor units.
+/// The most that one top-up may add, and the farthest that funds may be from 0, in minor units.
 pub const MAX_AMOUNT: u64 = 1_000_000_000_000_000_000;
 
 /// The most seconds that fit a CC-Time (RFC 8506, section 8.21).

@@ -4,7 +4,7 @@ ghost use Rattle.std.specs.Prelude.{◌≡◌, ◌+◌, ◌<◌, ◌^◌};
 
 use std::marker::Model;
 
-/// How many live grants and stored acts were read, counted one by one. It can't be copied, so that what is counted stays so.
+/// The number of live grants and stored acts that were read. It can't be copied, so that no count is undone.
 #[derive(Debug, Drop)]
 pub struct Looks {
     count: u64,
@@ -26,14 +26,14 @@ impl Looks {
         Looks { count: 0 }
     }
 
-    /// How many there were.
+    /// The number of looks.
     pub fn count(&self) -> u64
         ensures { result ≡ self.now }
     {
         self.count
     }
 
-    /// Counts so many more.
+    /// Counts so many looks more.
     pub fn add(&mut self, more: u64)
         requires { self.old + more < 2 ^ 64 }
         ensures { self.new ≡ self.old + more }

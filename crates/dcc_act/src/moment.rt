@@ -5,7 +5,7 @@ ghost use Rattle.std.specs.Prelude.{◌≡◌, ◌≤◌, ◌↔◌, IsSome, IfS
 use dcc_tariff::LAST_SECOND;
 use std::marker::Model;
 
-/// When something happens: whole seconds since 1970-01-01T00:00:00Z, at most 4,102,444,799.
+/// The moment of an act: whole seconds since 1970-01-01T00:00:00Z, at most 4,102,444,799.
 #[derive(Clone, Copy, Debug, PartialEq, Eq, PartialOrd, Ord, Hash)]
 pub struct Moment {
     seconds: u64,
@@ -25,7 +25,7 @@ impl Model for Moment {
 }
 
 impl Moment {
-    /// The moment of these seconds, or none past 2099-12-31T23:59:59Z.
+    /// The moment of these seconds. None past 2099-12-31T23:59:59Z.
     pub fn new(seconds: u64) -> Option<Moment>
         ensures limit { IsSome result ↔ (seconds ≤ LAST_SECOND) }
         ensures value { IfSome result (λ moment. moment ≡ seconds) }

@@ -7,20 +7,20 @@ use crate::service::Service;
 use std::alloc::AllocError;
 use std::marker::Model;
 
-/// What a one-time event asks for (Requested-Action, RFC 8506, section 8.41).
+/// The action of a one-time event (Requested-Action, RFC 8506, section 8.41).
 #[derive(Clone, Copy, Debug, PartialEq, Eq)]
 pub enum Action {
-    /// DIRECT_DEBITING, 0: that the price of the units is charged at once.
+    /// DIRECT_DEBITING, 0: charges the price of the units at once.
     DirectDebiting,
-    /// REFUND_ACCOUNT, 1: that the price of the units is given back.
+    /// REFUND_ACCOUNT, 1: refunds the price of the units.
     RefundAccount,
-    /// CHECK_BALANCE, 2: whether what is free covers the price of the units.
+    /// CHECK_BALANCE, 2: asks whether the free money covers the price of the units.
     CheckBalance,
-    /// PRICE_ENQUIRY, 3: what the units cost.
+    /// PRICE_ENQUIRY, 3: asks for the price of the units.
     PriceEnquiry,
 }
 
-/// A one-time event (RFC 8506, section 6), which has one service, and that asks for units.
+/// A one-time event (RFC 8506, section 6). It has one service, which asks for units.
 #[derive(Debug, Drop)]
 pub struct OneTimeEvent {
     pub key: RequestKey,
@@ -41,7 +41,7 @@ impl Model for OneTimeEvent {
 }
 
 impl OneTimeEvent {
-    /// An equal event, where memory suffices.
+    /// An equal event. The only error is want of memory.
     pub fn copy(&self) -> Result<OneTimeEvent, AllocError>
         ensures { IfOk result (λ copy. copy ≡ self.now) }
     {

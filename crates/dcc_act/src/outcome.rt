@@ -1,4 +1,4 @@
-//! Outcomes: all that an answer says beside identifiers and proxies.
+//! Outcomes: all data of an answer but the identifiers, the P bit and the proxies.
 
 ghost use Rattle.std.specs.Prelude.{◌≡◌, IfOk};
 ghost use Rattle.dcc_act.specs.Answers.{answer_key};
@@ -11,7 +11,7 @@ use crate::service_ids::ServiceIds;
 use crate::service_key::ServiceKey;
 use std::alloc::AllocError;
 
-/// Which request is answered (CC-Request-Type, RFC 8506, section 8.3).
+/// The type of the answered request (CC-Request-Type, RFC 8506, section 8.3).
 #[derive(Clone, Copy, Debug, PartialEq, Eq)]
 pub enum RequestType {
     /// INITIAL_REQUEST, 1.
@@ -45,7 +45,7 @@ impl RequestType {
 pub enum ResultCode {
     /// DIAMETER_SUCCESS (RFC 6733, section 7.1.2).
     Success,
-    /// DIAMETER_CREDIT_LIMIT_REACHED (RFC 8506, section 9.1): the free funds don't reach.
+    /// DIAMETER_CREDIT_LIMIT_REACHED (RFC 8506, section 9.1): the free money doesn't suffice.
     CreditLimitReached,
     /// DIAMETER_UNKNOWN_SESSION_ID (RFC 6733, section 7.1.5): the session isn't open.
     UnknownSession,
@@ -75,7 +75,7 @@ impl ResultCode {
     }
 }
 
-/// Whether what is free covers the price of the units (Check-Balance-Result, RFC 8506, section 8.6).
+/// Whether the free money covers the price of the units (Check-Balance-Result, RFC 8506, section 8.6).
 #[derive(Clone, Copy, Debug, PartialEq, Eq)]
 pub enum Balance {
     /// ENOUGH_CREDIT: it does.
@@ -98,7 +98,7 @@ impl Balance {
     }
 }
 
-/// What one service of a request comes to.
+/// The outcome of one service of a request.
 #[derive(Debug, PartialEq, Eq, Drop)]
 pub struct ServiceAnswer {
     /// The Rating-Group, as sent.
@@ -113,7 +113,7 @@ pub struct ServiceAnswer {
 }
 
 impl ServiceAnswer {
-    /// By what its service is known among those of its session.
+    /// The key of its service among those of its session.
     pub fn key(&self) -> ServiceKey
         ensures { result ≡ answer_key self.now }
     {
@@ -123,7 +123,7 @@ impl ServiceAnswer {
         }
     }
 
-    /// An equal answer, where memory suffices.
+    /// An equal answer. The only error is want of memory.
     pub fn copy(&self) -> Result<ServiceAnswer, AllocError>
         ensures { IfOk result (λ copy. copy ≡ self.now) }
     {
@@ -138,7 +138,7 @@ impl ServiceAnswer {
     }
 }
 
-/// What a request comes to.
+/// The outcome of a request.
 #[derive(Debug, Drop)]
 pub struct Answer {
     pub request: RequestType,
@@ -148,14 +148,14 @@ pub struct Answer {
     pub result: ResultCode,
     /// The services, in the order of the request.
     pub services: ServiceAnswers,
-    /// What the units cost, in minor units, where that was asked (Cost-Information, RFC 8506, section 8.7).
+    /// The price of the units, in minor units, if the request asked for it (Cost-Information, RFC 8506, section 8.7).
     pub cost: Option<u64>,
-    /// Whether what is free covers their price, where that was asked.
+    /// Whether the free money covers the price of the units, if the request asked for that.
     pub balance: Option<Balance>,
 }
 
 impl Answer {
-    /// An equal answer, where memory suffices.
+    /// An equal answer. The only error is want of memory.
     pub fn copy(&self) -> Result<Answer, AllocError>
         ensures { IfOk result (λ copy. copy ≡ self.now) }
     {
@@ -170,7 +170,7 @@ impl Answer {
     }
 }
 
-/// What an act comes to.
+/// The outcome of an act.
 #[derive(Debug, Drop)]
 pub enum Outcome {
     /// A request of a subscriber who has no account: DIAMETER_USER_UNKNOWN, 5030 (RFC 8506, section 9.2).
@@ -191,7 +191,7 @@ pub enum Outcome {
 }
 
 impl Outcome {
-    /// An equal outcome, where memory suffices.
+    /// An equal outcome. The only error is want of memory.
     pub fn copy(&self) -> Result<Outcome, AllocError>
         ensures { IfOk result (λ copy. copy ≡ self.now) }
     {

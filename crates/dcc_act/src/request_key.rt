@@ -5,7 +5,7 @@ ghost use Rattle.std.specs.Prelude.{◌≡◌, IfOk};
 use crate::session_id::SessionId;
 use std::alloc::AllocError;
 
-/// What tells a request from the others of its subscriber: its session and its CC-Request-Number (RFC 8506, section 8.2).
+/// The key of a request among those of its subscriber: its session and its CC-Request-Number (RFC 8506, section 8.2).
 #[derive(Debug, PartialEq, Eq, Hash, Drop)]
 pub struct RequestKey {
     pub sid: SessionId,
@@ -13,7 +13,7 @@ pub struct RequestKey {
 }
 
 impl RequestKey {
-    /// An equal key, where memory suffices.
+    /// An equal key. The only error is want of memory.
     pub fn copy(&self) -> Result<RequestKey, AllocError>
         ensures { IfOk result (λ copy. copy ≡ self.now) }
     {

@@ -9,7 +9,7 @@ use dcc_tariff::{Tariff, UnitKind};
 use std::alloc::AllocError;
 use std::marker::Model;
 
-/// Where a service stands in its request.
+/// The form of a service: its place in its request.
 #[derive(Clone, Copy, Debug, PartialEq, Eq)]
 pub enum Form {
     /// At the level of the message.
@@ -18,7 +18,7 @@ pub enum Form {
     Multi,
 }
 
-/// One service of a request. Without a unit its amounts are 0 and stand for nothing, and it has no tariff.
+/// One service of a request. Without a unit its amounts are 0 and have no meaning, and it has no tariff.
 #[derive(Debug, PartialEq, Eq, Drop)]
 pub struct Service {
     /// The Rating-Group, as sent.
@@ -26,13 +26,13 @@ pub struct Service {
     /// The Service-Identifiers, as sent.
     pub ids: ServiceIds,
     pub form: Form,
-    /// The units that are asked for: at most 10^12; with a unit at least 1, and in time at most 2^32 - 1.
+    /// The units asked for: at most 10^12; with a unit at least 1, and of seconds at most 2^32 - 1.
     pub asked: Option<u64>,
-    /// The units that are reported as used: at most 10^12.
+    /// The units reported as used: at most 10^12.
     pub used: Option<u64>,
-    /// What the plan counts for the group, or none where it doesn't have it.
+    /// The unit that the plan counts for the group. None if the plan doesn't have the group.
     pub unit: Option<UnitKind>,
-    /// What the units cost at the act's moment.
+    /// The price of the units at the act's moment.
     pub tariff: Option<Tariff>,
 }
 
@@ -65,7 +65,7 @@ impl Model for Service {
 }
 
 impl Service {
-    /// By what it is known among the services of its session.
+    /// Its key among the services of its session.
     pub fn key(&self) -> ServiceKey
         ensures { result ≡ service_key self.now }
     {
@@ -75,7 +75,7 @@ impl Service {
         }
     }
 
-    /// An equal service, where memory suffices.
+    /// An equal service. The only error is want of memory.
     pub fn copy(&self) -> Result<Service, AllocError>
         ensures { IfOk result (λ copy. copy ≡ self.now) }
     {

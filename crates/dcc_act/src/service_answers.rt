@@ -1,4 +1,4 @@
-//! What the services of a request come to.
+//! The outcomes of the services of a request.
 
 ghost use Rattle.std.specs.Prelude.{◌≡◌, ◌≤◌, ◌↔◌, List, length, sum_by, IsSome, IfSome, IfOk};
 ghost use Rattle.dcc_act.specs.Answers.{AreAnswers};
@@ -8,8 +8,7 @@ use crate::outcome::ServiceAnswer;
 use std::alloc::{AllocError, Global};
 use std::marker::Model;
 
-/// What the services of a request come to, in the order of the request: at most 32, with at most 5,460 identifiers
-/// together.
+/// The outcomes of the services of a request, in the order of the request: at most 32, with at most 5,460 identifiers together.
 #[derive(Debug, Drop)]
 pub struct ServiceAnswers {
     items: Vec<ServiceAnswer>,
@@ -28,7 +27,7 @@ impl Model for ServiceAnswers {
 }
 
 impl ServiceAnswers {
-    /// These answers, or none where they are past a limit.
+    /// These answers. None if they are past a limit.
     pub fn from_vec(items: Vec<ServiceAnswer>) -> Option<ServiceAnswers>
         ensures limits { IsSome result ↔ AreAnswers items.items }
         ensures value { IfSome result (λ answers. answers ≡ items.items) }
@@ -55,7 +54,7 @@ impl ServiceAnswers {
         &self.items
     }
 
-    /// Equal answers, where memory suffices.
+    /// Equal answers. The only error is want of memory.
     pub fn copy(&self) -> Result<ServiceAnswers, AllocError>
         ensures { IfOk result (λ copy. copy ≡ self.now) }
     {

@@ -35,7 +35,7 @@ impl ServiceIds {
         }
     }
 
-    /// These identifiers, or none where they are more than 5,460.
+    /// These identifiers. None if they are more than 5,460.
     pub fn from_vec(items: Vec<u32>) -> Option<ServiceIds>
         ensures limit { IsSome result ↔ (length items.items ≤ MAX_IDS) }
         ensures value { IfSome result (λ ids. ids ≡ items.items) }
@@ -62,7 +62,7 @@ impl ServiceIds {
         &self.items
     }
 
-    /// Equal identifiers, where memory suffices.
+    /// Equal identifiers. The only error is want of memory.
     pub fn copy(&self) -> Result<ServiceIds, AllocError>
         ensures { IfOk result (λ copy. copy ≡ self.now) }
     {

@@ -1,10 +1,10 @@
-//! By what a service is known.
+//! The key of a service.
 
 ghost use Rattle.std.specs.Prelude.{◌≡◌};
 ghost use Rattle.dcc_act.specs.ServiceKeys.{same_number, same_service};
 
-/// By what a service is known among those of its session: its Rating-Group and its first Service-Identifier, as sent, each
-/// or none (RFC 8506, section 8.16).
+/// The key of a service among those of its session: its Rating-Group and its first Service-Identifier, as sent, each or
+/// none (RFC 8506, section 8.16).
 #[derive(Clone, Copy, Debug)]
 pub struct ServiceKey {
     pub group: Option<u32>,
@@ -12,7 +12,7 @@ pub struct ServiceKey {
 }
 
 impl ServiceKey {
-    /// Whether both are the key of one service.
+    /// Whether both keys are of one service.
     pub fn is_same(self, other: ServiceKey) -> bool
         ensures { result ≡ same_service self other }
     {
@@ -20,7 +20,7 @@ impl ServiceKey {
     }
 }
 
-/// Whether both are the same number, or neither is one.
+/// Whether both are the same number, or both are none.
 fn is_same_number(a: Option<u32>, b: Option<u32>) -> bool
     ensures { result ≡ same_number a b }
 {

@@ -11,8 +11,8 @@ use crate::service_key::ServiceKey;
 use std::alloc::{AllocError, Global};
 use std::marker::Model;
 
-/// The services of a request, in its order: at most 32, with at most 5,460 identifiers together, each of a key of its own;
-/// one in single form stands alone.
+/// The services of a request, in its order: at most 32, with at most 5,460 identifiers together, each of a key of its own.
+/// A service in single form is the only service.
 #[derive(Debug, Drop)]
 pub struct Services {
     items: Vec<Service>,
@@ -39,8 +39,8 @@ impl Services {
         }
     }
 
-    /// These services, or none where they are past a limit, two of them have one key, or one in single form doesn't stand
-    /// alone.
+    /// These services. None if they are past a limit, if two of them have one key, or if a service in single form is not
+    /// the only one.
     pub fn from_vec(items: Vec<Service>) -> Option<Services>
         ensures limits { IsSome result ↔ (are_services items.items ≡ true) }
         ensures value { IfSome result (λ services. services ≡ items.items) }
@@ -67,7 +67,7 @@ impl Services {
         &self.items
     }
 
-    /// Equal services, where memory suffices.
+    /// Equal services. The only error is want of memory.
     pub fn copy(&self) -> Result<Services, AllocError>
         ensures { IfOk result (λ copy. copy ≡ self.now) }
     {
@@ -110,14 +110,14 @@ fn are_apart(services: &[Service]) -> bool
     }
 }
 
-/// Whether one of the services has this key.
+/// Whether any of the services has this key.
 fn is_among(key: ServiceKey, services: &[Service]) -> bool
     ensures { result ≡ list_any (λ other. same_service key (service_key other)) services.now }
 {
     services.iter().any(|other| key.is_same(other.key()))
 }
 
-/// Whether a service in single form stands alone.
+/// Whether a service in single form is the only service.
 fn stand_right(services: &[Service]) -> bool
     ensures { result ≡ stand_right services.now }
 {

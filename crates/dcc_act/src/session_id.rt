@@ -30,7 +30,7 @@ impl Model for SessionId {
 }
 
 impl SessionId {
-    /// The name of these octets, or none where they aren't 1 to 255.
+    /// The name of these octets. None if they aren't 1 to 255.
     pub fn from_vec(octets: Vec<u8>) -> Option<SessionId>
         ensures limit { IsSome result ↔ (is_short octets.items ≡ true) }
         ensures value { IfSome result (λ sid. sid ≡ octets.items) }
@@ -57,7 +57,7 @@ impl SessionId {
         &self.octets
     }
 
-    /// An equal name, where memory suffices.
+    /// An equal name. The only error is want of memory.
     pub fn copy(&self) -> Result<SessionId, AllocError>
         ensures { IfOk result (λ copy. copy ≡ self.now) }
     {
@@ -82,7 +82,8 @@ impl Eq for SessionId {
 }
 
 impl Hash for SessionId {
-    // At once: a hasher takes whole words of the octets, where it takes them one by one of a slice that is hashed as one.
+    // All octets are written at once, since a hasher then takes them as whole words. If the slice itself were hashed, it
+    // would take them one by one.
     ghost hash_input = { λ s. s ∷ [] };
 
     ghost respects_eq = { Prim.search (hashing, rules) };

@@ -1,12 +1,12 @@
-//! How many sessions a subscriber may have open.
+//! The number of sessions that a subscriber may have open.
 
 ghost use Rattle.std.specs.Prelude.{◌≡◌};
 ghost use Rattle.dcc_act.specs.Limits.{most_sessions};
 
 use crate::limits::{FEW_SESSIONS, MAX_SESSIONS};
 
-/// How many sessions a subscriber may have open at once. An initial request keeps the limit by which it was judged, so that a
-/// kept refusal stays a refusal where the limit grows.
+/// The number of sessions that a subscriber may have open at once. An initial request keeps the limit by which it was judged,
+/// so that a kept refusal stays a refusal if the limit grows.
 #[derive(Clone, Copy, Debug, PartialEq, Eq)]
 pub enum SessionLimit {
     /// 64 sessions.

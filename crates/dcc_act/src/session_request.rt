@@ -6,8 +6,7 @@ use crate::request_key::RequestKey;
 use crate::services::Services;
 use std::alloc::AllocError;
 
-/// A request of a session (RFC 8506, section 5): the session and its number, and the services that ask for units and
-/// report them.
+/// A request of a session (RFC 8506, section 5): its key, and the services that ask for units and report them.
 #[derive(Debug, Drop)]
 pub struct SessionRequest {
     pub key: RequestKey,
@@ -15,7 +14,7 @@ pub struct SessionRequest {
 }
 
 impl SessionRequest {
-    /// An equal request, where memory suffices.
+    /// An equal request. The only error is want of memory.
     pub fn copy(&self) -> Result<SessionRequest, AllocError>
         ensures { IfOk result (λ copy. copy ≡ self.now) }
     {

@@ -7,7 +7,7 @@ ghost use Rattle.dcc_act.specs.inner.Stored.{padded};
 use dcc_octets::are_visible;
 use std::marker::Model;
 
-/// Who an account is for: the type and the data of a Subscription-Id (RFC 8506, section 8.46).
+/// The owner of an account: the type and the data of a Subscription-Id (RFC 8506, section 8.46).
 #[derive(Clone, Copy, Debug)]
 pub struct Sub {
     kind: u8,
@@ -37,8 +37,8 @@ impl Model for Sub {
 }
 
 impl Sub {
-    /// The subscriber of this type (0 to 4, RFC 8506, section 8.47) and these data, or none where the type is another or
-    /// the data aren't 1 to 64 octets of visible ASCII (0x21 to 0x7E).
+    /// The subscriber of this type (0 to 4, RFC 8506, section 8.47) and this data. None if the type is another, or if
+    /// the data isn't 1 to 64 octets of visible ASCII (0x21 to 0x7E).
     pub fn new(kind: u8, name: &[u8]) -> Option<Sub>
         ensures { result ≡ (if is_sub kind name.now then Some (record { kind = kind; name = name.now }) else None) }
     {
@@ -69,14 +69,14 @@ impl Sub {
     }
 }
 
-/// Whether a subscriber may have this type and these data.
+/// Whether a subscriber may have this type and this data.
 fn is_sub(kind: u8, name: &[u8]) -> bool
     ensures { result ≡ is_sub kind name.now }
 {
     kind <= 4 && 1 <= name.len() && name.len() <= 64 && are_visible(name)
 }
 
-/// The octets, and zeros behind.
+/// The octets, and zeros behind them up to 64.
 fn with_zeros(name: &[u8]) -> [u8; 64]
     requires { length name.now ≤ 64 }
     ensures { result ≡ padded name.now }

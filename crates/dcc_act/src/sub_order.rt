@@ -54,7 +54,8 @@ impl PartialOrd for Sub {
 }
 
 impl Hash for Sub {
-    // The data at once and first: a hasher takes whole words of them, where it takes octets of a slice that is hashed as one.
+    // The data is written at once and first, since a hasher then takes it as whole words. If the slice itself were
+    // hashed, it would take octets one by one.
     ghost hash_input = { λ s. s.name ∷ fed.u8 s.kind };
 
     ghost respects_eq = { Prim.search (hashing, rules) };

@@ -9,7 +9,7 @@ use std::marker::Model;
 /// Money that is put into an account.
 #[derive(Clone, Copy, Debug, PartialEq, Eq)]
 pub struct TopUp {
-    /// What tells the top-up from the others of its subscriber.
+    /// The key of the top-up among those of its subscriber.
     pub ticket: u64,
     /// In minor units, 1 to 10^18.
     pub amount: u64,
@@ -29,7 +29,7 @@ impl Model for TopUp {
 }
 
 impl TopUp {
-    /// The top-up of this ticket and this amount in minor units, or none where the amount isn't 1 to 10^18.
+    /// The top-up of this ticket and this amount in minor units. None if the amount isn't 1 to 10^18.
     pub fn new(ticket: u64, amount: u64) -> Option<TopUp>
         ensures { result ≡ (if is_amount amount then Some (record { ticket = ticket; amount = amount }) else None) }
     {

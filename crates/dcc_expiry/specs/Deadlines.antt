@@ -4,20 +4,20 @@ use Rattle.std.specs.Option.{option_and_then}
 use Rattle.std.specs.Cmp.Lexicographic.{pointwise}
 use Rattle.dcc_expiry.specs.declared.row.Row.{Row}
 
--- sessions with their deadlines, and for how many more there is memory
+-- sessions with their deadlines, and the number of further deadlines for which there is memory
 pub record DueView : Type 0 where
   pub rows : List Row
   pub room : ℕ
 
--- how many sessions have a deadline
+-- the number of sessions with a deadline
 abbrev pub count_of : DueView → ℕ
 count_of due = length due.rows
 
--- whether two sessions are one: their names are the same octets
+-- two sessions are the same: their names are the same octets
 abbrev pub same_session : List ℕ → List ℕ → Bool
 same_session a b = pointwise nat_eq a b
 
--- the deadline of a session, where it has one
+-- the deadline of a session, if it has any
 abbrev pub deadline_in : List Row → List ℕ → Option ℕ
 deadline_in [] sid = None
 deadline_in (row ∷ rows) sid = if same_session row.session sid then Some row.deadline else deadline_in rows sid
@@ -25,7 +25,7 @@ deadline_in (row ∷ rows) sid = if same_session row.session sid then Some row.d
 unfoldable pub deadline_of : DueView → List ℕ → Option ℕ
 deadline_of due sid = deadline_in due.rows sid
 
--- a deadline that the moment hasn't come to; none where it has
+-- a deadline after the moment; none if it is the moment or before it
 abbrev pub later_than : ℕ → Option ℕ → Option ℕ
 later_than moment deadline = option_and_then (λ until. if nat_le until moment then None else Some until) deadline
 

@@ -40,7 +40,7 @@ impl Due {
         }
     }
 
-    /// The deadline of a session, where it has one. It takes no memory, and looks at each row until the session's.
+    /// The deadline of a session, if it has any. It takes no memory, and reads each row up to the session's.
     #[tactic(auto, unfolding(crate::specs::Deadlines::deadline_of))]
     pub fn deadline_of(&self, sid: &SessionId) -> Option<u64>
         ensures { result ≡ deadline_of self.now sid.now }
@@ -53,9 +53,9 @@ impl Due {
         None
     }
 
-    /// Gives a session this deadline, whatever it had before: a later one, an earlier one or none. Where memory is refused,
-    /// nothing has changed. It looks at each row until the session's, finds the new place by halving, and takes memory for the session's name
-    /// and, where there is no room, for rows.
+    /// Gives a session this deadline, whatever it had before: a later one, an earlier one or none. The only error is want of memory; then
+    /// nothing has changed. It reads each row up to the session's, and finds the new place by halving. It takes memory for the session's name
+    /// and, if there is no room, for rows.
     #[tactic(auto, unfolding(crate::specs::Deadlines::deadline_of))]
     pub fn set(&mut self, sid: &SessionId, deadline: u64) -> Result<(), AllocError>
         ensures set { OnOk result ((other : List ℕ) → deadline_of self.new other
@@ -68,7 +68,7 @@ impl Due {
         Ok(())
     }
 
-    /// The same with a name that is handed in, and with room for one more. It takes no memory.
+    /// The same with a name that is handed in, if there is room for one more. It takes no memory.
     #[tactic(auto, unfolding(crate::specs::Deadlines::deadline_of))]
     pub fn set_reserved(&mut self, sid: SessionId, deadline: u64)
         requires { 1 ≤ self.old.room }
@@ -85,7 +85,7 @@ impl Due {
         );
     }
 
-    /// Takes away a session's deadline, where it has one. It takes no memory, and looks at each row until the session's.
+    /// Takes away a session's deadline, if it has any. It takes no memory, and reads each row up to the session's.
     #[tactic(auto, unfolding(crate::specs::Deadlines::deadline_of))]
     pub fn clear(&mut self, sid: &SessionId)
         ensures { (other : List ℕ) → deadline_of self.new other ≡ (if same_session sid.now other then None else deadline_of self.old other) }
@@ -93,8 +93,8 @@ impl Due {
         take_out(&mut self.rows, sid);
     }
 
-    /// Takes away each deadline that is the moment or before it. It takes no memory, finds by halving how many these are, and
-    /// moves the others.
+    /// Takes away each deadline that is the moment or before it. It takes no memory, finds the number of these by halving,
+    /// and moves the others.
     #[tactic(auto, unfolding(crate::specs::Deadlines::deadline_of))]
     pub fn clear_due(&mut self, moment: Moment)
         ensures { (sid : List ℕ) → deadline_of self.new sid ≡ later_than moment (deadline_of self.old sid) }
@@ -102,8 +102,8 @@ impl Due {
         take_due(&mut self.rows, moment.seconds());
     }
 
-    /// A session that is due: one with the least deadline, if that is the moment or before it. It takes no memory, and looks
-    /// at one row.
+    /// A session that is due: a session with the least deadline, if that is the moment or before it. It takes no memory, and
+    /// reads one row.
     #[tactic(auto, unfolding(crate::specs::Deadlines::deadline_of))]
     pub fn first_due(&self, moment: Moment) -> Option<&SessionId>
         ensures due { IfSome result (λ sid. IsFirstDue self.now moment sid.now) }
@@ -116,8 +116,8 @@ impl Due {
         Some(&row.session)
     }
 
-    /// Larger ones, without deadlines yet, where these have no room for so many more, one at most. The only error is want of
-    /// memory.
+    /// Larger rows, without deadlines yet, if these have no room for `more` deadlines, 0 or 1. None if they have room. The
+    /// only error is want of memory.
     pub fn larger(&self, more: usize) -> Result<Option<Due>, AllocError>
         requires { more ≤ 1 }
         ensures empty { IfOk result (λ larger. ForSome larger (λ larger. count_of larger ≡ 0)) }
@@ -134,7 +134,7 @@ impl Due {
         }))
     }
 
-    /// Moves all deadlines into the larger ones, where there are some. It takes no memory.
+    /// Moves all deadlines into the larger rows, if there are any. It takes no memory.
     #[tactic(auto, unfolding(crate::specs::Deadlines::deadline_of))]
     pub fn grow(&mut self, larger: Option<Due>)
         requires empty { ForSome larger (λ larger. count_of larger ≡ 0) }
@@ -148,7 +148,8 @@ impl Due {
         }
     }
 
-    /// Equal deadlines, where memory suffices. It takes memory for the rows at once, and for the name of each session.
+    /// Equal deadlines. The only error is want of memory. It takes memory for the rows at once, and for the name of
+    /// each session.
     pub fn copy(&self) -> Result<Due, AllocError>
         ensures { IfOk result (λ copy. copy.rows ≡ self.now.rows) }
     {

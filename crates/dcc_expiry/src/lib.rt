@@ -1,9 +1,9 @@
-//! When the open sessions of one subscriber end, if nothing comes for them.
+//! The ends of one subscriber's open sessions, if no request comes for them.
 //!
-//! Stands on `dcc_act`, for the names of sessions and for moments. The contract that it gives: each session has one deadline
-//! at most, the one that was set last; setting or clearing it leaves every other session's as it was; and what is due at a
-//! moment is a session with the least deadline, where the moment has come to that. A refusal changes nothing. Memory for one
-//! more deadline can be brought before it is needed: with it none is taken where the deadline is set.
+//! Stands on `dcc_act`, for the names of sessions and for moments. The contract that it gives: each session has at most one
+//! deadline, the deadline that was set last. Setting or clearing it leaves every other session's as it was. A session that
+//! is due at a moment has the least deadline, and that is the moment or before it. A refusal changes nothing. Memory for one
+//! more deadline can be taken beforehand: setting the deadline then takes none.
 #![tactic(auto)]
 
 mod due;

@@ -15,15 +15,15 @@ pub struct Row {
     pub(crate) deadline: u64,
 }
 
-/// Where the session of this name stands. It looks at each row until the session's: a session that has its turn again stands in
-/// front, where no other's deadline was set before.
+/// The index of the session of this name. It reads each row up to the session's. If sessions take turns, the session whose turn
+/// it is has the earliest deadline and stands in front.
 fn place(rows: &[Row], sid: &SessionId) -> Option<usize>
     ensures { result ≡ position (λ (row : Row). same_session row.session sid.now) rows.now }
 {
     rows.iter().position(|row| row.session == *sid)
 }
 
-/// Takes a session out, where it is in. It takes no memory.
+/// Takes a session out, if it is in. It takes no memory.
 pub(crate) fn take_out(rows: &mut Vec<Row>, sid: &SessionId)
     requires { AreRows rows.old.items }
     ensures rows { AreRows rows.new.items }
@@ -37,8 +37,8 @@ pub(crate) fn take_out(rows: &mut Vec<Row>, sid: &SessionId)
     }
 }
 
-/// Takes out the sessions whose deadline is the moment or before it. It takes no memory, finds by halving how many these are,
-/// and moves the rows behind them.
+/// Takes out the sessions whose deadline is the moment or before it. It takes no memory, finds their number by halving, and
+/// moves the rows behind them.
 pub(crate) fn take_due(rows: &mut Vec<Row>, moment: u64)
     requires { AreRows rows.old.items }
     ensures rows { AreRows rows.new.items }

@@ -1,19 +1,19 @@
-//! What reports came to.
+//! The charges of reports.
 
-/// What a service's report came to, in minor units.
+/// The charge of a service's report, in minor units.
 #[derive(Clone, Copy, Debug, PartialEq, Eq)]
 pub struct Charged {
-    /// What was charged: none where nothing is reported, or where there is no tariff for it.
+    /// The charge. None if nothing is reported, or if there is no tariff for it.
     pub charge: Option<u64>,
-    /// What the charge exceeds the price of the grant that the service held by.
+    /// The part of the charge beyond the price of the grant that the service held; all of it if the service held none.
     pub overrun: u64,
 }
 
-/// What the reports of a request came to together, in minor units: at most 2 * 10^18, since the floor bears them.
+/// The charges of a request's reports together, in minor units: at most 2 * 10^18, since the floor bears them.
 #[derive(Clone, Copy, Debug, PartialEq, Eq)]
 pub struct Charges {
-    /// What was charged.
+    /// The sum of the charges.
     pub total: u64,
-    /// What each charge exceeds the price of the grant that its service held by, together.
+    /// The sum of the parts of the charges beyond the prices of the grants that their services held.
     pub overrun: u64,
 }

@@ -1,4 +1,4 @@
-//! What a report is charged.
+//! The charge of a report.
 
 ghost use Rattle.std.specs.Prelude.{◌≡◌, ◌-◌, ◌≤◌, pos, ◌-ℤ◌, option_map, unwrap_or};
 ghost use Rattle.std.specs.Option.{ForSome, option_map_or};
@@ -11,7 +11,7 @@ use dcc_act::Service;
 use dcc_escrow::{Parked, Pool};
 use dcc_tariff::{MAX_PRICE, Tariff, price_of};
 
-/// The price of the units that a service reports, where it reports some and there is a tariff.
+/// The price of the units that a service reports, if it reports any and there is a tariff.
 fn charge_at(service: &Service, tariff: Option<Tariff>) -> Option<u64>
     ensures value { result ≡ charge_at tariff service.now }
     ensures bound { ForSome result (λ cost. cost ≤ MAX_PRICE) }
@@ -21,7 +21,7 @@ fn charge_at(service: &Service, tariff: Option<Tariff>) -> Option<u64>
     Some(price_of(tariff, units))
 }
 
-/// Charges what a service reports, by the grant that was taken from its session with its hold, where it had one.
+/// Charges the units that a service reports, by the grant that was taken from its session with its hold, if it had any.
 pub(crate) fn settle(pool: &mut Pool, taken: Option<(Held, Parked)>, service: &Service) -> Charged
     requires hold { ForSome taken (λ taken. IsOf pool.old taken.1) }
     requires amount { ForSome taken (λ taken. taken.1.amount ≡ held_price taken.0) }

@@ -5,10 +5,10 @@ use thiserror::Error;
 /// Why a grant isn't made.
 #[derive(Clone, Copy, Debug, PartialEq, Eq, Error)]
 pub enum GrantFault {
-    /// What is free doesn't reach for its price.
+    /// The free money doesn't cover its price.
     #[error("what is free doesn't reach")]
     Short,
-    /// There was no memory for it.
+    /// Memory was short.
     #[error("out of memory")]
     Memory,
 }

@@ -1,4 +1,4 @@
-//! Grants that are about to be made, with memory for them.
+//! Grants that are about to be made, with the memory for them.
 
 ghost use Rattle.std.specs.Prelude.{◌≡◌, IfOk};
 
@@ -7,7 +7,7 @@ use dcc_escrow::Parked;
 use std::alloc::{AllocError, Global};
 use std::marker::Model;
 
-/// Grants that are about to be made, with memory for these and for some that a session holds already.
+/// Grants that are about to be made, with memory for these and for some that a session already holds.
 #[derive(Debug, Drop)]
 pub struct Granted {
     pub(crate) grants: Vec<Held>,
@@ -28,7 +28,7 @@ impl Model for Granted {
 }
 
 impl Granted {
-    /// These grants, with room for so many that a session holds already. The only error is want of memory.
+    /// These grants, with memory for so many that a session already holds. The only error is want of memory.
     pub fn new(alloc: Global, mut grants: Vec<Held>, room: usize) -> Result<Granted, AllocError>
         ensures { IfOk result (λ granted. granted ≡ record { grants = grants.items; room = room }) }
     {

@@ -13,7 +13,7 @@ pub struct Held {
     pub grant: Grant,
 }
 
-/// What the units of a grant cost at its tariff, in minor units: what its session holds of the pool for it.
+/// The price of a grant's units at its tariff, in minor units: the amount that its session holds of the pool for it.
 pub fn price_held(held: &Held) -> u64
     ensures value { result ≡ held_price held.now }
     ensures bound { result ≤ MAX_PRICE }

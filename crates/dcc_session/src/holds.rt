@@ -1,4 +1,4 @@
-//! Grants with their holds, in two lists of one order: the grants can be read as they lie.
+//! Grants with their holds, in two lists of one order, so that the grants can be read as they lie.
 
 ghost use Rattle.std.specs.Prelude.{◌≡◌, ◌≤◌, ◌-◌, ◌+◌, ◌++◌, ℕ, map, true, find, position, sum_by, length, vec_len, vec_capacity, option_map, IfSome};
 ghost use Rattle.std.specs.List.{All};
@@ -11,14 +11,14 @@ use crate::held::{Held, price_held};
 use dcc_act::ServiceKey;
 use dcc_escrow::{Parked, Pool};
 
-/// Where the grant of a service stands among these.
+/// The index of a service's grant among these.
 fn place(grants: &[Held], key: ServiceKey) -> Option<usize>
     ensures { result ≡ position (λ held. same_service held.key key) grants.now }
 {
     grants.iter().position(|held| held.key.is_same(key))
 }
 
-/// Takes the grant of a service out with its hold, where it has one.
+/// Takes the grant of a service out with its hold, if it has any.
 pub(crate) fn take_out(
     grants: &mut Vec<Held>,
     holds: &mut Vec<Parked>,
@@ -39,7 +39,7 @@ pub(crate) fn take_out(
     Some((held, hold))
 }
 
-/// Gives all of these back.
+/// Releases all of these.
 pub(crate) fn release_all(pool: &mut Pool, mut holds: Vec<Parked>)
     requires pool { All (λ (hold : HoldView). hold.pool ≡ pool.old.id) holds.items }
     requires reserved { sum_by amount_of holds.items ≤ pool.old.reserved }
@@ -51,7 +51,7 @@ pub(crate) fn release_all(pool: &mut Pool, mut holds: Vec<Parked>)
     }
 }
 
-/// Takes a hold of the pool for each grant, in order, and puts it behind those that are there.
+/// Takes a hold of the pool for each grant, in order, and puts it behind the holds that are there.
 pub(crate) fn take_all(pool: &mut Pool, grants: &[Held], holds: &mut Vec<Parked>)
     requires covered { IsCovered pool.old (prices grants.now) }
     requires room { vec_len holds.old + length grants.now ≤ vec_capacity holds.old }

@@ -8,7 +8,7 @@ use dcc_escrow::{Parked, Pool};
 use std::alloc::Global;
 use std::marker::Model;
 
-/// A session before its first request. It holds nothing.
+/// A session before its first request. It has no holds.
 #[derive(Debug, Drop)]
 pub struct Idle {
     pool: u64,
@@ -56,7 +56,7 @@ impl Idle {
     }
 }
 
-/// A session after its end. It holds nothing, and neither a report nor a grant can be made to it.
+/// A session after its end. It has no holds, and neither a report nor a grant can be made to it.
 #[derive(Debug, Drop)]
 pub struct Closed {
     _ended: (),

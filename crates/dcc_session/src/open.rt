@@ -23,9 +23,9 @@ use dcc_escrow::{Parked, Pool};
 use dcc_tariff::MAX_PRICE;
 use std::marker::Model;
 
-/// A session that is open: until when it is held, in seconds, and its live grants, each with a hold on the pool of just its
-/// price. It can't be let go: the only ways out are [`Open::end`] and [`Open::park`], and the compiler refuses a program in
-/// which one is lost.
+/// An open session: its deadline, in seconds, and its live grants, each with a hold on the pool of exactly its price. It
+/// can't be let go: the only ways out are [`Open::end`] and [`Open::park`], and the compiler rejects a program in which a
+/// session is lost.
 pub struct Open {
     pub(crate) pool: u64,
     pub(crate) deadline: u64,
@@ -45,21 +45,21 @@ impl Model for Open {
 }
 
 impl Open {
-    /// Until when the session is held, in seconds.
+    /// The moment until which the session is held, in seconds.
     pub fn deadline(&self) -> u64
         ensures { result ≡ self.now.deadline }
     {
         self.deadline
     }
 
-    /// How many live grants it has.
+    /// The number of its live grants.
     pub fn count(&self) -> usize
         ensures { result ≡ length self.now.grants }
     {
         self.grants.len()
     }
 
-    /// Its live grants, those of the latest request first. Each is one look.
+    /// Its live grants, those of the latest request first. Each grant is one look.
     pub fn grants(&self, looks: &mut Looks) -> &[Held]
         requires { looks.old + length self.now.grants < 2 ^ 64 }
         ensures value { result.now ≡ self.now.grants }
@@ -70,9 +70,10 @@ impl Open {
         &self.grants
     }
 
-    /// Gives back what the service holds, where it reports or asks for some, and charges what it reports, in minor units: at
-    /// the tariff of its live grant, or without one at its own. The charge may pass the hold, and the part beyond it is told.
-    /// A service that neither reports nor asks keeps what it holds. It takes no memory.
+    /// Gives back the service's hold, if the service reports units or asks for some, and charges the reported units, in minor
+    /// units: at the tariff of its live grant, or without a live grant at the service's own. The charge may pass the hold,
+    /// and the part beyond it is returned. The charge has to leave the pool's money at -10^18 or above. A service that
+    /// neither reports nor asks keeps its hold. It takes no memory.
     pub fn report(&mut self, pool: &mut Pool, service: &Service) -> Charged
         requires held { IsHeldOn pool.old self.old }
         requires floor { IsAboveFloor (pool.old.committed -ℤ pos (cost_in self.old.grants service.now)) }
@@ -97,7 +98,7 @@ impl Open {
         self.give_back(pool, service)
     }
 
-    /// Gives back what the service holds, and charges what it reports.
+    /// Gives back the service's hold, and charges the reported units.
     fn give_back(&mut self, pool: &mut Pool, service: &Service) -> Charged
         requires held { IsHeldOn pool.old self.old }
         requires floor { IsAboveFloor (pool.old.committed -ℤ pos (cost_in self.old.grants service.now)) }
@@ -117,9 +118,9 @@ impl Open {
         settle(pool, taken, service)
     }
 
-    /// Gives back what the services of a request hold that report or ask for some, and charges what they report, each as
-    /// [`Open::report`] does; the charges and what of them passes the holds are told together: at most 2 * 10^18 minor units, since
-    /// the floor bears them. It takes no memory.
+    /// Gives back the holds of a request's services that report units or ask for some, and charges the reported units, each as
+    /// [`Open::report`] does. It returns the sum of the charges, and the sum of their parts beyond the holds: at most 2 * 10^18
+    /// minor units, since the floor bears them. It takes no memory.
     #[tactic(auto, using(crate::proofs::Reporting::apart_of))]
     pub fn report_all(&mut self, pool: &mut Pool, services: &Services) -> Charges
         requires held { IsHeldOn pool.old self.old }
@@ -138,7 +139,7 @@ impl Open {
         self.report_each(pool, services.as_slice())
     }
 
-    /// The same of services with keys of their own.
+    /// The same for services with keys of their own.
     fn report_each(&mut self, pool: &mut Pool, services: &[Service]) -> Charges
         requires held { IsHeldOn pool.old self.old }
         requires apart { are_apart (map service_key services.now) ≡ true }
@@ -154,7 +155,7 @@ impl Open {
           reserved = pool.old.reserved - given_back self.old.grants services.now;
         } }
     {
-        // For its clause alone: the money is at most 10^18 before the charges, and owes at most as much after them.
+        // The call is made for its clause alone: the money is at most 10^18 before the charges, and at least -10^18 after them.
         pool.committed();
         let mut total = 0;
         let mut overrun = 0;
@@ -166,9 +167,9 @@ impl Open {
         Charges { total, overrun }
     }
 
-    /// Makes a grant to a service that has none, with a hold of the pool for its price. [`GrantFault::Short`] where what is
-    /// free doesn't reach; [`GrantFault::Memory`] where it does and memory is refused. A refusal gives the hold back and
-    /// leaves all as it was.
+    /// Makes a grant to a service that has none, with a hold of the pool for its price. [`GrantFault::Short`] if the free
+    /// money doesn't cover the price; [`GrantFault::Memory`] if it does and memory is refused. An error leaves session and
+    /// pool as before.
     pub fn grant(&mut self, pool: &mut Pool, held: Held) -> Result<(), GrantFault>
         requires pool { self.old.pool ≡ pool.old.id }
         requires free { live_in self.old.grants held.key ≡ None }
@@ -192,8 +193,8 @@ impl Open {
         Ok(())
     }
 
-    /// Makes all grants of a request, for which memory was taken before, each with a hold of the pool for its price. It takes
-    /// no memory.
+    /// Makes all grants of a request, for which memory was taken before, each with a hold of the pool for its price. The free
+    /// money has to cover their prices, and none of their services may have a live grant. It takes no memory.
     pub fn grant_all(&mut self, pool: &mut Pool, granted: Granted)
         requires pool { self.old.pool ≡ pool.old.id }
         requires apart { are_apart (map key_of_held granted.grants) ≡ true }
@@ -222,7 +223,7 @@ impl Open {
         self.deadline = deadline;
     }
 
-    /// Ends the session, and gives back all that it holds. It takes no memory.
+    /// Ends the session, and gives back all its holds. It takes no memory.
     pub fn end(self, pool: &mut Pool) -> Closed
         requires { IsHeldOn pool.old self }
         ensures { pool.new ≡ record pool.old { reserved = pool.old.reserved - prices self.grants } }
@@ -237,7 +238,7 @@ impl Open {
         Closed::new()
     }
 
-    /// Puts the session away as data. What it holds stays reserved.
+    /// Puts the session away as data. Its holds stay reserved.
     pub fn park(self) -> ParkedSession
         ensures { result ≡ self }
     {

@@ -10,8 +10,7 @@ use dcc_act::Looks;
 use dcc_escrow::Parked;
 use std::marker::Model;
 
-/// An open session that is put away as data, with its holds. What it holds stays reserved; it can't be copied, so that no hold
-/// is parked twice.
+/// An open session that is put away as data, with its holds. These stay reserved. It can't be copied, so that no hold is parked twice.
 #[derive(Drop)]
 pub struct ParkedSession {
     pub(crate) pool: u64,
@@ -32,21 +31,21 @@ impl Model for ParkedSession {
 }
 
 impl ParkedSession {
-    /// Until when the session is held, in seconds.
+    /// The moment until which the session is held, in seconds.
     pub fn deadline(&self) -> u64
         ensures { result ≡ self.now.deadline }
     {
         self.deadline
     }
 
-    /// How many live grants it has.
+    /// The number of its live grants.
     pub fn count(&self) -> usize
         ensures { result ≡ length self.now.grants }
     {
         self.grants.len()
     }
 
-    /// Its live grants, those of the latest request first. Each is one look.
+    /// Its live grants, those of the latest request first. Each grant is one look.
     pub fn grants(&self, looks: &mut Looks) -> &[Held]
         requires { looks.old + length self.now.grants < 2 ^ 64 }
         ensures value { result.now ≡ self.now.grants }
@@ -57,7 +56,7 @@ impl ParkedSession {
         &self.grants
     }
 
-    /// Takes the session up again.
+    /// Makes the session open again.
     pub fn resume(self) -> Open
         ensures { result ≡ self }
     {

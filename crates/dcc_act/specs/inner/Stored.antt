@@ -1,4 +1,4 @@
--- How the data of a subscriber are stored.
+-- How the data of a subscriber is stored.
 use Rattle.std.specs.Prelude.{ℕ, ◌≡◌, ◌-◌, ◌≤◌, List, ◌++◌, length, take, replicate}
 use Rattle.std.proofs.Common.{sym, arith}
 use Rattle.std.proofs.lemmas.List.{length-take-le}
@@ -7,7 +7,7 @@ use Rattle.std.proofs.lemmas.List.{length-take-le}
 abbrev pub padded : List ℕ → List ℕ
 padded name = name ++ replicate (64 - length name) 0
 
--- what is stored can be got back from what a contract sees
+-- the stored value is recovered from the value that a contract sees
 pub length_kept : (len : ℕ) (octets : List ℕ) → len ≤ 64 → length octets ≡ 64 → length (take len octets) ≡ len
 length_kept len octets short whole = length-take-le len octets (omega arith)
 

@@ -5,7 +5,7 @@ use Rattle.dcc_act.specs.ServiceKeys.{are_apart}
 use Rattle.dcc_session.specs.declared.held.Held.{Held}
 use Rattle.dcc_session.specs.Grants.{key_of_held, held_price}
 
--- the hold that a grant has: just its price
+-- the hold of a grant: exactly its price
 abbrev pub hold_of : ℕ → Held → HoldView
 hold_of pool held = record { pool = pool; amount = held_price held }
 
