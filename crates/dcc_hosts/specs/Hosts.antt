@@ -4,7 +4,7 @@ use Rattle.dcc_act.specs.declared.act.Act.{Act}
 use Rattle.dcc_act.specs.declared.act.Kind.{Kind}
 use Rattle.dcc_act.specs.declared.act.Kind.TheVariants.{Initial}
 
--- an initial request without its peer's host; nothing else has one
+-- an initial request without its peer's host; no other act has a host
 abbrev pub unhosted_kind : Kind → Kind
 unhosted_kind (Initial request limit host) = Initial request limit None
 unhosted_kind kind = kind

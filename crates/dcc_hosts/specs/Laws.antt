@@ -1,4 +1,4 @@
--- What the hosts of peers change of an account, and of what acts come to: nothing.
+-- The hosts of peers change neither an account nor the outcomes of its acts.
 use Rattle.std.specs.Prelude.{◌≡◌, ℕ, List, map}
 use Rattle.dcc_tariff.specs.Terms.{TermsView}
 use Rattle.dcc_act.specs.declared.act.Act.{Act}
@@ -7,13 +7,13 @@ use Rattle.dcc_model.specs.Outcomes.{after, is_new, place, outcome, acts, kept, 
 use Rattle.dcc_model.specs.Entries.{entries}
 use Rattle.dcc_hosts.specs.Hosts.{unhosted, IsAlike, AreAlike}
 
--- A list and one more act, against the same without hosts.
+-- A list and one more act, against the same list and act without hosts.
 
--- the act comes to the same
+-- the act has the same outcome
 abbrev pub AfterIsUnhosted : Type 0
 AfterIsUnhosted = (terms : TermsView) (xs : List Act) (act : Act) → after terms (map unhosted xs) (unhosted act) ≡ after terms xs act
 
--- it is new of both or of neither
+-- the act is new after both or after neither
 abbrev pub NewIsUnhosted : Type 0
 NewIsUnhosted = (terms : TermsView) (xs : List Act) (act : Act) → is_new terms (map unhosted xs) (unhosted act) ≡ is_new terms xs act
 
@@ -33,7 +33,7 @@ ActsAreUnhosted = (terms : TermsView) (xs : List Act) → acts terms (map unhost
 abbrev pub KeptAreUnhosted : Type 0
 KeptAreUnhosted = (terms : TermsView) (xs : List Act) (key : RequestKey) → kept terms (map unhosted xs) key ≡ kept terms xs key
 
--- the funds, what is overrun, what is free, and the entries are the same
+-- the funds, the overrun, the free money and the entries are the same
 pub record IsSameAccount (terms : TermsView) (xs ys : List Act) : Type 0 where
   pub same_funds : funds terms xs ≡ funds terms ys
   pub same_overrun : overrun terms xs ≡ overrun terms ys
@@ -44,7 +44,7 @@ pub record IsSameAccount (terms : TermsView) (xs ys : List Act) : Type 0 where
 abbrev pub AccountIsUnhosted : Type 0
 AccountIsUnhosted = (terms : TermsView) (xs : List Act) → IsSameAccount terms (map unhosted xs) xs
 
--- The same of two lists, and of two acts, that differ in hosts alone.
+-- The same for two lists, and for two acts, that differ in hosts alone.
 
 abbrev pub AfterIsAlike : Type 0
 AfterIsAlike = (terms : TermsView) (xs ys : List Act) (act other : Act) → AreAlike xs ys → IsAlike act other → after terms xs act ≡ after terms ys other

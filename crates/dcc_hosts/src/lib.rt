@@ -1,8 +1,8 @@
-//! The hosts of peers change nothing of what acts come to.
+//! The hosts of peers change no outcome of an act.
 //!
-//! Stands on `dcc_model`, `dcc_act` and `dcc_tariff`. An initial request keeps its peer's host, so that it is known later who
-//! opened its session. The contract that this crate gives: no outcome looks at a host, nor do the account, the places of acts
-//! and which acts are made.
+//! Stands on `dcc_model`, `dcc_act` and `dcc_tariff`. An initial request keeps its peer's host, so that the opener of its
+//! session is known later. The contract that this crate gives: no outcome depends on a host, nor does the account, the place
+//! of an act, or whether an act is made.
 #![tactic(auto)]
 
 mod laws;

@@ -32,7 +32,7 @@ top_up_entry place moment top_up =
       name = Ticket top_up.ticket;
     }
 
--- a direct debit's entry, also where it cost nothing
+-- a direct debit's entry, also if it cost nothing
 abbrev pub debit_entry : ℕ → ℕ → OneTimeEvent → Grant → Entry
 debit_entry place moment event grant =
     record {
@@ -45,7 +45,7 @@ debit_entry place moment event grant =
       name = Session event.key.sid;
     }
 
--- a refund's entry, also where it gave back nothing
+-- a refund's entry, also if it refunded nothing
 abbrev pub refund_entry : ℕ → ℕ → OneTimeEvent → Grant → Entry
 refund_entry place moment event grant =
     record {
@@ -58,7 +58,7 @@ refund_entry place moment event grant =
       name = Session event.key.sid;
     }
 
--- a charged report's entry, also where it cost nothing
+-- a charged report's entry, also if it cost nothing
 abbrev pub charge_entry : ℕ → ℕ → Sid → ServiceView → ℕ → Entry
 charge_entry place moment sid service cost =
     record {
@@ -89,7 +89,7 @@ entries_of_kind terms past place moment kind outcome =
 abbrev pub entries_by : TermsView → List Done → Done → List Entry
 entries_by terms past done = entries_of_kind terms past (length past + 1) done.act.moment done.act.kind done.outcome
 
--- the entries that one more act adds: none where it isn't made
+-- the entries that one more act adds: none if it isn't made
 abbrev pub entries_with : TermsView → List Done → Act → List Entry
 entries_with terms past act = if is_made terms past act then entries_by terms past (record { act = act; outcome = judged terms past act }) else []
 
@@ -102,7 +102,7 @@ entries_of terms (done ∷ past) = entries_of terms past ++ entries_by terms pas
 unfoldable pub entries : TermsView → List Act → List Entry
 entries terms all = entries_of terms (history terms (reverse all))
 
--- what the entries add up to
+-- the sum of the entries
 abbrev pub sum_of : List Entry → ℤ
 sum_of [] = pos 0
 sum_of (first ∷ rest) = first.amount +ℤ sum_of rest

@@ -1,4 +1,4 @@
--- By what the acts of one subscriber are told apart.
+-- The keys of the acts of one subscriber.
 use Rattle.std.specs.Prelude.{ℕ, Bool, true, false, ◌&&◌, ◌||◌, ◌==◌, bytes_eq, Option, Some, None}
 use Rattle.dcc_act.specs.declared.act.Kind.{Kind}
 use Rattle.dcc_act.specs.declared.act.Kind.TheVariants.{TopUp, Initial, Update, Termination, Event, Expiry}
@@ -13,7 +13,7 @@ request_key (Termination request) = Some request.key
 request_key (Event event) = Some event.key
 request_key Expiry = None
 
--- a top-up has a ticket, and nothing else has
+-- a top-up has a ticket, and no other act has
 abbrev pub ticket : Kind → Option ℕ
 ticket (TopUp top_up) = Some top_up.ticket
 ticket (Initial request limit host) = None

@@ -1,5 +1,5 @@
--- Funds, overrun, what is reserved and what is free. `past` is the acts that were made, the latest first, each with what it
--- came to; what an act did to money is a function of the past before it, of the act and of what it came to.
+-- Funds, overrun, reserved money and free money. `past` is the acts that were made, the latest first, each with its outcome. An
+-- act's change of money is a function of the past before it, of the act and of its outcome.
 use Rattle.std.specs.Prelude.{ℕ, ◌+◌, ◌-◌, ℤ, pos, ◌+ℤ◌, ◌-ℤ◌, Bool, not, ◌&&◌, if◌then◌else◌, List, [], ◌∷◌, filter, sum_by, bytes_eq, Option, Some, None, is_some, is_none, option_map, unwrap_or}
 use Rattle.std.specs.List.{list_any}
 use Rattle.std.specs.Option.{option_and_then, option_or, option_map_or}
@@ -21,34 +21,34 @@ use Rattle.dcc_model.specs.declared.done.Done.{Done}
 use Rattle.dcc_model.specs.Results.{succeeded, is_added}
 use Rattle.dcc_model.specs.Sessions.{Sid, Live, live, lives, named, looked_at, accepted_by}
 
--- so many units of a kind at a tariff, where there is each of the three
+-- so many units of a kind at a tariff, if all three are there
 abbrev pub rated : Option UnitKind → Option ℕ → Option TariffView → Option Grant
 rated (Some unit) (Some units) (Some tariff) = Some (record { unit = unit; units = units; tariff = tariff })
 rated _ _ _ = None
 
--- the units that a service asks for, at the tariff of its moment, where there is one
+-- the units that a service asks for, at the tariff of its moment, if it asks for any and there is a tariff
 abbrev pub asked_units : ServiceView → Option Grant
 asked_units service = rated service.unit service.asked service.tariff
 
--- what granted units cost, in minor units
+-- the price of granted units, in minor units
 abbrev pub grant_price : Grant → ℕ
 grant_price grant = price grant.tariff grant.units
 
--- what an event charges that succeeds: for a direct debit, the units that it asks for (RFC 8506, section 6.3)
+-- the units that a successful event charges: those that a direct debit asks for (RFC 8506, section 6.3)
 abbrev pub charged_by : Action → Option Grant → Option Grant
 charged_by DirectDebiting asked = asked
 charged_by RefundAccount asked = None
 charged_by CheckBalance asked = None
 charged_by PriceEnquiry asked = None
 
--- and what it gives back: for a refund, the units that it asks for (section 6.4)
+-- the units that a successful event refunds: those that a refund asks for (section 6.4)
 abbrev pub refunded_by : Action → Option Grant → Option Grant
 refunded_by DirectDebiting asked = None
 refunded_by RefundAccount asked = asked
 refunded_by CheckBalance asked = None
 refunded_by PriceEnquiry asked = None
 
--- what an event charged that came to this outcome, and what it gave back
+-- the units that an event with this outcome charged, and those that it refunded
 abbrev pub charged_event : OneTimeEvent → Outcome → Option Grant
 charged_event event outcome = if succeeded outcome then charged_by event.action (asked_units event.service) else None
 
@@ -64,7 +64,7 @@ abbrev pub charge_tariff : TermsView → List Done → Sid → ServiceView → O
 charge_tariff terms past sid service =
     option_or (option_map (λ (grant : Grant). grant.tariff) (live terms past sid (service_key service))) service.tariff
 
--- the charge for a service's report, where there is one and a tariff for it
+-- the charge for a service's report, if there is a report and a tariff for it
 abbrev pub charge : TermsView → List Done → Sid → ServiceView → Option ℕ
 charge terms past sid service =
     option_and_then (λ units. option_map (λ tariff. price tariff units) (charge_tariff terms past sid service)) service.used
@@ -73,40 +73,40 @@ charge terms past sid service =
 abbrev pub is_unrated : TermsView → List Done → Sid → ServiceView → Bool
 is_unrated terms past sid service = is_some service.used && is_none (charge terms past sid service)
 
--- the charges of a request's reports together
+-- the sum of the charges of a request's reports
 abbrev pub charges : TermsView → List Done → Sid → List ServiceView → ℕ
 charges terms past sid services = sum_by (λ service. unwrap_or (charge terms past sid service) 0) services
 
--- what each charge exceeds the price of the live grant by, together
+-- the sum of the parts of the charges beyond the prices of the live grants
 abbrev pub overruns : TermsView → List Done → Sid → List ServiceView → ℕ
 overruns terms past sid services = sum_by (λ service. unwrap_or (charge terms past sid service) 0 - live_price terms past sid (service_key service)) services
 
--- what an act added to the funds: a top-up its amount, and a refund the price of the units that it asked for
+-- the money that an act added to the funds: a top-up its amount, and a refund the price of the units that it asked for
 abbrev pub credit : Kind → Outcome → ℕ
 credit (TopUp top_up) outcome = if is_added outcome then top_up.amount else 0
 credit (Event event) outcome = option_map_or grant_price (refunded_event event outcome) 0
 credit _ outcome = 0
 
--- what a direct debit took from them
+-- the money that a direct debit took from the funds
 abbrev pub debit : Kind → Outcome → ℕ
 debit (Event event) outcome = option_map_or grant_price (charged_event event outcome) 0
 debit _ outcome = 0
 
--- what an accepted update or termination charged
+-- the charge of an accepted update or termination
 abbrev pub charged : TermsView → List Done → Done → ℕ
 charged terms past done = option_map_or (λ sid. charges terms past sid (looked_at done.act.kind)) (accepted_by done.act.kind done.outcome) 0
 
--- and by how much its charges exceeded the live grants
+-- the part of its charges beyond the prices of the live grants
 abbrev pub overran : TermsView → List Done → Done → ℕ
 overran terms past done = option_map_or (λ sid. overruns terms past sid (looked_at done.act.kind)) (accepted_by done.act.kind done.outcome) 0
 
--- the funds are what the acts added, less what they took
+-- the funds: the money that the acts added, less the money that they took
 abbrev pub funds_of : TermsView → List Done → ℤ
 funds_of terms [] = pos 0
 funds_of terms (done ∷ past) =
     (funds_of terms past +ℤ pos (credit done.act.kind done.outcome)) -ℤ pos (debit done.act.kind done.outcome + charged terms past done)
 
--- what was charged beyond what was reserved, over all acts
+-- the overrun of all acts
 abbrev pub overrun_of : TermsView → List Done → ℕ
 overrun_of terms [] = 0
 overrun_of terms (done ∷ past) = overrun_of terms past + overran terms past done
@@ -114,27 +114,27 @@ overrun_of terms (done ∷ past) = overrun_of terms past + overran terms past do
 abbrev pub held_price : Live → ℕ
 held_price held = grant_price held.grant
 
--- what is reserved is the price of each grant that is live
+-- the reserved money: the prices of all live grants
 abbrev pub reserved_of : TermsView → List Done → ℕ
 reserved_of terms past = sum_by held_price (lives terms past)
 
--- the least value that open requests can leave the funds at (the infimum of O'Neil's escrow method)
+-- the least value at which open requests can leave the funds (the infimum of O'Neil's escrow method)
 abbrev pub free_of : TermsView → List Done → ℤ
 free_of terms past = funds_of terms past -ℤ pos (reserved_of terms past)
 
--- a request of a session puts others in the place of a service's grant
+-- a request of a session replaces a service's grant
 abbrev pub is_replaced : Sid → List ServiceView → Live → Bool
 is_replaced sid services held = bytes_eq sid held.sid && list_any (same_service held.key) (named services)
 
--- the prices of the live grants but those
+-- the prices of the live grants that a request doesn't replace
 abbrev pub reserved_beside : TermsView → List Done → Sid → List ServiceView → ℕ
 reserved_beside terms past sid services = sum_by held_price (filter (λ held. not (is_replaced sid services held)) (lives terms past))
 
--- the price of a grant that was made
+-- the price of an answer's grant, or 0
 abbrev pub made_price : ServiceAnswer → ℕ
 made_price answer = option_map_or grant_price answer.grant 0
 
--- the money for the next service's grant: the funds less the request's charges, less the live grants that it leaves, less
+-- the room of the next service's grant: the funds less the request's charges, less the live grants that it doesn't replace, less
 -- the grants that it made to the services before
 abbrev pub room : TermsView → List Done → Sid → List ServiceView → List ServiceAnswer → ℤ
 room terms past sid services before =

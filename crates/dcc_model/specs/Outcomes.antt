@@ -1,4 +1,4 @@
--- What each act of one subscriber's list comes to. `past` is the acts that were made, the latest first.
+-- The outcome of each act of one subscriber's list. `past` is the acts that were made, the latest first.
 use Rattle.std.specs.Prelude.{ℕ, zero, suc, ◌+◌, ⊤, ℤ, pos, ◌+ℤ◌, ◌-ℤ◌, neg_ℤ, int_lt, Bool, true, false, not, ◌&&◌, ◌||◌, ◌==◌, nat_le, nat_lt, if◌then◌else◌, List, [], ◌∷◌, ◌++◌, length, map, reverse, take, count_by, Option, Some, None, is_none, option_map, find, slice_get, unwrap_or}
 use Rattle.std.specs.List.{list_any}
 use Rattle.std.specs.Option.{option_map_or}
@@ -41,47 +41,47 @@ has_account past = list_any (λ done. is_top_up done.act.kind) past
 abbrev pub has_top_up : List Act → Bool
 has_top_up all = list_any (λ act. is_top_up act.kind) all
 
--- a request counts once there is an account, all else always
+-- a request counts once there is an account, any other act always
 abbrev pub counts : List Done → Kind → Bool
 counts past kind = has_account past || is_none (request_key kind)
 
--- the act of this key that was made
+-- the made act that has the key of this kind
 abbrev pub first_of : List Done → Kind → Option Done
 first_of past kind = find (λ done. same_key kind done.act.kind) past
 
--- what a service says of itself in its answer
+-- the answer with a service's own group, identifiers and form
 abbrev pub answer_with : Service → ResultCode → Option Grant → Bool → ServiceAnswer
 answer_with service code grant last =
     record { group = service.group; ids = service.ids; form = service.form; result = code; grant = grant; is_final = last }
 
--- so many of the units that are asked for, the last where they are less; none where that is nothing
+-- so many of the units that are asked for; the grant is final if they are fewer, and there is no grant of 0 units
 abbrev pub granted : Service → Grant → ℕ → ServiceAnswer
 granted service asked units =
     if units == 0 then answer_with service CreditLimitReached None false
     else answer_with service Success (Some (record asked { units = units })) (nat_lt units asked.units)
 
--- a service is granted the most of what it asks for that its room covers; without a tariff there is no price
+-- a service is granted the most of the units that it asks for that its room covers; without a tariff there is no price
 abbrev pub granted_within : Service → ℤ → Option Grant → ServiceAnswer
 granted_within service space None = answer_with service RatingFailed None false
 granted_within service space (Some asked) = granted service asked (best asked.tariff asked.units space)
 
--- a service that asks for nothing succeeds
+-- a service that asks for no units succeeds
 abbrev pub asked_answer : Service → ℤ → ServiceAnswer
 asked_answer service space = if is_none service.asked then answer_with service Success None false else granted_within service space (asked_units service)
 
--- a report that no tariff charges fails, and nothing is granted to its service
+-- if no tariff charges a service's report, the result is a failure, and nothing is granted
 abbrev pub answer_to : TermsView → List Done → Sid → Service → ℤ → ServiceAnswer
 answer_to terms past sid service space =
     if is_unrated terms past sid service then answer_with service RatingFailed None false else asked_answer service space
 
--- the answers to a request's services in order, each in the room that those before leave
+-- the answers to a request's services in order, each in the room that the services before leave
 abbrev pub answers : TermsView → List Done → Sid → List Service → (before : List ServiceAnswer) → List Service → List ServiceAnswer
 answers terms past sid services before [] = []
 answers terms past sid services before (service ∷ rest) =
     let answer = answer_to terms past sid service (room terms past sid services before) in
     answer ∷ answers terms past sid services (before ++ answer ∷ []) rest
 
--- the command's result is success, or that of the service that stands alone at the message's level
+-- the command's result: that of a service at the message's level, which is the only service, or else success
 abbrev pub command_result : List ServiceAnswer → ResultCode
 command_result (answer ∷ []) = elim answer.form as (λ _. ResultCode) [ Single ↦ answer.result | Multi ↦ Success ]
 command_result _ = Success
@@ -93,7 +93,7 @@ answered type key services =
 abbrev pub served : TermsView → List Done → RequestType → RequestKey → List Service → Outcome
 served terms past type key services = answered type key (answers terms past key.sid services [] services)
 
--- an answer that carries nothing but its result
+-- an answer with its result alone
 abbrev pub bare : RequestType → RequestKey → ResultCode → Outcome
 bare type key code = Answered (record { request = type; key = key; result = code; services = []; cost = None; balance = None })
 
@@ -108,7 +108,7 @@ begun terms past key limit services =
 abbrev pub is_below_floor : ℤ → Bool
 is_below_floor funds = int_lt funds (neg_ℤ CEILING)
 
--- these charges would take the funds there
+-- these charges would take the funds below the floor
 abbrev pub is_under : ℤ → ℕ → Bool
 is_under funds charged = is_below_floor (funds -ℤ pos charged)
 
@@ -119,7 +119,7 @@ reported terms past type key services =
     else if is_under (funds_of terms past) (charges terms past key.sid services) then bare type key UnableToComply
     else served terms past type key services
 
--- how many sessions an expiry at this moment ends
+-- the number of sessions that an expiry at this moment ends
 abbrev pub expired : TermsView → List Done → ℕ → ℕ
 expired terms past moment = count_by (λ sid. nat_le (deadline terms past sid) moment) (open_sessions terms past)
 
@@ -139,11 +139,11 @@ event_answer event found =
 abbrev pub result_of : ResultCode → EventResult
 result_of code = record { result = code; grant = None; cost = None; balance = None }
 
--- this much more in the funds would lift them above the ceiling
+-- so much more money would lift the funds above the ceiling
 abbrev pub is_over : ℤ → ℕ → Bool
 is_over funds amount = int_lt CEILING (funds +ℤ pos amount)
 
--- a direct debit is made where its price is nothing or within what is free, and then grants what it asks (RFC 8506, section 6.3)
+-- a direct debit is made if its price is 0 or within the free money, and then grants the units that it asks for (RFC 8506, section 6.3)
 abbrev pub debited : ℤ → Grant → EventResult
 debited free asked =
     if covers free (grant_price asked) then record { result = Success; grant = Some asked; cost = None; balance = None }
@@ -153,14 +153,14 @@ debited free asked =
 abbrev pub refund_made : ℤ → Grant → EventResult
 refund_made funds asked = if is_over funds (grant_price asked) then result_of UnableToComply else result_of Success
 
--- whether a direct debit would be made is told, and nothing reserved (section 6.2)
+-- a balance check reports whether a direct debit would be made, and reserves nothing (section 6.2)
 abbrev pub balance_for : ℤ → Grant → Balance
 balance_for free asked = if covers free (grant_price asked) then EnoughCredit else NoCredit
 
 abbrev pub checked : ℤ → Grant → EventResult
 checked free asked = record { result = Success; grant = None; cost = None; balance = Some (balance_for free asked) }
 
--- the price is told (section 6.1)
+-- a price enquiry reports the price (section 6.1)
 abbrev pub enquired : Grant → EventResult
 enquired asked = record { result = Success; grant = None; cost = Some (grant_price asked); balance = None }
 
@@ -170,12 +170,12 @@ acted funds free RefundAccount asked = refund_made funds asked
 acted funds free CheckBalance asked = checked free asked
 acted funds free PriceEnquiry asked = enquired asked
 
--- where there is no tariff there is no price, whatever is asked
+-- without a tariff there is no price, whatever the action is
 abbrev pub event_result : ℤ → ℤ → Action → Option Grant → EventResult
 event_result funds free action None = result_of RatingFailed
 event_result funds free action (Some asked) = acted funds free action asked
 
--- what an event comes to at these funds, of which so much is free
+-- the outcome of an event at these funds and this free money
 abbrev pub event_outcome : ℤ → ℤ → OneTimeEvent → Outcome
 event_outcome funds free event = event_answer event (event_result funds free event.action (asked_units event.service))
 
@@ -183,7 +183,7 @@ event_outcome funds free event = event_answer event (event_result funds free eve
 abbrev pub top_up_outcome : ℤ → TopUp → Outcome
 top_up_outcome funds top_up = if is_over funds top_up.amount then Ceiling else Added
 
--- what an act comes to that is made
+-- the outcome of an act that is made
 abbrev pub decided : TermsView → List Done → (moment : ℕ) → Kind → Outcome
 decided terms past moment (kind.TopUp top_up) = top_up_outcome (funds_of terms past) top_up
 decided terms past moment (kind.Initial opening limit host) = begun terms past opening.key limit (looked_at (kind.Initial opening limit host))
@@ -192,7 +192,7 @@ decided terms past moment (kind.Termination report) = reported terms past reques
 decided terms past moment (kind.Event event) = event_outcome (funds_of terms past) (free_of terms past) event
 decided terms past moment kind.Expiry = Expired (expired terms past moment)
 
--- what a request comes to that has no account, under its own type and key; a top-up and an expiry need none
+-- the outcome of a request without an account, under its own type and key; a top-up and an expiry need no account
 abbrev pub unknown_of : Kind → Option Outcome
 unknown_of (kind.TopUp top_up) = None
 unknown_of (kind.Initial opening limit host) = Some (Unknown request.Initial opening.key)
@@ -201,7 +201,7 @@ unknown_of (kind.Termination report) = Some (Unknown request.Termination report.
 unknown_of (kind.Event event) = Some (Unknown request.Event event.key)
 unknown_of kind.Expiry = None
 
--- a repeat comes to what the first came to
+-- a repeat has the outcome of the first act
 abbrev pub settled : TermsView → List Done → Act → Outcome
 settled terms past act = option_map_or (λ (done : Done). done.outcome) (first_of past act.kind) (decided terms past act.moment act.kind)
 
@@ -210,21 +210,21 @@ abbrev pub judged : TermsView → List Done → Act → Outcome
 judged terms past act =
     if has_account past then settled terms past act else unwrap_or (unknown_of act.kind) (settled terms past act)
 
--- what is made is each act that counts and whose key is new, and each expiry that ends a session
+-- an act is made if it counts and its key is new, and an expiry if it ends a session
 abbrev pub is_made : TermsView → List Done → Act → Bool
 is_made terms past act =
     if is_expiry act.kind then nat_lt 0 (expired terms past act.moment) else counts past act.kind && is_none (first_of past act.kind)
 
--- the acts that were made, and one more where it is made
+-- the acts that were made, and one more if it is made
 abbrev pub with_act : TermsView → List Done → Act → List Done
 with_act terms past act = if is_made terms past act then record { act = act; outcome = judged terms past act } ∷ past else past
 
--- the acts that were made, each with what it came to; both this list and the one that it looks at have the latest first
+-- the acts that were made, each with its outcome; this list and the given one have the latest first
 abbrev pub history : TermsView → List Act → List Done
 history terms [] = []
 history terms (act ∷ earlier) = with_act terms (history terms earlier) act
 
--- of an act that was made, the act, and what it came to
+-- of a made act: the act, and its outcome
 abbrev pub act_made : Done → Act
 act_made done = done.act
 
@@ -235,43 +235,42 @@ outcome_of done = done.outcome
 abbrev pub kept_of : List Done → RequestKey → Option Outcome
 kept_of past key = option_map outcome_of (find (λ done. same_request (Some key) (request_key done.act.kind)) past)
 
--- the place among acts, the latest first and counted from the earliest, of the one of this key
+-- the place of the act of this key among acts, the latest first; the place counts from the earliest
 abbrev pub place_of_key : List Act → Kind → Option ℕ
 place_of_key [] kind = None
 place_of_key (act ∷ earlier) kind = if same_key kind act.kind then Some (length earlier + 1) else place_of_key earlier kind
 
--- the place of one more act: a new one stands behind all others, and another where that of its key stands
+-- the place of one more act: a new act stands behind all others, and another act where the act of its key stands
 abbrev pub place_of : TermsView → List Done → Act → Option ℕ
 place_of terms past act = if is_made terms past act then Some (length past + 1) else place_of_key (map act_made past) act.kind
 
--- what one more act comes to after a list of acts in order
+-- the outcome of one more act after a list of acts in order
 unfoldable pub after : TermsView → List Act → Act → Outcome
 after terms before act = judged terms (history terms (reverse before)) act
 
--- whether it is made
+-- whether that act is made
 unfoldable pub is_new : TermsView → List Act → Act → Bool
 is_new terms before act = is_made terms (history terms (reverse before)) act
 
--- its place among the acts then, counted from 1, or that of the act that was made with its key; a request of an unknown
--- user and an expiry that ends nothing have no place
+-- its place among the made acts, counted from 1, or that of the act that was made with its key; a request of an unknown user and
+-- an expiry that ends nothing have no place
 unfoldable pub place : TermsView → List Act → Act → Option ℕ
 place terms before act = place_of terms (history terms (reverse before)) act
 
--- whether these acts opened the session from the host, be it open or ended; an act that isn't made opens nothing
+-- whether these acts opened the session from the host; the session may be open or ended, and an act that isn't made opens nothing
 unfoldable pub was_opened_from : TermsView → List Act → (host : List ℕ) → Sid → Bool
 was_opened_from terms all host sid = was_opened_in (history terms (reverse all)) host sid
 
--- the outcome of the act at a place of a list, counted from 1: what it comes to after those before; where no act stands
--- there is none
+-- the outcome of the act at a place of a list, counted from 1, after the acts before it; none if no act stands there
 unfoldable pub outcome : TermsView → List Act → ℕ → Option Outcome
 outcome terms all zero = None
 outcome terms all (suc before) = option_map (after terms (take before all)) (slice_get all before)
 
--- the acts of a list, in order
+-- the made acts of a list, in order
 unfoldable pub acts : TermsView → List Act → List Act
 acts terms all = reverse (map act_made (history terms (reverse all)))
 
--- the money of an account after these
+-- the money of an account after these acts
 abbrev pub standing_of : TermsView → List Done → Standing
 standing_of terms past = record { funds = funds_of terms past; free = free_of terms past; overrun = pos (overrun_of terms past) }
 

@@ -1,4 +1,4 @@
--- What outcomes say of the command and of its services.
+-- The results of the command and of its services in an outcome.
 use Rattle.std.specs.Prelude.{Bool, true, false, List, []}
 use Rattle.dcc_act.specs.declared.outcome.Outcome.{Outcome}
 use Rattle.dcc_act.specs.declared.outcome.Outcome.TheVariants.{Answered, Added}

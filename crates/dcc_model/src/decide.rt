@@ -1,4 +1,4 @@
-//! What an act comes to that is made.
+//! The outcome of an act that is made.
 
 ghost use Rattle.std.specs.Prelude.{◌≡◌, ◌≤◌, IfOk};
 ghost use Rattle.dcc_tariff.specs.Prices.{covers};
@@ -12,10 +12,10 @@ use dcc_act::{
 use dcc_tariff::{MAX_PRICE, price_of};
 use std::alloc::{AllocError, Global};
 
-/// The most that funds may be, in minor units; the least is its negative.
+/// The most that the funds may be, in minor units; the least is its negative.
 pub const CEILING: i128 = MAX_AMOUNT as i128;
 
-/// What a new top-up comes to at these funds, in minor units.
+/// The outcome of a new top-up at these funds, in minor units.
 pub fn decide_top_up(funds: i128, top_up: &TopUp) -> Outcome
     ensures { result ≡ top_up_outcome funds top_up.now }
 {
@@ -26,8 +26,7 @@ pub fn decide_top_up(funds: i128, top_up: &TopUp) -> Outcome
     }
 }
 
-/// What a new event comes to at these funds, of which so much is free, both in minor units. The only error is want of
-/// memory.
+/// The outcome of a new event at these funds and this free money, both in minor units. The only error is want of memory.
 pub fn decide_event(
     alloc: Global,
     funds: i128,
@@ -39,7 +38,7 @@ pub fn decide_event(
     answer(alloc, event, event_result(funds, free, event))
 }
 
-/// What the answer to an event says beside its service.
+/// The data of an event's answer beside its service.
 #[derive(Clone, Copy, Debug)]
 struct EventResult {
     result: ResultCode,
@@ -60,7 +59,7 @@ fn alone(code: ResultCode) -> EventResult
     }
 }
 
-/// What an event comes to.
+/// The result of an event.
 fn event_result(funds: i128, free: i128, event: &OneTimeEvent) -> EventResult
     ensures { result ≡ event_result funds free event.now.action (asked_units event.now.service) }
 {
@@ -75,7 +74,7 @@ fn event_result(funds: i128, free: i128, event: &OneTimeEvent) -> EventResult
     }
 }
 
-/// What a direct debit comes to.
+/// The result of a direct debit.
 fn debited(free: i128, asked: Grant) -> EventResult
     ensures { result ≡ debited free asked }
 {
@@ -90,7 +89,7 @@ fn debited(free: i128, asked: Grant) -> EventResult
     }
 }
 
-/// What a refund comes to.
+/// The result of a refund.
 fn refund_made(funds: i128, asked: &Grant) -> EventResult
     ensures { result ≡ refund_made funds asked.now }
 {
@@ -101,7 +100,7 @@ fn refund_made(funds: i128, asked: &Grant) -> EventResult
     }
 }
 
-/// What a balance check comes to.
+/// The result of a balance check.
 fn checked(free: i128, asked: &Grant) -> EventResult
     ensures { result ≡ checked free asked.now }
 {
@@ -118,7 +117,7 @@ fn checked(free: i128, asked: &Grant) -> EventResult
     }
 }
 
-/// What a price enquiry comes to.
+/// The result of a price enquiry.
 fn enquired(asked: &Grant) -> EventResult
     ensures { result ≡ enquired asked.now }
 {
@@ -155,7 +154,7 @@ fn answer(alloc: Global, event: &OneTimeEvent, found: EventResult) -> Result<Out
     }))
 }
 
-/// The units that a service asks for, at the tariff of its moment, where there is one.
+/// The units that a service asks for, at the tariff of its moment, if it asks for any and there is a tariff.
 pub(crate) fn asked_units(service: &Service) -> Option<Grant>
     ensures { result ≡ asked_units service.now }
 {
@@ -166,7 +165,7 @@ pub(crate) fn asked_units(service: &Service) -> Option<Grant>
     })
 }
 
-/// What is charged for granted units, in minor units.
+/// The charge for granted units, in minor units.
 pub fn price(grant: &Grant) -> u64
     ensures value { result ≡ grant_price grant.now }
     ensures bound { result ≤ MAX_PRICE }
@@ -181,7 +180,7 @@ fn is_over(funds: i128, amount: u64) -> bool
     funds > CEILING - i128::from(amount)
 }
 
-/// Whether what is free covers a price: what costs nothing is always covered.
+/// Whether the free money covers a price: a price of 0 is always covered.
 fn is_covered(free: i128, price: u64) -> bool
     ensures { result ≡ covers free price }
 {

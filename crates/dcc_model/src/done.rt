@@ -2,7 +2,7 @@
 
 use dcc_act::{Act, Outcome};
 
-/// An act that was made, and what it came to.
+/// A made act, and its outcome.
 #[derive(Debug, Drop)]
 pub struct Done {
     pub act: Act,

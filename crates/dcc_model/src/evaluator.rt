@@ -20,8 +20,8 @@ use dcc_octets::Host;
 use dcc_tariff::Terms;
 use std::alloc::{AllocError, Global};
 
-/// What the act at this place of a subscriber's list comes to, counted from 1. The only error is want of memory. It is
-/// slow: it goes through all acts before, and at each through all that were made before.
+/// The outcome of the act at this place of a subscriber's list, counted from 1. The only error is want of memory. It is
+/// slow: it goes through all acts before, and at each of them through all acts that were made before.
 pub fn plain_answer(
     alloc: Global,
     terms: &Terms,
@@ -36,8 +36,8 @@ pub fn plain_answer(
     judged(alloc, terms, &past, &acts[place - 1])
 }
 
-/// Whether these acts opened a session from a host, be it open or ended. The only error is want of memory. It is slow, as
-/// [`plain_answer`] is.
+/// Whether these acts opened a session from a host. The session may be open or ended. The only error is want of memory.
+/// It is slow, as [`plain_answer`] is.
 pub fn was_opened_from(
     alloc: Global,
     terms: &Terms,
@@ -51,8 +51,8 @@ pub fn was_opened_from(
     Ok(was_opened_in(&made, host, sid))
 }
 
-/// What one more act comes to after these, which were made in this order, and what it does. The only error is want of
-/// memory. It is slow: it looks back over all of them.
+/// The outcome of one more act after these, which were made in this order, and the change that it makes. The only error
+/// is want of memory. It is slow: it looks back over all of them.
 pub fn judge(
     alloc: Global,
     terms: &Terms,
@@ -106,7 +106,7 @@ fn made(alloc: Global, terms: &Terms, acts: &[Act]) -> Result<Vec<Done>, AllocEr
     Ok(past)
 }
 
-/// What an act comes to after these.
+/// The outcome of an act after these.
 fn judged(alloc: Global, terms: &Terms, past: &[Done], act: &Act) -> Result<Outcome, AllocError>
     ensures { IfOk result (λ outcome. outcome ≡ judged terms.now (reverse past.now) act.now) }
 {
@@ -119,7 +119,8 @@ fn judged(alloc: Global, terms: &Terms, past: &[Done], act: &Act) -> Result<Outc
     }
 }
 
-/// What a request comes to that has no account; a top-up and an expiry need none. The only error is want of memory.
+/// The outcome of a request without an account. None of a top-up and of an expiry, which need no account. The only
+/// error is want of memory.
 pub fn unknown(kind: &Kind) -> Result<Option<Outcome>, AllocError>
     ensures { IfOk result (λ outcome. outcome ≡ unknown_of kind.now) }
 {
@@ -136,7 +137,7 @@ pub fn unknown(kind: &Kind) -> Result<Option<Outcome>, AllocError>
     }))
 }
 
-/// What an act comes to that has an account or needs none.
+/// The outcome of an act that has an account or needs none.
 fn settled(alloc: Global, terms: &Terms, past: &[Done], act: &Act) -> Result<Outcome, AllocError>
     ensures { IfOk result (λ outcome. outcome ≡ settled terms.now (reverse past.now) act.now) }
 {
@@ -157,21 +158,21 @@ fn is_made(terms: &Terms, past: &[Done], act: &Act) -> bool
     }
 }
 
-/// Whether an act counts: a request does once there is an account, all else always.
+/// Whether an act counts: a request counts once there is an account, any other act always.
 fn is_counted(past: &[Done], kind: &Kind) -> bool
     ensures { result ≡ counts (reverse past.now) kind.now }
 {
     has_account(past) || request_key(kind).is_none()
 }
 
-/// Whether one of these acts opened the account.
+/// Whether any of these acts opened the account.
 pub fn has_account(past: &[Done]) -> bool
     ensures { result ≡ has_account (reverse past.now) }
 {
     past.iter().rev().any(|done| is_top_up(&done.act.kind))
 }
 
-/// The act among these that has the key of one of this kind.
+/// The latest of these acts that has the key of this kind.
 pub fn first<'a>(past: &'a [Done], kind: &Kind) -> Option<&'a Done>
     ensures { option_copied result ≡ first_of (reverse past.now) kind.now }
 {
@@ -180,7 +181,7 @@ pub fn first<'a>(past: &'a [Done], kind: &Kind) -> Option<&'a Done>
         .find(|done| is_same_key(kind, &done.act.kind))
 }
 
-/// The place of an act after these, from 1, or that of the one that was made with its key.
+/// The place of an act after these, from 1, or that of the act that was made with its key.
 fn place_of(past: &[Done], is_new: bool, kind: &Kind) -> Option<u64>
     ensures { result ≡ (if is_new then Some (length (reverse past.now) + 1) else place_of_key (map act_made (reverse past.now)) kind.now) }
 {
@@ -191,7 +192,7 @@ fn place_of(past: &[Done], is_new: bool, kind: &Kind) -> Option<u64>
     }
 }
 
-/// Its place among them, from 1.
+/// The place among these, from 1, of the act that has the key of this kind.
 pub fn place_of_key(past: &[Done], kind: &Kind) -> Option<u64>
     ensures { result ≡ place_of_key (map act_made (reverse past.now)) kind.now }
 {
@@ -204,7 +205,7 @@ pub fn place_of_key(past: &[Done], kind: &Kind) -> Option<u64>
     found
 }
 
-/// What an act comes to that is made.
+/// The outcome of an act that is made.
 fn decide(
     alloc: Global,
     terms: &Terms,

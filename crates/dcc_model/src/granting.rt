@@ -13,7 +13,7 @@ use dcc_act::{Grant, MAX_SERVICES, ResultCode, Service, ServiceAnswer, SessionId
 use dcc_tariff::{Terms, most_units};
 use std::alloc::{AllocError, Global};
 
-/// The answers to these services in order, each in the room that those before leave.
+/// The answers to these services in order, each in the room that the services before leave.
 pub(crate) fn answers(
     alloc: Global,
     terms: &Terms,
@@ -35,7 +35,7 @@ pub(crate) fn answers(
     Ok(answers)
 }
 
-/// The answer to a service in its room. A report that no tariff charges fails, and nothing is granted to its service.
+/// The answer to a service in its room. If no tariff charges its report, the result is a failure, and nothing is granted.
 fn answer_to(
     terms: &Terms,
     past: &[Done],
@@ -52,8 +52,8 @@ fn answer_to(
     }
 }
 
-/// The answer to what a service asks for, in its room, in minor units. One that asks for nothing succeeds. The only error is
-/// want of memory.
+/// The answer to the units that a service asks for, in its room, in minor units. A service that asks for none succeeds. The
+/// only error is want of memory.
 #[tactic(auto, using(crate::proofs::Answering::asked_ids))]
 pub fn asked_answer(service: &Service, space: i128) -> Result<ServiceAnswer, AllocError>
     ensures value { IfOk result (λ answer. answer ≡ asked_answer service.now space) }
@@ -66,7 +66,7 @@ pub fn asked_answer(service: &Service, space: i128) -> Result<ServiceAnswer, All
     }
 }
 
-/// The most of what a service asks for that its room covers. Without a tariff there is no price.
+/// The most of the units that a service asks for that its room covers. Without a tariff there is no price.
 fn granted_within(
     service: &Service,
     space: i128,
@@ -83,7 +83,7 @@ fn granted_within(
     }
 }
 
-/// So many of the units that are asked for, the last where they are less; none where that is nothing.
+/// So many of the units that are asked for; the grant is final if they are fewer, and there is no grant of 0 units.
 fn granted(service: &Service, asked: Grant, units: u64) -> Result<ServiceAnswer, AllocError>
     requires { units ≤ asked.units }
     ensures { IfOk result (λ answer. answer ≡ granted service.now asked units) }
@@ -100,7 +100,7 @@ fn granted(service: &Service, asked: Grant, units: u64) -> Result<ServiceAnswer,
     answer_with(service, ResultCode::Success, Some(grant), is_final)
 }
 
-/// What a service says of itself in its answer. The only error is want of memory.
+/// The answer with a service's own group, identifiers and form. The only error is want of memory.
 pub fn answer_with(
     service: &Service,
     code: ResultCode,

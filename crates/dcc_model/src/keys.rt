@@ -1,11 +1,11 @@
-//! By what the acts of one subscriber are told apart.
+//! The keys of the acts of one subscriber.
 
 ghost use Rattle.std.specs.Prelude.{◌≡◌, option_map};
 ghost use Rattle.dcc_model.specs.Keys.{request_key, same_key, is_top_up, is_expiry};
 
 use dcc_act::{Kind, RequestKey};
 
-/// The key of a request.
+/// The key of a request. None of a top-up and of an expiry.
 pub fn request_key(kind: &Kind) -> Option<&RequestKey>
     ensures { option_map (λ key. key.now) result ≡ request_key kind.now }
 {

@@ -1,9 +1,9 @@
-//! What each act of a subscriber comes to, and the plain program that says so.
+//! The outcome of each act of a subscriber, and the plain program that computes it.
 //!
 //! Stands on `dcc_act` and `dcc_tariff`. The definitions look back over one subscriber's list of acts: which of them are
-//! made, what each comes to, the funds, what is overrun, what is free, and the entries in the books. The contract that
-//! this crate gives: `plain_answer` is the defined outcome at each place of each list, `judge` what one more act comes to
-//! and does, and the definitions obey the laws of `laws`.
+//! made, the outcome of each, the funds, the overrun, the free money, and the entries in the books. The contract that
+//! this crate gives: `plain_answer` is the defined outcome at each place of each list, `judge` is the outcome and the
+//! change of one more act, and the definitions obey the laws of `laws`.
 #![tactic(auto)]
 
 mod decide;

@@ -1,4 +1,4 @@
-//! The services of a request of a session, as the request looks at them.
+//! The services of a session's request, as the request counts them.
 
 ghost use Rattle.std.specs.Prelude.{◌≡◌, ◌≤◌, true, length, map, sum_by, IfOk};
 ghost use Rattle.dcc_act.specs.Services.{ServiceView, are_services};
@@ -8,8 +8,9 @@ ghost use Rattle.dcc_model.specs.Sessions.{without_report, without_asked, looked
 use dcc_act::{Kind, MAX_IDS, MAX_SERVICES, Service};
 use std::alloc::{AllocError, Global};
 
-/// The services of an act as it looks at them: an initial request at no reports, a termination at no units that are asked
-/// for. They are within the limits of a request's.
+/// The services of an act, as the act counts them: those of an initial request without reports, those of a termination
+/// without the units that they ask for. They are within the limits of a request's services. The only error is want of
+/// memory.
 pub fn services_looked_at(alloc: Global, kind: &Kind) -> Result<Vec<Service>, AllocError>
     ensures value { IfOk result (λ services. services.items ≡ looked_at kind.now) }
     ensures few { IfOk result (λ services. length services.items ≤ MAX_SERVICES) }
@@ -24,7 +25,7 @@ pub fn services_looked_at(alloc: Global, kind: &Kind) -> Result<Vec<Service>, Al
     }
 }
 
-/// The services without what they report.
+/// The services without their reports.
 fn without_reports(alloc: Global, services: &[Service]) -> Result<Vec<Service>, AllocError>
     ensures { IfOk result (λ kept. kept.items ≡ map without_report services.now) }
 {
@@ -35,7 +36,7 @@ fn without_reports(alloc: Global, services: &[Service]) -> Result<Vec<Service>, 
     Ok(kept)
 }
 
-/// The services without what they ask for.
+/// The services without the units that they ask for.
 fn without_wishes(alloc: Global, services: &[Service]) -> Result<Vec<Service>, AllocError>
     ensures { IfOk result (λ kept. kept.items ≡ map without_asked services.now) }
 {
@@ -46,7 +47,7 @@ fn without_wishes(alloc: Global, services: &[Service]) -> Result<Vec<Service>, A
     Ok(kept)
 }
 
-/// A service without what it reports.
+/// A service without its report.
 fn without_report(service: &Service) -> Result<Service, AllocError>
     ensures { IfOk result (λ kept. kept ≡ without_report service.now) }
 {
@@ -61,7 +62,7 @@ fn without_report(service: &Service) -> Result<Service, AllocError>
     })
 }
 
-/// A service without what it asks for.
+/// A service without the units that it asks for.
 fn without_asked(service: &Service) -> Result<Service, AllocError>
     ensures { IfOk result (λ kept. kept ≡ without_asked service.now) }
 {

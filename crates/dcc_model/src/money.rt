@@ -1,4 +1,4 @@
-//! Charges, funds, what is reserved and what is free, in minor units. Each function looks back over the acts that were
+//! Charges, funds, reserved money and free money, in minor units. Each function looks back over the acts that were
 //! made, in order.
 
 ghost use Rattle.std.specs.Prelude.{◌≡◌, ◌+◌, ◌*◌, ◌∷◌, ◌^◌, ◌<◌, ◌≤◌, true, pos, neg_ℤ, ◌-ℤ◌, ◌≤ℤ◌, length, reverse, sum_by, unwrap_or, IfOk};
@@ -20,18 +20,18 @@ use dcc_act::{
 use dcc_tariff::{MAX_PRICE, Tariff, Terms, price_of};
 use std::alloc::{AllocError, Global};
 
-/// The most that one act may change the funds by, in minor units, whatever the floor says: 32 charges and a debit.
+/// The most by which one act may change the funds, in minor units, whatever the floor allows: 32 charges and a debit.
 const MOST: u128 = 33_000_000_000_000_000_000;
 
-/// Says that acts in memory are so few that their charges fit an `i128` together: each takes 64 octets at least.
+/// Shows that acts in memory are so few that the sum of their charges fits an `i128`: each takes at least 64 octets.
 fn are_few(past: &[Done])
     ensures { length past.now < 2 ^ 58 }
 {
-    // For its clause alone: it says how many octets they take, and that is a number of 64 bits.
+    // The call is made for its clause alone: the number of octets that the acts take is below 2^64.
     let _octets = size_of_val(past);
 }
 
-/// The charge for a service's report, where there is one and a tariff for it.
+/// The charge for a service's report, if there is a report and a tariff for it.
 pub(crate) fn charge(
     terms: &Terms,
     past: &[Done],
@@ -63,7 +63,7 @@ pub(crate) fn is_unrated(terms: &Terms, past: &[Done], sid: &SessionId, service:
     service.used.is_some() && charge(terms, past, sid, service).is_none()
 }
 
-/// The charge for a service's report, or nothing.
+/// The charge for a service's report, or 0.
 fn cost(terms: &Terms, past: &[Done], sid: &SessionId, service: &Service) -> u64
     ensures value { result ≡ unwrap_or (charge terms.now (reverse past.now) sid.now service.now) 0 }
     ensures bound { result ≤ MAX_PRICE }
@@ -74,7 +74,7 @@ fn cost(terms: &Terms, past: &[Done], sid: &SessionId, service: &Service) -> u64
     }
 }
 
-/// The charges of a request's reports together.
+/// The sum of the charges of a request's reports.
 pub(crate) fn charges(terms: &Terms, past: &[Done], sid: &SessionId, services: &[Service]) -> i128
     requires { length services.now ≤ MAX_SERVICES }
     ensures value { result ≡ pos (charges terms.now (reverse past.now) sid.now services.now) }
@@ -98,7 +98,7 @@ fn live_price(terms: &Terms, past: &[Done], sid: &SessionId, key: ServiceKey) ->
     }
 }
 
-/// What each charge exceeds the price of the live grant by, together.
+/// The sum of the parts of the charges beyond the prices of the live grants.
 fn overruns(terms: &Terms, past: &[Done], sid: &SessionId, services: &[Service]) -> i128
     requires { length services.now ≤ MAX_SERVICES }
     ensures value { result ≡ pos (overruns terms.now (reverse past.now) sid.now services.now) }
@@ -112,7 +112,7 @@ fn overruns(terms: &Terms, past: &[Done], sid: &SessionId, services: &[Service])
     sum
 }
 
-/// What an event charged that came to this outcome.
+/// The units that an event with this outcome charged, if any.
 pub(crate) fn charged_units(event: &OneTimeEvent, outcome: &Outcome) -> Option<Grant>
     ensures { result ≡ charged_event event.now outcome.now }
 {
@@ -125,7 +125,7 @@ pub(crate) fn charged_units(event: &OneTimeEvent, outcome: &Outcome) -> Option<G
     }
 }
 
-/// What an event gave back that came to this outcome.
+/// The units that an event with this outcome refunded, if any.
 pub(crate) fn refunded_units(event: &OneTimeEvent, outcome: &Outcome) -> Option<Grant>
     ensures { result ≡ refunded_event event.now outcome.now }
 {
@@ -138,7 +138,7 @@ pub(crate) fn refunded_units(event: &OneTimeEvent, outcome: &Outcome) -> Option<
     }
 }
 
-/// What an act added to the funds, in minor units.
+/// The money that an act added to the funds, in minor units.
 pub fn credited(kind: &Kind, outcome: &Outcome) -> u64
     ensures value { result ≡ credit kind.now outcome.now }
     ensures bound { result ≤ MAX_AMOUNT }
@@ -156,7 +156,7 @@ pub fn credited(kind: &Kind, outcome: &Outcome) -> u64
     }
 }
 
-/// What a direct debit took from them, in minor units.
+/// The money that a direct debit took from the funds, in minor units.
 pub fn debited(kind: &Kind, outcome: &Outcome) -> u64
     ensures value { result ≡ debit kind.now outcome.now }
     ensures bound { result ≤ MAX_PRICE }
@@ -184,7 +184,7 @@ pub(crate) fn services_of(kind: &Kind) -> &[Service]
     }
 }
 
-/// What an accepted update or termination charged.
+/// The charge of an accepted update or termination, or 0.
 fn charged(terms: &Terms, past: &[Done], done: &Done) -> i128
     ensures value { result ≡ pos (charged terms.now (reverse past.now) done.now) }
     ensures bound { result ≤ℤ pos (MAX_SERVICES * MAX_PRICE) }
@@ -195,7 +195,7 @@ fn charged(terms: &Terms, past: &[Done], done: &Done) -> i128
     }
 }
 
-/// By how much its charges exceeded the live grants.
+/// The part of its charges beyond the prices of the live grants, or 0.
 fn overran(terms: &Terms, past: &[Done], done: &Done) -> i128
     ensures value { result ≡ pos (overran terms.now (reverse past.now) done.now) }
     ensures bound { result ≤ℤ pos (MAX_SERVICES * MAX_PRICE) }
@@ -206,7 +206,7 @@ fn overran(terms: &Terms, past: &[Done], done: &Done) -> i128
     }
 }
 
-/// What an act changed the funds by.
+/// An act's change of the funds.
 fn change(terms: &Terms, past: &[Done], done: &Done) -> i128
     ensures value { result ≡ pos (credit done.now.act.kind done.now.outcome)
         -ℤ pos (debit done.now.act.kind done.now.outcome + charged terms.now (reverse past.now) done.now) }
@@ -218,7 +218,7 @@ fn change(terms: &Terms, past: &[Done], done: &Done) -> i128
     credited - debited - charged(terms, past, done)
 }
 
-/// The funds after these acts, as far from nothing as the number of acts allows.
+/// The funds after these acts, as far from 0 as the number of acts allows.
 pub(crate) fn funds(terms: &Terms, past: &[Done]) -> i128
     ensures value { result ≡ funds_of terms.now (reverse past.now) }
     ensures low { neg_ℤ (pos (MOST * 2 ^ 58)) ≤ℤ result }
@@ -232,7 +232,7 @@ pub(crate) fn funds(terms: &Terms, past: &[Done]) -> i128
     funds
 }
 
-/// What was charged beyond what was reserved, over all acts.
+/// The overrun of all acts.
 fn overrun(terms: &Terms, past: &[Done]) -> i128
     ensures value { result ≡ pos (overrun_of terms.now (reverse past.now)) }
     ensures high { result ≤ℤ pos (MOST * 2 ^ 58) }
@@ -245,7 +245,7 @@ fn overrun(terms: &Terms, past: &[Done]) -> i128
     overrun
 }
 
-/// What is reserved: the prices of these grants.
+/// The reserved money: the prices of these grants.
 fn reserved(held: &[Holding]) -> i128
     ensures value { result ≡ pos (sum_by held_price held.now) }
     ensures high { result ≤ℤ pos (MAX_PRICE * length held.now) }
@@ -257,7 +257,7 @@ fn reserved(held: &[Holding]) -> i128
     reserved
 }
 
-/// What is free of the funds. The only error is want of memory.
+/// The free money. The only error is want of memory.
 pub(crate) fn free(alloc: Global, terms: &Terms, past: &[Done]) -> Result<i128, AllocError>
     ensures { IfOk result (λ free. free ≡ free_of terms.now (reverse past.now)) }
 {
@@ -294,14 +294,14 @@ pub(crate) fn standing_with(
     })
 }
 
-/// Whether a request of a session puts others in the place of a grant.
+/// Whether a request of a session replaces a grant.
 fn is_replaced(sid: &SessionId, services: &[Service], held: &Holding) -> bool
     ensures { result ≡ is_replaced sid.now services.now held.now }
 {
     *sid == held.sid && names_any(services, held.key)
 }
 
-/// The prices of the live grants that a request leaves. The only error is want of memory.
+/// The prices of the live grants that a request doesn't replace. The only error is want of memory.
 fn reserved_beside(
     alloc: Global,
     terms: &Terms,
@@ -317,7 +317,7 @@ fn reserved_beside(
     Ok(reserved(&held))
 }
 
-/// The price of a grant that was made.
+/// The price of an answer's grant, or 0.
 fn made_price(answer: &ServiceAnswer) -> u64
     ensures value { result ≡ made_price answer.now }
     ensures bound { result ≤ MAX_PRICE }
@@ -328,7 +328,7 @@ fn made_price(answer: &ServiceAnswer) -> u64
     }
 }
 
-/// The prices of the grants that were made.
+/// The sum of the prices of the answers' grants.
 fn made_prices(answers: &[ServiceAnswer]) -> i128
     requires { length answers.now ≤ MAX_SERVICES }
     ensures value { result ≡ pos (sum_by made_price answers.now) }
@@ -341,8 +341,8 @@ fn made_prices(answers: &[ServiceAnswer]) -> i128
     sum
 }
 
-/// The money for the next service's grant, after those that the request made to the services before. The only error is
-/// want of memory.
+/// The room of the next service's grant, after the grants that the request made to the services before. The only error
+/// is want of memory.
 pub(crate) fn room(
     alloc: Global,
     terms: &Terms,

@@ -1,4 +1,4 @@
-//! What a request of a session comes to.
+//! The outcome of a request of a session.
 
 ghost use Rattle.std.specs.Prelude.{◌≡◌, ◌≤◌, length, reverse, sum_by, IfOk};
 ghost use Rattle.dcc_act.specs.Services.{ServiceView};
@@ -17,7 +17,7 @@ use dcc_act::{
 use dcc_tariff::Terms;
 use std::alloc::{AllocError, Global};
 
-/// What an initial request comes to: a session opens once, and only while fewer are open than the request's limit.
+/// The outcome of an initial request: a session opens once, and only while fewer are open than the request's limit.
 pub(crate) fn begun(
     alloc: Global,
     terms: &Terms,
@@ -44,7 +44,7 @@ pub(crate) fn begun(
     }
 }
 
-/// What an update or a termination comes to: its session has to be open, and the floor has to bear its charges.
+/// The outcome of an update or a termination: its session has to be open, and the floor has to bear its charges.
 pub(crate) fn reported(
     alloc: Global,
     terms: &Terms,
@@ -68,14 +68,14 @@ pub(crate) fn reported(
     }
 }
 
-/// Whether funds, in minor units, are below the floor: what charges would leave may not be.
+/// Whether funds, in minor units, are below the floor. Charges may not leave such funds.
 pub fn is_below_floor(funds: i128) -> bool
     ensures { result ≡ is_below_floor funds }
 {
     funds < -CEILING
 }
 
-/// An answer that carries nothing but its result. The only error is want of memory.
+/// An answer with its result alone. The only error is want of memory.
 pub fn bare(
     alloc: Global,
     request: RequestType,
@@ -94,7 +94,7 @@ pub fn bare(
     }))
 }
 
-/// The answer to a request whose services are served.
+/// The answer to a request whose services are served. The only error is want of memory.
 fn served(
     alloc: Global,
     terms: &Terms,
@@ -119,7 +119,7 @@ fn served(
     }))
 }
 
-/// The command's result: success, or that of the service that stands alone at the message's level.
+/// The command's result: that of a service at the message's level, which is the only service, or else success.
 pub fn command_result(answers: &[ServiceAnswer]) -> ResultCode
     ensures { result ≡ command_result answers.now }
 {

@@ -1,4 +1,4 @@
-//! What an act leaves in the books.
+//! The entries of an act in the books.
 
 ghost use Rattle.std.specs.Prelude.{◌≡◌, ◌++◌, ◌∷◌, [], ◌≤◌, if◌then◌else◌, reverse, option_map, IfOk, OnOk};
 ghost use Rattle.std.specs.Option.{option_to_list, ForSome};
@@ -43,7 +43,7 @@ pub(crate) fn entries_by(
     }
 }
 
-/// The entries of a top-up at this place: one where it was added. The only error is want of memory.
+/// The entries of a top-up at this place: an entry if it was added, else none. The only error is want of memory.
 pub fn top_up_entries(
     alloc: Global,
     place: u64,
@@ -59,7 +59,7 @@ pub fn top_up_entries(
     Ok(vec![in alloc; top_up_entry(place, moment, top_up)]?)
 }
 
-/// The entries of an event at this place: of what it charged, and of what it gave back. The only error is want of memory.
+/// The entries of an event at this place: of its charge, and of its refund. The only error is want of memory.
 pub fn event_entries(
     alloc: Global,
     place: u64,
@@ -100,7 +100,7 @@ fn charge_entries(
     Ok(entries)
 }
 
-/// Appends an entry, where there is one.
+/// Appends an entry, if there is any.
 fn append(entries: &mut Vec<Entry>, entry: Option<Entry>) -> Result<(), AllocError>
     ensures { OnOk result (entries.new.items ≡ entries.old.items ++ option_to_list entry) }
 {
@@ -125,7 +125,7 @@ fn top_up_entry(place: u64, moment: Moment, top_up: &TopUp) -> Entry
     }
 }
 
-/// The entry of an event that charged something.
+/// The entry of an event that charged units. None of another event.
 fn debit_entry(
     place: u64,
     moment: Moment,
@@ -149,7 +149,7 @@ fn debit_entry(
     }))
 }
 
-/// The entry of an event that gave something back.
+/// The entry of an event that refunded units. None of another event.
 fn refund_entry(
     place: u64,
     moment: Moment,
@@ -173,7 +173,8 @@ fn refund_entry(
     }))
 }
 
-/// The entry, at this place, of a report that is charged so much, in minor units. The only error is want of memory.
+/// The entry, at this place, of a report with this charge, in minor units, at most 10^18. None without a charge. The
+/// only error is want of memory.
 pub fn charge_entry(
     place: u64,
     moment: Moment,

@@ -1,4 +1,4 @@
-//! What outcomes say of the command.
+//! The result of the command in an outcome.
 
 ghost use Rattle.std.specs.Prelude.{◌≡◌};
 ghost use Rattle.dcc_model.specs.Results.{succeeded, refused};
@@ -15,7 +15,7 @@ pub fn has_succeeded(outcome: &Outcome) -> bool
     }
 }
 
-/// Whether a request was refused as a whole.
+/// Whether an update or a termination was refused as a whole: its session wasn't open, or the floor wouldn't bear its charges.
 pub fn is_refused(outcome: &Outcome) -> bool
     ensures { result ≡ refused outcome.now }
 {

@@ -1,4 +1,4 @@
-//! Sessions: when one is open, until when, and which grants it holds. Each function looks back over the acts that were
+//! Sessions: whether a session is open, its deadline, and its grants. Each function looks back over the acts that were
 //! made, in order.
 
 ghost use Rattle.std.specs.Prelude.{◌≡◌, ◌∷◌, ◌+◌, ◌≤◌, length, reverse, find, option_map, filter, filter_map, ◌++◌, IfOk};
@@ -94,7 +94,7 @@ fn terminates(done: &Done, sid: &SessionId) -> bool
     }
 }
 
-/// Until when a session is held: for the plan's time after the moment of the last act that opened or updated it.
+/// The deadline of a session: the plan's hold after the moment of the last act that opened or updated it.
 pub(crate) fn deadline(terms: &Terms, past: &[Done], sid: &SessionId) -> u64
     ensures value { result ≡ deadline terms.now (reverse past.now) sid.now }
     ensures bound { result ≤ LAST_SECOND + MAX_HOLD }
@@ -108,7 +108,7 @@ pub(crate) fn deadline(terms: &Terms, past: &[Done], sid: &SessionId) -> u64
     deadline
 }
 
-/// Whether an act ended a session: a termination, an update that didn't succeed, or an expiry at or past its deadline.
+/// Whether an act ended a session: a termination, an update that didn't succeed, or an expiry at its deadline or past it.
 fn ends(terms: &Terms, past: &[Done], done: &Done, sid: &SessionId) -> bool
     ensures { result ≡ ends terms.now (reverse past.now) done.now sid.now }
 {
@@ -117,7 +117,7 @@ fn ends(terms: &Terms, past: &[Done], done: &Done, sid: &SessionId) -> bool
         || (is_expiry(&done.act.kind) && deadline(terms, past, sid) <= done.act.moment.seconds())
 }
 
-/// Whether a session is open: an act opened it, and none since ended it.
+/// Whether a session is open: an act opened it, and no act since ended it.
 pub(crate) fn is_open(terms: &Terms, past: &[Done], sid: &SessionId) -> bool
     ensures { result ≡ is_open terms.now (reverse past.now) sid.now }
 {
@@ -128,21 +128,21 @@ pub(crate) fn is_open(terms: &Terms, past: &[Done], sid: &SessionId) -> bool
     is_open
 }
 
-/// Whether one of these acts opened the session, be it open or ended.
+/// Whether any of these acts opened the session. The session may be open or ended.
 pub fn was_opened(past: &[Done], sid: &SessionId) -> bool
     ensures { result ≡ was_opened (reverse past.now) sid.now }
 {
     past.iter().rev().any(|done| opens(done, sid))
 }
 
-/// Whether a session was opened before from a host, be it open or ended.
+/// Whether any of these acts opened the session from a host. The session may be open or ended.
 pub(crate) fn was_opened_in(past: &[Done], host: &Host, sid: &SessionId) -> bool
     ensures { result ≡ was_opened_in (reverse past.now) host.now sid.now }
 {
     past.iter().rev().any(|done| opens_from(done, host, sid))
 }
 
-/// How many sessions are open.
+/// The number of open sessions.
 pub(crate) fn count_open(terms: &Terms, past: &[Done]) -> usize
     ensures { result ≡ length (open_sessions terms.now (reverse past.now)) }
 {
@@ -165,7 +165,7 @@ fn opened_one(terms: &Terms, past: &[Done], done: &Done) -> bool
     }
 }
 
-/// How many sessions an expiry at this moment ends.
+/// The number of sessions that an expiry at this moment ends.
 pub(crate) fn expired(terms: &Terms, past: &[Done], moment: Moment) -> u64
     ensures { result ≡ expired terms.now (reverse past.now) moment }
 {
@@ -178,7 +178,7 @@ pub(crate) fn expired(terms: &Terms, past: &[Done], moment: Moment) -> u64
     count
 }
 
-/// Whether an act opened a session that is open, and whose time is over at this moment.
+/// Whether an act opened a session that is open and due at this moment.
 fn opened_expired(terms: &Terms, past: &[Done], done: &Done, moment: Moment) -> bool
     ensures { result ≡ opened_expired terms.now (reverse past.now) moment done.now }
 {
@@ -215,7 +215,7 @@ fn names_service(kind: &Kind, key: ServiceKey) -> bool
     }
 }
 
-/// Whether one of these services has this key, and asks for units or reports some.
+/// Whether any of these services has this key, and asks for units or reports some.
 #[tactic(auto, using(crate::proofs::Services::named_any))]
 pub fn names_any(services: &[Service], key: ServiceKey) -> bool
     ensures { result ≡ list_any (same_service key) (named services.now) }
@@ -223,14 +223,14 @@ pub fn names_any(services: &[Service], key: ServiceKey) -> bool
     asks_for(services, key) || reports_of(services, key)
 }
 
-/// Whether one of these services has this key, and asks for units.
+/// Whether any of these services has this key, and asks for units.
 fn asks_for(services: &[Service], key: ServiceKey) -> bool
     ensures { result ≡ list_any (asks_for key) services.now }
 {
     services.iter().any(|service| service.asked.is_some() && key.is_same(service.key()))
 }
 
-/// Whether one of these services has this key, and reports units.
+/// Whether any of these services has this key, and reports units.
 fn reports_of(services: &[Service], key: ServiceKey) -> bool
     ensures { result ≡ list_any (reports_of key) services.now }
 {
@@ -267,7 +267,7 @@ fn answer_for(answers: &[ServiceAnswer], key: ServiceKey) -> Option<&ServiceAnsw
     answers.iter().find(|answer| answer.key().is_same(key))
 }
 
-/// The grant that the last act which named the service made to it, back to the act that opened the session.
+/// The grant that the last act which named the service made to it. No act before the opening of the session counts.
 fn last_grant(past: &[Done], sid: &SessionId, key: ServiceKey) -> Option<Grant>
     ensures { result ≡ last_grant (reverse past.now) sid.now key }
 {
@@ -309,7 +309,7 @@ impl Model for Holding {
     ghost view = { λ h. record { sid = h.sid; key = h.key; grant = h.grant } };
 }
 
-/// All live grants: those that the last act made, and those before that go on. The only error is want of memory.
+/// All live grants: those that the last act made, and the earlier ones that go on. The only error is want of memory.
 pub(crate) fn lives(alloc: Global, terms: &Terms, past: &[Done]) -> Result<Vec<Holding>, AllocError>
     ensures { IfOk result (λ held. held.items ≡ lives terms.now (reverse past.now)) }
 {
@@ -345,7 +345,7 @@ fn made_by(alloc: Global, done: &Done) -> Result<Vec<Holding>, AllocError>
     }
 }
 
-/// What an outcome says of services.
+/// The answers of an outcome to services.
 pub fn answers_of(outcome: &Outcome) -> &[ServiceAnswer]
     ensures { result.now ≡ answers_of outcome.now }
 {

@@ -12,11 +12,11 @@ use Rattle.dcc_model.specs.Sessions.{Sid, opens_by, is_open, deadline}
 abbrev pub opened_one : TermsView → List Done → Done → Bool
 opened_one terms past done = option_map_or (is_open terms past) (opens_by done.act.kind done.outcome) false
 
--- a session is open, and its time is over at the moment
+-- a session is open and due at the moment
 abbrev pub is_expired : TermsView → List Done → ℕ → Sid → Bool
 is_expired terms past moment sid = is_open terms past sid && nat_le (deadline terms past sid) moment
 
--- an act opened a session that is open, and whose time is over at the moment
+-- an act opened a session that is open and due at the moment
 abbrev pub opened_expired : TermsView → List Done → ℕ → Done → Bool
 opened_expired terms past moment done = option_map_or (is_expired terms past moment) (opens_by done.act.kind done.outcome) false
 
