@@ -1,4 +1,4 @@
--- What contracts see of an account.
+-- An account, as contracts see it.
 use Rattle.std.specs.Prelude.{List, map, reverse, ℤ, ◌-ℤ◌}
 use Rattle.dcc_tariff.specs.Terms.{TermsView}
 use Rattle.dcc_act.specs.declared.act.Act.{Act}
@@ -7,18 +7,18 @@ use Rattle.dcc_model.specs.Outcomes.{outcome_of, history, funds, free}
 use Rattle.dcc_state.specs.OpenSessions.{SessionView}
 use Rattle.dcc_account.specs.Memory.{Room}
 
--- an account is the acts that were made, under the terms by which they are judged, with the sessions that are open after them,
--- and memory for some more
+-- an account: the acts that were made, the terms by which they are judged, the sessions that are open after them, and memory for
+-- some more
 pub record AccountView : Type 0 where
   pub terms : TermsView
   pub acts : List Act
   pub sessions : List SessionView
   pub room : Room
 
--- what each of these acts came to, in their order
+-- the outcomes of these acts, in their order
 abbrev pub outcomes : TermsView → List Act → List Outcome
 outcomes terms acts = reverse (map outcome_of (history terms (reverse acts)))
 
--- what live grants hold of the funds
+-- the reserved money: the prices of all live grants
 abbrev pub reserved : TermsView → List Act → ℤ
 reserved terms acts = funds terms acts -ℤ free terms acts

@@ -1,12 +1,12 @@
--- Memory for more, which an account has or a step brings.
+-- Memory for more acts, which an account has or a step brings.
 use Rattle.std.specs.Prelude.{ℕ, Option}
 
--- how many keys an index has, or deadlines are kept, and for how many more it has memory
+-- the number of keys of an index, or of kept deadlines, and the number of further ones for which it has memory
 pub record Held : Type 0 where
   pub count : ℕ
   pub room : ℕ
 
--- for how many more acts, outcomes, entries, open sessions, deadlines and keys an account has memory
+-- the numbers of further acts, outcomes, entries, open sessions, deadlines and keys for which an account has memory
 pub record Room : Type 0 where
   pub acts : ℕ
   pub outcomes : ℕ

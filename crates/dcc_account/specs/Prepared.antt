@@ -14,8 +14,8 @@ use Rattle.dcc_account.specs.Accounts.{AccountView}
 use Rattle.dcc_account.specs.Memory.{Space}
 use Rattle.dcc_account.specs.Fits.{Fits}
 
--- an act, what it comes to, whether it is made, its place, the entries that it adds, what it does to the money and to the
--- sessions that are open, how many live grants were looked at, and the memory for all that
+-- an act, its outcome, whether it is made, its place, the entries that it adds, its change of the money and of the open sessions,
+-- the number of live grants that were read, and the memory for all of this
 pub record StepView : Type 0 where
   pub act : Act
   pub outcome : Outcome
@@ -26,8 +26,7 @@ pub record StepView : Type 0 where
   pub looks : ℕ
   pub space : Space
 
--- what the act comes to, whether it is made, its place, the entries that it adds, and what it does to the money and to the
--- sessions that are open
+-- the outcome of the act, whether it is made, its place, the entries that it adds, and its change of the money and of the open sessions
 pub record JudgementView : Type 0 where
   pub outcome : Outcome
   pub is_new : Bool

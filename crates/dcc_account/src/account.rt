@@ -100,7 +100,7 @@ impl Account {
         &self.terms
     }
 
-    /// The acts that were made, in order: what reads one of them counts it.
+    /// The acts that were made, in order. Only a call that counts a look reads one.
     pub fn acts(&self) -> &Journal
         ensures acts { result.now.acts ≡ self.now.acts }
         ensures own { acts self.now.terms self.now.acts ≡ self.now.acts }
@@ -108,7 +108,7 @@ impl Account {
         &self.acts
     }
 
-    /// What each act that was made came to, in order.
+    /// The outcomes of the made acts, in order.
     pub fn outcomes(&self) -> &[Outcome]
         ensures { result.now ≡ outcomes self.now.terms self.now.acts }
     {
@@ -122,7 +122,7 @@ impl Account {
         &self.entries
     }
 
-    /// The funds, in minor units: at most 10^18 on either side of nothing.
+    /// The funds, in minor units: from -10^18 to 10^18.
     pub fn funds(&self) -> i128
         ensures value { result ≡ funds self.now.terms self.now.acts }
         ensures low { neg_ℤ CEILING ≤ℤ result }
@@ -132,7 +132,7 @@ impl Account {
         self.pool.committed()
     }
 
-    /// What no live grant holds of the funds, in minor units. Only what was overrun takes it below nothing.
+    /// The free money: the funds less the prices of all live grants, in minor units. Only overrun takes it below 0.
     pub fn free(&self) -> i128
         ensures value { result ≡ free self.now.terms self.now.acts }
         ensures covered { pos 0 ≤ℤ (result +ℤ pos (overrun self.now.terms self.now.acts)) }
@@ -142,7 +142,7 @@ impl Account {
         self.pool.free()
     }
 
-    /// What live grants hold of the funds, in minor units: what no other grant, and no debit, can have.
+    /// The reserved money: the prices of all live grants, in minor units. No other grant and no debit can take it.
     pub fn reserved(&self) -> u64
         ensures { pos result ≡ reserved self.now.terms self.now.acts }
     {
@@ -150,23 +150,23 @@ impl Account {
         self.pool.reserved()
     }
 
-    /// What was charged beyond what was reserved, in minor units.
+    /// The overrun: the sum of the parts of charges beyond their reservations, in minor units.
     pub fn overrun(&self) -> i128
         ensures { result ≡ pos (overrun self.now.terms self.now.acts) }
     {
         self.overrun
     }
 
-    /// What the first request of this key came to, where it was made.
+    /// The outcome of the first request of this key, if it was made.
     pub fn kept(&self, key: &RequestKey) -> Option<&Outcome>
         ensures { option_copied result ≡ kept self.now.terms self.now.acts key.now }
     {
         outcome_at(&self.outcomes, self.indexes.place_of_request(key))
     }
 
-    /// The step of the act: what it comes to after those that were made, whether it is made, its place and its entries,
-    /// with all the memory that it takes to install it. It looks at the grants of the act's own session alone, an expiry at those of the
-    /// sessions that it ends, and at no act that was made, whatever else the account holds. The only error is want of memory.
+    /// Prepares the step of an act: its outcome after the acts that were made, whether it is made, its place and its entries, with all
+    /// the memory that its installation takes. It reads the grants of the act's own session alone, an expiry at most those of the
+    /// sessions that it ends, and no made act, whatever else the account holds. The only error is want of memory.
     pub fn prepare(&self, act: Act) -> Result<Step, AllocError>
         ensures act { IfOk result (λ step. step.act ≡ act) }
         ensures prepared { IfOk result (λ step. IsPrepared self.now step) }
@@ -178,7 +178,7 @@ impl Account {
             ≤ step.looks) }
     {
         one_more_act();
-        // For its clause alone: the acts are those that their own list makes.
+        // The call is made for its clause alone: the acts are those that their own list makes.
         self.acts();
         let mut looks = Looks::new();
         let Judgement {
@@ -203,7 +203,7 @@ impl Account {
         })
     }
 
-    /// Memory for so many more acts, one at most, so many entries and a session, where the account has no room for them. The only error
+    /// Memory for so many more acts, 0 or 1, for so many entries and for a session, if the account has no room for them. The only error
     /// is want of memory.
     fn larger(&self, more: usize, entries: usize) -> Result<Larger, AllocError>
         requires one { more ≤ 1 }
@@ -222,7 +222,7 @@ impl Account {
         })
     }
 
-    /// Makes the act of a step that was prepared of this account. It takes no memory.
+    /// Makes the act of a step that was prepared of this account as it is. It takes no memory.
     pub fn install(&mut self, step: Step)
         requires { IsPrepared self.old step }
         ensures terms { self.new.terms ≡ self.old.terms }
@@ -249,7 +249,7 @@ impl Account {
         }
     }
 
-    /// What an act comes to after those that were made, and what it does. The only error is want of memory.
+    /// The outcome of an act after the acts that were made, and the change that it makes. The only error is want of memory.
     fn judged(&self, act: &Act, looks: &mut Looks) -> Result<Judgement, AllocError>
         requires { looks.old ≡ 0 }
         ensures judged { IfOk result (λ judgement. IsJudged self.now act.now (in_view judgement)) }
@@ -270,7 +270,7 @@ impl Account {
         )
     }
 
-    /// What is known of the acts that were made, where one more is judged: a few facts, and what the one that has its key came to.
+    /// The facts of the made acts by which one more is judged, and the outcome of the act that has its key.
     fn known(&self, act: &Act) -> (Facts, Option<&Outcome>)
         ensures known { IsKnown self.now.terms self.now.acts act.now result.0 (option_copied result.1) self.now.sessions }
         ensures within { IsWithin result.0.standing self.now.sessions }

@@ -1,4 +1,4 @@
-//! Memory that is brought before it is needed.
+//! Memory that is taken before it is needed.
 
 ghost use Rattle.std.specs.Prelude.{◌≡◌, ◌+◌, ◌-◌, ◌*◌, ◌≤◌, ◌<◌, ◌^◌, ◌++◌, [], length, IfOk, vec_len, vec_capacity, MatchOption, option_map};
 ghost use Rattle.std.specs.Option.{ForSome};
@@ -10,10 +10,11 @@ use indexmap::{IndexMap, IndexSet};
 use std::alloc::{AllocError, Global};
 use std::hash::{Hash, RandomState};
 
-/// The room with which acts, entries and indexes begin, so that the first few acts of an account move nothing.
+/// The least room of acts, outcomes, entries and maps, so that the first few acts of an account move nothing.
 pub(crate) const LEAST: usize = 4;
 
-/// A larger vector, with no items yet and room for so many at least, and for twice these, where these have no room for more.
+/// A larger vector, without items yet, if these have no room for `more` items more. It has room for all of them, for twice
+/// these, and for at least `least`. None if these have room. The only error is want of memory.
 pub(crate) fn larger<T: Drop>(
     alloc: Global,
     items: &Vec<T>,
@@ -34,7 +35,7 @@ pub(crate) fn larger<T: Drop>(
     Ok(Some(Vec::with_capacity(alloc, doubled.max(count + more))?))
 }
 
-/// Moves the items into the larger vector, where there is one.
+/// Moves the items into the larger vector, if there is any.
 pub(crate) fn grow<T: Drop>(items: &mut Vec<T>, larger: Option<Vec<T>>)
     requires empty { ForSome larger (λ larger. larger.items ≡ []) }
     requires fits { ForSome larger (λ larger. vec_len items.old ≤ vec_capacity larger) }
@@ -56,7 +57,8 @@ pub(crate) fn append<T: Drop>(items: &mut Vec<T>, mut more: Vec<T>)
     items.append(&mut more).unwrap();
 }
 
-/// A larger journal, with no acts yet and room for twice these, where this one has no room for so many more.
+/// A larger journal, without acts yet, if this one has no room for `more` acts more. It has room for all of them, and
+/// for twice these. None if this one has room. The only error is want of memory.
 pub(crate) fn larger_journal(
     alloc: Global,
     acts: &Journal,
@@ -76,7 +78,7 @@ pub(crate) fn larger_journal(
     Ok(Some(Journal::with_room(alloc, doubled.max(count + more))?))
 }
 
-/// Moves the acts into the larger journal, where there is one.
+/// Moves the acts into the larger journal, if there is any.
 pub(crate) fn grow_journal(acts: &mut Journal, larger: Option<Journal>)
     requires empty { ForSome larger (λ larger. larger.acts ≡ []) }
     requires room { MatchOption larger (1 ≤ acts.old.spare) (λ larger. length acts.old.acts + 1 ≤ larger.spare) }
@@ -89,7 +91,8 @@ pub(crate) fn grow_journal(acts: &mut Journal, larger: Option<Journal>)
     }
 }
 
-/// A larger map, with no entries yet and room for twice these, where this one has no room for so many more, one at most.
+/// A larger map, without entries yet, if this one has no room for `more` entries more, 0 or 1. It has room for twice
+/// these. None if this one has room. The only error is want of memory.
 pub(crate) fn larger_map<K: Eq + Hash + Drop, V: Drop>(
     alloc: Global,
     entries: &IndexMap<K, V, RandomState>,
@@ -110,7 +113,7 @@ pub(crate) fn larger_map<K: Eq + Hash + Drop, V: Drop>(
     Ok(Some(IndexMap::with_capacity_and_hasher(alloc, wanted, hasher)?))
 }
 
-/// Moves the entries into the larger map, where there is one.
+/// Moves the entries into the larger map, if there is any.
 pub(crate) fn grow_map<K: Eq + Hash + Drop, V: Drop>(
     entries: &mut IndexMap<K, V, RandomState>,
     larger: Option<IndexMap<K, V, RandomState>>,
@@ -121,14 +124,15 @@ pub(crate) fn grow_map<K: Eq + Hash + Drop, V: Drop>(
     ensures room { 1 ≤ map.spare entries.new }
 {
     if let Some(mut larger) = larger {
-        // `len` says that no two keys are equal, so that each moves with its own value.
+        // The clause of `len` shows that no two keys are equal, so that each moves with its own value.
         let _count = entries.len();
         larger.append(entries).unwrap();
         *entries = larger;
     }
 }
 
-/// A larger set, with no keys yet and room for twice these, where this one has no room for so many more, one at most.
+/// A larger set, without keys yet, if this one has no room for `more` keys more, 0 or 1. It has room for twice these.
+/// None if this one has room. The only error is want of memory.
 pub(crate) fn larger_set<T: Eq + Hash + Drop>(
     alloc: Global,
     keys: &IndexSet<T, RandomState>,
@@ -149,7 +153,7 @@ pub(crate) fn larger_set<T: Eq + Hash + Drop>(
     Ok(Some(IndexSet::with_capacity_and_hasher(alloc, wanted, hasher)?))
 }
 
-/// Moves the keys into the larger set, where there is one.
+/// Moves the keys into the larger set, if there is any.
 pub(crate) fn grow_set<T: Eq + Hash + Drop>(
     keys: &mut IndexSet<T, RandomState>,
     larger: Option<IndexSet<T, RandomState>>,

@@ -1,4 +1,4 @@
-//! What finds an act by its key, and whether a session was opened, however many acts there are.
+//! Indexes that find an act by its key, and an opened session by its name, however many acts there are.
 
 ghost use Rattle.std.specs.Prelude.{◌≡◌, ℕ, ◌+◌, ◌≤◌, ◌||◌, List, ◌∷◌, length, map, nat_eq, bytes_eq, Some, if◌then◌else◌, IfOk, option_map};
 ghost use Rattle.indexmap.specs.IndexMap.{get, spare, IsEmpty};
@@ -25,10 +25,10 @@ pub(crate) type Requests = IndexMap<RequestKey, u64, RandomState>;
 /// The places of top-ups, by ticket, counted from 1.
 pub(crate) type Tickets = IndexMap<u64, u64, RandomState>;
 
-/// The sessions that were opened, be they open or ended.
+/// The sessions that were opened; each may be open or ended.
 pub(crate) type Opened = IndexSet<SessionId, RandomState>;
 
-/// What is looked up of the acts that were made.
+/// The indexes of the acts that were made.
 #[derive(Drop)]
 pub(crate) struct Indexes {
     pub(crate) requests: Requests,
@@ -36,7 +36,7 @@ pub(crate) struct Indexes {
     pub(crate) opened: Opened,
 }
 
-/// Larger indexes, with no keys yet, where one has no room for more.
+/// Larger indexes, without keys yet, for each index that has no room for more.
 #[derive(Drop)]
 pub(crate) struct LargerIndexes {
     pub(crate) requests: Option<Requests>,
@@ -58,7 +58,7 @@ impl Indexes {
         }
     }
 
-    /// The place of the act that has the key of one of this kind.
+    /// The place of the act that has the key of this kind.
     pub(crate) fn place(&self, kind: &Kind) -> Option<u64>
         ensures { (past : List Done) → IsIndexed past self.now → result ≡ place_of_key (map act_made past) kind.now }
     {
@@ -96,7 +96,7 @@ impl Indexes {
         }
     }
 
-    /// Larger indexes where these have no room for so many more keys, one at most. The only error is want of memory.
+    /// Larger indexes for those that have no room for so many more keys, 0 or 1. The only error is want of memory.
     pub(crate) fn larger(&self, alloc: Global, more: usize) -> Result<LargerIndexes, AllocError>
         requires { more ≤ 1 }
         ensures empty { IfOk result AreEmpty }
@@ -109,7 +109,7 @@ impl Indexes {
         })
     }
 
-    /// Moves the keys into the larger indexes, where there are some.
+    /// Moves the keys into the larger indexes, if there are any.
     pub(crate) fn grow(&mut self, larger: LargerIndexes)
         requires empty { AreEmpty larger }
         requires room { CanGrow self.old 1 larger }

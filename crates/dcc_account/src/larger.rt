@@ -5,7 +5,7 @@ use dcc_act::{Entry, Journal, Outcome};
 use dcc_expiry::Due;
 use dcc_state::OpenSession;
 
-/// What is larger than an account has, and empty yet, where the account has no room for one more act.
+/// Larger lists and indexes than an account has, empty yet, for those that have no room for one more act.
 #[derive(Drop)]
 pub(crate) struct Larger {
     pub(crate) acts: Option<Journal>,

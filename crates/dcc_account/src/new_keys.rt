@@ -1,4 +1,4 @@
-//! What an act adds to the indexes.
+//! The keys that an act adds to the indexes.
 
 ghost use Rattle.std.specs.Prelude.{◌≡◌, IfOk, option_map};
 ghost use Rattle.dcc_model.specs.Keys.{ticket};
@@ -9,7 +9,7 @@ use dcc_act::{Kind, Outcome, RequestKey, SessionId};
 use dcc_model::{has_succeeded, request_key};
 use std::alloc::AllocError;
 
-/// What an act adds to the indexes: its key, and the session that it opens.
+/// The keys that an act adds to the indexes: its own, and the name of the session that it opens.
 #[derive(Drop)]
 pub(crate) struct NewKeys {
     pub(crate) request: Option<RequestKey>,
@@ -18,7 +18,7 @@ pub(crate) struct NewKeys {
 }
 
 impl NewKeys {
-    /// Copies of the keys of an act that came to this. The only error is want of memory.
+    /// Copies of the keys of an act with this outcome. The only error is want of memory.
     pub(crate) fn of(kind: &Kind, outcome: &Outcome) -> Result<NewKeys, AllocError>
         ensures { IfOk result (λ keys. AreKeysOf kind.now outcome.now keys) }
     {
@@ -48,7 +48,7 @@ fn ticket(kind: &Kind) -> Option<u64>
     }
 }
 
-/// The session that an act opens by what it came to.
+/// The session that an act with this outcome opens.
 fn opened_by<'a>(kind: &'a Kind, outcome: &Outcome) -> Option<&'a SessionId>
     ensures { option_map (λ sid. sid.now) result ≡ opens_by kind.now outcome.now }
 {

@@ -8,8 +8,8 @@ use dcc_act::{Act, Entry, Outcome};
 use dcc_state::Change;
 use std::marker::Model;
 
-/// A step of an account that is prepared and not yet installed: an act, what it comes to, the entries that it adds, what it
-/// does to the money and to the sessions that are open, the keys that it adds, and all the memory that it takes to install it.
+/// A step of an account that is prepared and not yet installed: an act, its outcome, the entries that it adds, its change of
+/// the money and of the open sessions, the keys that it adds, and all the memory that its installation takes.
 #[derive(Drop)]
 pub struct Step {
     pub(crate) act: Act,
@@ -45,7 +45,7 @@ impl Model for Step {
 }
 
 impl Step {
-    /// What the act comes to.
+    /// The outcome of the act.
     pub fn outcome(&self) -> &Outcome
         ensures { result.now ≡ self.now.outcome }
     {
@@ -66,22 +66,22 @@ impl Step {
         &self.act
     }
 
-    /// Whether the act is made, and not a repeat, nor a request without an account, nor an expiry that ends nothing.
+    /// Whether the act is made: it is neither a repeat, nor a request without an account, nor an expiry that ends nothing.
     pub fn is_new(&self) -> bool
         ensures { result ≡ self.now.is_new }
     {
         self.is_new
     }
 
-    /// The act's place among the acts of its subscriber once it is made, from 1, or that of the act that was made with its
-    /// key; none for a request without an account, and for an expiry that ends nothing.
+    /// The act's place among the made acts of its subscriber, from 1, or that of the act that was made with its key. None
+    /// for a request without an account, and for an expiry that ends nothing.
     pub fn place(&self) -> Option<u64>
         ensures { result ≡ self.now.place }
     {
         self.place
     }
 
-    /// How many live grants were looked at to prepare it, counted one by one.
+    /// The number of live grants that were read to prepare it.
     pub fn looks(&self) -> u64
         ensures { result ≡ self.now.looks }
     {

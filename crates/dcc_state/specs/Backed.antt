@@ -1,4 +1,4 @@
--- What stands behind a change of the open sessions: the money that its request finds, and the services that it grants to.
+-- The backing of a change: the money that it needs, and the services that it grants to.
 use Rattle.std.specs.Prelude.{◌≡◌, ℕ, ◌≤◌, ℤ, pos, neg_ℤ, ◌+ℤ◌, ◌-ℤ◌, ◌≤ℤ◌, true, List, length, map, Option, option_map, ◌⊎◌}
 use Rattle.std.specs.List.{AllByRecursion}
 use Rattle.dcc_act.specs.Answers.{answer_key}
@@ -21,13 +21,14 @@ held_by answer = option_map (λ grant. record { key = answer_key answer; grant =
 abbrev pub IsBorne : ℤ → List Held → List ServiceView → Type 0
 IsBorne funds own services = neg_ℤ CEILING ≤ℤ (funds -ℤ pos (charges_in own services))
 
--- what a request grants costs nothing, or what is free covers it, with what its services give back and less their charges
+-- the price of a request's grants is 0, or the free money covers it, with the price of the grants that its services give back,
+-- and less their charges
 abbrev pub IsAffordable : ℤ → List Held → List ServiceView → List Held → Type 0
 IsAffordable free own services made =
     (prices made ≡ 0) ⊎ (pos (prices made) ≤ℤ ((free +ℤ pos (given_back own services)) -ℤ pos (charges_in own services)))
 
--- a session has its turn where the funds bear its charges and what is free its grants, which are to services that are named
--- and to none twice, with room for all that it holds, and with its own name once more
+-- a session has its turn if the funds bear its charges and the free money covers its grants; these are to named services, to none
+-- twice, with room for all grants that the session holds, and the turn has the session's name twice
 pub record GoesOn (funds free : ℤ) (own : List Held) (turn : Turn) : Type 0 where
   pub borne : IsBorne funds own turn.services
   pub affordable : IsAffordable free own turn.services turn.granted.grants
@@ -36,12 +37,12 @@ pub record GoesOn (funds free : ℤ) (own : List Held) (turn : Turn) : Type 0 wh
   pub room : length own ≤ turn.granted.room
   pub named_so : turn.name ≡ turn.sid
 
--- what is debited is nothing, or within what is free, and what is credited leaves the funds below the ceiling
+-- the debit is 0 or within the free money, and the credit leaves the funds at the ceiling or below
 pub record IsPosted (funds free : ℤ) (credit debit : ℕ) : Type 0 where
   pub covered : (debit ≡ 0) ⊎ (pos debit ≤ℤ free)
   pub below : ((funds -ℤ pos debit) +ℤ pos credit) ≤ℤ CEILING
 
--- so a change stands on the money that it finds; a session that ends, on funds that bear its charges
+-- so the money bears a change; a session ends on funds that bear its charges
 abbrev pub IsBacked : (funds free : ℤ) → List SessionView → Change → Type 0
 IsBacked funds free sessions Nothing = Unit {0}
 IsBacked funds free sessions (Post credit debit) = IsPosted funds free credit debit

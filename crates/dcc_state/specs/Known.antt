@@ -1,4 +1,4 @@
--- What an account keeps of the acts that were made, so that it judges the next one without looking back.
+-- The facts that an account keeps of the made acts, by which it judges the next one without looking back.
 use Rattle.std.specs.Prelude.{◌≡◌, ℕ, ℤ, pos, neg_ℤ, ◌+ℤ◌, ◌-ℤ◌, ◌≤ℤ◌, Bool, false, not, List, [], ◌∷◌, ◌++◌, length, map, reverse, filter, sum_by, Option, Some, None, option_map}
 use Rattle.dcc_escrow.specs.Pools.{PoolView}
 use Rattle.dcc_tariff.specs.Terms.{TermsView}
@@ -21,7 +21,7 @@ use Rattle.dcc_state.specs.declared.facts.Facts.{Facts}
 use Rattle.dcc_state.specs.declared.limits.TheConstants.{POOL, FARTHEST}
 use Rattle.dcc_state.specs.OpenSessions.{SessionView, is_session, own_in, is_over_at, AreOpen}
 
--- a session after its request's turn: with what that grants, and what its services don't give back
+-- a session after its request's turn: with the grants of the turn, and the grants that its services don't give back
 abbrev pub after_turn : Turn → List SessionView → SessionView
 after_turn turn sessions =
     record { sid = turn.sid; deadline = turn.deadline; grants = turn.granted.grants ++ left_of (own_in sessions turn.sid) turn.services }
@@ -34,7 +34,7 @@ changed (Open turn) sessions = filter (λ other. not (is_session turn.sid other)
 changed (End sid services) sessions = filter (λ other. not (is_session sid other)) sessions
 changed (Expire moment) sessions = filter (λ other. not (is_over_at moment other)) sessions
 
--- the funds after it: with what is credited, and less what is debited and charged
+-- the funds after a change: with its credit, and less its debit and its charges
 abbrev pub funds_after : Change → ℤ → List SessionView → ℤ
 funds_after Nothing funds sessions = funds
 funds_after (Post credit debit) funds sessions = (funds -ℤ pos debit) +ℤ pos credit
@@ -42,7 +42,7 @@ funds_after (Open turn) funds sessions = funds -ℤ pos (charges_in (own_in sess
 funds_after (End sid services) funds sessions = funds -ℤ pos (charges_in (own_in sessions sid) services)
 funds_after (Expire moment) funds sessions = funds
 
--- what it charges beyond what the services held
+-- the overrun of a change
 abbrev pub overrun_with : Change → List SessionView → ℕ
 overrun_with Nothing sessions = 0
 overrun_with (Post credit debit) sessions = 0
@@ -54,12 +54,12 @@ overrun_with (Expire moment) sessions = 0
 abbrev pub prices_of : SessionView → ℕ
 prices_of session = prices session.grants
 
--- the pool is the account's, and what it has reserved is just what the sessions hold
+-- the pool is the account's, and its reserved money is the sum of the sessions' holds
 pub record HoldsAll (pool : PoolView) (sessions : List SessionView) : Type 0 where
   pub id : pool.id ≡ POOL
   pub reserved : pool.reserved ≡ sum_by prices_of sessions
 
--- the money that is known, and what the sessions hold of it, is far from what can't be reckoned with
+-- the known money, and the sum of the sessions' holds, are within the range of computations
 pub record IsWithin (standing : Standing) (sessions : List SessionView) : Type 0 where
   pub funds_low : neg_ℤ CEILING ≤ℤ standing.funds
   pub funds_high : standing.funds ≤ℤ CEILING
@@ -69,12 +69,12 @@ pub record IsWithin (standing : Standing) (sessions : List SessionView) : Type 0
   pub overrun_high : standing.overrun ≤ℤ FARTHEST
   pub held : pos (sum_by prices_of sessions) ≤ℤ FARTHEST
 
--- whether the session of a request was opened; what is no request has none
+-- the session of a request was opened; an act that is no request has none
 abbrev pub was_opened_by : List Done → Option RequestKey → Bool
 was_opened_by past None = false
 was_opened_by past (Some key) = was_opened past key.sid
 
--- this is what is known where an act is judged after these
+-- these are the facts by which an act is judged after the acts of this list
 pub record IsKnown (terms : TermsView) (xs : List Act) (act : Act) (facts : Facts) (first : Option Outcome) (sessions : List SessionView) : Type 0 where
   pub keyed : AreKeyed xs
   pub count_is : facts.count ≡ length (history terms (reverse xs))
@@ -85,13 +85,13 @@ pub record IsKnown (terms : TermsView) (xs : List Act) (act : Act) (facts : Fact
   pub standing_is : facts.standing ≡ standing_of terms (history terms (reverse xs))
   pub sessions_are : AreOpen terms (history terms (reverse xs)) sessions
 
--- the money of an account is so far from what can't be reckoned with, where what is overrun is
+-- the money of an account is within the range of computations if its overrun is
 abbrev pub MoneyIsWithin : Type 0
 MoneyIsWithin = (terms : TermsView) (xs : List Act) (standing : Standing) (sessions : List SessionView) → AreKeyed xs
     → standing ≡ standing_of terms (history terms (reverse xs)) → AreOpen terms (history terms (reverse xs)) sessions
     → (standing.overrun +ℤ CEILING) ≤ℤ FARTHEST → IsWithin standing sessions
 
--- what is reserved is what the open sessions hold together
+-- the reserved money is the sum of the open sessions' holds
 abbrev pub SessionsHoldWhatIsReserved : Type 0
 SessionsHoldWhatIsReserved = (terms : TermsView) (xs : List Act) (sessions : List SessionView) → AreOpen terms (history terms (reverse xs)) sessions
     → sum_by prices_of sessions ≡ reserved_of terms (history terms (reverse xs))

@@ -1,4 +1,4 @@
--- How many live grants are looked at to judge one more act, however many sessions are open and acts were made.
+-- The live grants that are read to judge one more act, however many sessions are open and acts were made.
 use Rattle.std.specs.Prelude.{ℕ, nat_le, List, length, filter, bytes_eq}
 use Rattle.dcc_tariff.specs.Terms.{TermsView}
 use Rattle.dcc_act.specs.declared.act.Kind.{Kind}
@@ -14,8 +14,8 @@ many_of terms past sid = length (filter (λ (held : Live). bytes_eq sid held.sid
 abbrev pub many_over : TermsView → List Done → (moment : ℕ) → ℕ
 many_over terms past moment = length (filter (λ (held : Live). nat_le (deadline terms past held.sid) moment) (lives terms past))
 
--- those that an act may look at: a request of a session at its own session's, an expiry at those of the sessions that it ends,
--- and a top-up and a one-time event at none
+-- the most grants that an act may read: a request of a session those of its own session, an expiry those of the sessions that it
+-- ends, and a top-up and a one-time event none
 abbrev pub most_looks : TermsView → List Done → (moment : ℕ) → Kind → ℕ
 most_looks terms past moment (kind.TopUp top_up) = 0
 most_looks terms past moment (kind.Initial request limit host) = many_of terms past request.key.sid
@@ -24,7 +24,8 @@ most_looks terms past moment (kind.Termination request) = many_of terms past req
 most_looks terms past moment (kind.Event event) = 0
 most_looks terms past moment kind.Expiry = many_over terms past moment
 
--- those that an act has to look at, each of which counts: a request of a session at each of its own session's; and else none
+-- the least grants that an act has to read, each of which counts: a request of a session each of its own session's, and any other
+-- act none
 abbrev pub least_looks : TermsView → List Done → Kind → ℕ
 least_looks terms past (kind.TopUp top_up) = 0
 least_looks terms past (kind.Initial request limit host) = many_of terms past request.key.sid

@@ -10,7 +10,7 @@ use Rattle.dcc_model.specs.declared.done.Done.{Done}
 use Rattle.dcc_model.specs.Sessions.{Sid, Live, deadline, is_open, lives}
 use Rattle.dcc_session.specs.declared.held.Held.{Held}
 
--- an open session: its name, until when it is held, and its live grants
+-- an open session: its name, its deadline, and its live grants
 pub record SessionView : Type 0 where
   pub sid : Sid
   pub deadline : ℕ
@@ -26,7 +26,7 @@ is_of sid live = bytes_eq sid live.sid
 abbrev pub grants_of : TermsView → List Done → Sid → List Held
 grants_of terms past sid = map held_of (filter (is_of sid) (lives terms past))
 
--- a session as it is open after these acts, the latest first; none where it isn't
+-- the open session of this name after these acts, the latest first; none if it isn't open
 abbrev pub session_at : TermsView → List Done → Sid → Option SessionView
 session_at terms past sid =
     if is_open terms past sid then Some (record { sid = sid; deadline = deadline terms past sid; grants = grants_of terms past sid }) else None
@@ -38,11 +38,11 @@ is_session sid session = bytes_eq session.sid sid
 abbrev pub session_in : List SessionView → Sid → Option SessionView
 session_in sessions sid = find (is_session sid) sessions
 
--- its deadline
+-- the deadline of the session of this name
 abbrev pub deadline_at : List SessionView → Sid → Option ℕ
 deadline_at sessions sid = option_map (λ (session : SessionView). session.deadline) (session_in sessions sid)
 
--- what is kept of deadlines is those of these sessions: at each name its session's, and none where there is no session
+-- the kept deadlines are those of these sessions: each name has its session's, and a name without a session has none
 abbrev pub KeepsDeadlines : DueView → List SessionView → Type 0
 KeepsDeadlines due sessions = (sid : Sid) → deadline_of due sid ≡ deadline_at sessions sid
 
@@ -50,7 +50,7 @@ KeepsDeadlines due sessions = (sid : Sid) → deadline_of due sid ≡ deadline_a
 abbrev pub own_in : List SessionView → Sid → List Held
 own_in sessions sid = option_map_or (λ (session : SessionView). session.grants) (session_in sessions sid) []
 
--- what the session of a request holds; what is no request of a session has none
+-- the grants of a request's session; an act that is no request of a session has none
 abbrev pub own_by : List SessionView → Kind → List Held
 own_by sessions (kind.TopUp top_up) = []
 own_by sessions (kind.Initial request limit host) = own_in sessions request.key.sid
@@ -59,7 +59,7 @@ own_by sessions (kind.Termination request) = own_in sessions request.key.sid
 own_by sessions (kind.Event event) = []
 own_by sessions kind.Expiry = []
 
--- no two of them have one name
+-- no two of these sessions have one name
 abbrev pub AreApart : List SessionView → Type 0
 AreApart [] = Unit {0}
 AreApart (session ∷ rest) = (list_any (is_session session.sid) rest ≡ false) × AreApart rest
@@ -69,6 +69,6 @@ pub record AreOpen (terms : TermsView) (past : List Done) (sessions : List Sessi
   pub found : (sid : Sid) → session_in sessions sid ≡ session_at terms past sid
   pub apart : AreApart sessions
 
--- the time of a session is over at this moment
+-- the session is due at this moment
 abbrev pub is_over_at : ℕ → SessionView → Bool
 is_over_at moment session = nat_le session.deadline moment

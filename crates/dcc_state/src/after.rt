@@ -1,4 +1,4 @@
-//! What a new act does: to the money, to the sessions that are open and in the books.
+//! The change of a new act: of the money, of the open sessions and in the books.
 
 ghost use Rattle.std.specs.Prelude.{◌≡◌, filter_map, option_map, IfOk};
 ghost use Rattle.dcc_model.specs.Sessions.{looked_at};
@@ -61,7 +61,7 @@ fn charge_entries(
     Ok(entries)
 }
 
-/// What a new act does to the money and to the sessions that are open. The only error is want of memory.
+/// A new act's change of the money and of the open sessions. The only error is want of memory.
 pub(crate) fn change_of(
     alloc: Global,
     terms: &Terms,
@@ -120,7 +120,7 @@ fn turn_with(
     })
 }
 
-/// What answers granted.
+/// The grants of answers, each with the key of its service.
 fn granted(alloc: Global, answers: &[ServiceAnswer]) -> Result<Vec<Held>, AllocError>
     ensures { IfOk result (λ held. held.items ≡ filter_map held_by answers.now) }
 {

@@ -1,4 +1,4 @@
-//! Changes are made: of the money in the pool, and of the sessions with their holds.
+//! Making a change: of the money in the pool, and of the sessions with their holds.
 
 ghost use Rattle.std.specs.Prelude.{◌≡◌, ℕ, List, Some, None, if◌then◌else◌, ◌≤◌, ◌<◌, ◌+◌, ◌*◌, ◌∷◌, [], ◌++◌, filter, not, pos, ◌+ℤ◌, ◌-ℤ◌, sum_by, vec_len, vec_capacity};
 ghost use Rattle.dcc_escrow.specs.Pools.{free};
@@ -18,8 +18,9 @@ use dcc_expiry::Due;
 use dcc_session::{Idle, Open};
 
 impl Change {
-    /// Makes the change, and tells what it charges beyond what the services held, in minor units: at most 2 * 10^18, since the
-    /// floor bears it. It takes no memory.
+    /// Makes the change, and returns its overrun, in minor units: at most 2 * 10^18, since the floor bears its charges. It
+    /// takes no memory. Sessions, deadlines and pool have to agree with one another, with room for one more session and one
+    /// more deadline, and the money has to back the change.
     pub fn apply(self, sessions: &mut Vec<OpenSession>, due: &mut Due, pool: &mut Pool) -> u64
         requires room { vec_len sessions.old < vec_capacity sessions.old }
         requires room_due { 1 ≤ due.old.room }
@@ -50,7 +51,7 @@ impl Change {
     }
 }
 
-/// Takes and adds money at once.
+/// Takes and adds money at once, in minor units.
 fn post(pool: &mut Pool, credit: u64, debit: u64)
     requires { IsPosted pool.old.committed (free pool.old) credit debit }
     ensures { pool.new ≡ record pool.old { committed = (pool.old.committed -ℤ pos debit) +ℤ pos credit } }
@@ -59,7 +60,7 @@ fn post(pool: &mut Pool, credit: u64, debit: u64)
     pool.credit(credit).unwrap();
 }
 
-/// Takes the session of this name up again, or begins it where it isn't open.
+/// Resumes the session of this name, or begins it if it isn't open.
 fn resume(sessions: &mut Vec<OpenSession>, pool: &Pool, sid: &SessionId) -> Open
     requires apart { AreApart sessions.old.items }
     requires id { pool.now.id ≡ POOL }
@@ -77,8 +78,8 @@ fn resume(sessions: &mut Vec<OpenSession>, pool: &Pool, sid: &SessionId) -> Open
     }
 }
 
-/// A session has its turn: what its services report is charged, what is granted to them is held, and the session is held
-/// until its deadline, which is kept. What is charged beyond what they held is told.
+/// A session has its turn: the reports of its services are charged, their grants are held, and the session is held until
+/// its deadline, which is kept. It returns the overrun, in minor units.
 fn go_on(sessions: &mut Vec<OpenSession>, due: &mut Due, pool: &mut Pool, turn: Turn) -> u64
     requires room { vec_len sessions.old < vec_capacity sessions.old }
     requires room_due { 1 ≤ due.old.room }
@@ -112,8 +113,8 @@ fn go_on(sessions: &mut Vec<OpenSession>, due: &mut Due, pool: &mut Pool, turn: 
     charges.overrun
 }
 
-/// A session ends, after what its services report is charged, and all that it holds is given back; its deadline is kept no
-/// longer. What is charged beyond what they held is told.
+/// A session ends: the reports of its services are charged, all its holds are given back, and its deadline is taken away.
+/// It returns the overrun, in minor units.
 fn end(
     sessions: &mut Vec<OpenSession>,
     due: &mut Due,
@@ -139,7 +140,7 @@ fn end(
     charges.overrun
 }
 
-/// The sessions end whose time is over at this moment, and all that they hold is given back; their deadlines are kept no longer.
+/// The sessions that are due at this moment end: all their holds are given back, and their deadlines are taken away.
 fn end_over(sessions: &mut Vec<OpenSession>, due: &mut Due, pool: &mut Pool, moment: Moment)
     requires { HoldsAll pool.old sessions.old.items }
     ensures sessions { sessions.new.items ≡ filter (λ other. not (is_over_at moment other)) sessions.old.items }

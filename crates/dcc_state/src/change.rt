@@ -1,4 +1,4 @@
-//! What an act does to the money of an account and to the sessions that are open.
+//! The change that an act makes to the money of an account and to the open sessions.
 
 use dcc_act::{Moment, Services, SessionId};
 use dcc_session::Granted;
@@ -8,17 +8,17 @@ use dcc_session::Granted;
 pub struct Turn {
     /// The session's name.
     pub sid: SessionId,
-    /// The same once more, for its deadline among those that are kept.
+    /// The same name once more, for its deadline among the kept ones.
     pub name: SessionId,
-    /// Until when it is held then, in seconds.
+    /// The moment until which the session is held then, in seconds.
     pub deadline: u64,
-    /// The services as the request looks at them: what they report and ask for.
+    /// The services as the request counts them: with their reports and the units that they ask for.
     pub services: Services,
-    /// What is granted to them, with memory for it.
+    /// The grants to them, with memory for these.
     pub granted: Granted,
 }
 
-/// What an act does to the money of an account and to the sessions that are open.
+/// The change that an act makes to the money of an account and to the open sessions.
 #[derive(Debug, Drop)]
 pub enum Change {
     /// All stays as it is.
@@ -27,8 +27,8 @@ pub enum Change {
     Post { credit: u64, debit: u64 },
     /// The session has its turn, and is open after it.
     Open(Turn),
-    /// The session of this name ends, after what its services report.
+    /// The session of this name ends, after the reports of its services are charged.
     End { sid: SessionId, services: Services },
-    /// Those end whose time is over at this moment.
+    /// The sessions that are due at this moment end.
     Expire(Moment),
 }

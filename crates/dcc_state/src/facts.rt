@@ -1,17 +1,17 @@
-//! What is known of the acts that were made, beside the sessions that are open.
+//! The facts of the acts that were made, beside the open sessions.
 
 use dcc_model::Standing;
 
-/// What is known of the acts that were made, where one more is judged.
+/// The facts of the acts that were made, by which one more is judged.
 #[derive(Clone, Copy, Debug)]
 pub struct Facts {
-    /// How many acts were made.
+    /// The number of made acts.
     pub count: u64,
-    /// Whether one of them is a top-up, which opens the account.
+    /// Whether any of them is a top-up, which opens the account.
     pub has_account: bool,
-    /// Whether one of them opened the session of the act that is judged.
+    /// Whether any of them opened the session of the judged act.
     pub was_opened: bool,
-    /// The place, from 1, of the one that has the key of the act that is judged.
+    /// The place, from 1, of the act that has the key of the judged act.
     pub place: Option<u64>,
     /// The money after them.
     pub standing: Standing,

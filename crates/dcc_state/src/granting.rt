@@ -15,7 +15,7 @@ use dcc_session::Held;
 use dcc_tariff::MAX_PRICE;
 use std::alloc::{AllocError, Global};
 
-/// The answers to these services in order, each in the room that those before leave, at so much free money.
+/// The answers to these services in order, each in the room that the services before leave, at so much free money.
 pub(crate) fn answers(
     alloc: Global,
     free: i128,
@@ -38,7 +38,7 @@ pub(crate) fn answers(
     Ok(answers)
 }
 
-/// The answer to a service in its room. A report that no tariff charges fails, and nothing is granted to its service.
+/// The answer to a service in its room. If no tariff charges its report, the result is a failure, and nothing is granted.
 fn answer_to(own: &[Held], service: &Service, space: i128) -> Result<ServiceAnswer, AllocError>
     ensures value { IfOk result (λ answer. answer ≡ answer_to_in own.now service.now space) }
     ensures ids { IfOk result (λ answer. answer.ids ≡ service.now.ids) }
@@ -50,7 +50,7 @@ fn answer_to(own: &[Held], service: &Service, space: i128) -> Result<ServiceAnsw
     }
 }
 
-/// The money for the next service's grant, after those that the request made to the services before.
+/// The room of the next service's grant, after the grants that the request made to the services before.
 fn room(free: i128, own: &[Held], services: &[Service], before: &[ServiceAnswer]) -> i128
     requires few { length services.now ≤ MAX_SERVICES }
     requires few_before { length before.now ≤ MAX_SERVICES }
@@ -63,7 +63,7 @@ fn room(free: i128, own: &[Held], services: &[Service], before: &[ServiceAnswer]
     free + given_back(own, services) - (charged + made)
 }
 
-/// The price of a grant that was made.
+/// The price of an answer's grant, or 0.
 fn made_price(answer: &ServiceAnswer) -> u64
     ensures value { result ≡ made_price answer.now }
     ensures bound { result ≤ MAX_PRICE }
@@ -74,7 +74,7 @@ fn made_price(answer: &ServiceAnswer) -> u64
     }
 }
 
-/// The prices of the grants that were made.
+/// The sum of the prices of the answers' grants.
 fn made_prices(answers: &[ServiceAnswer]) -> i128
     requires { length answers.now ≤ MAX_SERVICES }
     ensures value { result ≡ pos (sum_by made_price answers.now) }

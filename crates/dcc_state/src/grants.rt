@@ -22,7 +22,7 @@ fn live(own: &[Held], key: ServiceKey) -> Option<Grant>
     }
 }
 
-/// The first of these that a service of this key holds.
+/// The first of these grants that has the key of this service.
 fn held_for(own: &[Held], key: ServiceKey) -> Option<&Held>
     ensures { option_copied result ≡ find (λ held. same_service held.key key) own.now }
 {
@@ -39,7 +39,7 @@ fn charge_tariff(own: &[Held], service: &Service) -> Option<Tariff>
     }
 }
 
-/// The charge for a service's report, where there is one and a tariff for it.
+/// The charge for a service's report, if there is a report and a tariff for it.
 pub(crate) fn charge(own: &[Held], service: &Service) -> Option<u64>
     ensures value { result ≡ charge_in own.now service.now }
     ensures bound { ForSome result (λ cost. cost ≤ MAX_PRICE) }
@@ -56,7 +56,7 @@ pub(crate) fn is_unrated(own: &[Held], service: &Service) -> bool
     service.used.is_some() && charge(own, service).is_none()
 }
 
-/// The charge for a service's report, or nothing.
+/// The charge for a service's report, or 0.
 fn cost(own: &[Held], service: &Service) -> u64
     ensures value { result ≡ unwrap_or (charge_in own.now service.now) 0 }
     ensures bound { result ≤ MAX_PRICE }
@@ -67,7 +67,7 @@ fn cost(own: &[Held], service: &Service) -> u64
     }
 }
 
-/// The charges of a request's reports together.
+/// The sum of the charges of a request's reports.
 pub(crate) fn charges(own: &[Held], services: &[Service]) -> i128
     requires { length services.now ≤ MAX_SERVICES }
     ensures value { result ≡ pos (charges_in own.now services.now) }
@@ -80,7 +80,7 @@ pub(crate) fn charges(own: &[Held], services: &[Service]) -> i128
     sum
 }
 
-/// Whether a request gives back what a service holds.
+/// Whether a request gives back a grant.
 fn is_given_back(services: &[Service], held: &Held) -> bool
     ensures { result ≡ is_given_back services.now held.now }
 {

@@ -1,19 +1,19 @@
-//! What one more act comes to, and what it does.
+//! The outcome of one more act, and the change that it makes.
 
 use crate::change::Change;
 use dcc_act::{Entry, Outcome};
 
-/// What one more act comes to, and what it does.
+/// The outcome of one more act, and the change that it makes.
 #[derive(Debug, Drop)]
 pub struct Judgement {
-    /// What it comes to.
+    /// The outcome.
     pub outcome: Outcome,
-    /// Whether it is made, and not a repeat, nor a request without an account, nor an expiry that ends nothing.
+    /// Whether it is made: it is neither a repeat, nor a request without an account, nor an expiry that ends nothing.
     pub is_new: bool,
-    /// Its place among the acts of its subscriber once it is made, from 1, or that of the act that was made with its key.
+    /// Its place among the made acts of its subscriber, from 1, or that of the act that was made with its key.
     pub place: Option<u64>,
     /// The entries that it adds to the books, in order.
     pub entries: Vec<Entry>,
-    /// What it does to the money and to the sessions that are open.
+    /// The change of the money and of the open sessions.
     pub change: Change,
 }

@@ -1,4 +1,4 @@
-//! What one more act comes to, and what it does.
+//! The outcome of one more act, and the change that it makes.
 
 ghost use Rattle.std.specs.Prelude.{◌≡◌, ◌≤◌, ◌+◌, ◌<◌, ◌^◌, List, reverse, length, count_by, sum_by, neg_ℤ, ◌≤ℤ◌, if◌then◌else◌, unwrap_or, IfOk};
 ghost use Rattle.std.specs.Option.{option_copied};
@@ -32,10 +32,10 @@ use dcc_session::Held;
 use dcc_tariff::Terms;
 use std::alloc::{AllocError, Global};
 
-/// What one more act comes to after those that were made, and what it does, by what is known of these: a few facts, what the
-/// one that has its key came to, and the sessions that are open, with their deadlines in order. It looks at the grants of the
-/// act's own session alone, an expiry at those of the sessions that it ends, each once, and counts them; where no session is due,
-/// an expiry looks at none. The only error is want of memory.
+/// The outcome of one more act after those that were made, and the change that it makes, by the facts of these, the outcome of
+/// the act that has its key, and the open sessions with their deadlines in order. It reads the grants of the act's own session
+/// alone, each once, and counts them. An expiry reads at most the grants of the sessions that it ends. The only error is want of
+/// memory.
 pub fn judge(
     alloc: Global,
     terms: &Terms,
@@ -78,7 +78,7 @@ pub fn judge(
     judge_known(alloc, terms, facts, first, sessions, due, act, looks)
 }
 
-/// What one more act comes to, and what it does, by what is known.
+/// The outcome of one more act, and the change that it makes, by the known facts.
 fn judge_known(
     alloc: Global,
     terms: &Terms,
@@ -127,7 +127,7 @@ fn judge_known(
     })
 }
 
-/// The services of an act as it looks at them. The only error is want of memory.
+/// The services of an act, as the act counts them. The only error is want of memory.
 fn services_of(alloc: Global, kind: &Kind) -> Result<Services, AllocError>
     ensures value { IfOk result (λ services. services ≡ looked_at kind.now) }
     ensures few { IfOk result (λ services. length services ≤ MAX_SERVICES) }
@@ -136,7 +136,7 @@ fn services_of(alloc: Global, kind: &Kind) -> Result<Services, AllocError>
     Ok(Services::from_vec(services_looked_at(alloc, kind)?).unwrap())
 }
 
-/// What an act comes to.
+/// The outcome of an act.
 fn outcome(
     alloc: Global,
     facts: &Facts,
@@ -167,7 +167,7 @@ fn outcome(
     }
 }
 
-/// What an act comes to that has an account or needs none: a repeat to what the first came to.
+/// The outcome of an act that has an account or needs none: a repeat has that of the first act.
 fn settled(
     alloc: Global,
     facts: &Facts,
@@ -197,7 +197,7 @@ fn settled(
     }
 }
 
-/// What an act comes to that is made.
+/// The outcome of an act that is made.
 fn decide(
     alloc: Global,
     facts: &Facts,
@@ -237,7 +237,7 @@ fn decide(
     reported(alloc, facts, sessions, own, request, &report.key, services)
 }
 
-/// How many of these sessions an expiry at this moment ends. Where none is due, it looks at one deadline and at no session.
+/// The number of these sessions that an expiry at this moment ends. If none is due, it reads one deadline and no session.
 fn expired(sessions: &[OpenSession], due: &Due, moment: Moment) -> u64
     requires apart { AreApart sessions.now }
     requires due { KeepsDeadlines due.now sessions.now }
@@ -249,7 +249,7 @@ fn expired(sessions: &[OpenSession], due: &Due, moment: Moment) -> u64
     }
 }
 
-/// How many of these sessions are over at this moment.
+/// The number of these sessions that are due at this moment.
 fn count_over(sessions: &[OpenSession], moment: Moment) -> u64
     ensures { result ≡ expired_in sessions.now moment }
 {

@@ -1,4 +1,4 @@
-//! Laws of what an account keeps. The functions do nothing: each has a law as its contract.
+//! Laws of the facts that an account keeps. Each is the contract of a function that does nothing.
 
 ghost use Rattle.std.specs.Prelude.{◌≡◌, pos};
 ghost use Rattle.dcc_state.specs.Known.{MoneyIsWithin, SessionsHoldWhatIsReserved};
@@ -6,14 +6,14 @@ ghost use Rattle.dcc_state.specs.Known.{MoneyIsWithin, SessionsHoldWhatIsReserve
 use crate::limits::{FARTHEST, POOL};
 use dcc_model::{funds_are_accounted_for, sessions_open_once};
 
-/// The numbers that definitions cite by name: the farthest from nothing that money is reckoned to, in minor units, and the
+/// The numbers that definitions cite by name: the farthest from 0 that computed money may be, in minor units, and the
 /// number of an account's pool.
 pub fn numbers_are_given()
     ensures farthest { FARTHEST ≡ pos 149_000_000_000_000_000_000_000_000_000_000_000_000 }
     ensures pool { POOL ≡ 0 }
 {}
 
-/// The money of an account, and what its sessions hold of it, can be reckoned with, where what is overrun can.
+/// The money of an account, and the sum of its sessions' holds, are within the range of computations if the overrun is.
 pub fn money_is_within()
     ensures { MoneyIsWithin }
 {
@@ -21,7 +21,7 @@ pub fn money_is_within()
     sessions_open_once();
 }
 
-/// What is reserved of the funds is what the open sessions hold together.
+/// The reserved money is the sum of the open sessions' holds.
 pub fn sessions_hold_what_is_reserved()
     ensures { SessionsHoldWhatIsReserved }
 {

@@ -1,10 +1,10 @@
-//! What one more act comes to, by what an account keeps of those before it.
+//! The outcome of one more act, by the facts that an account keeps of the acts before it.
 //!
-//! Stands on `dcc_model`, `dcc_session`, `dcc_expiry`, `dcc_act` and `dcc_tariff`. An account keeps its money, the sessions that are open
-//! with their live grants, their deadlines in order, and a few facts; `judge` looks at these alone, and never back over the acts.
-//! The contract that it gives: where these are what the acts before say, the outcome, the place, the entries and the money are
-//! those of the definitions, and the change that it tells leads to the sessions that are open after the act. Made, it leaves the
-//! deadlines of just these.
+//! Stands on `dcc_model`, `dcc_session`, `dcc_expiry`, `dcc_act` and `dcc_tariff`. An account keeps its money, the open sessions with
+//! their live grants, their deadlines in order, and a few facts. `judge` reads these alone, and never looks back over the acts. The
+//! contract that it gives: if these are the facts of the acts before, then the outcome, the place, the entries and the money are those of
+//! the definitions, and the returned change leads to the sessions that are open after the act. Once it is made, the deadlines are exactly
+//! those of these sessions.
 #![tactic(auto)]
 
 mod after;

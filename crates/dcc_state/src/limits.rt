@@ -1,7 +1,7 @@
-//! Limits of what is reckoned.
+//! Limits of computed money.
 
-/// The farthest from nothing that the money of an account is reckoned to, in minor units: more than 2^63 acts could ever
-/// overrun, and less than an `i128` holds by all that one act can move.
+/// The farthest from 0 that the money of an account may be, in minor units: more than the overrun of 2^63 acts, and so
+/// far below the limits of an `i128` that no computation of one act passes them.
 pub const FARTHEST: i128 = 149_000_000_000_000_000_000_000_000_000_000_000_000;
 
 /// The number of an account's pool, by which its holds are known. An account has one pool, and no hold leaves it.

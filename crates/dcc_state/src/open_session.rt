@@ -43,22 +43,22 @@ impl OpenSession {
     }
 }
 
-/// Whether the time of a session is over at this moment.
+/// Whether a session is due at this moment.
 pub(crate) fn is_over(session: &OpenSession, moment: Moment) -> bool
     ensures { result ≡ is_over_at moment session.now }
 {
     session.session.deadline() <= moment.seconds()
 }
 
-/// Where the session of this name stands.
+/// The index of the session of this name.
 fn place(sessions: &[OpenSession], sid: &SessionId) -> Option<usize>
     ensures { result ≡ position (is_session sid.now) sessions.now }
 {
     sessions.iter().position(|session| session.sid == *sid)
 }
 
-/// Moves the sessions whose time isn't over at this moment to the front, in their order, and tells how many they are. The
-/// others stand behind them, in any order. It takes no memory, and looks at each session once.
+/// Moves the sessions that aren't due at this moment to the front, in their order, and returns their number. The others
+/// stand behind them, in any order. It takes no memory, and reads each session once.
 pub(crate) fn gather_open(sessions: &mut [OpenSession], moment: Moment) -> usize
     ensures kept { take result sessions.new ≡ filter (λ other. not (is_over_at moment other)) sessions.old }
     ensures within { result ≤ length sessions.new }
@@ -74,7 +74,7 @@ pub(crate) fn gather_open(sessions: &mut [OpenSession], moment: Moment) -> usize
     kept
 }
 
-/// Takes the session of this name out, where it is in. It takes no memory.
+/// Takes the session of this name out, if it is in. It takes no memory.
 pub(crate) fn take_out(sessions: &mut Vec<OpenSession>, sid: &SessionId) -> Option<ParkedSession>
     requires { AreApart sessions.old.items }
     ensures grants { option_map_or (λ (session : OpenView). session.grants) result [] ≡ own_in sessions.old.items sid.now }

@@ -1,4 +1,4 @@
-//! What a request of a session comes to.
+//! The outcome of a request of a session.
 
 ghost use Rattle.std.specs.Prelude.{◌≡◌, ◌≤◌, neg_ℤ, ◌≤ℤ◌, length, find, sum_by, option_map, IfOk};
 ghost use Rattle.dcc_act.specs.Services.{ServiceView};
@@ -34,8 +34,8 @@ fn is_open(sessions: &[OpenSession], sid: &SessionId) -> bool
     session(sessions, sid).is_some()
 }
 
-/// Whether the session of this name is open, by its own grants first: a session with live grants is open, and only a session
-/// without grants is looked for in the list.
+/// Whether the session of this name is open. Its own grants are tested first: a session with live grants is open, so that
+/// only a session without grants is searched in the list.
 fn is_open_with(sessions: &[OpenSession], own: &[Held], sid: &SessionId) -> bool
     requires own { own.now ≡ own_in sessions.now sid.now }
     ensures { result ≡ is_open_in sessions.now sid.now }
@@ -69,7 +69,7 @@ pub(crate) fn own_of<'a>(sessions: &'a [OpenSession], kind: &Kind, looks: &mut L
     }
 }
 
-/// What an initial request comes to: a session opens once, and only while fewer are open than the request's limit.
+/// The outcome of an initial request: a session opens once, and only while fewer are open than the request's limit.
 pub(crate) fn begun(
     alloc: Global,
     facts: &Facts,
@@ -101,7 +101,7 @@ pub(crate) fn begun(
     }
 }
 
-/// What an update or a termination comes to: its session has to be open, and the floor has to bear its charges.
+/// The outcome of an update or a termination: its session has to be open, and the floor has to bear its charges.
 pub(crate) fn reported(
     alloc: Global,
     facts: &Facts,

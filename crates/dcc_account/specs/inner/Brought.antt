@@ -8,7 +8,7 @@ use Rattle.dcc_account.specs.Memory.{Space}
 use Rattle.dcc_account.specs.declared.larger.Larger.{Larger}
 use Rattle.dcc_account.specs.inner.Indexed.{AreEmpty}
 
--- for how much there is room in what is larger
+-- the room in the larger lists and indexes
 abbrev pub space_of : Larger → Space
 space_of larger = record {
   acts = option_map (λ journal. journal.spare) larger.acts;
@@ -21,7 +21,7 @@ space_of larger = record {
   opened = option_map (λ m. set.spare m) larger.indexes.opened;
 }
 
--- nothing is in it yet
+-- the larger lists and indexes are empty yet
 pub record IsEmpty (larger : Larger) : Type 0 where
   pub acts : ForSome larger.acts (λ journal. journal.acts ≡ [])
   pub outcomes : ForSome larger.outcomes (λ v. v.items ≡ [])

@@ -1,4 +1,4 @@
--- What an account keeps.
+-- The parts that an account keeps.
 use Rattle.std.specs.Prelude.{◌≡◌, ℕ, ◌*◌, ℤ, pos, ◌≤ℤ◌, List, length, map, reverse}
 use Rattle.dcc_escrow.specs.Pools.{PoolView}
 use Rattle.dcc_escrow.specs.declared.limits.TheConstants.{MOST_MONEY}
@@ -16,21 +16,20 @@ use Rattle.dcc_account.specs.Accounts.{outcomes}
 use Rattle.dcc_account.specs.declared.indexes.Indexes.{Indexes}
 use Rattle.dcc_account.specs.inner.Indexed.{IsIndexed}
 
--- the acts are those that their own list makes, and their services have keys of their own; what they came to and the entries
--- are those of the definitions
+-- the acts are those that their own list makes, and their services have keys of their own; the outcomes and the entries are those
+-- of the definitions
 pub record IsKept (terms : TermsView) (all : List Act) (came : List Outcome) (posted : List Entry) : Type 0 where
   pub keyed : AreKeyed all
   pub own : map act_made (history terms (reverse all)) ≡ reverse all
   pub came_are : came ≡ outcomes terms all
   pub entries_are : posted ≡ entries terms all
 
--- the most that one act overruns: what the floor bears of the most funds
+-- the most that one act overruns: the charges that the floor bears of the greatest funds
 abbrev pub MAX_OVERRUN : ℕ
 MAX_OVERRUN = 2 * MOST_MONEY
 
--- the sessions that are kept are those that are open, and the deadlines theirs; what the pool has reserved is just what they hold, and what it has
--- committed is the funds; what is overrun is as defined, and can be reckoned with; the indexes find what a look back over the
--- acts does
+-- the kept sessions are those that are open, and the deadlines are theirs; the pool's reserved money is the sum of their holds, and its committed
+-- money is the funds; the overrun is as defined, and within the range of computations; the indexes find the same acts as a look back over them
 pub record IsRunning (terms : TermsView) (all : List Act) (came : List Outcome) (posted : List Entry) (pool : PoolView) (over : ℤ) (sessions : List SessionView) (due : DueView) (indexes : Indexes) : Type 0 where
   pub kept : IsKept terms all came posted
   pub sessions_are : AreOpen terms (history terms (reverse all)) sessions

@@ -1,4 +1,4 @@
--- What a request of a session comes to, by the grants that its session holds and the money that is free.
+-- The outcome of a request of a session, by the grants of its session and the free money.
 use Rattle.std.specs.Prelude.{ℕ, ◌+◌, ℤ, pos, ◌+ℤ◌, ◌-ℤ◌, Bool, false, ◌&&◌, if◌then◌else◌, List, [], ◌∷◌, ◌++◌, filter_map, sum_by, None, is_some, is_none, option_map}
 use Rattle.dcc_act.specs.Services.{ServiceView}
 use Rattle.dcc_act.specs.declared.entry.Entry.{Entry}
@@ -17,7 +17,7 @@ use Rattle.dcc_session.specs.Grants.{charge_in, charges_in, given_back}
 abbrev pub is_unrated_in : List Held → ServiceView → Bool
 is_unrated_in own service = is_some service.used && is_none (charge_in own service)
 
--- the money for the next service's grant: what is free and given back, less the charges and the grants before
+-- the room of the next service's grant: the free money and the grants given back, less the charges and the grants before
 abbrev pub room_in : ℤ → List Held → List ServiceView → List ServiceAnswer → ℤ
 room_in free own services before = (free +ℤ pos (given_back own services)) -ℤ pos (charges_in own services + sum_by made_price before)
 

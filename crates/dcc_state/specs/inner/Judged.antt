@@ -1,4 +1,4 @@
--- What one more act comes to, and what it does, by what is known of the acts before it.
+-- The outcome of one more act, and the change that it makes, by the known facts of the acts before it.
 use Rattle.std.specs.Prelude.{ℕ, ◌+◌, Bool, not, ◌&&◌, ◌||◌, nat_le, nat_lt, if◌then◌else◌, List, [], ◌∷◌, ◌++◌, length, count_by, filter_map, Option, Some, is_some, is_none, option_map, unwrap_or}
 use Rattle.std.specs.Option.{option_to_list, option_map_or}
 use Rattle.dcc_tariff.specs.Terms.{TermsView}
@@ -73,7 +73,7 @@ is_made_in facts first sessions act =
 abbrev pub place_in : Facts → Bool → Option ℕ
 place_in facts new = if new then Some (facts.count + 1) else facts.place
 
--- what an accepted request charged, by how much that exceeded its grants, and the entries of its charges
+-- the charge of an accepted request, the part of it beyond its session's grants, and the entries of its charges
 abbrev pub charged_in : List SessionView → Kind → Outcome → ℕ
 charged_in sessions kind outcome = option_map_or (λ sid. charges_in (own_in sessions sid) (looked_at kind)) (accepted_by kind outcome) 0
 
@@ -108,7 +108,7 @@ turn_with terms own moment sid services outcome =
 abbrev pub turn_after : TermsView → List SessionView → ℕ → Sid → List ServiceView → Outcome → Turn
 turn_after terms sessions moment sid services outcome = turn_with terms (own_in sessions sid) moment sid services outcome
 
--- what a new act does to the money and to the sessions that are open
+-- a new act's change of the money and of the open sessions
 abbrev pub change_with : TermsView → List Held → ℕ → Kind → Outcome → Change
 change_with terms own moment (kind.TopUp top_up) outcome = Post (credit (kind.TopUp top_up) outcome) (debit (kind.TopUp top_up) outcome)
 change_with terms own moment (kind.Initial opening limit host) outcome =
@@ -125,7 +125,7 @@ change_with terms own moment kind.Expiry outcome = Expire moment
 abbrev pub change_of : TermsView → List SessionView → ℕ → Kind → Outcome → Change
 change_of terms sessions moment kind outcome = change_with terms (own_by sessions kind) moment kind outcome
 
--- what an act does that is made, and nothing where it isn't
+-- the entries and the change of a made act; none of any other
 abbrev pub entries_after : Facts → List SessionView → Act → (new : Bool) → Outcome → List Entry
 entries_after facts sessions act new outcome = if new then entries_by_in sessions (facts.count + 1) act.moment act.kind outcome else []
 
