@@ -1,4 +1,4 @@
--- What holds of every act: the limits that its types keep.
+-- The limits that the types of every act keep.
 use Rattle.std.specs.Prelude.{◌≡◌, ℕ, ◌<◌, ◌≤◌, ◌^◌, true, List, length, All, Option, IfSome}
 use Rattle.dcc_tariff.specs.Terms.{IsTariff}
 use Rattle.dcc_tariff.specs.declared.limits.TheConstants.{LAST_SECOND}
@@ -33,7 +33,7 @@ pub record WithinService (service : ServiceView) : Type 0 where
   pub tariff : IfSome service.tariff IsTariff
   pub amounts : IsService service.asked service.used service.unit service.tariff
 
--- services that may stand in one request
+-- a key within its limits, and services that may stand in one request
 pub record WithinRequest (request : SessionRequest) : Type 0 where
   pub key : WithinKey request.key
   pub each : All WithinService request.services
@@ -49,7 +49,7 @@ pub record WithinOpening (request : SessionRequest) (host : Option (List ℕ)) :
   pub opens : WithinRequest request
   pub from : IfSome host WithinHost
 
--- a service that asks for units
+-- a key within its limits, and a service that asks for units
 pub record WithinEvent (event : OneTimeEventView) : Type 0 where
   pub key : WithinKey event.key
   pub service : WithinService event.service
@@ -63,7 +63,7 @@ WithinKind (Termination request) = WithinRequest request
 WithinKind (Event event) = WithinEvent event
 WithinKind Expiry = Unit {0}
 
--- a moment up to the end of 2099, and what its kind holds is within its limits
+-- a moment up to the end of 2099, and a kind within its limits
 pub record IsAct (act : Act) : Type 0 where
   pub moment : act.moment ≤ LAST_SECOND
   pub kind : WithinKind act.kind

@@ -8,12 +8,12 @@ use Rattle.dcc_act.specs.Services.{ServiceView}
 use Rattle.dcc_record.specs.Limits.{IsAct}
 use Rattle.dcc_record.specs.Records.{u64_octets, request_octets, kind_octet, kind_octets}
 
--- what follows for a kind: an initial request is spelled as the others of a session are
+-- the parts of a kind: an initial request is spelled as the other requests of a session are
 abbrev pub old_kind_octets : Kind → List ℕ
 old_kind_octets (kind.Initial request limit host) = request_octets request
 old_kind_octets other = kind_octets other
 
--- such a record: the version, what stands for the kind, the act's moment, and what follows for its kind
+-- a record of version 1: the version, the octet of the act's kind, its moment, and the parts of its kind
 unfoldable pub old_record_of : Act → List ℕ
 old_record_of act = 1 ∷ kind_octet act.kind ∷ u64_octets act.moment ++ old_kind_octets act.kind
 
@@ -31,7 +31,7 @@ abbrev pub IsOfOldKind : Kind → Type 0
 IsOfOldKind (kind.Initial request limit host) = (limit ≡ Few) × (host ≡ None)
 IsOfOldKind other = Unit {0}
 
--- an act that such a record is of: within its limits, with at most 16 services
+-- an act that has a record of version 1: within its limits, with at most 16 services
 pub record IsOldAct (act : Act) : Type 0 where
   pub is_act : IsAct act
   pub few : length (services_of act.kind) ≤ 16

@@ -27,7 +27,7 @@ u32_octets number = to_be_bytes w32 number
 abbrev pub u64_octets : ℕ → List ℕ
 u64_octets number = to_be_bytes w64 number
 
--- what may be absent: 0, or 1 and what is there
+-- a value that may be absent: 0; or 1, and the value
 abbrev pub optional : {A : Type 0} → (A → List ℕ) → Option A → List ℕ
 optional octets_of None = 0 ∷ []
 optional octets_of (Some value) = 1 ∷ octets_of value
@@ -40,11 +40,11 @@ top_up_octets top_up = u64_octets top_up.ticket ++ u64_octets top_up.amount
 unfoldable pub session_octets : List ℕ → List ℕ
 session_octets sid = length sid ∷ sid
 
--- a session and the number of the request in it
+-- a key: a Session-Id, and the number of the request
 unfoldable pub key_octets : RequestKey → List ℕ
 key_octets key = session_octets key.sid ++ u32_octets key.number
 
--- the form of a service, what its units count, and what a one-time event asks for: one octet each
+-- the form of a service, its kind of units, and the action of a one-time event: one octet each
 abbrev pub form_octet : Form → ℕ
 form_octet form.Single = 0
 form_octet form.Multi = 1
@@ -69,7 +69,7 @@ ids_octets ids = to_be_bytes w16 (length ids) ++ flat_map u32_octets ids
 unfoldable pub tariff_octets : TariffView → List ℕ
 tariff_octets tariff = u32_octets tariff.price ++ u64_octets tariff.block
 
--- a service: its form, its group, its identifiers, what it asks for and what it reports, what is counted, and its tariff
+-- a service: its form, its group, its identifiers, the units that it asks for, the units that it reports, their kind, and its tariff
 unfoldable pub service_octets : ServiceView → List ℕ
 service_octets service =
     form_octet service.form ∷ optional u32_octets service.group ++ ids_octets service.ids
@@ -80,28 +80,28 @@ service_octets service =
 unfoldable pub services_octets : List ServiceView → List ℕ
 services_octets services = length services ∷ flat_map service_octets services
 
--- a request of a session: its session and number, and its services
+-- a request of a session: its key, and its services
 unfoldable pub request_octets : SessionRequest → List ℕ
 request_octets request = key_octets request.key ++ services_octets request.services
 
--- how many sessions may be open: the number in two octets
+-- the limit of open sessions: their number in two octets
 unfoldable pub limit_octets : SessionLimit → List ℕ
 limit_octets limit = to_be_bytes w16 (most_sessions limit)
 
--- a host: the length of its name in one octet, and its octets; 0 where it is not known
+-- a host: the length of its name in one octet, and the octets of the name; 0 if the host is not known
 unfoldable pub host_octets : Option (List ℕ) → List ℕ
 host_octets None = 0 ∷ []
 host_octets (Some host) = length host ∷ host
 
--- an initial request: its session and number, the limit by which it was judged, the host that it came from, and its services
+-- an initial request: its key, the limit by which it was judged, the host that it came from, and its services
 unfoldable pub opening_octets : SessionRequest → SessionLimit → (host : Option (List ℕ)) → List ℕ
 opening_octets request limit host = key_octets request.key ++ limit_octets limit ++ host_octets host ++ services_octets request.services
 
--- a one-time event: its session and number, what it asks for, and its services, of which it has one
+-- a one-time event: its key, its action, and a list with its single service
 unfoldable pub event_octets : OneTimeEventView → List ℕ
 event_octets event = key_octets event.key ++ action_octet event.action ∷ services_octets (event.service ∷ [])
 
--- what stands for a kind, and what follows it
+-- the octet that stands for a kind, and the parts of the kind
 abbrev pub kind_octet : Kind → ℕ
 kind_octet (kind.TopUp top_up) = 1
 kind_octet (kind.Initial request limit host) = 2
@@ -118,6 +118,6 @@ kind_octets (kind.Termination request) = request_octets request
 kind_octets (kind.Event event) = event_octets event
 kind_octets kind.Expiry = []
 
--- a record: the version, what stands for the kind, the act's moment, and what follows for its kind
+-- a record: the version, the octet of the act's kind, its moment, and the parts of its kind
 unfoldable pub record_of : Act → List ℕ
 record_of act = 2 ∷ kind_octet act.kind ∷ u64_octets act.moment ++ kind_octets act.kind

@@ -1,4 +1,4 @@
-//! Reading what a record is made of: octets, numbers, and what may be absent.
+//! Reading the small parts of a record: octets, numbers, and numbers that may be absent.
 
 ghost use Rattle.std.specs.Prelude.{◌≡◌, length, IfOk};
 ghost use Rattle.std.specs.Int.{w16, w32, w64};
@@ -18,7 +18,7 @@ pub(crate) fn first_octet(octets: &[u8]) -> Result<(u8, &[u8]), RecordFault>
     }
 }
 
-/// So many octets in front, and those behind them.
+/// So many octets in front, and the octets behind them.
 #[tactic(auto, unfolding(crate::specs::inner::Readers::front_in))]
 pub(crate) fn first_octets(octets: &[u8], count: usize) -> Result<(&[u8], &[u8]), RecordFault>
     ensures value { Gives (λ x. (x.0.now, x.1.now)) result (front_in count octets.now) }
@@ -30,7 +30,7 @@ pub(crate) fn first_octets(octets: &[u8], count: usize) -> Result<(&[u8], &[u8])
     Ok(octets.split_at(count))
 }
 
-/// The octets behind this one in front.
+/// The octets behind an expected octet in front.
 #[tactic(auto, unfolding(crate::specs::inner::Readers::fixed_in))]
 pub(crate) fn behind_fixed(expected: u8, octets: &[u8]) -> Result<&[u8], RecordFault>
     ensures { Gives (λ rest. (expected, rest.now)) result (fixed_in expected octets.now) }

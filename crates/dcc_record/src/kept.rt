@@ -16,7 +16,7 @@ pub fn keeps_limits(act: &Act)
     kind_keeps_limits(&act.kind);
 }
 
-/// What an act holds is within its limits.
+/// The kind of an act is within its limits.
 fn kind_keeps_limits(kind: &Kind)
     ensures { WithinKind kind.now }
 {
@@ -79,7 +79,7 @@ fn key_keeps_limits(key: &RequestKey)
     let _number = key.number;
 }
 
-/// Octets are of eight bits.
+/// Each octet is below 2^8.
 fn octets_fit(octets: &[u8])
     ensures { All (λ octet. octet < 2 ^ 8) octets.now }
 {}

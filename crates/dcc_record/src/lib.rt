@@ -1,17 +1,17 @@
 //! The record of an act: the octets that a store keeps of it, version 2, written and read back exactly.
 //!
 //! Stands on `dcc_act` for acts and their limits, on `dcc_tariff` for tariffs, and on `dcc_octets` for hosts and for numbers
-//! in octets. What the octets are is `record_of` in `specs/Records.antt`, each part in a definition of its own, with the highest octet
-//! of a number first; `IsAct` in `specs/Limits.antt` has the limits that the types of an act keep.
+//! in octets. `record_of` in `specs/Records.antt` defines the octets, each part in a definition of its own. The highest octet of a
+//! number comes first. `IsAct` in `specs/Limits.antt` has the limits that the types of an act keep.
 //!
 //! The contract that it gives:
 //! - [`write_act`] writes the record of an act, unless memory runs out.
-//! - [`read_act`] gives an act whose record all of the octets are, or refuses them where they are no act's record
-//!   (fault 40), or says that memory ran out.
-//! - [`write_act_1`] and [`read_act_1`] do the same of version 1, which has neither the limit nor the host of an initial request.
-//!   Its octets are `old_record_of` in `specs/OldRecords.antt`, and `IsOldAct` says of which acts they tell all.
-//! - By [`records_differ`] two acts never have one record, and none begins another's: so what is read is what was
-//!   written. [`keeps_limits`] tells a caller that an act is within the limits that these laws ask for.
+//! - [`read_act`] returns the act whose record all of the octets are. It rejects octets that are no act's record (fault 40), and
+//!   reports want of memory.
+//! - [`write_act_1`] and [`read_act_1`] do the same for version 1, which has neither the limit nor the host of an initial request.
+//!   Its octets are `old_record_of` in `specs/OldRecords.antt`. `IsOldAct` defines the acts of which version 1 loses nothing.
+//! - By [`records_differ`] two acts never have the same record, and no record is the beginning of another. So the act that is read
+//!   is the act that was written. By [`keeps_limits`] each act is within the limits that these laws require.
 #![tactic(auto)]
 
 mod fault;

@@ -8,7 +8,7 @@ ghost use Rattle.dcc_record.specs.inner.Reading.{limit_from, is_tariff, tariff_f
 use dcc_act::{FEW_SESSIONS, Form, MAX_SECONDS, MAX_SESSIONS, Service, ServiceIds, SessionLimit};
 use dcc_tariff::{MAX_BLOCK_PRICE, MAX_UNITS, Tariff, UnitKind};
 
-/// The limit of so many sessions, if there is one.
+/// The limit of so many sessions, if a limit has this number.
 pub(crate) fn limit_from(sessions: u16) -> Option<SessionLimit>
     ensures { result ≡ limit_from sessions }
 {
@@ -68,7 +68,7 @@ fn is_service(asked: Option<u64>, used: Option<u64>, unit: Option<UnitKind>, rat
     }
 }
 
-/// Whether no units are said, or 0.
+/// Whether the number of units is absent or 0.
 fn is_nothing(units: Option<u64>) -> bool
     ensures { result ≡ is_nothing units }
 {

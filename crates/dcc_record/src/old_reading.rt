@@ -11,13 +11,15 @@ use crate::reading::{first_head, first_kind, first_request};
 use dcc_act::{Act, FEW_SERVICES, Kind, SessionLimit, SessionRequest};
 use std::alloc::Global;
 
-/// Reads the record of an act, version 1: all of the octets, or the fault. A request has at most [`FEW_SERVICES`] services;
-/// an initial one was judged by [`SessionLimit::Few`], and its host is not known.
+/// Reads the record of an act, version 1, which is all of the octets. A request that was read has at most [`FEW_SERVICES`] services.
+/// An initial request was judged by [`SessionLimit::Few`], and its host is not known.
+///
+/// Errors: fault 40, the octets are the record of no such act; [`RecordFault::Memory`], memory was short for the act.
 pub fn read_act_1(alloc: Global, octets: &[u8]) -> Result<Act, RecordFault>
-    // What is read has these octets as its record.
+    // The act that was read has these octets as its record.
     ensures found { IfOk result (λ act. octets.now ≡ old_record_of act) }
     ensures within { IfOk result IsOldAct }
-    // Octets that are refused are the record of no act that has one of version 1.
+    // Octets that are rejected are the record of no act that has a record of version 1.
     ensures refused { IfErr result (λ fault. fault ≡ RecordFault.BadRecord → (act : Act) → IsOldAct act → old_record_of act ≢ octets.now) }
 {
     act_of_1(alloc, octets)
@@ -48,7 +50,7 @@ fn first_act_1(alloc: Global, octets: &[u8]) -> Result<(Act, &[u8]), RecordFault
     }
 }
 
-/// What follows for a kind.
+/// The kind that an octet stands for, with its parts in front.
 #[tactic(auto, unfolding(crate::specs::inner::OldReading::old_kind_in))]
 fn first_kind_1(alloc: Global, octet: u8, octets: &[u8]) -> Result<(Kind, &[u8]), RecordFault>
     ensures { Gives (λ x. (x.0, x.1.now)) result (old_kind_in octet octets.now) }

@@ -10,7 +10,7 @@ use std::alloc::{AllocError, Global};
 /// The version of a record's old format.
 pub(crate) const OLD_VERSION: u8 = 1;
 
-/// The record of an act, version 1, where memory suffices. It has neither the limit of an initial request nor its host.
+/// The record of an act, version 1. It has neither the limit of an initial request nor its host. The only error is want of memory.
 #[tactic(auto, unfolding(crate::specs::OldRecords::old_record_of))]
 pub fn write_act_1(alloc: Global, act: &Act) -> Result<Vec<u8>, AllocError>
     ensures { IfOk result (λ octets. octets.items ≡ old_record_of act.now) }
@@ -21,7 +21,7 @@ pub fn write_act_1(alloc: Global, act: &Act) -> Result<Vec<u8>, AllocError>
     Ok(out)
 }
 
-/// Appends what follows for a kind.
+/// Appends the parts of a kind.
 fn put_kind_1(out: &mut Vec<u8>, kind: &Kind) -> Result<(), AllocError>
     ensures { OnOk result (out.new.items ≡ out.old.items ++ old_kind_octets kind.now) }
 {

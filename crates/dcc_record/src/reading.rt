@@ -22,12 +22,14 @@ use dcc_octets::Host;
 use dcc_tariff::{Tariff, UnitKind};
 use std::alloc::Global;
 
-/// Reads the record of an act: all of the octets, or the fault.
+/// Reads the record of an act, version 2, which is all of the octets.
+///
+/// Errors: fault 40, the octets are no act's record; [`RecordFault::Memory`], memory was short for the act.
 pub fn read_act(alloc: Global, octets: &[u8]) -> Result<Act, RecordFault>
-    // What is read has these octets as its record.
+    // The act that was read has these octets as its record.
     ensures found { IfOk result (λ act. octets.now ≡ record_of act) }
     ensures within { IfOk result IsAct }
-    // Octets that are refused are no act's record.
+    // Octets that are rejected are no act's record.
     ensures refused { IfErr result (λ fault. fault ≡ RecordFault.BadRecord → (act : Act) → IsAct act → record_of act ≢ octets.now) }
 {
     act_of(alloc, octets)
@@ -58,7 +60,7 @@ fn first_act(alloc: Global, octets: &[u8]) -> Result<(Act, &[u8]), RecordFault>
     }
 }
 
-/// What stands for the kind, and the moment, behind the version in front.
+/// The octet of the kind, and the moment, behind the version in front.
 #[tactic(auto, unfolding(crate::specs::inner::Reading::head_in, crate::specs::inner::Reading::moment_in))]
 pub(crate) fn first_head(version: u8, octets: &[u8]) -> Result<(u8, Moment, &[u8]), RecordFault>
     ensures { Gives (λ x. ((x.0, x.1), x.2.now)) result (head_in version octets.now) }
@@ -72,7 +74,7 @@ pub(crate) fn first_head(version: u8, octets: &[u8]) -> Result<(u8, Moment, &[u8
     }
 }
 
-/// What follows for a kind.
+/// The kind that an octet stands for, with its parts in front.
 #[tactic(auto, unfolding(crate::specs::inner::Reading::kind_in))]
 pub(crate) fn first_kind(
     alloc: Global,
@@ -147,7 +149,7 @@ fn first_opening(alloc: Global, octets: &[u8]) -> Result<(Kind, &[u8]), RecordFa
     Ok((opening, rest))
 }
 
-/// How many sessions may be open, in front.
+/// The limit of open sessions, in front.
 #[tactic(auto, unfolding(crate::specs::inner::Reading::limit_in))]
 fn first_limit(octets: &[u8]) -> Result<(SessionLimit, &[u8]), RecordFault>
     ensures { Gives (λ x. (x.0, x.1.now)) result (limit_in octets.now) }
@@ -159,7 +161,7 @@ fn first_limit(octets: &[u8]) -> Result<(SessionLimit, &[u8]), RecordFault>
     }
 }
 
-/// The host behind the length of its name in front, or none.
+/// The host in front, behind the length of its name; none if the length is 0.
 #[tactic(auto, unfolding(crate::specs::inner::Reading::host_in))]
 fn first_host(alloc: Global, octets: &[u8]) -> Result<(Option<Host>, &[u8]), RecordFault>
     ensures { Gives (λ x. (x.0, x.1.now)) result (host_in octets.now) }
@@ -191,7 +193,7 @@ fn first_event(alloc: Global, octets: &[u8]) -> Result<(OneTimeEvent, &[u8]), Re
     Ok((event, rest))
 }
 
-/// The session and the number in it in front.
+/// The key in front: a Session-Id, and the number of the request.
 #[tactic(auto, unfolding(crate::specs::inner::Reading::key_in))]
 fn first_key(alloc: Global, octets: &[u8]) -> Result<(RequestKey, &[u8]), RecordFault>
     ensures { Gives (λ x. (x.0, x.1.now)) result (key_in octets.now) }
@@ -201,7 +203,7 @@ fn first_key(alloc: Global, octets: &[u8]) -> Result<(RequestKey, &[u8]), Record
     Ok((RequestKey { sid, number }, rest))
 }
 
-/// The Session-Id behind its length in front.
+/// The Session-Id in front, behind its length.
 #[tactic(auto, unfolding(crate::specs::inner::Reading::session_in))]
 fn first_session(alloc: Global, octets: &[u8]) -> Result<(SessionId, &[u8]), RecordFault>
     ensures { Gives (λ x. (x.0, x.1.now)) result (session_in octets.now) }
@@ -213,7 +215,7 @@ fn first_session(alloc: Global, octets: &[u8]) -> Result<(SessionId, &[u8]), Rec
     }
 }
 
-/// The octets behind their count in front.
+/// The octets in front, behind their count.
 #[tactic(auto, unfolding(crate::specs::inner::Reading::string_in))]
 fn first_string(octets: &[u8]) -> Result<(&[u8], &[u8]), RecordFault>
     ensures value { Gives (λ x. (x.0.now, x.1.now)) result (string_in octets.now) }
@@ -223,7 +225,7 @@ fn first_string(octets: &[u8]) -> Result<(&[u8], &[u8]), RecordFault>
     first_octets(rest, count as usize)
 }
 
-/// What a one-time event asks for, in front.
+/// The action of a one-time event, in front.
 #[tactic(auto, unfolding(crate::specs::inner::Reading::action_in))]
 fn first_action(octets: &[u8]) -> Result<(Action, &[u8]), RecordFault>
     ensures { Gives (λ x. (x.0, x.1.now)) result (action_in octets.now) }
@@ -238,7 +240,7 @@ fn first_action(octets: &[u8]) -> Result<(Action, &[u8]), RecordFault>
     }
 }
 
-/// The services behind their count in front.
+/// The services in front, behind their count.
 #[tactic(auto, unfolding(crate::specs::inner::Reading::services_in))]
 fn first_services(alloc: Global, octets: &[u8]) -> Result<(Services, &[u8]), RecordFault>
     ensures { Gives (λ x. (x.0, x.1.now)) result (services_in octets.now) }
@@ -302,7 +304,7 @@ fn first_form(octets: &[u8]) -> Result<(Form, &[u8]), RecordFault>
     }
 }
 
-/// What the plan counts, if it has the group, in front.
+/// The unit that the plan counts for a service's group, in front; none if the plan doesn't have the group.
 #[tactic(auto, unfolding(crate::specs::inner::Reading::unit_in))]
 fn first_unit(octets: &[u8]) -> Result<(Option<UnitKind>, &[u8]), RecordFault>
     ensures { Gives (λ x. (x.0, x.1.now)) result (unit_in octets.now) }
@@ -317,7 +319,7 @@ fn first_unit(octets: &[u8]) -> Result<(Option<UnitKind>, &[u8]), RecordFault>
     }
 }
 
-/// The identifiers behind their count in front.
+/// The identifiers in front, behind their count.
 #[tactic(auto, unfolding(crate::specs::inner::Reading::ids_in))]
 fn first_ids(alloc: Global, octets: &[u8]) -> Result<(ServiceIds, &[u8]), RecordFault>
     ensures { Gives (λ x. (x.0, x.1.now)) result (ids_in octets.now) }

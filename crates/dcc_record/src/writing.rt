@@ -15,7 +15,7 @@ use std::alloc::{AllocError, Global};
 /// The version of a record's format.
 pub(crate) const VERSION: u8 = 2;
 
-/// The record of an act, where memory suffices.
+/// The record of an act, version 2. The only error is want of memory.
 #[tactic(auto, unfolding(crate::specs::Records::record_of))]
 pub fn write_act(alloc: Global, act: &Act) -> Result<Vec<u8>, AllocError>
     ensures { IfOk result (λ octets. octets.items ≡ record_of act.now) }
@@ -26,7 +26,7 @@ pub fn write_act(alloc: Global, act: &Act) -> Result<Vec<u8>, AllocError>
     Ok(out)
 }
 
-/// Appends a version, what stands for the act's kind, and its moment.
+/// Appends a version, the octet of the act's kind, and the act's moment.
 pub(crate) fn put_head(out: &mut Vec<u8>, version: u8, act: &Act) -> Result<(), AllocError>
     ensures { OnOk result (out.new.items ≡ out.old.items ++ version ∷ kind_octet act.now.kind ∷ u64_octets act.now.moment) }
 {
@@ -35,7 +35,7 @@ pub(crate) fn put_head(out: &mut Vec<u8>, version: u8, act: &Act) -> Result<(), 
     put_u64(out, act.moment.seconds())
 }
 
-/// What stands for a kind.
+/// The octet that stands for a kind.
 fn kind_octet(kind: &Kind) -> u8
     ensures { result ≡ kind_octet kind.now }
 {
@@ -49,7 +49,7 @@ fn kind_octet(kind: &Kind) -> u8
     }
 }
 
-/// Appends what follows for a kind.
+/// Appends the parts of a kind.
 pub(crate) fn put_kind(out: &mut Vec<u8>, kind: &Kind) -> Result<(), AllocError>
     ensures { OnOk result (out.new.items ≡ out.old.items ++ kind_octets kind.now) }
 {
@@ -101,7 +101,7 @@ fn put_opening(
     put_services(out, request.services.as_slice())
 }
 
-/// Appends how many sessions may be open.
+/// Appends the limit of open sessions.
 #[tactic(auto, unfolding(crate::specs::Records::limit_octets))]
 fn put_limit(out: &mut Vec<u8>, limit: SessionLimit) -> Result<(), AllocError>
     ensures { OnOk result (out.new.items ≡ out.old.items ++ limit_octets limit) }
@@ -109,7 +109,7 @@ fn put_limit(out: &mut Vec<u8>, limit: SessionLimit) -> Result<(), AllocError>
     out.extend_from_slice(&(limit.sessions() as u16).to_be_bytes())
 }
 
-/// Appends the name of a host behind its length, or 0 if there is none.
+/// Appends the name of a host behind its length; the length 0 if there is no host.
 #[tactic(auto, unfolding(crate::specs::Records::host_octets))]
 fn put_host(out: &mut Vec<u8>, host: &Option<Host>) -> Result<(), AllocError>
     ensures { OnOk result (out.new.items ≡ out.old.items ++ host_octets host.now) }
@@ -135,7 +135,7 @@ fn put_event(out: &mut Vec<u8>, event: &OneTimeEvent) -> Result<(), AllocError>
     put_service(out, &event.service)
 }
 
-/// Appends a session and a number in it.
+/// Appends a key: a Session-Id, and the number of the request.
 #[tactic(auto, unfolding(crate::specs::Records::key_octets))]
 fn put_key(out: &mut Vec<u8>, key: &RequestKey) -> Result<(), AllocError>
     ensures { OnOk result (out.new.items ≡ out.old.items ++ key_octets key.now) }
@@ -181,7 +181,7 @@ fn put_service(out: &mut Vec<u8>, service: &Service) -> Result<(), AllocError>
     put_optional_tariff(out, service.tariff)
 }
 
-/// What stands for a form.
+/// The octet that stands for a form.
 fn form_octet(form: Form) -> u8
     ensures { result ≡ form_octet form }
 {
@@ -191,7 +191,7 @@ fn form_octet(form: Form) -> u8
     }
 }
 
-/// What stands for what a plan counts.
+/// The octet that stands for the unit that a plan counts; 0 if the plan doesn't have the group.
 fn unit_octet(unit: Option<UnitKind>) -> u8
     ensures { result ≡ unit_octet unit }
 {
@@ -203,7 +203,7 @@ fn unit_octet(unit: Option<UnitKind>) -> u8
     }
 }
 
-/// What stands for what a one-time event asks for.
+/// The octet that stands for an action.
 fn action_octet(action: Action) -> u8
     ensures { result ≡ action_octet action }
 {

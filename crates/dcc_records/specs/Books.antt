@@ -1,4 +1,4 @@
--- Books: what is held of each subscriber.
+-- Books: the held acts of each subscriber.
 use Rattle.std.specs.Prelude.{◌≡◌, if◌then◌else◌, List, [], ◌∷◌, ◌++◌, map}
 use Rattle.std.specs.declared.cmp.Ordering.{Ordering}
 use Rattle.std.specs.Ordering.{nat_cmp, on, then_cmp}
@@ -10,7 +10,7 @@ use Rattle.dcc_act.specs.declared.sub.Sub.{Sub}
 use Rattle.dcc_act.specs.Subs.{same_sub}
 use Rattle.dcc_model.specs.Outcomes.{acts}
 
--- what is held of each subscriber: its acts, in order
+-- the held acts of each subscriber, in order
 abbrev pub Held : Type 0
 Held = Sub → List Act
 
@@ -18,11 +18,11 @@ Held = Sub → List Act
 abbrev pub no_acts : Held
 no_acts sub = []
 
--- with one act more of one subscriber
+-- the held acts with one act more of one subscriber
 abbrev pub with_act : Sub → Act → Held → Held
 with_act sub act held = λ other. if same_sub sub other then held other ++ act ∷ [] else held other
 
--- a book: what is held of each subscriber is what its own list makes
+-- a book: the held acts of each subscriber are exactly those that their own list makes
 abbrev pub IsBook : TermsView → Held → Type 0
 IsBook terms held = (sub : Sub) → acts terms (held sub) ≡ held sub
 
@@ -31,15 +31,15 @@ pub record PageView : Type 0 where
   pub sub : Sub
   pub acts : List Act
 
--- what pages hold of a subscriber: the acts of its page, and none where it has no page
+-- the acts of a subscriber in pages: the acts of its page; none if it has no page
 abbrev pub acts_in : List PageView → Held
 acts_in [] sub = []
 acts_in (page ∷ pages) sub = if same_sub page.sub sub then page.acts else acts_in pages sub
 
--- how subscribers compare: by type, and then by the data, octet by octet
+-- the order of subscribers: by type, and then by the data, octet by octet
 abbrev pub sub_order : Sub → Sub → Ordering
 sub_order = then_cmp (on (λ s. s.kind) nat_cmp) (on (λ s. s.name) (slice_cmp nat_cmp))
 
--- the pages are in the order of their subscribers, each of whom has one
+-- the pages are in the order of their subscribers, each of whom has one page
 abbrev pub AreInOrder : List PageView → Type 0
 AreInOrder pages = IsStrictlySortedBy sub_order (map (λ page. page.sub) pages)

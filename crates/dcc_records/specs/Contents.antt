@@ -8,7 +8,7 @@ use Rattle.dcc_model.specs.Outcomes.{acts, funds}
 use Rattle.dcc_model.specs.Entries.{entries}
 use Rattle.dcc_records.specs.Books.{Held}
 
--- a subscriber's account in a store: how many acts it has, and its funds
+-- a subscriber's account in a store: the number of its acts, and its funds
 pub record KeptAccount : Type 0 where
   pub acts : ℕ
   pub funds : ℤ
@@ -19,11 +19,11 @@ pub record Kept : Type 0 where
   pub entries : List Entry
   pub account : KeptAccount
 
--- what it has to keep of a subscriber who has these acts
+-- what a store has to keep of a subscriber who has these acts
 abbrev pub kept_by : TermsView → List Act → Kept
 kept_by terms all = record { acts = all; entries = entries terms all; account = record { acts = length all; funds = funds terms all } }
 
--- a content: what a store keeps of each subscriber, be it what it has to keep or not
+-- a content: what a store keeps of each subscriber, whether or not it has to be kept
 abbrev pub Content : Type 0
 Content = Sub → Kept
 
@@ -31,8 +31,8 @@ Content = Sub → Kept
 abbrev pub IsContentOf : TermsView → Held → Content → Type 0
 IsContentOf terms held content = (sub : Sub) → content sub ≡ kept_by terms (held sub)
 
--- An act may come next after a subscriber's acts, and adds these entries: with it the list makes just its own acts again, so that
--- what is kept with both is what has to be kept.
+-- An act may come next after a subscriber's acts, and adds these entries: the list with the act makes exactly its own acts again. So
+-- a store that keeps both keeps what it has to keep.
 pub record IsNext (terms : TermsView) (before : List Act) (act : Act) (more : List Entry) : Type 0 where
   pub own : acts terms (before ++ act ∷ []) ≡ before ++ act ∷ []
   pub entries_are : entries terms (before ++ act ∷ []) ≡ entries terms before ++ more

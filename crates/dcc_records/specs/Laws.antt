@@ -1,4 +1,4 @@
--- What the layers above know of books and contents without a look into them.
+-- Laws of books and contents, for the layers above.
 use Rattle.std.specs.Prelude.{◌≡◌, ◌≢◌, ◌+◌, ◌+ℤ◌, true, List, [], ◌∷◌, ◌++◌, length}
 use Rattle.dcc_tariff.specs.Terms.{TermsView}
 use Rattle.dcc_act.specs.declared.act.Act.{Act}
@@ -9,40 +9,40 @@ use Rattle.dcc_model.specs.Entries.{entries, sum_of}
 use Rattle.dcc_records.specs.Books.{Held, with_act, IsBook}
 use Rattle.dcc_records.specs.Contents.{Content, IsContentOf, IsNext, kept_by}
 
--- a content is that of one book alone
+-- a content is the content of one book alone
 abbrev pub ContentHasOneBook : Type 0
 ContentHasOneBook = (terms : TermsView) (one other : Held) (content : Content) → IsContentOf terms one content → IsContentOf terms other content
     → (sub : Sub) → one sub ≡ other sub
 
--- books that hold the same of each subscriber have the same contents
+-- books that hold the same acts of each subscriber have the same contents
 abbrev pub AlikeBooksHaveOneContent : Type 0
 AlikeBooksHaveOneContent = (terms : TermsView) (one other : Held) (content : Content) → ((sub : Sub) → one sub ≡ other sub)
     → IsContentOf terms one content → IsContentOf terms other content
 
--- one act more stands behind the others of its subscriber
+-- an added act stands behind the other acts of its subscriber
 abbrev pub OwnGrows : Type 0
 OwnGrows = (sub : Sub) (act : Act) (held : Held) → with_act sub act held sub ≡ held sub ++ act ∷ []
 
--- and leaves those of every other as they were
+-- the acts of each other subscriber stay as they were
 abbrev pub OthersStay : Type 0
 OthersStay = (sub other : Sub) (act : Act) (held : Held) → other ≢ sub → with_act sub act held other ≡ held other
 
--- a book with one act more, where that is what may come next, is a book
+-- a book with one act more is a book, if the act may come next
 abbrev pub BooksGrow : Type 0
 BooksGrow = (terms : TermsView) (sub : Sub) (act : Act) (more : List Entry) (held : Held) → IsBook terms held → IsNext terms (held sub) act more
     → IsBook terms (with_act sub act held)
 
--- an act that is new after acts which are their own may come next, with the entries that it adds
+-- a new act may come next, with the entries that it adds, if the acts before it are exactly those that their own list makes
 abbrev pub NewIsNext : Type 0
 NewIsNext = (terms : TermsView) (before : List Act) (act : Act) (more : List Entry) → acts terms before ≡ before
     → is_new terms before act ≡ true → entries terms (before ++ act ∷ []) ≡ entries terms before ++ more → IsNext terms before act more
 
--- what may come next in a book may come next in its content
+-- an act that may come next in a book may come next in the book's content
 abbrev pub NextIsFound : Type 0
 NextIsFound = (terms : TermsView) (sub : Sub) (act : Act) (more : List Entry) (held : Held) (content : Content) → IsContentOf terms held content
     → IsNext terms (held sub) act more → IsNext terms (content sub).acts act more
 
--- the account counts one act more, and what the entries add up to
+-- the account has one act more, and its funds grow by the sum of the entries
 abbrev pub AccountsGrow : Type 0
 AccountsGrow = (terms : TermsView) (before : List Act) (act : Act) (more : List Entry) → IsNext terms before act more
     → kept_by terms (before ++ act ∷ []) ≡ record {

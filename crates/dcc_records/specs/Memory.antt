@@ -14,12 +14,12 @@ pub record RowView : Type 0 where
   pub acts : List Act
   pub entries : List Entry
 
--- by what terms they are judged, and the rows of subscribers
+-- the terms by which acts are judged, and the rows of subscribers
 pub record MemoryView : Type 0 where
   pub terms : TermsView
   pub rows : List (Sub × RowView)
 
--- what a row keeps, with as many acts in the account as it has, and the funds that its entries add up to; nothing where
+-- the content of a row: its acts, its entries, and an account with the number of its acts and the sum of its entries; nothing if
 -- there is no row
 abbrev pub kept_of : Option RowView → Kept
 kept_of None = record { acts = []; entries = []; account = record { acts = 0; funds = pos 0 } }
@@ -28,15 +28,15 @@ kept_of (Some row) = record { acts = row.acts; entries = row.entries; account = 
 abbrev pub content_in : List (Sub × RowView) → Content
 content_in rows sub = kept_of (lookup (same_sub sub) rows)
 
--- what they keep of each subscriber
+-- the content of each subscriber
 abbrev pub content_of : MemoryView → Content
 content_of records = content_in records.rows
 
--- a stop leaves what they keep
+-- a stop leaves the content that the records keep
 abbrev pub leaves_of : MemoryView → Content → Type 0
 leaves_of records found = (sub : Sub) → found sub ≡ content_of records sub
 
--- the records, how many appends until the one that fails, counting that, 0 for none, and whether it has failed
+-- the records; the number of appends up to the failing append, which counts, or 0 if no append fails; and whether it has failed
 pub record OnceView : Type 0 where
   pub inner : MemoryView
   pub to_go : ℕ

@@ -1,4 +1,4 @@
--- What a stop leaves: what an open after the end of the process may find.
+-- The contents that a stop leaves: an opening after the end of the process may find them.
 use Rattle.std.specs.Prelude.{◌⊎◌}
 use Rattle.dcc_tariff.specs.Terms.{TermsView}
 use Rattle.dcc_records.specs.Books.{Held}
@@ -8,6 +8,6 @@ use Rattle.dcc_records.specs.Contents.{Content, IsContentOf}
 abbrev pub LeavesOnly : TermsView → Held → (Content → Type 0) → Type 0
 LeavesOnly terms held leaves = (found : Content) → leaves found → IsContentOf terms held found
 
--- a stop leaves the content of the first book or that of the second, and nothing else
+-- a stop leaves the content of the first book or the content of the second, and nothing else
 abbrev pub LeavesEither : TermsView → Held → Held → (Content → Type 0) → Type 0
 LeavesEither terms before after leaves = (found : Content) → leaves found → IsContentOf terms before found ⊎ IsContentOf terms after found

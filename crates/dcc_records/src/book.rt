@@ -6,7 +6,7 @@ ghost use Rattle.dcc_records.specs.Books.{AreInOrder};
 use crate::page::Page;
 use std::marker::Model;
 
-/// What records hold: a page of each subscriber that has acts, in the order of subscribers.
+/// The held acts of a store: a page for each subscriber that has acts, in the order of subscribers.
 #[derive(Debug, Drop)]
 pub struct Book {
     pages: Vec<Page>,
@@ -24,7 +24,8 @@ impl Model for Book {
 }
 
 impl Book {
-    /// The book of these pages, or none where they are not in the order of their subscribers or one has two. It takes no memory.
+    /// The book of these pages; none if they are not in the order of their subscribers, or if a subscriber has two pages. It takes no
+    /// memory.
     pub fn from_vec(pages: Vec<Page>) -> Option<Book>
         ensures some { IsSome result ↔ AreInOrder pages.items }
         ensures value { IfSome result (λ book. book ≡ pages.items) }
@@ -61,7 +62,7 @@ impl Book {
     }
 }
 
-/// Whether the pages are in the order of their subscribers, each of whom has one.
+/// Whether the pages are in the order of their subscribers, each of whom has one page.
 fn are_in_order(pages: &[Page]) -> bool
     ensures { result ≡ true ↔ AreInOrder pages.now }
 {

@@ -1,4 +1,4 @@
-//! Why records did not do what they were asked.
+//! The faults of records.
 
 ghost use Rattle.std.specs.Prelude.{◌≡◌};
 ghost use Rattle.dcc_records.specs.Faults.{fault_number};
@@ -6,16 +6,16 @@ ghost use Rattle.dcc_records.specs.Faults.{fault_number};
 use std::alloc::AllocError;
 use thiserror::Error;
 
-/// Why records did not do what they were asked.
+/// The reason for which a call of records failed.
 #[derive(Clone, Copy, Debug, PartialEq, Eq, Error)]
 pub enum StoreFault {
     /// Fault 50: memory was refused. Nothing changed, and the records may be used.
     #[error("out of memory")]
     Memory,
-    /// Fault 51: the store failed, and is stopped from then on. Whether it has the act, the next open tells.
+    /// Fault 51: the store failed in this call, and is stopped from then on. The next opening finds the act of the call or doesn't.
     #[error("the store failed")]
     Device,
-    /// Fault 52: the store had failed before, and nothing is done any more.
+    /// Fault 52: the store had failed before, and the call did nothing.
     #[error("the store is stopped")]
     Stopped,
 }

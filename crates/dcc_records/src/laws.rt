@@ -1,27 +1,26 @@
-//! Laws of books and contents: what the layers above need to know of them without a look into them. None of these functions
-//! does anything: each has a law as its contract.
+//! Laws of books and contents, for the layers above. Each function does nothing: it has its laws as its contract.
 
 ghost use Rattle.dcc_records.specs.Laws.{ContentHasOneBook, AlikeBooksHaveOneContent, OwnGrows, OthersStay};
 ghost use Rattle.dcc_records.specs.Laws.{NewIsNext, NextIsFound, BooksGrow, AccountsGrow};
 
 use dcc_model::{funds_are_accounted_for, one_more_act};
 
-/// A content is that of one book alone, and books that hold the same have the same contents.
+/// A content is the content of one book alone. Books that hold the same acts have the same contents.
 pub fn content_has_one_book()
     ensures one { ContentHasOneBook }
     ensures alike { AlikeBooksHaveOneContent }
 {}
 
-/// An act more stands behind the others of its subscriber, and leaves those of every other as they were. Subscribers are the
-/// others where they are not equal.
+/// An added act stands behind the other acts of its subscriber. The acts of each subscriber that does not equal this subscriber stay
+/// as they were.
 pub fn acts_stand_apart()
     ensures own { OwnGrows }
     ensures others { OthersStay }
 {}
 
-/// An act that is new may come next, with the entries that it adds. What may come next in a book may come next in its
-/// content. A book with an act more that may come next is a book. Its subscriber's account counts one act more, and what the
-/// entries add up to.
+/// An act that is new may come next, with the entries that it adds. An act that may come next in a book may come next in the book's
+/// content. A book to which such an act is added is a book. The account of the act's subscriber has one act more, and its funds grow
+/// by the sum of the entries.
 pub fn new_acts_come_next()
     ensures next { NewIsNext }
     ensures found { NextIsFound }

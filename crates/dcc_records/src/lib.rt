@@ -1,18 +1,18 @@
-//! What a shard writes to: records, which keep the acts of subscribers with their entries.
+//! Records: the store of a shard, which keeps the acts of subscribers with their entries.
 //!
 //! Stands on `dcc_model` for what a list of acts makes, on `dcc_act` for acts, entries and subscribers, and on `dcc_tariff`
-//! for terms. A book is what is held of each subscriber: one list of acts, each its own. The content of a store is, of each
-//! subscriber, the acts, their entries and the account, as the book gives them under the store's terms.
+//! for terms. A book has a list of held acts for each subscriber, and each list makes exactly its own acts. The content of a store has
+//! the acts of each subscriber, their entries and the account. A book determines its content under the store's terms.
 //!
 //! What [`Records`] promise, whatever they stand on:
-//! - [`append`](Records::append) adds one act, with its entries, to one subscriber, or changes nothing. A stop at any moment
-//!   of it, which is the end of the process, leaves the content of the book before or of that with the one act more.
-//! - It answers [`Memory`](StoreFault::Memory) where nothing changed and the records may be used,
-//!   [`Device`](StoreFault::Device) only where they failed in that call and are stopped from then on, and
-//!   [`Stopped`](StoreFault::Stopped) only where they were stopped before; then they do nothing more.
-//! - [`load`](Records::load) gives the book: all that is held, of each subscriber, and nothing else.
+//! - [`append`](Records::append) adds one act, with its entries, to one subscriber, whole or not at all. A stop is the end of the
+//!   process. A stop at any moment of the call leaves the content of the book before the call, or of the book with the one act more.
+//! - With [`Memory`](StoreFault::Memory) nothing changed, and the records may be used. [`Device`](StoreFault::Device) is returned only
+//!   if the records failed in that call; they are stopped from then on. [`Stopped`](StoreFault::Stopped) is returned only if they
+//!   were stopped before; then the call does nothing.
+//! - [`load`](Records::load) returns the book: all held acts of each subscriber, and nothing else.
 //!
-//! [`MemoryRecords`] are records in memory, which never fail. [`OnceRecords`] fail once, for tests of what stands above.
+//! [`MemoryRecords`] are records in memory, which never fail. [`OnceRecords`] fail once, for tests of the layers above.
 #![tactic(auto)]
 
 mod book;

@@ -18,11 +18,11 @@ use std::alloc::Global;
 use std::hash::RandomState;
 use std::marker::Model;
 
-/// Records in memory, which never fail. They end with their process: what contracts say that a stop leaves is what they keep at
-/// that moment, as of a store that stays.
+/// Records in memory, which never fail. They end with their process. The contracts treat them as a store that stays: a stop leaves
+/// what they keep at that moment.
 ///
-/// They keep the entries too, as a store does. A subscriber is found by a hash that nobody outside can know beforehand, and the
-/// rows are put in the order of their subscribers when a book is asked for.
+/// They keep the entries too, as a store does. A subscriber is found by a hash that nobody outside can know beforehand. `load` puts
+/// the rows in the order of their subscribers.
 #[derive(Drop)]
 pub struct MemoryRecords {
     alloc: Global,

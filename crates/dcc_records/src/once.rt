@@ -14,7 +14,7 @@ use dcc_act::{Act, Entry, Sub};
 use dcc_tariff::Terms;
 use std::marker::Model;
 
-/// Records in memory of which one append fails, as a store does: for tests of what stands above records.
+/// Records in memory, of which one append fails as the append of a store does, for tests of the layers above.
 #[derive(Drop)]
 pub struct OnceRecords {
     inner: MemoryRecords,
@@ -31,7 +31,7 @@ impl Model for OnceRecords {
 }
 
 impl OnceRecords {
-    /// These records, whose `n`-th append from now on, counted from 1, fails and stops them; with 0 none does.
+    /// These records, whose `n`-th append from now on, counted from 1, fails and stops them. With 0 no append fails.
     pub fn new(inner: MemoryRecords, n: u64) -> OnceRecords
         ensures inner { result.inner ≡ inner }
         ensures to_go { result.to_go ≡ n }

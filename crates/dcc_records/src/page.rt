@@ -24,7 +24,7 @@ impl Model for Page {
 }
 
 impl Page {
-    /// The page of this subscriber and these acts, or none where there are no acts. It takes no memory.
+    /// The page of this subscriber and these acts; none if there are no acts. It takes no memory.
     pub fn new(sub: Sub, acts: Vec<Act>) -> Option<Page>
         ensures some { IsSome result ↔ (acts.items ≢ []) }
         ensures value { IfSome result (λ page. page ≡ record { sub = sub; acts = acts.items }) }
@@ -35,7 +35,7 @@ impl Page {
         Some(Page { sub, acts })
     }
 
-    /// Whose acts they are.
+    /// The subscriber whose acts these are.
     pub fn sub(&self) -> Sub
         ensures { result ≡ self.now.sub }
     {

@@ -1,4 +1,4 @@
-//! What a shard asks of its records.
+//! The records of a shard, as a trait.
 
 ghost use Rattle.std.specs.Prelude.{◌≡◌, ◌≢◌, ℕ, ◌+◌, Bool, true, false, Err, IfOk, OnOk, OnErr};
 ghost use Rattle.dcc_tariff.specs.Terms.{TermsView};
@@ -11,42 +11,43 @@ use crate::fault::StoreFault;
 use dcc_act::{Act, Entry, Sub};
 use dcc_tariff::Terms;
 
-/// Where the acts of subscribers are kept, with their entries.
+/// A store of the acts of subscribers, with their entries.
 ///
-/// A stop is the end of the process at any moment. What the records keep is told by what an open after a stop may find: a
-/// stop inside a call is a store that fails from there on, so what `crash` says of each return holds of it too.
+/// A stop is the end of the process at any moment. The clauses speak of the contents that an opening after a stop may find. A stop
+/// inside a call leaves a store as a failure at the same moment does. So clause `crash`, which holds of each return, covers such a
+/// stop too.
 pub trait Records {
     /// The terms by which the content is judged.
     ghost terms: { Self → TermsView };
 
-    /// The contents that an open after a stop at this moment may find, where the store has told the truth.
+    /// The contents that an opening after a stop at this moment may find, if the store is honest.
     ghost may_leave: { Self → Content → Type 0 };
 
-    /// What is supposed of the store: that it has told the truth, and was ours from the first.
+    /// The assumption on the store: it returned what was written, and nobody else ever wrote to it.
     ghost is_honest: { Self → Type 0 };
 
-    /// A call has failed for another reason than memory.
+    /// Whether a call has failed with [`StoreFault::Device`].
     ghost is_stopped: { Self → Bool };
 
-    /// How often a call has failed so.
+    /// The number of calls that have failed with [`StoreFault::Device`].
     ghost faults: { Self → ℕ };
 
     /// The terms by which the content is judged. It takes no memory.
     fn terms(&self) -> &Terms
         ensures { result.now ≡ terms self.now };
 
-    /// How often a call has failed for another reason than memory. It takes no memory.
+    /// The number of calls that have failed with [`StoreFault::Device`]. It takes no memory.
     fn faults(&self) -> u64
         ensures { result ≡ faults self.now };
 
-    /// Whether a call has failed so, and nothing is done any more. It takes no memory.
+    /// Whether a call has failed with [`StoreFault::Device`]: then the records are stopped, and do nothing more. It takes no memory.
     fn is_stopped(&self) -> bool
         ensures { result ≡ is_stopped self.now };
 
-    /// Adds one act of a subscriber, with its entries, or changes nothing. The condition is that the act may come next, and the
-    /// entries are those that it adds.
+    /// Adds one act of a subscriber, with its entries, whole or not at all. The condition: the act may come next, and the entries are
+    /// those that it adds.
     ///
-    /// Errors: [`StoreFault::Memory`], nothing changed and the records may be used; [`StoreFault::Device`], they failed, are
+    /// Errors: [`StoreFault::Memory`], nothing changed and the records may be used; [`StoreFault::Device`], the records failed, they are
     /// stopped from then on, and a stop leaves the act or doesn't; [`StoreFault::Stopped`], they were stopped before.
     fn append(&mut self, sub: Sub, act: &Act, entries: &[Entry]) -> Result<(), StoreFault>
         requires { is_stopped self.old ≡ false
@@ -66,10 +67,10 @@ pub trait Records {
         ensures frozen { is_stopped self.old ≡ true
             → (result ≡ Err StoreFault.Stopped) × ((found : Content) → may_leave self.new found → may_leave self.old found) };
 
-    /// The book that is held.
+    /// The book of all held acts.
     ///
-    /// Errors: [`StoreFault::Memory`], nothing changed and the records may be used; [`StoreFault::Device`], they failed, and
-    /// are stopped from then on; [`StoreFault::Stopped`], they were stopped before.
+    /// Errors: [`StoreFault::Memory`], nothing changed and the records may be used; [`StoreFault::Device`], the records failed, and are
+    /// stopped from then on; [`StoreFault::Stopped`], they were stopped before.
     fn load(&mut self) -> Result<Book, StoreFault>
         ensures terms { terms self.new ≡ terms self.old }
         ensures book { IfOk result (λ book. IsBook (terms self.old) (acts_in book)) }

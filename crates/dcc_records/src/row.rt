@@ -107,7 +107,7 @@ pub(crate) fn copied(alloc: Global, entries: &[Entry]) -> Result<Vec<Entry>, All
     Ok(copies)
 }
 
-/// Puts the rows in the order of their subscribers. The only error is want of memory; what is kept of each stays as it was.
+/// Puts the rows in the order of their subscribers. The row of each subscriber stays as it was. The only error is want of memory.
 pub(crate) fn sort(rows: &mut IndexMap<Sub, Row, RandomState>) -> Result<(), AllocError>
     ensures ordered { OnOk result (IsStrictlySortedBy sub_order (keys_of rows.new.entries)) }
     ensures kept { (other : Sub) → content_in rows.new.entries other ≡ content_in rows.old.entries other }
@@ -116,7 +116,7 @@ pub(crate) fn sort(rows: &mut IndexMap<Sub, Row, RandomState>) -> Result<(), All
     Ok(())
 }
 
-/// A page of each row, in their order, which is that of the subscribers.
+/// A page for each row, in the order of the rows. The condition: the rows are in the order of their subscribers.
 pub(crate) fn pages(
     alloc: Global,
     rows: &IndexMap<Sub, Row, RandomState>,

@@ -20,21 +20,21 @@ use Rattle.dcc_sqlrows.specs.declared.line.Line.{Line}
 abbrev pub old_line_row : Line → Row
 old_line_row line = Blob (sub_octets line.sub) ∷ Int line.place ∷ Blob (old_record_of line.act) ∷ []
 
--- the row is that of some act of some subscriber
+-- the row is the row of some act of some subscriber
 abbrev pub IsOldLine : Row → Type 0
 IsOldLine row = (line : Line) × IsSub line.sub × IsOldAct line.act × (row ≡ old_line_row line)
 
--- some row is no act's, or is of nobody
+-- some row is no act's, or does not begin with a subscriber
 abbrev pub IsOldDamaged : Rows → Type 0
 IsOldDamaged rows = ((row : Row) × Contains rows.acts row × (¬ IsOldLine row)) ⊎ HasRowOfNobody rows
 
--- a page has acts of a subscriber, each of which has such a record
+-- a page has acts of a subscriber, each of which has a record of version 1
 pub record IsOldPage (page : PageView) : Type 0 where
   pub is_of : IsSub page.sub
   pub some : page.acts ≢ []
   pub fit : AllByRecursion IsOldAct page.acts
 
--- the rows of acts that stand behind so many others
+-- the rows of acts that stand behind so many other acts
 abbrev pub old_act_rows_from : List ℕ → ℕ → List Act → List Row
 old_act_rows_from sub before [] = []
 old_act_rows_from sub before (act ∷ more) = act_row sub (before + 1) (old_record_of act) ∷ old_act_rows_from sub (before + 1) more
@@ -47,7 +47,7 @@ abbrev pub old_book_act_rows : List PageView → List Row
 old_book_act_rows [] = []
 old_book_act_rows (page ∷ pages) = old_page_act_rows page ++ old_book_act_rows pages
 
--- The rows are those of a book of these pages under these terms.
+-- The rows are the rows of a book of these pages under these terms.
 pub record AreOfOldBook (terms : TermsView) (pages : List PageView) (rows : Rows) : Type 0 where
   pub ordered : AreInOrder pages
   pub valid : AllByRecursion IsOldPage pages
@@ -56,11 +56,11 @@ pub record AreOfOldBook (terms : TermsView) (pages : List PageView) (rows : Rows
   pub entries : rows.entries ≡ book_entry_rows terms pages
   pub accounts : rows.accounts ≡ book_account_rows terms pages
 
--- the row of an act that is held; places count from 1
+-- the row of a held act; places count from 1
 abbrev pub IsOldActRow : Held → Row → Type 0
 IsOldActRow held row = (sub : Sub) × (i : ℕ) × (act : Act) × (slice_get (held sub) i ≡ Some act) × (row ≡ act_row (sub_octets sub) (i + 1) (old_record_of act))
 
--- the rows are those of this book under these terms, and none stands before one that its key puts behind it
+-- the rows are the rows of this book under these terms, and each table is in the order of its key
 pub record AreOldHeld (terms : TermsView) (held : Held) (rows : Rows) : Type 0 where
   pub own : IsBook terms held
   pub subs : (sub : Sub) → held sub ≢ [] → IsSub sub
@@ -72,18 +72,18 @@ pub record AreOldHeld (terms : TermsView) (held : Held) (rows : Rows) : Type 0 w
   pub entries_sorted : IsSorted entry_order rows.entries
   pub accounts_sorted : IsSorted account_order rows.accounts
 
--- the rows of acts of pages are those of the book that the pages are, and no others
+-- the rows of acts of pages are the rows of the book that the pages are, and no others
 abbrev pub OldPagesHoldTheirActs : Type 0
 OldPagesHoldTheirActs = (pages : List PageView) → AreInOrder pages → AllByRecursion IsOldPage pages → AreJust (old_book_act_rows pages) (IsOldActRow (acts_in pages))
 
--- the acts of pages have such records
+-- the acts of pages have records of version 1
 abbrev pub OldPagesFit : Type 0
 OldPagesFit = (pages : List PageView) → AllByRecursion IsOldPage pages → (sub : Sub) (i : ℕ) (act : Act) → slice_get (acts_in pages sub) i ≡ Some act → IsOldAct act
 
--- the rows of a book are those of its pages, one page after another
+-- the rows of a book are the rows of its pages, one page after another
 abbrev pub OldBooksHavePages : Type 0
 OldBooksHavePages = (terms : TermsView) (held : Held) (rows : Rows) → AreOldHeld terms held rows → (pages : List PageView) × AreOfOldBook terms pages rows
 
--- and none of them is damaged
+-- no row of a book is damaged
 abbrev pub OldBooksAreWhole : Type 0
 OldBooksAreWhole = (terms : TermsView) (held : Held) (rows : Rows) → AreOldHeld terms held rows → ¬ IsOldDamaged rows

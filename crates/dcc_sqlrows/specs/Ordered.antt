@@ -13,7 +13,7 @@ use Rattle.dcc_sqlrows.specs.Pages.{IsSub}
 use Rattle.dcc_sqlrows.specs.Held.{AreJust, IsActRow, IsEntryRow, IsAccountRow}
 use Rattle.dcc_sqlrows.specs.Stored.{Rows, IsDamaged, AreOfBook}
 
--- how rows compare by the keys of their tables: the subscriber, the place, and the line
+-- the order of rows by the keys of their tables: the subscriber, the place, and the line
 abbrev pub account_order : Row → Row → Ordering
 account_order = on (λ row. column row 0) value_cmp
 
@@ -23,7 +23,7 @@ act_order = then_cmp (on (λ row. column row 0) value_cmp) (on (λ row. column r
 abbrev pub entry_order : Row → Row → Ordering
 entry_order = then_cmp (on (λ row. column row 0) value_cmp) (then_cmp (on (λ row. column row 1) value_cmp) (on (λ row. column row 2) value_cmp))
 
--- the rows are those of this book under these terms, and none stands before one that its key puts behind it
+-- the rows are the rows of this book under these terms, and each table is in the order of its key
 pub record AreHeld (terms : TermsView) (held : Held) (rows : Rows) : Type 0 where
   pub own : IsBook terms held
   pub subs : (sub : Sub) → held sub ≢ [] → IsSub sub
@@ -35,10 +35,10 @@ pub record AreHeld (terms : TermsView) (held : Held) (rows : Rows) : Type 0 wher
   pub entries_sorted : IsSorted entry_order rows.entries
   pub accounts_sorted : IsSorted account_order rows.accounts
 
--- the rows of a book are those of its pages, one page after another
+-- the rows of a book are the rows of its pages, one page after another
 abbrev pub BooksHavePages : Type 0
 BooksHavePages = (terms : TermsView) (held : Held) (rows : Rows) → AreHeld terms held rows → (pages : List PageView) × AreOfBook terms pages rows
 
--- and none of them is damaged
+-- no row of a book is damaged
 abbrev pub BooksAreWhole : Type 0
 BooksAreWhole = (terms : TermsView) (held : Held) (rows : Rows) → AreHeld terms held rows → ¬ IsDamaged rows

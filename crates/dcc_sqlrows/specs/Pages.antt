@@ -22,7 +22,7 @@ IsSub sub = is_sub sub.kind sub.name ≡ true
 abbrev pub entries_at : TermsView → List Act → ℕ → List Entry
 entries_at terms all i = drop (length (entries terms (take i all))) (entries terms (take (i + 1) all))
 
--- the rows of acts that stand behind so many others
+-- the rows of acts that stand behind so many other acts
 abbrev pub act_rows_from : List ℕ → ℕ → List Act → List Row
 act_rows_from sub before [] = []
 act_rows_from sub before (act ∷ more) = act_row sub (before + 1) (record_of act) ∷ act_rows_from sub (before + 1) more
@@ -42,7 +42,7 @@ page_entry_rows terms page = entry_rows_to terms (sub_octets page.sub) page.acts
 abbrev pub page_account_row : TermsView → PageView → Row
 page_account_row terms page = account_row (sub_octets page.sub) (length page.acts) (funds terms page.acts)
 
--- those of all pages
+-- the rows of all pages
 abbrev pub book_act_rows : List PageView → List Row
 book_act_rows [] = []
 book_act_rows (page ∷ pages) = page_act_rows page ++ book_act_rows pages
@@ -60,6 +60,6 @@ pub record IsPage (page : PageView) : Type 0 where
   pub some : page.acts ≢ []
   pub fit : AllByRecursion IsAct page.acts
 
--- and they are those that the list itself makes
+-- the acts of a page are exactly those that its own list makes
 abbrev pub IsOwn : TermsView → PageView → Type 0
 IsOwn terms page = acts terms page.acts ≡ page.acts

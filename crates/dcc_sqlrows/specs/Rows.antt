@@ -12,7 +12,7 @@ use Rattle.dcc_act.specs.declared.sub.Sub.{Sub}
 abbrev pub sub_octets : Sub → List ℕ
 sub_octets sub = sub.kind ∷ sub.name
 
--- what an entry stands for
+-- the number of an entry's kind
 abbrev pub kind_code : EntryKind → ℕ
 kind_code TopUp = 1
 kind_code Debit = 2
@@ -34,7 +34,7 @@ entry_cells sub place line kind group units amount =
 abbrev pub entry_row : List ℕ → ℕ → ℕ → Entry → Row
 entry_row sub place line entry = entry_cells sub place line (kind_code entry.kind) entry.group (pos entry.units) entry.amount
 
--- the rows of the entries of one act, from a line on
+-- the rows of the entries of one act, behind so many lines
 abbrev pub entry_rows_of : List ℕ → ℕ → ℕ → List Entry → List Row
 entry_rows_of sub place line [] = []
 entry_rows_of sub place line (entry ∷ more) = entry_row sub place (line + 1) entry ∷ entry_rows_of sub place (line + 1) more

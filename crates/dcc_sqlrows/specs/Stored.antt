@@ -1,4 +1,4 @@
--- What the rows of the tables say.
+-- The meaning of rows that were read.
 use Rattle.std.specs.Prelude.{◌≡◌, ◌⊎◌, List, [], ◌∷◌}
 use Rattle.std.specs.List.{Contains, AllByRecursion}
 use Rattle.sqlite.specs.declared.types.Value.TheVariants.{Int, Blob}
@@ -16,7 +16,7 @@ use Rattle.dcc_sqlrows.specs.declared.line.Line.{Line}
 abbrev pub line_row : Line → Row
 line_row line = Blob (sub_octets line.sub) ∷ Int line.place ∷ Blob (record_of line.act) ∷ []
 
--- the row is that of some act of some subscriber
+-- the row is the row of some act of some subscriber
 abbrev pub IsLine : Row → Type 0
 IsLine row = (line : Line) × IsSub line.sub × IsAct line.act × (row ≡ line_row line)
 
@@ -24,21 +24,21 @@ IsLine row = (line : Line) × IsSub line.sub × IsAct line.act × (row ≡ line_
 abbrev pub IsOfSub : Row → Type 0
 IsOfSub row = (sub : Sub) × IsSub sub × (column row 0 ≡ Blob (sub_octets sub))
 
--- what was read of the tables of acts, of entries and of accounts
+-- the rows that were read of the tables of acts, of entries and of accounts
 pub record Rows : Type 0 where
   pub acts : List Row
   pub entries : List Row
   pub accounts : List Row
 
--- some row of an entry or of an account is of nobody
+-- some row of an entry or of an account does not begin with a subscriber
 abbrev pub HasRowOfNobody : Rows → Type 0
 HasRowOfNobody rows = ((row : Row) × Contains rows.entries row × (¬ IsOfSub row)) ⊎ ((row : Row) × Contains rows.accounts row × (¬ IsOfSub row))
 
--- some row is no act's, or is of nobody
+-- some row is no act's, or does not begin with a subscriber
 abbrev pub IsDamaged : Rows → Type 0
 IsDamaged rows = ((row : Row) × Contains rows.acts row × (¬ IsLine row)) ⊎ HasRowOfNobody rows
 
--- The rows are those of a book of these pages under these terms.
+-- The rows are the rows of a book of these pages under these terms.
 pub record AreOfBook (terms : TermsView) (pages : List PageView) (rows : Rows) : Type 0 where
   pub ordered : AreInOrder pages
   pub valid : AllByRecursion IsPage pages

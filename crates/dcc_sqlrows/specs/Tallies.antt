@@ -10,7 +10,7 @@ use Rattle.dcc_sqlrows.specs.declared.tally.Tally.{Tally}
 abbrev pub tally_of : TermsView → PageView → Tally
 tally_of terms page = record { acts = length page.acts; funds = funds terms page.acts }
 
--- the rows of the accounts of pages that have these tallies
+-- the rows of accounts of pages that have these tallies
 abbrev pub account_rows_by : List PageView → List Tally → List Row
 account_rows_by (page ∷ pages) (tally ∷ tallies) = account_row (sub_octets page.sub) tally.acts tally.funds ∷ account_rows_by pages tallies
 account_rows_by _ _ = []

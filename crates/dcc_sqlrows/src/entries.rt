@@ -9,7 +9,7 @@ use crate::value::{has_count, has_group, has_number};
 use dcc_act::{Entry, EntryKind, Sub};
 use sqlite::Row;
 
-/// Whether the rows begin with those of the entries of the act at this place.
+/// Whether the rows begin with the rows of these entries, which the act at this place adds.
 pub(crate) fn begin_with(rows: &[Row], sub: Sub, place: u64, entries: &[Entry]) -> bool
     ensures { result ≡ true ↔ take (length entries.now) rows.now ≡ entry_rows_of (sub_octets sub) place 0 entries.now }
 {
@@ -24,7 +24,7 @@ pub(crate) fn begin_with(rows: &[Row], sub: Sub, place: u64, entries: &[Entry]) 
     true
 }
 
-/// Whether a row is that of an entry.
+/// Whether a row is the row of an entry.
 #[tactic(auto, using(crate::proofs::Lists::seven_values))]
 fn is_entry_row(row: &Row, sub: Sub, place: u64, line: u64, entry: &Entry) -> bool
     ensures { result ≡ true ↔ row.now ≡ entry_row (sub_octets sub) place line entry.now }
@@ -39,7 +39,7 @@ fn is_entry_row(row: &Row, sub: Sub, place: u64, line: u64, entry: &Entry) -> bo
         && has_number(row, 6, entry.amount)
 }
 
-/// Whether a row is that of an account.
+/// Whether a row is the row of an account.
 #[tactic(auto, using(crate::proofs::Lists::three_values))]
 pub(crate) fn is_account_row(row: &Row, sub: Sub, tally: Tally) -> bool
     ensures { result ≡ true ↔ row.now ≡ account_row (sub_octets sub) tally.acts tally.funds }
@@ -50,7 +50,7 @@ pub(crate) fn is_account_row(row: &Row, sub: Sub, tally: Tally) -> bool
         && has_number(row, 2, tally.funds)
 }
 
-/// What an entry stands for, as a number: 1 a top-up, 2 a direct debit, 3 a refund, 4 a charge.
+/// The number of an entry's kind: 1 a top-up, 2 a direct debit, 3 a refund, 4 a charge.
 pub fn kind_code(kind: EntryKind) -> u32
     ensures { result ≡ kind_code kind }
 {

@@ -3,12 +3,12 @@
 use dcc_record::RecordFault;
 use std::alloc::{AllocError, AllocFailed};
 
-/// Why rows were not read.
+/// The reason for which rows were not read.
 #[derive(Clone, Copy, Debug, PartialEq, Eq)]
 pub enum ReadFault {
     /// Memory was refused.
     Memory,
-    /// A row is no act's, or is of nobody.
+    /// A row is not the row of an act, or does not begin with a subscriber.
     Damaged,
 }
 

@@ -1,4 +1,4 @@
-//! The pages that lines are of.
+//! The pages to which lines belong.
 
 ghost use Rattle.std.specs.Prelude.{◌≡◌, ◌≢◌, ◌↔◌, ◌+◌, pos, true, List, [], ◌∷◌, None, All, IfOk, IfSome, OnOk, map};
 ghost use Rattle.std.specs.List.{AllByRecursion};
@@ -14,8 +14,8 @@ use dcc_record::records_differ;
 use dcc_records::{Book, Page};
 use std::alloc::{AllocError, Global};
 
-/// The one book whose rows of acts the lines are, or none where there is no such book: a place isn't that of its act, or the
-/// subscribers aren't in order. The only error is want of memory.
+/// The only book whose rows of acts these lines are. None if there is no such book: the place of a line isn't the place of its act, or
+/// the subscribers aren't in order. The conditions: subscribers and acts are within their limits. The only error is want of memory.
 pub fn book_of(alloc: Global, lines: &[Line]) -> Result<Option<Book>, AllocError>
     requires subs { All (λ line. IsSub line.sub) lines.now }
     requires fit { All (λ line. IsAct line.act) lines.now }
@@ -47,8 +47,8 @@ fn stands_behind(line: &Line, before: usize) -> bool
     i128::from(line.place) == before as i128 + 1
 }
 
-/// Puts the act of a line behind the others of its page, which is the last, or on a page of its own. It says how many acts
-/// stand before it there.
+/// Puts the act of a line behind the other acts on the last page, if this is the page of its subscriber, and otherwise on a new page.
+/// It returns the number of acts that stand before the act on its page.
 fn put_behind(alloc: Global, pages: &mut Vec<Page>, line: &Line) -> Result<usize, AllocError>
     ensures pages { OnOk result (pages.new.items ≡ put_behind line.now.sub line.now.act pages.old.items) }
     ensures before { IfOk result (λ before. before ≡ before_it line.now.sub pages.old.items) }

@@ -14,7 +14,7 @@ use sqlite::Row;
 use std::alloc::{AllocError, Global};
 use std::hash::RandomState;
 
-/// Whether the acts of each page are those that the list itself makes. The only error is want of memory.
+/// Whether the acts of each page are exactly those that its own list makes. The only error is want of memory.
 pub fn are_own(
     alloc: Global,
     terms: &Terms,
@@ -31,8 +31,8 @@ pub fn are_own(
     Ok(true)
 }
 
-/// The tallies of pages whose acts are those that each list itself makes, and whose entries and accounts have just these rows;
-/// none where one isn't so. The only error is want of memory.
+/// The tallies of pages. None if the acts of a page aren't exactly those that its own list makes, or if the rows of entries or of
+/// accounts aren't exactly the rows of these pages. The only error is want of memory.
 #[tactic(auto, using(crate::proofs::Judgements::accounts_by))]
 pub fn judge(
     alloc: Global,
@@ -58,7 +58,7 @@ pub fn judge(
     Ok(Some(tallies))
 }
 
-/// The same of the entries alone.
+/// The same without a look at the rows of accounts.
 fn judge_pages(
     alloc: Global,
     terms: &Terms,
@@ -87,7 +87,7 @@ fn judge_pages(
     Ok(Some(tallies))
 }
 
-/// Whether the rows are those of the accounts of pages that have these tallies.
+/// Whether the rows are the rows of the accounts of pages that have these tallies.
 fn are_accounts(accounts: &[Row], pages: &[Page], tallies: &[Tally]) -> bool
     requires { length tallies.now ≡ length pages.now }
     ensures { result ≡ true ↔ accounts.now ≡ account_rows_by pages.now tallies.now }

@@ -1,4 +1,4 @@
-//! The laws of rows: what callers need to know of them without a look into pages.
+//! The laws of rows, for callers.
 
 ghost use Rattle.std.specs.Prelude.{◌≡◌, All, List, map};
 ghost use Rattle.std.specs.List.{AllByRecursion};
@@ -15,8 +15,9 @@ use dcc_act::same_subscribers_are_equal;
 use dcc_model::leaving_out_changes_nothing;
 use dcc_record::{old_records_differ, records_differ};
 
-/// The rows of pages, of their acts, entries and accounts, are those of the book that the pages are, and no others.
-/// Pages whose acts are those that each list makes are a book, and their acts are within their limits. It does nothing.
+/// The rows of acts, entries and accounts of pages are the rows of the book that the pages are, and no others. Pages are a book if
+/// the acts of each page are exactly those that its own list makes. The acts of pages, and the subscribers that have acts, are within
+/// their limits. It does nothing.
 pub fn pages_hold_their_rows()
     ensures acts { PagesHoldTheirActs }
     ensures entries { PagesHoldTheirEntries }
@@ -29,8 +30,8 @@ pub fn pages_hold_their_rows()
     same_subscribers_are_equal();
 }
 
-/// The rows of a book, each table in the order of its key, are those of pages, and none of them is damaged: the order of octets
-/// on a subscriber's type and data is the order of subscribers. It does nothing.
+/// The rows of a book, each table in the order of its key, are the rows of pages, and no row is damaged: the order of octets on a
+/// subscriber's type and data is the order of subscribers. It does nothing.
 pub fn books_have_pages()
     ensures pages { BooksHavePages }
     ensures whole { BooksAreWhole }
@@ -38,8 +39,8 @@ pub fn books_have_pages()
     same_subscribers_are_equal();
 }
 
-/// The rows of lines in layout 2 are those of pages exactly if their rows in layout 1 are, where each act has a record of
-/// version 1. Such pages are pages of both layouts. So [`crate::book_of`] and [`crate::judge`] judge rows of layout 1 by their
+/// If each act of lines has a record of version 1, the rows of the lines in layout 2 are the rows of pages exactly if their rows in
+/// layout 1 are. Such pages are pages of both layouts. So [`crate::book_of`] and [`crate::judge`] judge rows of layout 1 by their
 /// lines. It does nothing.
 pub fn old_lines_are_of_old_pages()
     ensures there { (lines : List Line) (pages : List PageView) → All (λ line. IsOldAct line.act) lines → AllByRecursion IsPage pages
@@ -51,7 +52,7 @@ pub fn old_lines_are_of_old_pages()
     old_records_differ();
 }
 
-/// The rows of acts of pages, in layout 1, are those of the book that the pages are, and no others. The acts have records of
+/// The rows of acts of pages, in layout 1, are the rows of the book that the pages are, and no others. The acts have records of
 /// version 1. The pages are pages of layout 2 too, so [`pages_hold_their_rows`] speaks of their entries, accounts and book.
 /// It does nothing.
 pub fn old_pages_hold_their_rows()
@@ -64,8 +65,7 @@ pub fn old_pages_hold_their_rows()
     old_records_differ();
 }
 
-/// The rows of a book in layout 1, each table in the order of its key, are those of pages, and none of them is damaged. It does
-/// nothing.
+/// The rows of a book in layout 1, each table in the order of its key, are the rows of pages, and no row is damaged. It does nothing.
 pub fn old_books_have_pages()
     ensures pages { OldBooksHavePages }
     ensures whole { OldBooksAreWhole }

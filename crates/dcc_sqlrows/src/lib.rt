@@ -1,16 +1,17 @@
-//! The rows of a store's tables, and the book that they are of.
+//! The rows of a store's tables, and the book to which they belong.
 //!
 //! Stands on `dcc_records` for books, on `dcc_record` for the octets of an act, on `dcc_account` for what a list of acts makes,
-//! on `dcc_model`, `dcc_act` and `dcc_tariff` for what acts are, and on the kit's `sqlite` for rows. The rows of one act, of its
-//! entries and of an account stand in `specs/Rows.antt`, those of a whole book, in the order of their keys, in
-//! `specs/Pages.antt`, and what rows say in `specs/Stored.antt`. The rows of acts of an older store, of layout 1, stand in
-//! `specs/OldRows.antt`.
+//! on `dcc_model`, `dcc_act` and `dcc_tariff` for what acts are, and on the kit's `sqlite` for rows. `specs/Rows.antt` defines the rows
+//! of one act, of its entries and of an account. `specs/Pages.antt` defines the rows of a whole book, in the order of their keys.
+//! `specs/Stored.antt` defines the meaning of rows that were read. `specs/OldRows.antt` defines the rows of acts of an older store, of
+//! layout 1.
 //!
-//! The contract that it gives: [`read_lines`] and [`are_of_subs`] find rows that are no act's or of nobody; [`book_of`] gives
-//! the only pages whose rows the lines are, and none where there are none; [`judge`] tells whether the rows are those of a book
-//! of these pages, each of which is what its own acts make, with how many acts and what funds each has; [`are_own`] tells the
-//! same of the acts alone. [`read_old_lines`] reads the rows of acts of layout 1, and [`old_lines_are_of_old_pages`] says that
-//! the book of their lines is the book of these rows.
+//! The contract that it gives: [`read_lines`] reads the rows of acts, and finds rows that are no act's. [`are_of_subs`] finds rows that
+//! do not begin with a subscriber. [`book_of`] returns the only pages whose rows the lines are, or none if there are no such pages.
+//! [`judge`] checks that each page has exactly the acts that its own list makes, and that the rows of entries and accounts are exactly
+//! those of the pages; it returns the number of acts and the funds of each page. [`are_own`] checks the acts alone.
+//! [`read_old_lines`] reads the rows of acts of layout 1. By [`old_lines_are_of_old_pages`] the book of their lines is the book of
+//! these rows.
 #![tactic(auto)]
 
 mod entries;

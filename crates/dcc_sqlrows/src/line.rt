@@ -1,4 +1,4 @@
-//! Rows of the table of acts, and whose the rows of the others are.
+//! Rows of the table of acts, and the subscribers of the rows of all tables.
 
 ghost use Rattle.std.specs.Prelude.{◌≡◌, ◌≢◌, ◌↔◌, true, false, All, map, Err, IfOk, IfErr, IfSome, MatchOption};
 ghost use Rattle.std.specs.List.{Contains};
@@ -20,7 +20,7 @@ use dcc_record::{RecordFault, read_act, read_act_1};
 use sqlite::Row;
 use std::alloc::Global;
 
-/// A row of the table of acts: whose act it is, the place that the row says, and the act.
+/// A row of the table of acts, as it was read: the subscriber, the place in the row, which may be wrong, and the act.
 #[derive(Drop)]
 pub struct Line {
     pub sub: Sub,
@@ -28,9 +28,9 @@ pub struct Line {
     pub act: Act,
 }
 
-/// The lines that the rows say.
+/// The lines of these rows, in order. The records of acts are of version 2.
 ///
-/// Errors: [`ReadFault::Memory`]; [`ReadFault::Damaged`], a row is no act's.
+/// Errors: [`ReadFault::Memory`], memory was short; [`ReadFault::Damaged`], a row is no act's.
 pub fn read_lines(alloc: Global, rows: &[Row]) -> Result<Vec<Line>, ReadFault>
     ensures lines { IfOk result (λ lines. rows.now ≡ map line_row lines.items) }
     ensures subs { IfOk result (λ lines. All (λ line. IsSub line.sub) lines.items) }
@@ -40,9 +40,9 @@ pub fn read_lines(alloc: Global, rows: &[Row]) -> Result<Vec<Line>, ReadFault>
     lines_of(alloc, Version::Two, rows)
 }
 
-/// The lines that the rows of a store of layout 1 say, which have records of version 1.
+/// The lines of these rows of a store of layout 1, in order. The records of acts are of version 1.
 ///
-/// Errors: [`ReadFault::Memory`]; [`ReadFault::Damaged`], a row is no act's.
+/// Errors: [`ReadFault::Memory`], memory was short; [`ReadFault::Damaged`], a row is no act's.
 pub fn read_old_lines(alloc: Global, rows: &[Row]) -> Result<Vec<Line>, ReadFault>
     ensures lines { IfOk result (λ lines. rows.now ≡ map old_line_row lines.items) }
     ensures subs { IfOk result (λ lines. All (λ line. IsSub line.sub) lines.items) }
@@ -52,7 +52,7 @@ pub fn read_old_lines(alloc: Global, rows: &[Row]) -> Result<Vec<Line>, ReadFaul
     lines_of(alloc, Version::One, rows)
 }
 
-/// The lines that rows of a version say.
+/// The lines of rows whose records are of this version.
 fn lines_of(alloc: Global, version: Version, rows: &[Row]) -> Result<Vec<Line>, ReadFault>
     ensures lines { IfOk result (λ lines. rows.now ≡ map (row_of version) lines.items) }
     ensures subs { IfOk result (λ lines. All (λ line. IsSub line.sub) lines.items) }
@@ -67,7 +67,7 @@ fn lines_of(alloc: Global, version: Version, rows: &[Row]) -> Result<Vec<Line>, 
     Ok(lines)
 }
 
-/// The line that a row says.
+/// The line of a row.
 #[tactic(auto, using(crate::proofs::Lists::three_values))]
 fn read_line(alloc: Global, version: Version, row: &Row) -> Result<Line, ReadFault>
     ensures line { IfOk result (λ line. row.now ≡ row_of version line) }
@@ -88,7 +88,7 @@ fn read_line(alloc: Global, version: Version, row: &Row) -> Result<Line, ReadFau
     Ok(Line { sub, place, act })
 }
 
-/// The act whose record the third column has.
+/// The act whose record stands in the third column.
 fn act_at(alloc: Global, version: Version, row: &Row) -> Result<Act, ReadFault>
     ensures act { IfOk result (λ act. column row.now 2 ≡ Blob (body_of version act)) }
     ensures fits { IfOk result (HasBody version) }
@@ -104,7 +104,7 @@ fn act_at(alloc: Global, version: Version, row: &Row) -> Result<Act, ReadFault>
     }
 }
 
-/// The act whose record of a version the octets are.
+/// The act whose record of this version the octets are.
 fn read_body(alloc: Global, version: Version, octets: &[u8]) -> Result<Act, RecordFault>
     ensures found { IfOk result (λ act. octets.now ≡ body_of version act) }
     ensures within { IfOk result (HasBody version) }

@@ -19,7 +19,7 @@ use sqlite::Row;
 use std::alloc::{AllocError, Global};
 use std::hash::RandomState;
 
-/// Whether the acts of a page are those that the list itself makes. The only error is want of memory.
+/// Whether the acts of a page are exactly those that its own list makes. The only error is want of memory.
 pub fn is_own(
     alloc: Global,
     terms: &Terms,
@@ -41,7 +41,7 @@ pub fn is_own(
     Ok(true)
 }
 
-/// Makes one act more where it is new, and says whether it is. The only error is want of memory.
+/// Makes an act if it is new, and returns whether it is new. The only error is want of memory.
 fn make(account: &mut Account, act: &Act) -> Result<bool, AllocError>
     ensures terms { OnOk result (account.new.terms ≡ account.old.terms) }
     ensures new { IfOk result (λ new. new ≡ true → account.new.acts ≡ account.old.acts ++ act.now ∷ []) }
@@ -53,24 +53,24 @@ fn make(account: &mut Account, act: &Act) -> Result<bool, AllocError>
     Ok(is_new)
 }
 
-/// Does nothing: the acts of an account are those that they themselves make.
+/// Does nothing: the acts of an account are exactly those that their own list makes.
 fn acts_are_own(account: &Account)
     ensures { acts account.now.terms account.now.acts ≡ account.now.acts }
 {
     let _acts = account.acts();
 }
 
-/// What a page is found to be.
+/// The result of a page's judgement.
 #[derive(Clone, Copy)]
 pub(crate) struct Judged {
-    /// How many rows of entries are the page's.
+    /// The number of the page's rows of entries.
     pub rows: usize,
-    /// Its acts and its funds.
+    /// The number of its acts, and its funds.
     pub tally: Tally,
 }
 
-/// Judges a page by its acts and the rows of entries, which begin with its own: none where the acts aren't those that the list
-/// itself makes, or the rows begin with others. The only error is want of memory.
+/// Judges a page by its acts, and by rows of entries that have to begin with the page's own. None if the acts aren't exactly those that
+/// their own list makes, or if the rows begin with others. The only error is want of memory.
 pub(crate) fn judge_page(
     alloc: Global,
     terms: &Terms,
@@ -103,7 +103,8 @@ pub(crate) fn judge_page(
     Ok(Some(Judged { rows: at, tally }))
 }
 
-/// Makes one act more where it is new and the rows begin with those of its entries, and says how many these are.
+/// Makes an act if it is new. It returns the number of the act's entries if the act is new and the rows begin with the rows of these
+/// entries, and otherwise none. The only error is want of memory.
 fn judge_act(
     account: &mut Account,
     sub: Sub,
@@ -128,7 +129,7 @@ fn judge_act(
     }
 }
 
-/// How many acts an account has.
+/// The number of acts of an account.
 fn count_of(account: &Account) -> u64
     ensures value { result ≡ length account.now.acts }
     ensures small { result < 2 ^ 63 }
@@ -136,7 +137,7 @@ fn count_of(account: &Account) -> u64
     account.acts().len() as u64
 }
 
-/// The acts and the funds of an account.
+/// The number of acts and the funds of an account.
 fn tally_of(account: &Account) -> Tally
     ensures { result ≡ record { acts = length account.now.acts; funds = funds account.now.terms account.now.acts } }
 {

@@ -1,6 +1,6 @@
 //! Tallies.
 
-/// How many acts a subscriber has, and its funds, in minor units.
+/// The number of a subscriber's acts, and its funds, in minor units.
 #[derive(Clone, Copy)]
 pub struct Tally {
     pub acts: u64,

@@ -8,7 +8,7 @@ ghost use Rattle.dcc_sqlrows.specs.Rows.{group_value};
 use sqlite::Row;
 use sqlite_value::value::ValueRef;
 
-/// The octets in a column, where it has octets.
+/// The octets in a column, if it has octets.
 pub(crate) fn octets_at(row: &Row, at: usize) -> Option<&[u8]>
     ensures { MatchOption result ((octets : _) → column row.now at ≢ Blob octets) (λ octets. column row.now at ≡ Blob octets.now) }
 {
@@ -18,7 +18,7 @@ pub(crate) fn octets_at(row: &Row, at: usize) -> Option<&[u8]>
     }
 }
 
-/// The number in a column, where it has one.
+/// The number in a column, if it has a number.
 pub(crate) fn number_at(row: &Row, at: usize) -> Option<i64>
     ensures { MatchOption result ((number : _) → column row.now at ≢ Int number) (λ number. column row.now at ≡ Int number) }
 {
@@ -58,7 +58,7 @@ pub fn has_text(row: &Row, at: usize, text: &str) -> bool
     }
 }
 
-/// Whether a column has this Rating-Group, or NULL where there is none.
+/// Whether a column has this Rating-Group, or NULL if there is no group.
 pub(crate) fn has_group(row: &Row, at: usize, group: Option<u32>) -> bool
     ensures { result ≡ true ↔ column row.now at ≡ group_value group }
 {

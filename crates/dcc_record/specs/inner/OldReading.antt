@@ -13,7 +13,7 @@ use Rattle.dcc_record.specs.inner.Reading.{request_in, kind_in, act_by}
 unfoldable pub old_request_in : Reader SessionRequest
 old_request_in = checked (λ request. if nat_le (length request.services) FEW_SERVICES then Some request else None) request_in
 
--- what follows for a kind
+-- the kind that an octet stands for, with its parts in front
 unfoldable pub old_kind_in : ℕ → Reader Kind
 old_kind_in octet octets =
     if octet == 2 then checked (λ request. Some (kind.Initial request Few None)) old_request_in octets else

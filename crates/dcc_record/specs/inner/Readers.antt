@@ -1,4 +1,4 @@
--- Readers: what a part of a record is read as from the front of octets, and the octets behind it; or none.
+-- Readers: each returns the part of a record in front of octets, and the octets behind it; or none.
 use Rattle.std.specs.Prelude.{◌≡◌, ℕ, zero, suc, ◌==◌, nat_lt, if◌then◌else◌, List, [], ◌∷◌, length, take, drop, Option, Some, None, Result, Ok, Err}
 use Rattle.std.specs.Int.{Width, byte_len, from_be_bytes}
 use Rattle.dcc_record.specs.declared.fault.RecordFault.{RecordFault}
@@ -12,12 +12,12 @@ None >>= f = None
 abbrev pub Reader : Type 0 → Type 0
 Reader A = List ℕ → Option (A × List ℕ)
 
--- a fault says that nothing is read, and want of memory says nothing
+-- fault 40 means that nothing is read; want of memory means nothing
 abbrev pub Fails : {Y : Type 0} → RecordFault → Option Y → Type 0
 Fails BadRecord read = read ≡ None
 Fails Memory read = Unit {0}
 
--- what a call answers, seen by view, is what is read, unless memory ran out
+-- the answer of a call, seen by `view`, is the value that is read, unless memory ran out
 abbrev pub Gives : {X Y : Type 0} → (X → Y) → Result X RecordFault → Option Y → Type 0
 Gives view (Ok x) read = read ≡ Some (view x)
 Gives view (Err fault) read = Fails fault read
@@ -37,14 +37,14 @@ number_in width octets = do
   front ← front_in (byte_len width) octets
   Some (from_be_bytes width front.0, front.1)
 
--- one part, and another behind it
+-- one part, and a second part behind it
 abbrev pub both : {A B : Type 0} → Reader A → Reader B → Reader (A × B)
 both first second octets = do
   a ← first octets
   b ← second a.1
   Some ((a.0, b.0), b.1)
 
--- what a part makes, if it makes anything
+-- the value that `make` returns for a part, if it returns any
 abbrev pub checked : {A B : Type 0} → (A → Option B) → Reader A → Reader B
 checked make part octets = do
   a ← part octets
@@ -55,7 +55,7 @@ checked make part octets = do
 unfoldable pub fixed_in : ℕ → Reader ℕ
 fixed_in expected = checked (λ octet. if octet == expected then Some octet else None) octet_in
 
--- what may be absent
+-- a part that may be absent
 abbrev pub optional_in : {A : Type 0} → Reader A → Reader (Option A)
 optional_in part octets = do
   flag ← octet_in octets
@@ -75,7 +75,7 @@ counted_in count part octets = do
   n ← count octets
   many_in part n.0 n.1
 
--- what all of the octets are read as
+-- the part that all of the octets are read as
 abbrev pub whole : {A : Type 0} → Reader A → List ℕ → Option A
 whole part octets = do
   found ← part octets

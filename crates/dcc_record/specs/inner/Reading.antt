@@ -44,7 +44,7 @@ session_in = checked (λ sid. if is_short sid then Some sid else None) string_in
 unfoldable pub key_in : Reader RequestKey
 key_in = checked (λ parts. Some (record { sid = parts.0; number = parts.1 })) (both session_in (number_in w32))
 
--- ---- what one octet says
+-- ---- parts of one octet
 
 abbrev pub form_from : ℕ → Option Form
 form_from octet = if octet == 0 then Some form.Single else (if octet == 1 then Some form.Multi else None)
@@ -82,7 +82,7 @@ tariff_from parts = if is_tariff parts.0 parts.1 then Some (record { price = par
 unfoldable pub tariff_in : Reader TariffView
 tariff_in = checked tariff_from (both (number_in w32) (number_in w64))
 
--- no units, said or not
+-- a number of units that is absent or 0
 abbrev pub is_nothing : Option ℕ → Bool
 is_nothing None = true
 is_nothing (Some units) = units == 0
@@ -179,7 +179,7 @@ event_in = checked event_from (both (both (both key_in action_in) (fixed_in 1)) 
 
 -- ---- acts
 
--- what follows for a kind
+-- the kind that an octet stands for, with its parts in front
 unfoldable pub kind_in : ℕ → Reader Kind
 kind_in octet octets =
     if octet == 1 then checked (λ top_up. Some (kind.TopUp top_up)) top_up_in octets else
@@ -192,7 +192,7 @@ kind_in octet octets =
 unfoldable pub moment_in : Reader ℕ
 moment_in = checked (λ seconds. if nat_le seconds LAST_SECOND then Some seconds else None) (number_in w64)
 
--- what is in front of each record: its version, what stands for the kind, and the moment
+-- the head of each record: its version, the octet of the kind, and the moment
 unfoldable pub head_in : (version : ℕ) → Reader (ℕ × ℕ)
 head_in version octets = do
   front ← fixed_in version octets
@@ -200,7 +200,7 @@ head_in version octets = do
   moment ← moment_in octet.1
   Some ((octet.0, moment.0), moment.1)
 
--- the act in front, of a version whose kinds are read so
+-- the act in front, in a version whose kinds these readers read
 unfoldable pub act_by : (version : ℕ) → (kinds : ℕ → Reader Kind) → Reader Act
 act_by version kinds octets = do
   head ← head_in version octets

@@ -10,12 +10,12 @@ use Rattle.dcc_records.specs.Books.{PageView}
 use Rattle.dcc_records.specs.Contents.{Kept}
 use Rattle.dcc_records.specs.Memory.{RowView, content_in}
 
--- the acts of each subscriber are those that they themselves make, and the entries are theirs
+-- the acts of each subscriber are exactly those that their own list makes, and the entries are the entries of these acts
 pub record AreRows (rows : List (Sub × RowView)) (terms : TermsView) : Type 0 where
   pub own : (sub : Sub) → acts terms (content_in rows sub).acts ≡ (content_in rows sub).acts
   pub entries_are : (sub : Sub) → (content_in rows sub).entries ≡ entries terms (content_in rows sub).acts
 
--- what is kept with an act and its entries behind
+-- the content of a subscriber, with an act and its entries added behind
 abbrev pub with_one : Act → List Entry → Kept → Kept
 with_one act more kept =
     record {

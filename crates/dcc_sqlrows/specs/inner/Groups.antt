@@ -8,13 +8,13 @@ use Rattle.dcc_records.specs.Books.{PageView}
 abbrev pub alone : Sub → Act → PageView
 alone sub act = record { sub = sub; acts = act ∷ [] }
 
--- an act more of this subscriber: on the last page where that is its own, else on a page more
+-- an act of this subscriber is added: on the last page if this is the subscriber's, and otherwise on a new page
 abbrev pub put_behind : Sub → Act → List PageView → List PageView
 put_behind sub act [] = alone sub act ∷ []
 put_behind sub act (page ∷ []) = if same_sub page.sub sub then record { sub = page.sub; acts = page.acts ++ act ∷ [] } ∷ [] else page ∷ alone sub act ∷ []
 put_behind sub act (page ∷ next ∷ pages) = page ∷ put_behind sub act (next ∷ pages)
 
--- how many acts stand before it on its page
+-- the number of acts that stand before the added act on its page
 abbrev pub before_it : Sub → List PageView → ℕ
 before_it sub [] = 0
 before_it sub (page ∷ []) = if same_sub page.sub sub then length page.acts else 0

@@ -1,4 +1,4 @@
--- What rows of acts say, by the version of their records.
+-- The rows of acts, by the version of their records.
 use Rattle.std.specs.Prelude.{◌≡◌, ℕ, List, [], ◌∷◌}
 use Rattle.sqlite.specs.declared.types.Value.TheVariants.{Int, Blob}
 use Rattle.sqlite.specs.Order.{Row}
@@ -12,7 +12,7 @@ use Rattle.dcc_sqlrows.specs.declared.line.Line.{Line}
 use Rattle.dcc_sqlrows.specs.declared.version.Version.{Version}
 use Rattle.dcc_sqlrows.specs.declared.version.Version.TheVariants.{One, Two}
 
--- the record of an act, and the acts that have one
+-- the record of an act, and the acts that have such a record
 abbrev pub body_of : Version → Act → List ℕ
 body_of One = old_record_of
 body_of Two = record_of
@@ -25,6 +25,6 @@ HasBody Two = IsAct
 abbrev pub row_of : Version → Line → Row
 row_of version line = Blob (sub_octets line.sub) ∷ Int line.place ∷ Blob (body_of version line.act) ∷ []
 
--- the row is that of some act of some subscriber
+-- the row is the row of some act of some subscriber
 abbrev pub IsRowOf : Version → Row → Type 0
 IsRowOf version row = (line : Line) × IsSub line.sub × HasBody version line.act × (row ≡ row_of version line)
