@@ -5,13 +5,13 @@ use Rattle.dcc_act.specs.Subs.{same_sub}
 use Rattle.dcc_openers.specs.declared.found.Found.{Found}
 use Rattle.dcc_openers.specs.declared.found.Found.TheVariants as found
 
--- who opened it, once this subscriber did too
+-- the finding after this subscriber opened the session too
 abbrev pub noted : Found → Sub → Found
 noted found.None sub = found.One sub
 noted (found.One first) sub = if same_sub first sub then found.One sub else found.Several
 noted found.Several sub = found.Several
 
--- who opened it by two parts of the subscribers that have none in common: two that are one each are several
+-- the finding of all subscribers, by two parts that have no subscriber in common: one in each part makes several
 abbrev pub joined : Found → Found → Found
 joined found.None other = other
 joined one found.None = one

@@ -4,7 +4,7 @@ use Rattle.std.specs.Map.{lookup}
 use Rattle.dcc_openers.specs.declared.found.Found.{Found}
 use Rattle.dcc_openers.specs.declared.found.Found.TheVariants as found
 
--- the sessions, each with who opened it, and for how many more memory is there
+-- the sessions, each with the subscribers who opened it, and the number of further sessions for which there is memory
 pub record NamesView : Type 0 where
   pub names : List (List ℕ × Found)
   pub room : ℕ

@@ -1,11 +1,11 @@
-//! Who is found.
+//! Findings: who opened a session.
 
 ghost use Rattle.std.specs.Prelude.{◌≡◌};
 ghost use Rattle.dcc_openers.specs.Found.{noted, joined, one_of};
 
 use dcc_act::Sub;
 
-/// Who opened a session of one name from one host.
+/// The subscribers who opened a session of one name from one host.
 #[derive(Clone, Copy)]
 pub enum Found {
     /// Nobody.
@@ -17,7 +17,7 @@ pub enum Found {
 }
 
 impl Found {
-    /// Who opened it by two parts of all subscribers, which have none in common.
+    /// The finding of all subscribers, by the findings of two parts of them that have no subscriber in common.
     pub fn join(self, other: Found) -> Found
         ensures { result ≡ joined self other }
     {
@@ -30,7 +30,7 @@ impl Found {
         }
     }
 
-    /// The subscriber, if there is one and no more.
+    /// The subscriber, if there is exactly one.
     pub fn one(self) -> Option<Sub>
         ensures { result ≡ one_of self }
     {
@@ -40,7 +40,7 @@ impl Found {
         }
     }
 
-    /// Who opened it, once this subscriber did too.
+    /// The finding after this subscriber opened the session too.
     pub(crate) fn noted(self, sub: Sub) -> Found
         ensures { result ≡ noted self sub }
     {

@@ -1,8 +1,8 @@
-//! Who opened which session from which host: one subscriber, or several.
+//! Who opened which session from which host: nobody, one subscriber, or several.
 //!
-//! Stands on `dcc_act` for names of sessions and subscribers, and on `dcc_octets` for names of hosts. The contract that it gives: what
-//! is found under a host and a session is what was noted under both, and nothing else. A note takes no memory: the room for it is
-//! taken before by a call of its own, which changes nothing that is found.
+//! Stands on `dcc_act` for names of sessions and subscribers, and on `dcc_octets` for names of hosts. The contract that it gives: the
+//! subscribers that are found under a host and a session are those that were noted under both. A note takes no memory: a call of its
+//! own takes the memory for the note before, and changes no finding.
 #![tactic(auto)]
 
 mod found;

@@ -11,7 +11,7 @@ use std::alloc::{AllocError, Global};
 use std::hash::RandomState;
 use std::marker::Model;
 
-/// Who opened which session.
+/// The sessions of one host, each with the subscribers who opened it.
 #[derive(Drop)]
 pub(crate) struct Names {
     names: IndexMap<SessionId, Found, RandomState>,
@@ -27,7 +27,7 @@ impl Model for Names {
 }
 
 impl Names {
-    /// No names, and room for one. The only error is want of memory.
+    /// No names, and room for one name. The only error is want of memory.
     pub(crate) fn with_room(alloc: Global, hasher: RandomState) -> Result<Names, AllocError>
         ensures none { IfOk result (λ names. names.names ≡ []) }
         ensures room { IfOk result (λ names. 0 < names.room) }
@@ -47,7 +47,7 @@ impl Names {
         }
     }
 
-    /// Takes the memory for one more name.
+    /// Takes the memory for one more name. The only error is want of memory. The names stay, also after the error.
     pub(crate) fn make_room(&mut self) -> Result<(), AllocError>
         ensures same { self.new.names ≡ self.old.names }
         ensures room { OnOk result (0 < self.new.room) }
@@ -55,7 +55,7 @@ impl Names {
         self.names.reserve(1)
     }
 
-    /// Notes that the subscriber opened the session of this name. It takes no memory.
+    /// Notes that the subscriber opened the session of this name. It takes no memory. The condition: there is room for a name.
     pub(crate) fn note(&mut self, sid: SessionId, sub: Sub)
         requires { 0 < self.old.room }
         ensures { (s : List ℕ) → found_in self.new.names s

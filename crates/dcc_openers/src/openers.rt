@@ -1,4 +1,4 @@
-//! The index: for each host its sessions, for each session who opened it.
+//! The index: the sessions of each host, and the subscribers who opened each session.
 
 ghost use Rattle.std.specs.Prelude.{◌≡◌, ℕ, ◌<◌, ◌&&◌, List, bytes_eq, if◌then◌else◌, Some, OnOk};
 ghost use Rattle.indexmap.specs.IndexMap.{spare};
@@ -15,8 +15,8 @@ use std::alloc::{AllocError, Global};
 use std::hash::RandomState;
 use std::marker::Model;
 
-/// Who opened which session from which host. Hosts and sessions are found by a hash that nobody outside can know beforehand. Each host
-/// is kept once, each session once for its host.
+/// The index of who opened which session from which host. Hosts and sessions are found by a hash that nobody outside can know
+/// beforehand. Each host is kept once, and each session once for each of its hosts.
 #[derive(Drop)]
 pub struct Openers {
     hosts: IndexMap<Host, Names, RandomState>,
@@ -31,7 +31,7 @@ impl Model for Openers {
 }
 
 impl Openers {
-    /// Nobody opened anything. It takes no memory.
+    /// An index in which nobody is found. It takes no memory.
     pub fn new(alloc: Global, hasher: RandomState) -> Openers
         ensures { (h s : List ℕ) → found_at result h s ≡ found.None }
     {
@@ -50,7 +50,7 @@ impl Openers {
         }
     }
 
-    /// Takes the memory for one more session of the host. The only error is want of it. What is found stays, either way.
+    /// Takes the memory for one more session of the host. The only error is want of memory. Every finding stays, also after the error.
     pub fn make_room(&mut self, alloc: Global, host: &Host) -> Result<(), AllocError>
         ensures same { (h s : List ℕ) → found_at self.new h s ≡ found_at self.old h s }
         ensures room { OnOk result (HasRoomAt self.new host.now) }
@@ -65,7 +65,8 @@ impl Openers {
         Ok(())
     }
 
-    /// Notes that the subscriber opened the session from the host, for which there is room. It takes no memory.
+    /// Notes that the subscriber opened the session from the host. It takes no memory. The condition: [`Openers::make_room`] has made room
+    /// for a session of the host.
     pub fn note(&mut self, host: &Host, sid: SessionId, sub: Sub)
         requires { HasRoomAt self.old host.now }
         ensures { (h s : List ℕ) → found_at self.new h s

@@ -1,4 +1,4 @@
--- What a step of a subscriber is answered.
+-- The answers to a step of a subscriber.
 use Rattle.std.specs.Prelude.{◌≡◌, ℕ, ◌≤◌, Bool, true, false, List, [], length, codes, Option, Some, None, option_map, MatchBool, ◌⊎◌}
 use Rattle.dcc_tariff.specs.Terms.{TermsView}
 use Rattle.dcc_message.specs.HeaderView.{HeaderView}
@@ -24,12 +24,12 @@ use Rattle.dcc_shard.specs.declared.answers.ExpiryAnswer.TheVariants as expiries
 use Rattle.dcc_shard.specs.declared.answers.TopUpAnswer.{TopUpAnswer}
 use Rattle.dcc_shard.specs.declared.answers.TopUpAnswer.TheVariants.{Done, Ceiling, BadAmount, Refused}
 
--- these octets, with the act's place if it has one; without, the subscriber is unknown
+-- the answer of these octets, with the place of its act; if the act has no place, the subscriber is unknown
 abbrev pub answer_at : List ℕ → Option ℕ → Bool → RequestAnswer
 answer_at octets (Some at) fresh = answers.Done octets at fresh
 answer_at octets None fresh = answers.Unknown octets
 
--- the answer to a request that comes after these acts: the octets of what its act comes to, and its place
+-- the answer to a request after these acts: the octets by the outcome of its act, and the act's place
 abbrev pub answer_after : Identity → TermsView → HeaderView → List ℕ → List Act → Act → RequestAnswer
 answer_after identity terms header proxies before act =
     answer_at (answer_octets identity terms header proxies (after terms before act)) (place terms before act) (is_new terms before act)
@@ -41,12 +41,12 @@ session_of_act act = option_map (λ (key : RequestKey). key.sid) (request_key ac
 abbrev pub busy_answer : Identity → HeaderView → List ℕ → Option (List ℕ) → RequestAnswer
 busy_answer identity header proxies session = answers.Busy (busy_octets identity session header proxies)
 
--- a request is refused by the busy answer, or by none
+-- a request is refused by the busy answer, or without an answer
 abbrev pub IsRefusedBy : Identity → HeaderView → List ℕ → Option (List ℕ) → RequestAnswer → Type 0
 IsRefusedBy identity header proxies session answer =
     (answer ≡ busy_answer identity header proxies session) ⊎ (answer ≡ answers.Silent)
 
--- what a request may be answered
+-- the answers that a request may have
 abbrev pub IsAnswer : ShardView → Sub → Act → HeaderView → List ℕ → RequestAnswer → Type 0
 IsAnswer shard sub act header proxies answer =
     (answer ≡ answer_after shard.identity shard.terms header proxies (held shard sub) act)
@@ -62,7 +62,7 @@ is_judged answers.Silent = false
 abbrev pub top_up_act : ℕ → ℕ → ℕ → Act
 top_up_act moment ticket amount = record { moment = moment; kind = kind.TopUp (record { ticket = ticket; amount = amount }) }
 
--- what a top-up is told of what it comes to, and where; it comes to nothing else, and always has a place
+-- the answer to a top-up by its outcome and its place; a top-up has no other outcome, and always has a place
 abbrev pub told : Outcome → Option ℕ → Bool → Option TopUpAnswer
 told outcome None fresh = None
 told outcomes.Added (Some at) fresh = Some (Done at fresh)
@@ -71,11 +71,11 @@ told (outcomes.Unknown request key) (Some at) fresh = None
 told (outcomes.Answered answer) (Some at) fresh = None
 told (outcomes.Expired sessions) (Some at) fresh = None
 
--- what a top-up is told that comes after these acts
+-- the answer to a top-up after these acts
 abbrev pub told_after : TermsView → List Act → Act → Option TopUpAnswer
 told_after terms before act = told (after terms before act) (place terms before act) (is_new terms before act)
 
--- a top-up of an amount that may not be is told so; any other is told what it comes to, or that it's refused
+-- a top-up of an amount outside the limits is answered as bad; any other by its outcome, or as refused
 abbrev pub IsTold : ShardView → Sub → ℕ → ℕ → ℕ → TopUpAnswer → Type 0
 IsTold shard sub moment ticket amount answer =
     MatchBool (is_amount amount)
@@ -92,7 +92,7 @@ is_judged_top_up Refused = false
 abbrev pub expiry_act : ℕ → Act
 expiry_act moment = record { moment = moment; kind = kind.Expiry }
 
--- what is told of what an expiry comes to, and where; it comes to nothing else, and has a place just where it is made
+-- the answer to an expiry by its outcome and its place; an expiry has no other outcome, and has a place exactly if it is made
 abbrev pub ended : Outcome → Option ℕ → Option ExpiryAnswer
 ended (outcomes.Expired sessions) (Some at) = Some (expiries.Closed sessions at)
 ended (outcomes.Expired sessions) None = Some expiries.Nothing
@@ -101,11 +101,11 @@ ended outcomes.Ceiling at = None
 ended (outcomes.Unknown request key) at = None
 ended (outcomes.Answered answer) at = None
 
--- what is told of an expiry that comes after these acts
+-- the answer to an expiry after these acts
 abbrev pub ended_after : TermsView → List Act → Act → Option ExpiryAnswer
 ended_after terms before act = ended (after terms before act) (place terms before act)
 
--- an expiry is told what it comes to, or that it's refused
+-- an expiry is answered by its outcome, or as refused
 abbrev pub IsExpired : ShardView → Sub → ℕ → ExpiryAnswer → Type 0
 IsExpired shard sub moment answer =
     (Some answer ≡ ended_after shard.terms (held shard sub) (expiry_act moment)) ⊎ (answer ≡ expiries.Refused)
@@ -123,14 +123,14 @@ octets_of (answers.Unknown octets) = octets
 octets_of (answers.Busy octets) = octets
 octets_of answers.Silent = []
 
--- an answer to what was judged is there and not busy, and the busy answer is
+-- the answer to a judged act has a header and is not busy; the busy answer has a header and is busy
 abbrev pub IsToldApart : RequestAnswer → Type 0
 IsToldApart (answers.Done octets at fresh) = (is_busy octets ≡ false) × (HEADER_LENGTH ≤ length octets)
 IsToldApart (answers.Unknown octets) = (is_busy octets ≡ false) × (HEADER_LENGTH ≤ length octets)
 IsToldApart (answers.Busy octets) = (is_busy octets ≡ true) × (HEADER_LENGTH ≤ length octets)
 IsToldApart answers.Silent = Unit {0}
 
--- what a top-up is told, as the word that is printed
+-- the answer to a top-up, as the printed word
 abbrev pub word_of : TopUpAnswer → List ℕ
 word_of (Done at fresh) = codes "done"
 word_of (Ceiling at fresh) = codes "ceiling"

@@ -6,12 +6,12 @@ use Rattle.dcc_openers.specs.declared.found.Found.{Found}
 use Rattle.dcc_openers.specs.declared.found.Found.TheVariants as found
 use Rattle.dcc_shard.specs.Shards.{ShardView, held}
 
--- of the subscribers who pass a test: nobody does, this one alone, or two at least
+-- the subscribers who pass a test are: nobody; this subscriber alone; or at least two
 abbrev pub IsFound : (Sub → Bool) → Found → Type 0
 IsFound passes found.None = (sub : Sub) → passes sub ≡ false
 IsFound passes (found.One sub) = (passes sub ≡ true) × ((other : Sub) → passes other ≡ true → other ≡ sub)
 IsFound passes found.Several = (one : Sub) × (other : Sub) × (one ≢ other) × (passes one ≡ true) × (passes other ≡ true)
 
--- a subscriber opened the session from the host, by what is held for it
+-- whether a subscriber opened the session from the host, by its held acts
 abbrev pub opened : ShardView → (host sid : List ℕ) → Sub → Bool
 opened shard host sid sub = was_opened_from shard.terms (held shard sub) host sid

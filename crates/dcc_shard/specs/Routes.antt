@@ -1,4 +1,4 @@
--- Which shard keeps a subscriber.
+-- The shard of a subscriber.
 use Rattle.std.specs.Prelude.{◌≡◌, ◌≢◌, ℕ, ◌+◌, ◌%◌, Bool, List, length, slice_index_or, sum}
 use Rattle.std.specs.declared.cmp.Ordering.{Ordering}
 use Rattle.std.specs.Ordering.{nat_cmp, on, then_cmp}
@@ -8,11 +8,11 @@ use Rattle.dcc_records.specs.Books.{sub_order}
 use Rattle.dcc_shard.specs.Shards.{ShardView, IsStep}
 use Rattle.dcc_shard.specs.Stored.{StoredView}
 
--- of so many shards, the one at this index: the subscriber's type and the octets of its data, added up, modulo their number
+-- the index of a subscriber's shard, of so many: the sum of its type and of the octets of its data, modulo the number of shards
 abbrev pub shard_of : Sub → ℕ → ℕ
 shard_of sub count = (sub.kind + sum sub.name) % count
 
--- how subscribers of so many shards compare: by shard, and then by themselves
+-- the order of the subscribers of so many shards: by shard, and then by type and data
 abbrev pub route_order : ℕ → Sub → Sub → Ordering
 route_order count = then_cmp (on (λ s. shard_of s count) nat_cmp) sub_order
 
@@ -21,7 +21,7 @@ pub record ShardsView (R : Type 0) : Type 0 where
   pub shard : ShardView
   pub parts : List (StoredView R)
 
--- of several shards the one that keeps a subscriber
+-- the shard of several that keeps a subscriber
 abbrev pub part_of : {R : Type 0} → List (StoredView R) → Sub → StoredView R → StoredView R
 part_of parts sub none = slice_index_or parts (shard_of sub (length parts)) none
 

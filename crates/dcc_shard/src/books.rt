@@ -1,5 +1,5 @@
-//! The accounts of a shard's subscribers, and one more act of one of them: it is prepared, and then installed. What is
-//! refused comes with the preparing, which changes nothing that is held; the others stay as they were.
+//! The accounts of a shard's subscribers. An act of a subscriber is prepared, and then installed. Only the preparation can be refused,
+//! and it changes no held act. The acts of all other subscribers stay as they were.
 
 ghost use Rattle.std.specs.Prelude.{◌≡◌, ◌≢◌, ◌<◌, ◌==◌, ◌↔◌, [], true, false, Some, IfOk, OnOk, IfSome, IfNone, if◌then◌else◌};
 ghost use Rattle.indexmap.specs.IndexMap.{spare};
@@ -26,7 +26,7 @@ use std::alloc::{AllocError, Global};
 use std::hash::RandomState;
 use std::marker::Model;
 
-/// The accounts of the subscribers, each with an act at least, and the terms that all of them are judged by. A subscriber is
+/// The accounts of the subscribers, each with at least one act, and the terms by which all of them are judged. A subscriber is
 /// found by a hash that nobody outside can know beforehand.
 #[derive(Drop)]
 pub(crate) struct Books {
@@ -58,7 +58,7 @@ impl Books {
         }
     }
 
-    /// The subscribers of the accounts, each once, in their order.
+    /// The subscribers of the accounts, each once, in their order. The only error is want of memory.
     pub(crate) fn subs(&self, alloc: Global) -> Result<Vec<Sub>, AllocError>
         ensures order { IfOk result (λ subs. IsStrictlySortedBy sub_order subs.items) }
         ensures some { IfOk result (λ subs. (sub : Sub) → is_among sub subs.items ≡ true → held_in self.now.rows sub ≢ []) }
@@ -72,7 +72,7 @@ impl Books {
         Ok(subs)
     }
 
-    /// Whether the accounts are of subscribers alone that [`shard_of`] gives the shard of this index, of so many.
+    /// Whether [`shard_of`] gives each subscriber of the accounts the shard of this index, of so many shards.
     pub(crate) fn are_placed(&self, index: usize, count: usize) -> bool
         requires { 0 < count }
         ensures { result ≡ true ↔ ((sub : Sub) → held_in self.now.rows sub ≢ [] → shard_of sub count ≡ index) }
@@ -82,7 +82,7 @@ impl Books {
         self.keys_are_placed(index, count)
     }
 
-    /// Whether each key of the accounts is such a subscriber.
+    /// The same by the keys of the accounts.
     fn keys_are_placed(&self, index: usize, count: usize) -> bool
         requires { 0 < count }
         ensures { result ≡ list_all (λ sub. shard_of sub count == index) (keys_of self.now.rows) }
@@ -102,14 +102,14 @@ impl Books {
         &self.terms
     }
 
-    /// Does nothing: the acts that are held for each subscriber are those that they themselves make.
+    /// Does nothing: the held acts of each subscriber are exactly those that their own list makes.
     pub(crate) fn acts_are_own(&self)
         ensures { (sub : Sub) → acts self.now.terms (held_in self.now.rows sub) ≡ held_in self.now.rows sub }
     {
         let _accounts = &self.accounts;
     }
 
-    /// The account of a subscriber, where there is one: where an act of it was made.
+    /// The account of a subscriber, if there is one: if an act of the subscriber was made.
     pub(crate) fn account(&self, sub: &Sub) -> Option<&Account>
         ensures terms { IfSome result (λ account. account.now.terms ≡ self.now.terms) }
         ensures acts { IfSome result (λ account. account.now.acts ≡ held_in self.now.rows sub.now) }
@@ -119,7 +119,7 @@ impl Books {
         self.accounts.get(sub)
     }
 
-    /// Prepares an act of a subscriber, who has an account or none.
+    /// Prepares an act of a subscriber, who has an account or none. The only error is want of memory.
     pub(crate) fn prepare(
         &mut self,
         alloc: Global,

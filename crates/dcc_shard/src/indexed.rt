@@ -1,4 +1,4 @@
-//! The books of a shard, and who opened which session from which host.
+//! The books of a shard, with the index of who opened which session from which host.
 
 ghost use Rattle.std.specs.Prelude.{◌≡◌, ℕ, List, [], IfOk, OnOk, option_map};
 ghost use Rattle.dcc_model.specs.Outcomes.{acts, was_opened_from};
@@ -24,7 +24,7 @@ use std::alloc::{AllocError, Global};
 use std::hash::RandomState;
 use std::marker::Model;
 
-/// The books of a shard, with the index of who opened which session from which host, as the acts in the books have it.
+/// The books of a shard, with the index of who opened which session from which host, by the acts in the books.
 #[derive(Drop)]
 pub(crate) struct IndexedBooks {
     books: Books,
@@ -41,7 +41,7 @@ impl Model for IndexedBooks {
     ghost invariant = { λ i. AreOpeners i.books.terms i.books.rows i.openers };
 }
 
-/// A step that is prepared, with the name of the session that it opens from a host, for which there is room.
+/// A prepared step, with the name of the session that it opens from a host. The index has room for this session.
 #[derive(Drop)]
 pub(crate) struct Ready {
     pub(crate) pending: Pending,
@@ -70,7 +70,7 @@ impl IndexedBooks {
         }
     }
 
-    /// The books of what records hold: each account is made anew from its acts. The only error is want of memory.
+    /// The books of a book that was loaded from records: each account is made anew from its acts. The only error is want of memory.
     pub(crate) fn of_book(
         alloc: Global,
         terms: &Terms,
@@ -92,7 +92,7 @@ impl IndexedBooks {
         Ok(indexed)
     }
 
-    /// Makes these acts, each its own, of a subscriber who has none. The only error is want of memory.
+    /// Makes these acts, in order, of a subscriber who has no acts yet. The only error is want of memory.
     fn add_page(&mut self, alloc: Global, sub: Sub, all: Vec<Act>) -> Result<(), AllocError>
         requires { held_in self.old.books.rows sub ≡ [] }
         ensures terms { self.new.books.terms ≡ self.old.books.terms }
@@ -113,14 +113,14 @@ impl IndexedBooks {
         &self.books
     }
 
-    /// Does nothing: the acts that are held for each subscriber are those that they themselves make.
+    /// Does nothing: the held acts of each subscriber are exactly those that their own list makes.
     pub(crate) fn acts_are_own(&self)
         ensures { (sub : Sub) → acts self.now.books.terms (held_in self.now.books.rows sub) ≡ held_in self.now.books.rows sub }
     {
         self.books.acts_are_own();
     }
 
-    /// Who opened the session from the host, by what is held. It takes no memory.
+    /// Who opened the session from the host, by the held acts. It takes no memory.
     pub(crate) fn find(&self, host: &Host, sid: &SessionId) -> Found
         ensures { IsFound (λ sub. was_opened_from self.now.books.terms (held_in self.now.books.rows sub) host.now sid.now) result }
     {
@@ -165,7 +165,7 @@ impl IndexedBooks {
     }
 }
 
-/// The host and the session that a step opens, if it opens one from a host that is known.
+/// The host and the session that a step opens, if it opens a session from a known host.
 fn opened(step: &Step) -> Option<(&Host, &SessionId)>
     ensures { option_map (λ found. (found.0.now, found.1.now)) result ≡ opening step.now }
 {
@@ -184,7 +184,7 @@ fn opened(step: &Step) -> Option<(&Host, &SessionId)>
     }
 }
 
-/// Takes the memory to note what a step opens. The only error is want of it. What is found stays.
+/// Takes the memory to note the session that a step opens. The only error is want of memory. Every finding stays, also after the error.
 fn make_room(
     openers: &mut Openers,
     alloc: Global,
@@ -200,7 +200,7 @@ fn make_room(
     Ok(Some(sid.copy()?))
 }
 
-/// Notes what a step of a subscriber opens. It takes no memory.
+/// Notes the session that a step of a subscriber opens. It takes no memory.
 fn note(openers: &mut Openers, sub: Sub, step: &Step, opens: Option<SessionId>)
     requires { IsReady openers.old (opening step.now) opens }
     ensures { (host sid : List ℕ) → found_at openers.new host sid ≡ noted_at (opening step.now) sub openers.old host sid }

@@ -1,4 +1,4 @@
-//! The books, and the records that keep their acts: an act is appended, and then installed.
+//! The books, and the records that keep their acts: an act is appended to the records, and then installed in the books.
 
 ghost use Rattle.std.specs.Prelude.{◌≡◌, true, false, OnOk, OnErr, IfOk};
 ghost use Rattle.dcc_model.specs.Outcomes.{acts, was_opened_from};
@@ -24,8 +24,8 @@ use dcc_tariff::Terms;
 use std::alloc::Global;
 use std::marker::Model;
 
-/// The books of a shard, and the records that keep their acts under the same terms. Where the records are not stopped, a stop
-/// leaves just what the books hold; where they are, this or, with it, the one act on which they failed.
+/// The books of a shard, and the records that keep their acts under the same terms. If the records are not stopped, a stop leaves
+/// exactly the acts that the books hold. If they are stopped, it leaves these, or these and the one act on which the records failed.
 #[derive(Drop)]
 pub(crate) struct KeptBooks<R: Records> {
     books: IndexedBooks,
@@ -49,7 +49,7 @@ impl<R: Records> Model for KeptBooks<R> {
 }
 
 impl<R: Records> KeptBooks<R> {
-    /// These books with the records that keep them, and aren't stopped.
+    /// These books with the records that keep them. The records are not stopped.
     pub(crate) fn of(books: IndexedBooks, records: R) -> KeptBooks<R>
         requires terms { R.terms records ≡ books.books.terms }
         requires going { R.is_stopped records ≡ false }
@@ -67,7 +67,7 @@ impl<R: Records> KeptBooks<R> {
         self.books.books()
     }
 
-    /// Who opened the session from the host, by what is held. It takes no memory.
+    /// Who opened the session from the host, by the held acts. It takes no memory.
     pub(crate) fn find(&self, host: &Host, sid: &SessionId) -> Found
         ensures { IsFound (λ sub. was_opened_from self.now.books.terms (held_in self.now.books.rows sub) host.now sid.now) result }
     {
@@ -89,8 +89,8 @@ impl<R: Records> KeptBooks<R> {
         records
     }
 
-    /// Does nothing: the records are under the terms of the books, the acts that are held for each subscriber are those that they
-    /// themselves make, and a stop leaves just these, or where the records are stopped at most one act beyond.
+    /// Does nothing. The records are under the terms of the books, and the held acts of each subscriber are exactly those that their own
+    /// list makes. A stop leaves exactly the held acts; if the records are stopped, it leaves at most one act more.
     pub(crate) fn acts_are_kept(&self)
         ensures own { (sub : Sub) → acts self.now.books.terms (held_in self.now.books.rows sub) ≡ held_in self.now.books.rows sub }
         ensures terms { R.terms self.now.records ≡ self.now.books.terms }
@@ -104,7 +104,7 @@ impl<R: Records> KeptBooks<R> {
         self.books.acts_are_own();
     }
 
-    /// Prepares an act of a subscriber, unless the records are stopped.
+    /// Prepares an act of a subscriber, unless the records are stopped. The errors: want of memory, and stopped records.
     pub(crate) fn prepare(
         &mut self,
         alloc: Global,
@@ -125,7 +125,7 @@ impl<R: Records> KeptBooks<R> {
         Ok(ready)
     }
 
-    /// Appends the act of a step that was prepared, where it is new, and installs the step. Refused, the books are as before.
+    /// Appends the act of a prepared step to the records if the act is new, and installs the step. After an error the books are as before.
     pub(crate) fn commit(&mut self, sub: Sub, ready: Ready) -> Result<(), StoreFault>
         requires pending { IsPending self.old.books sub (step_of ready.pending).act ready.pending }
         requires ready { IsReady self.old.openers (opening (step_of ready.pending)) ready.opens }

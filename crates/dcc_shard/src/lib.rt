@@ -1,11 +1,11 @@
-//! A shard: the accounts of its subscribers, and one step of one of them; and 1 to 8 shards as one.
+//! A shard: the accounts of its subscribers over records, and the steps of these subscribers. 1 to 8 shards stand as one.
 //!
-//! Stands on `dcc_account` for what an act comes to, on `dcc_credit` for the octets of its answer, and on `dcc_records` for what
-//! keeps the acts. The contract that it gives: a step answers its subscriber by what the definitions say of one more act after those
-//! that are held for it, and leaves what is held for every other subscriber as it was; a step that memory or the records refuse
-//! answers so and leaves what is held as it was. In each step what can be refused comes before what changes: a new act is appended
-//! before its answer leaves and before the account changes, and a shard whose records are stopped judges nothing more. An expiry ends
-//! a subscriber's sessions that are due, and is such a step without octets.
+//! Stands on `dcc_account` for the outcome of an act, on `dcc_credit` for the octets of its answer, and on `dcc_records` for the store
+//! of the acts. The contract that it gives: a step answers its subscriber by the defined outcome of one more act after the acts held
+//! for this subscriber. It leaves the held acts of every other subscriber as they were. If memory or the records refuse a step, its
+//! answer reports this, and all held acts stay as they were. In each step, everything that can be refused comes before the first
+//! change: a new act is appended before its answer leaves and before the account changes. A shard whose records are stopped judges
+//! nothing more. An expiry ends a subscriber's sessions that are due; it is such a step without octets.
 #![tactic(auto)]
 
 mod answers;

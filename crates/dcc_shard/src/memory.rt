@@ -12,8 +12,8 @@ use dcc_tariff::Terms;
 use std::alloc::{AllocError, Global};
 use std::hash::RandomState;
 
-/// So many shards without accounts, 1 to 8, whose records are in memory, under these terms and for this server. The only error
-/// is want of memory.
+/// So many shards without accounts, 1 to 8, whose records are in memory, under these terms and for this server. Subscribers are found
+/// by hashes under `hasher`. The only error is want of memory.
 pub fn shards_in_memory(
     alloc: Global,
     terms: &Terms,

@@ -8,9 +8,9 @@ use dcc_account::{Account, Step};
 /// A step that is prepared and not yet installed.
 #[derive(Drop)]
 pub(crate) enum Pending {
-    /// Of the subscriber's account.
+    /// A step of the subscriber's account.
     Known { step: Step },
-    /// Of an account that is added with it, and for which there is room.
+    /// The first step of an account, which is added with the step. There is room for the account.
     First { account: Account, step: Step },
 }
 

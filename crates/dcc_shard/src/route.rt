@@ -1,12 +1,12 @@
-//! Which shard keeps a subscriber.
+//! The shard of a subscriber.
 
 ghost use Rattle.std.specs.Prelude.{◌≡◌, ◌<◌};
 ghost use Rattle.dcc_shard.specs.Routes.{shard_of};
 
 use dcc_act::Sub;
 
-/// Of so many shards the index of the one that keeps a subscriber: its type and the octets of its data, added up, modulo their
-/// number.
+/// The index of the shard that keeps a subscriber, of `count` shards: the sum of the subscriber's type and of the octets of its data,
+/// modulo `count`. The condition: there is at least one shard.
 pub fn shard_of(sub: &Sub, count: usize) -> usize
     requires { 0 < count }
     ensures value { result ≡ shard_of sub.now count }

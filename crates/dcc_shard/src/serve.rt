@@ -1,4 +1,4 @@
-//! A request, a top-up, or an expiry: what it comes to is answered and made, or it is refused and nothing has changed.
+//! A request, a top-up, or an expiry: it is judged, answered and made; or it is refused, and the held acts stay as they were.
 
 ghost use Rattle.std.specs.Prelude.{◌≡◌, ◌≤◌, true, false, Some, length, option_map, is_some, IfOk, OnOk, OnErr};
 ghost use Rattle.dcc_message.specs.declared.length.TheConstants.{HEADER_LENGTH};
@@ -24,8 +24,8 @@ use dcc_records::{Records, StoreFault};
 use dcc_tariff::Terms;
 use std::alloc::{AllocError, Global};
 
-/// What an answer to a request takes beside its outcome and the terms: who answers, the header that it is answered under,
-/// and the proxies that it goes back through.
+/// The parts of an answer beside its outcome and the terms: the identity of the server, the header of the request, and the proxies
+/// through which the answer goes back.
 #[derive(Drop)]
 pub(crate) struct Envelope<'a> {
     pub(crate) identity: &'a Identity,
@@ -46,7 +46,7 @@ pub(crate) fn session_of_act(act: &Act) -> Option<&SessionId>
     }
 }
 
-/// A copy of a session, where there is one.
+/// A copy of a session, if there is one.
 pub(crate) fn copied(session: Option<&SessionId>) -> Result<Option<SessionId>, AllocError>
     ensures { IfOk result (λ copy. copy ≡ option_map (λ session. session.now) session.entry) }
 {
@@ -56,7 +56,7 @@ pub(crate) fn copied(session: Option<&SessionId>) -> Result<Option<SessionId>, A
     }
 }
 
-/// Answers a request by what its act comes to, and makes the act.
+/// Answers a request by the outcome of its act, and makes the act.
 pub(crate) fn answer<R: Records>(
     kept: &mut KeptBooks<R>,
     alloc: Global,
@@ -92,7 +92,7 @@ pub(crate) fn answer<R: Records>(
     }
 }
 
-/// The answer that a step of a request comes to. The only error is want of memory.
+/// The answer by the step of a request. The only error is want of memory.
 fn write_answer(
     alloc: Global,
     envelope: &Envelope<'_>,
@@ -116,7 +116,7 @@ fn write_answer(
     Ok(answer_with(step, OctetString::from_vec(octets)))
 }
 
-/// The answer of these octets, by where the act of a step stands.
+/// The answer of these octets, by the place of a step's act.
 fn answer_with(step: &Step, octets: OctetString) -> RequestAnswer
     ensures value { result ≡ answer_at octets step.now.place step.now.is_new }
     ensures judged { is_judged result ≡ true }
@@ -126,7 +126,7 @@ fn answer_with(step: &Step, octets: OctetString) -> RequestAnswer
     answer_placed(octets, step.place(), step.is_new())
 }
 
-/// The answer of these octets, by where their act stands, and whether it is made.
+/// The answer of these octets, by the place of their act, and by whether the act is new. Without a place the subscriber is unknown.
 fn answer_placed(octets: OctetString, place: Option<u64>, fresh: bool) -> RequestAnswer
     ensures value { result ≡ answer_at octets place fresh }
     ensures judged { is_judged result ≡ true }
@@ -143,7 +143,7 @@ fn answer_placed(octets: OctetString, place: Option<u64>, fresh: bool) -> Reques
     }
 }
 
-/// The busy answer, or none where memory is short for it too.
+/// The busy answer; no answer if memory is short for it too.
 pub(crate) fn busy(
     alloc: Global,
     envelope: &Envelope<'_>,
@@ -170,7 +170,7 @@ pub(crate) fn busy(
     }
 }
 
-/// Tells a top-up what it comes to, and makes it.
+/// Makes a top-up, and returns its answer.
 pub(crate) fn tell<R: Records>(
     kept: &mut KeptBooks<R>,
     alloc: Global,
@@ -197,7 +197,7 @@ pub(crate) fn tell<R: Records>(
     Ok(answer)
 }
 
-/// What a top-up is told of a step of it.
+/// The answer to a top-up by its step; none if the step is not a top-up's.
 fn told_by(step: &Step) -> Option<TopUpAnswer>
     ensures { result ≡ told step.now.outcome step.now.place step.now.is_new }
 {
@@ -210,7 +210,7 @@ fn told_by(step: &Step) -> Option<TopUpAnswer>
     }
 }
 
-/// Tells an expiry what it comes to, and makes it where it ends a session.
+/// Makes an expiry if it ends a session, and returns its answer.
 pub(crate) fn end<R: Records>(
     kept: &mut KeptBooks<R>,
     alloc: Global,
@@ -236,7 +236,7 @@ pub(crate) fn end<R: Records>(
     Ok(answer)
 }
 
-/// What is told of a step of an expiry.
+/// The answer to an expiry by its step; none if the step is not an expiry's.
 fn ended_by(step: &Step) -> Option<ExpiryAnswer>
     ensures { result ≡ ended step.now.outcome step.now.place }
 {

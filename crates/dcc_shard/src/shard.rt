@@ -30,8 +30,8 @@ use std::alloc::{AllocError, Global};
 use std::hash::RandomState;
 use std::marker::Model;
 
-/// The accounts of the subscribers that are kept here, under one plan's terms, who answers for them, and the records that keep
-/// their acts.
+/// The accounts of the shard's subscribers under one plan's terms, the identity of the server that answers for them, and the records
+/// that keep their acts.
 #[derive(Drop)]
 pub struct Shard<R: Records> {
     identity: Identity,
@@ -50,10 +50,10 @@ impl<R: Records> Model for Shard<R> {
 }
 
 impl<R: Records> Shard<R> {
-    /// A shard of what the records hold, under their terms, that answers as this server. Each account is made anew from its acts.
-    /// Subscribers and what their accounts remember are found by hashes under this state.
+    /// A shard of the acts that the records hold, under the records' terms, that answers as this server. Each account is made anew from its
+    /// acts. Subscribers, and the sessions and keys of their accounts, are found by hashes under `hasher`.
     ///
-    /// Errors, with the records handed back: [`StoreFault::Memory`], the records may be used; [`StoreFault::Device`], they failed in
+    /// Errors, with the records handed back: [`StoreFault::Memory`], the records may be used; [`StoreFault::Device`], the records failed in
     /// this call, and are stopped from then on; [`StoreFault::Stopped`], they were stopped before.
     pub fn new(
         alloc: Global,
@@ -64,12 +64,12 @@ impl<R: Records> Shard<R> {
         ensures terms { IfOk result (λ shard. shard.shard.terms ≡ R.terms records) }
         ensures identity { IfOk result (λ shard. shard.shard.identity ≡ identity.now) }
         ensures own { IfOk result (λ shard. AreOwn shard.shard) }
-        // What it holds is what a stop leaves, and was so before.
+        // The shard holds the acts that a stop leaves. A stop before the call left the same.
         ensures found { IfOk result (λ shard. LeavesOnly shard.shard.terms (held shard.shard) (R.may_leave shard.records)) }
         ensures there { IfOk result (λ shard. R.is_honest shard.records → IsLeft shard.shard.terms (held shard.shard) (R.may_leave shard.records)) }
         ensures same { IfOk result (λ shard. (found : Content) → R.may_leave shard.records found → R.may_leave records found) }
         ensures going { IfOk result (λ shard. R.is_stopped shard.records ≡ R.is_stopped records) }
-        // Refused, the records are handed back, and a stop leaves nothing more of them.
+        // After an error the records are handed back, and a stop leaves no further content of them.
         ensures left { IfErr result (λ refused. (found : Content) → R.may_leave refused.1 found → R.may_leave records found) }
         ensures back { IfErr result (λ refused. R.terms refused.1 ≡ R.terms records) }
         ensures device { IfErr result (λ refused. refused.0 ≡ Device
@@ -78,7 +78,7 @@ impl<R: Records> Shard<R> {
             → (R.is_stopped refused.1 ≡ R.is_stopped records) × (R.faults refused.1 ≡ R.faults records)) }
         ensures stopped { IfErr result (λ refused. refused.0 ≡ Stopped → R.is_stopped records ≡ true) }
         ensures frozen { R.is_stopped records ≡ true → IsErr result }
-        // Of records that were stopped before nothing else is told: where memory was short, they may be used.
+        // Records that were stopped before are reported as stopped, and by no other fault. So after want of memory they may be used.
         ensures told { IfErr result (λ refused. R.is_stopped records ≡ true → refused.0 ≡ Stopped) }
     {
         let mut records = records;
@@ -91,22 +91,22 @@ impl<R: Records> Shard<R> {
         }
     }
 
-    /// Who answers.
+    /// The identity of the server that answers.
     pub fn identity(&self) -> &Identity
         ensures { result.now ≡ self.now.shard.identity }
     {
         &self.identity
     }
 
-    /// Does nothing: the acts that are held for each subscriber are those that they themselves make.
+    /// Does nothing: the held acts of each subscriber are exactly those that their own list makes.
     pub fn acts_are_own(&self)
         ensures { AreOwn self.now.shard }
     {
         self.kept.acts_are_kept();
     }
 
-    /// The records that keep the acts. Where they are not stopped, a stop leaves just what is held; where they are, this or, with it, the
-    /// one act on which they failed. So all that was judged is in whatever a stop leaves.
+    /// The records that keep the acts. If they are not stopped, a stop leaves exactly the held acts. If they are stopped, it leaves these,
+    /// or these and the one act on which the records failed. So every content that a stop leaves has all held acts.
     pub fn records(&self) -> &R
         ensures value { result.now ≡ self.now.records }
         ensures terms { R.terms result.now ≡ self.now.shard.terms }
@@ -130,7 +130,7 @@ impl<R: Records> Shard<R> {
         self.kept.into_records()
     }
 
-    /// The account of a subscriber, where there is one: where an act of it was made.
+    /// The account of a subscriber, if there is one: if an act of the subscriber was made.
     pub fn account(&self, sub: Sub) -> Option<&Account>
         ensures terms { IfSome result (λ account. account.now.terms ≡ self.now.shard.terms) }
         ensures acts { IfSome result (λ account. account.now.acts ≡ held self.now.shard sub) }
@@ -140,8 +140,8 @@ impl<R: Records> Shard<R> {
         self.kept.books().account(&sub)
     }
 
-    /// Whether it holds acts of subscribers alone that [`shard_of`] gives the shard of this index, of so many: what shards that stand as
-    /// one, and a store, are to be. The condition: there is a shard.
+    /// Whether [`shard_of`] gives each subscriber with held acts the shard of this index, of `count` shards. Shards that stand as one have
+    /// to be so, and so has a store. The condition: `count` is at least 1.
     pub fn is_placed(&self, index: usize, count: usize) -> bool
         requires { 0 < count }
         ensures { result ≡ true ↔ ((sub : Sub) → held self.now.shard sub ≢ [] → shard_of sub count ≡ index) }
@@ -149,7 +149,8 @@ impl<R: Records> Shard<R> {
         self.kept.books().are_placed(index, count)
     }
 
-    /// The subscribers that have acts, each once, in their order: by type, and then by the data, octet by octet.
+    /// The subscribers that have acts, each once, in their order: by type, and then by the data, octet by octet. The only error is want of
+    /// memory.
     pub fn subs(&self, alloc: Global) -> Result<Vec<Sub>, AllocError>
         ensures order { IfOk result (λ subs. IsStrictlySortedBy sub_order subs.items) }
         ensures some { IfOk result (λ subs. (sub : Sub) → is_among sub subs.items ≡ true → held self.now.shard sub ≢ []) }
@@ -158,16 +159,16 @@ impl<R: Records> Shard<R> {
         self.kept.books().subs(alloc)
     }
 
-    /// Who opened the session from the host, by what is held: nobody, one subscriber, or several. It takes no memory, and its time doesn't
-    /// grow with what is held.
+    /// Who opened the session from the host, by the held acts: nobody, one subscriber, or several. It takes no memory. It finds host and
+    /// session by their hashes, and reads no acts.
     pub fn find(&self, host: &Host, sid: &SessionId) -> Found
         ensures { IsFound (opened self.now.shard host.now sid.now) result }
     {
         self.kept.find(host, sid)
     }
 
-    /// Makes a request's act, and answers it under the request's header and with its proxies: with what the act comes to, or
-    /// busy, or with nothing where memory was short for the busy answer too.
+    /// Makes a request's act, and answers the request under its header and with its proxies: by the outcome of the act; or busy; or not at
+    /// all if memory is short for the busy answer too. The condition: the act is a request's.
     pub fn step(
         &mut self,
         alloc: Global,
@@ -182,8 +183,8 @@ impl<R: Records> Shard<R> {
         ensures own { AreOwn self.new.shard }
         ensures kept { IsKept self.old.shard.terms (held self.old.shard) sub act (R.may_leave self.old.records) (R.may_leave self.new.records)
             (R.is_stopped self.old.records) (R.is_stopped self.new.records) (R.faults self.old.records) (R.faults self.new.records) }
-        // Where the records are not stopped, a stop leaves just what is then held; so it is of all that was judged. A shard whose records are
-        // stopped judges nothing.
+        // If the records are not stopped, a stop leaves exactly the acts that are then held, so all judged acts are among them. A shard whose
+        // records are stopped judges nothing.
         ensures left { R.is_stopped self.new.records ≡ false → LeavesOnly self.new.shard.terms (held self.new.shard) (R.may_leave self.new.records) }
         ensures going { is_judged result ≡ true → R.is_stopped self.new.records ≡ false }
         ensures stopped { R.is_stopped self.old.records ≡ true → is_judged result ≡ false }
@@ -209,8 +210,8 @@ impl<R: Records> Shard<R> {
         }
     }
 
-    /// Puts money into a subscriber's account, in minor units. An amount that isn't 1 to 10^18 is told so; a ticket that
-    /// comes again is told what it was told first.
+    /// Puts money into a subscriber's account, in minor units. An amount that isn't 1 to 10^18 is answered by [`TopUpAnswer::BadAmount`].
+    /// A ticket that comes again has its first answer, which is not fresh any more.
     pub fn top_up(
         &mut self,
         alloc: Global,
@@ -224,8 +225,8 @@ impl<R: Records> Shard<R> {
         ensures own { AreOwn self.new.shard }
         ensures kept { IsKept self.old.shard.terms (held self.old.shard) sub (top_up_act moment ticket amount) (R.may_leave self.old.records) (R.may_leave self.new.records)
             (R.is_stopped self.old.records) (R.is_stopped self.new.records) (R.faults self.old.records) (R.faults self.new.records) }
-        // Where the records are not stopped, a stop leaves just what is then held; so it is of all that was judged. A shard whose records are
-        // stopped judges nothing.
+        // If the records are not stopped, a stop leaves exactly the acts that are then held, so all judged acts are among them. A shard whose
+        // records are stopped judges nothing.
         ensures left { R.is_stopped self.new.records ≡ false → LeavesOnly self.new.shard.terms (held self.new.shard) (R.may_leave self.new.records) }
         ensures going { is_judged_top_up result ≡ true → R.is_stopped self.new.records ≡ false }
         ensures stopped { R.is_stopped self.old.records ≡ true → is_judged_top_up result ≡ false }
@@ -246,15 +247,15 @@ impl<R: Records> Shard<R> {
         }
     }
 
-    /// Ends the subscriber's sessions that are held until this moment or an earlier one.
+    /// Ends the subscriber's sessions whose deadline is this moment or an earlier moment.
     pub fn expire(&mut self, alloc: Global, sub: Sub, moment: Moment) -> ExpiryAnswer
         ensures answer { IsExpired self.old.shard sub moment result }
         ensures step { IsStep self.old.shard self.new.shard (is_judged_expiry result) sub (expiry_act moment) }
         ensures own { AreOwn self.new.shard }
         ensures kept { IsKept self.old.shard.terms (held self.old.shard) sub (expiry_act moment) (R.may_leave self.old.records) (R.may_leave self.new.records)
             (R.is_stopped self.old.records) (R.is_stopped self.new.records) (R.faults self.old.records) (R.faults self.new.records) }
-        // Where the records are not stopped, a stop leaves just what is then held; so it is of all that was judged. A shard whose records are
-        // stopped judges nothing.
+        // If the records are not stopped, a stop leaves exactly the acts that are then held, so all judged acts are among them. A shard whose
+        // records are stopped judges nothing.
         ensures left { R.is_stopped self.new.records ≡ false → LeavesOnly self.new.shard.terms (held self.new.shard) (R.may_leave self.new.records) }
         ensures going { is_judged_expiry result ≡ true → R.is_stopped self.new.records ≡ false }
         ensures stopped { R.is_stopped self.old.records ≡ true → is_judged_expiry result ≡ false }
@@ -273,7 +274,7 @@ impl<R: Records> Shard<R> {
     }
 }
 
-/// The books of what the records hold.
+/// A copy of the identity, and the books of the acts that the records hold.
 fn read<R: Records>(
     alloc: Global,
     identity: &Identity,

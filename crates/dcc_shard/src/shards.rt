@@ -26,7 +26,7 @@ use dcc_tariff::Terms;
 use std::alloc::{AllocError, Global};
 use std::marker::Model;
 
-/// 1 to 8 shards, under one plan's terms and for one server, each of which keeps the subscribers that [`shard_of`] gives it.
+/// 1 to 8 shards as one, under one plan's terms and for one server. Each shard keeps the subscribers that [`shard_of`] gives it.
 #[derive(Drop)]
 pub struct Shards<R: Records> {
     terms: Terms,
@@ -89,21 +89,21 @@ impl<R: Records> Shards<R> {
         shards
     }
 
-    /// Does nothing: the acts that are held for each subscriber are those that they themselves make.
+    /// Does nothing: the held acts of each subscriber are exactly those that their own list makes.
     pub fn acts_are_own(&self)
         ensures { AreOwn self.now.shard }
     {
         let _shards = &self.shards;
     }
 
-    /// Who answers.
+    /// The identity of the server that answers.
     pub fn identity(&self) -> &Identity
         ensures { result.now ≡ self.now.shard.identity }
     {
         &self.identity
     }
 
-    /// The account of a subscriber, where there is one: where an act of it was made.
+    /// The account of a subscriber, if there is one: if an act of the subscriber was made.
     pub fn account(&self, sub: Sub) -> Option<&Account>
         ensures terms { IfSome result (λ account. account.now.terms ≡ self.now.shard.terms) }
         ensures acts { IfSome result (λ account. account.now.acts ≡ held self.now.shard sub) }
@@ -116,7 +116,7 @@ impl<R: Records> Shards<R> {
         shard.account(sub)
     }
 
-    /// The subscribers that have acts, each once: by shard, and then in their own order.
+    /// The subscribers that have acts, each once: by shard, and then by type and data. The only error is want of memory.
     pub fn subs(&self, alloc: Global) -> Result<Vec<Sub>, AllocError>
         ensures order { IfOk result (λ subs. IsStrictlySortedBy (route_order (length self.now.parts)) subs.items) }
         ensures once { IfOk result (λ subs. are_apart subs.items ≡ true) }
@@ -134,7 +134,7 @@ impl<R: Records> Shards<R> {
         Ok(all)
     }
 
-    /// Who opened the session from the host, by what is held in all shards: nobody, one subscriber, or several. It takes no memory, and
+    /// Who opened the session from the host, by the acts held in all shards: nobody, one subscriber, or several. It takes no memory, and
     /// looks into each shard once.
     pub fn find(&self, host: &Host, sid: &SessionId) -> Found
         ensures { IsFound (opened self.now.shard host.now sid.now) result }
@@ -147,7 +147,7 @@ impl<R: Records> Shards<R> {
         found
     }
 
-    /// Makes a request's act in its subscriber's shard, and answers it as that does.
+    /// Makes a request's act in its subscriber's shard, and answers the request as [`Shard::step`] does.
     pub fn step(
         &mut self,
         alloc: Global,
@@ -159,9 +159,9 @@ impl<R: Records> Shards<R> {
         requires { is_some (request_key act.kind) ≡ true }
         ensures answer { IsAnswer self.old.shard sub act header.now proxies.now result }
         ensures step { IsStep self.old.shard self.new.shard (is_judged result) sub act }
-        // It is made in the shard that keeps the subscriber, and in no other.
+        // The act is made in the shard that keeps the subscriber, and in no other shard.
         ensures parts { IsPartStep self.old.parts self.new.parts (is_judged result) sub act }
-        // Where that shard's records are stopped, it judges nothing.
+        // If the records of this shard are stopped, it judges nothing.
         ensures stopped { (none : StoredView R) → R.is_stopped (part_of self.old.parts sub none).records ≡ true → is_judged result ≡ false }
         ensures own { AreOwn self.new.shard }
         ensures apart { IsToldApart result }
@@ -176,7 +176,7 @@ impl<R: Records> Shards<R> {
         shard.step(alloc, sub, act, header, proxies)
     }
 
-    /// Puts money into a subscriber's account, in minor units, as its shard does.
+    /// Puts money into a subscriber's account, in minor units, as [`Shard::top_up`] does.
     pub fn top_up(
         &mut self,
         alloc: Global,
@@ -187,9 +187,9 @@ impl<R: Records> Shards<R> {
     ) -> TopUpAnswer
         ensures answer { IsTold self.old.shard sub moment ticket amount result }
         ensures step { IsStep self.old.shard self.new.shard (is_judged_top_up result) sub (top_up_act moment ticket amount) }
-        // It is made in the shard that keeps the subscriber, and in no other.
+        // The act is made in the shard that keeps the subscriber, and in no other shard.
         ensures parts { IsPartStep self.old.parts self.new.parts (is_judged_top_up result) sub (top_up_act moment ticket amount) }
-        // Where that shard's records are stopped, it judges nothing.
+        // If the records of this shard are stopped, it judges nothing.
         ensures stopped { (none : StoredView R) → R.is_stopped (part_of self.old.parts sub none).records ≡ true → is_judged_top_up result ≡ false }
         ensures own { AreOwn self.new.shard }
         ensures count { length self.new.parts ≡ length self.old.parts }
@@ -201,13 +201,13 @@ impl<R: Records> Shards<R> {
         shard.top_up(alloc, sub, moment, ticket, amount)
     }
 
-    /// Ends the subscriber's sessions that are held until this moment or an earlier one.
+    /// Ends the subscriber's sessions whose deadline is this moment or an earlier moment.
     pub fn expire(&mut self, alloc: Global, sub: Sub, moment: Moment) -> ExpiryAnswer
         ensures answer { IsExpired self.old.shard sub moment result }
         ensures step { IsStep self.old.shard self.new.shard (is_judged_expiry result) sub (expiry_act moment) }
-        // It is made in the shard that keeps the subscriber, and in no other.
+        // The act is made in the shard that keeps the subscriber, and in no other shard.
         ensures parts { IsPartStep self.old.parts self.new.parts (is_judged_expiry result) sub (expiry_act moment) }
-        // Where that shard's records are stopped, it judges nothing.
+        // If the records of this shard are stopped, it judges nothing.
         ensures stopped { (none : StoredView R) → R.is_stopped (part_of self.old.parts sub none).records ≡ true → is_judged_expiry result ≡ false }
         ensures own { AreOwn self.new.shard }
         ensures count { length self.new.parts ≡ length self.old.parts }
@@ -220,7 +220,7 @@ impl<R: Records> Shards<R> {
     }
 }
 
-/// Adds those of the subscribers that belong to the shard at this index, of so many.
+/// Adds those of the subscribers that belong to the shard at this index, of so many shards. The only error is want of memory.
 fn add_own(all: &mut Vec<Sub>, subs: &[Sub], i: usize, count: usize) -> Result<(), AllocError>
     requires { 0 < count }
     ensures { OnOk result (all.new.items ≡ all.old.items ++ filter (λ sub. shard_of sub count == i) subs.now) }

@@ -1,4 +1,4 @@
--- The books of a shard: its accounts under their terms, and what a step leaves of them.
+-- The books of a shard: its accounts under their terms, and the books after a step.
 use Rattle.std.specs.Prelude.{◌≡◌, ◌≢◌, ℕ, List, [], ◌∷◌, ◌++◌, Some}
 use Rattle.dcc_tariff.specs.Terms.{TermsView}
 use Rattle.dcc_act.specs.declared.act.Act.{Act}
@@ -8,7 +8,7 @@ use Rattle.dcc_model.specs.Outcomes.{acts}
 use Rattle.dcc_openers.specs.Openers.{OpenersView}
 use Rattle.dcc_shard.specs.Shards.{account_in, held_in}
 
--- by what terms accounts are judged, the accounts, and for how many more memory is there
+-- the terms by which accounts are judged, the accounts, and the number of further accounts for which there is memory
 pub record BooksView : Type 0 where
   pub terms : TermsView
   pub rows : List (Sub × Account)
@@ -20,13 +20,13 @@ pub record KeptView (R : Type 0) : Type 0 where
   pub openers : OpenersView
   pub records : R
 
--- each account is under the terms, has at least one act, and its acts are those that they themselves make
+-- each account is under the terms and has at least one act; its acts are exactly those that their own list makes
 pub record AreBooks (rows : List (Sub × Account)) (terms : TermsView) : Type 0 where
   pub terms_are : (sub : Sub) (account : Account) → account_in rows sub ≡ Some account → account.terms ≡ terms
   pub begun : (sub : Sub) (account : Account) → account_in rows sub ≡ Some account → account.acts ≢ []
   pub own : (sub : Sub) → acts terms (held_in rows sub) ≡ held_in rows sub
 
--- the books after one more act of a subscriber, which leaves the others as they were
+-- the books after one more act of a subscriber; the acts of other subscribers stay
 pub record IsStepOfBooks (old new : BooksView) (sub : Sub) (act : Act) : Type 0 where
   pub own : held_in new.rows sub ≡ acts old.terms (held_in old.rows sub ++ act ∷ [])
   pub others : (other : Sub) → other ≢ sub → held_in new.rows other ≡ held_in old.rows other

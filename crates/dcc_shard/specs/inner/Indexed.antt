@@ -23,11 +23,11 @@ pub record IndexedView : Type 0 where
   pub books : BooksView
   pub openers : OpenersView
 
--- the index has under each host and session who opened that session from that host, by the accounts
+-- under each host and session the index has the subscribers who opened the session from the host, by the accounts
 abbrev pub AreOpeners : TermsView → List (Sub × Account) → OpenersView → Type 0
 AreOpeners terms rows openers = (host sid : List ℕ) → IsFound (λ sub. was_opened_from terms (held_in rows sub) host sid) (found_at openers host sid)
 
--- the host and the session that an act opens, where it is new and its host is known
+-- the host and the session that an act opens: if it is an initial request, is new, has succeeded, and its host is known
 abbrev pub opening_by : Bool → Outcome → Kind → Option (List ℕ × List ℕ)
 opening_by new outcome (Initial request limit host) = if new && succeeded outcome then option_map (λ (h : List ℕ). (h, request.key.sid)) host else None
 opening_by new outcome _ = None
@@ -35,19 +35,19 @@ opening_by new outcome _ = None
 abbrev pub opening : StepView → Option (List ℕ × List ℕ)
 opening step = opening_by step.is_new step.outcome step.act.kind
 
--- there is room to note what a step opens, and the name of its session is at hand
+-- there is room to note the session that a step opens, and the name of the session is at hand
 abbrev pub IsReady : OpenersView → Option (List ℕ × List ℕ) → Option (List ℕ) → Type 0
 IsReady openers opens name = MatchOption opens (name ≡ None) (λ one. HasRoomAt openers one.0 × (name ≡ Some one.1))
 
 abbrev pub is_opening : (host sid : List ℕ) → List ℕ × List ℕ → Bool
 is_opening host sid one = bytes_eq one.0 host && bytes_eq one.1 sid
 
--- who is found once a step of a subscriber was noted
+-- the finding after a step of a subscriber was noted
 abbrev pub noted_at : Option (List ℕ × List ℕ) → Sub → OpenersView → (host sid : List ℕ) → Found
 noted_at opens sub openers host sid =
     if option_map_or (is_opening host sid) opens false then noted (found_at openers host sid) sub else found_at openers host sid
 
--- a subscriber who had no acts has these now, and the others what they had
+-- the subscriber has the acts that this list makes; every other subscriber's acts stay
 pub record IsPageOf (old new : BooksView) (sub : Sub) (all : List Act) : Type 0 where
   pub own : held_in new.rows sub ≡ acts old.terms all
   pub others : (other : Sub) → other ≢ sub → held_in new.rows other ≡ held_in old.rows other

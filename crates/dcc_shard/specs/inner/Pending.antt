@@ -1,4 +1,4 @@
--- A step that is prepared and not yet installed: of an account that stands, or of one that is added with it.
+-- A step that is prepared and not yet installed: of an account in the books, or of an account that is added with the step.
 use Rattle.std.specs.Prelude.{◌≡◌, ◌<◌, [], ◌∷◌, ◌++◌, Some, None}
 use Rattle.dcc_act.specs.declared.act.Act.{Act}
 use Rattle.dcc_act.specs.declared.sub.Sub.{Sub}
@@ -15,7 +15,7 @@ abbrev pub step_of : Pending → StepView
 step_of (Known step) = step
 step_of (First account step) = step
 
--- It is prepared for what stands in the books: an account that is added is under their terms, and there is room for it.
+-- The step is prepared for the books as they stand. An account that is added is under their terms, and there is room for it.
 abbrev pub Stands : BooksView → Sub → Pending → Type 0
 Stands books sub (Known step) = (account : Account) × (account_in books.rows sub ≡ Some account) × IsPrepared account step
 Stands books sub (First account step) =
