@@ -1,4 +1,4 @@
--- What an event asks of a subscriber, what is told of it, and where it leaves its peer.
+-- What an event asks of a subscriber, how it is answered, and the state in which it leaves its peer.
 use Rattle.std.specs.Prelude.{◌≡◌, ◌≢◌, ℕ, Bool, true, false, ◌&&◌, ◌||◌, ◌==◌, if◌then◌else◌, List, [], ◌∷◌, ◌++◌}
 use Rattle.std.specs.Prelude.{Option, Some, None, option_map, MatchBool}
 use Rattle.dcc_tariff.specs.Terms.{TermsView}
@@ -34,18 +34,18 @@ pub record Turn : Type 0 where
   pub event : Event
   pub out : Out
 
--- what brought an ask
+-- the source of an ask
 pub data Source : Type 0 where
   Message : MessageView → Source
   TopUp : Source
   Sweep : Source
 
--- what an event asks of a subscriber's account, and what brought it
+-- the act that an event asks of a subscriber's account, and the source of the ask
 pub record Ask : Type 0 where
   pub act : Act
   pub source : Source
 
--- a request is its subscriber's
+-- a request asks of its subscriber alone
 abbrev pub request_ask : MessageView → Verdict → Sub → Option Ask
 request_ask message (verdicts.Asks owner act) sub =
     if same_sub owner sub then Some (record { act = act; source = Message message }) else None
@@ -59,9 +59,9 @@ received_ask setting before moment (Received.Charging host message) sub =
     request_ask message (verdict_in setting before moment host message) sub
 received_ask setting before moment (Received.Base peer message) sub = None
 
--- What an event asks of a subscriber: a request on a peer that is open is that of the subscriber whom it names, or who is found for it,
--- where it isn't refused; a top-up of an amount that may be is its subscriber's, a sweep asks each subscriber's expiry, and all others
--- are nobody's.
+-- What an event asks of a subscriber. A request on an open peer that its verdict does not refuse asks of the subscriber whom it names, or
+-- who is found for it. A top-up of an amount within the limits asks of its subscriber. A sweep asks for each subscriber's expiry. Other
+-- events ask of nobody.
 abbrev pub ask_for : Setting → Before → Event → Sub → Option Ask
 ask_for setting before (events.Connect peer host) sub = None
 ask_for setting before (events.Disconnect peer) sub = None
@@ -71,7 +71,7 @@ ask_for setting before (events.TopUp moment owner ticket amount) sub =
     if is_amount amount && same_sub owner sub then Some (record { act = top_up_act moment ticket amount; source = TopUp }) else None
 ask_for setting before (events.Sweep moment) sub = Some (record { act = expiry_act moment; source = Sweep })
 
--- a message is refused by the busy answer or by nothing, a top-up by being told so, an expiry by telling of whom it was refused
+-- a message is refused by the busy answer or without an answer; a top-up, by the answer to it; an expiry, by the sweep's report
 abbrev pub is_refused_top_up : Option TopUpAnswer → Bool
 is_refused_top_up (Some Refused) = true
 is_refused_top_up (Some BadAmount) = false
@@ -88,12 +88,12 @@ is_refused_by Sweep out sub = out.refused_all || is_among sub out.refused
 abbrev pub is_refused_for : Ask → Out → Sub → Bool
 is_refused_for ask out sub = is_refused_by ask.source out sub
 
--- the octets under a message, of an outcome
+-- the octets of an outcome, as the answer to a message
 abbrev pub answer_to : Setting → MessageView → Outcome → List ℕ
 answer_to setting message outcome =
     answer_octets setting.identity setting.plan.terms message.header (messages.proxies message) outcome
 
--- What an out says to one subscriber: the octets of its answer, or what its top-up is told; of a sweep it says nothing.
+-- The answer to one subscriber in an out: the octets for a request, the answer to a top-up, or nothing for a sweep.
 pub data Said : Type 0 where
   Octets : List ℕ → Said
   Told : Option TopUpAnswer → Said
@@ -104,7 +104,7 @@ said_by (Message message) out = Octets out.octets
 said_by TopUp out = Told out.top_up
 said_by Sweep out = Nothing
 
--- what is said of what an act comes to that is asked after these entries
+-- the answer by the outcome of an act that is asked after these entries
 abbrev pub said_from : Setting → List Act → Act → Source → Outcome → Said
 said_from setting before act (Message message) outcome = Octets (answer_to setting message outcome)
 said_from setting before act TopUp outcome =
@@ -114,7 +114,7 @@ said_from setting before act Sweep outcome = Nothing
 abbrev pub said_of : Setting → List Act → Ask → Outcome → Said
 said_of setting before ask outcome = said_from setting before ask.act ask.source outcome
 
--- what a refusal is: the busy answer or nothing of a request, and of a top-up that it's told so; of an expiry nothing more
+-- the form of a refusal: of a request, the busy answer or no answer; of a top-up, the answer to it; of an expiry, nothing more
 abbrev pub IsRefusalOfAsk : Identity → Source → Out → Type 0
 IsRefusalOfAsk identity (Message message) out = IsBusyOrNothing identity message out.octets
 IsRefusalOfAsk identity TopUp out = out.top_up ≡ Some Refused
@@ -138,27 +138,27 @@ out_reply peer reply = record { peer = Some peer; octets = reply.octets; close =
 abbrev pub out_close : ℕ → Out
 out_close peer = record { peer = Some peer; octets = []; close = true; top_up = None; refused = []; refused_all = false }
 
--- an out of what a top-up is told
+-- an out of the answer to a top-up
 abbrev pub out_top_up : TopUpAnswer → Out
 out_top_up answer = record { peer = None; octets = []; close = false; top_up = Some answer; refused = []; refused_all = false }
 
--- an out of a sweep: of whom it was refused, or that it was of all
+-- an out of a sweep: the subscribers for whom it was refused, or that it was refused for all
 abbrev pub out_sweep : List Sub → Bool → Out
 out_sweep refused all = record { peer = None; octets = []; close = false; top_up = None; refused = refused; refused_all = all }
 
--- What a peer is replied to a message of the base protocol, by its own events alone, and what it is then.
+-- The reply of a peer to a message of the base protocol, by its own events alone, and its state after the message.
 abbrev pub reply_to : Setting → Peer → MessageView → Reply × Peer
 reply_to setting peer message = replied setting.identity peer message.header message.list
 
--- A message is refused that was to be answered, and is answered busy or by nothing. What isn't heard is never refused.
+-- A message that has to be answered is refused if its answer is busy or absent. A message that isn't heard is never refused.
 abbrev pub is_refused_message : Received → Out → Bool
 is_refused_message Received.Ignored out = false
 is_refused_message Received.Broken out = false
 is_refused_message (Received.Charging host message) out = is_refusal out.octets
 is_refused_message (Received.Base peer message) out = hears peer message.header && is_refusal out.octets
 
--- A credit-control message that is nobody's is answered by the refusal of what it says, or it is refused. What any other is answered,
--- its subscriber's clause says. None of them is sought any more.
+-- A credit-control message of nobody is answered by the refusal that its verdict has, or is refused as busy. The clause of the subscriber
+-- defines the answer to any other credit-control message. The subscriber of no message is still sought here.
 abbrev pub IsOfNobody : Identity → MessageView → Verdict → List ℕ → Type 0
 IsOfNobody identity message (verdicts.Asks sub act) octets = Unit {0}
 IsOfNobody identity message (verdicts.Seeks act) octets = Unit {0}
@@ -180,7 +180,7 @@ IsMessageOut setting before moment (Received.Base from message) peer out =
 abbrev pub HaveActs : TermsView → (Sub → List Act) → List Sub → Type 0
 HaveActs terms own subs = (sub : Sub) → is_among sub subs ≡ true → acts terms (own sub) ≢ []
 
--- The whole out of an event: its form, and what is in it that is no subscriber's.
+-- The whole out of an event: its form, and the parts of it that belong to no subscriber.
 abbrev pub IsOut : Setting → Before → Event → Out → Type 0
 IsOut setting before (events.Connect peer host) out = out ≡ out_octets (Some peer) []
 IsOut setting before (events.Disconnect peer) out = out ≡ out_octets (Some peer) []
@@ -200,12 +200,12 @@ is_from id (events.Message peer moment octets) = peer == id
 is_from id (events.TopUp moment sub ticket amount) = false
 is_from id (events.Sweep moment) = false
 
--- a peer whose connection is made: under a host's name it is open at once, else it waits
+-- a peer whose connection is made: under a host's name it is open at once, and otherwise it waits
 abbrev pub connected : Option (List ℕ) → Peer
 connected None = Wait
 connected (Some host) = Open host
 
--- where a message leaves its peer that is not refused
+-- the peer after a message that is not refused
 abbrev pub left_by : Setting → Received → Option Peer → Option Peer
 left_by setting Received.Ignored peer = peer
 left_by setting Received.Broken peer = Some Closed
@@ -215,7 +215,7 @@ left_by setting (Received.Base from message) peer = Some (reply_to setting from 
 abbrev pub left_with : Setting → Received → Out → Option Peer → Option Peer
 left_with setting received out peer = if is_refused_message received out then peer else left_by setting received peer
 
--- where its event and its out leave a peer: a message that was refused moves nothing
+-- a peer after an event of its own and the event's out: a refused message changes nothing
 abbrev pub moved : Setting → Event → Out → Option Peer → Option Peer
 moved setting (events.Connect id host) out peer = Some (connected host)
 moved setting (events.Disconnect id) out peer = None
@@ -226,12 +226,12 @@ moved setting (events.Sweep moment) out peer = peer
 abbrev pub moved_by : Setting → ℕ → Turn → Option Peer → Option Peer
 moved_by setting id turn peer = if is_from id turn.event then moved setting turn.event turn.out peer else peer
 
--- a subscriber's entries with those of one more event: its act, where it asked one and was not refused
+-- a subscriber's own entries after one more event: with the act that the event asked for, if it was not refused
 abbrev pub own_with : Option Ask → Out → Sub → List Act → List Act
 own_with None out sub before = before
 own_with (Some ask) out sub before = if is_refused_for ask out sub then before else before ++ ask.act ∷ []
 
--- whom an event names, or who is found for it; what a sweep asks of each opens no session
+-- the subscribers whom an event names, or who are found for it; none for a sweep, which opens no session
 abbrev pub verdict_owners : Verdict → List Sub
 verdict_owners (verdicts.Asks sub act) = sub ∷ []
 verdict_owners (verdicts.Seeks act) = []
@@ -252,7 +252,7 @@ owners_of setting before (events.Message peer moment octets) =
 owners_of setting before (events.TopUp moment sub ticket amount) = sub ∷ []
 owners_of setting before (events.Sweep moment) = []
 
--- what is before the next event
+-- the state before the next event
 abbrev pub after_turn : Setting → Turn → Before → Before
 after_turn setting turn before =
     record {

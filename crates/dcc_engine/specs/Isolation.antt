@@ -1,4 +1,4 @@
--- A subscriber's own entries, and what a whole run answers.
+-- A subscriber's own entries, and the answers of a whole run.
 use Rattle.std.specs.Prelude.{◌≡◌, ℕ, ◌+◌, if◌then◌else◌, List, [], ◌∷◌, length, map, take, reverse, slice_get, Option, Some, None}
 use Rattle.dcc_base.specs.declared.peer.Peer.{Peer}
 use Rattle.dcc_act.specs.declared.act.Act.{Act}
@@ -17,19 +17,19 @@ turns [] outs = []
 turns (event ∷ events) [] = []
 turns (event ∷ events) (out ∷ outs) = record { event = event; out = out } ∷ turns events outs
 
--- Looking back from a moment: past is what happened since the run began, the latest first.
+-- Definitions that look back from a moment: `past` has the turns since the run began, the latest first.
 
--- where a past has led: each peer by its own events alone; of each subscriber the acts held before, and those of its
--- events, in order, without the refused
+-- the state after a past: each peer by its own events alone; for each subscriber the acts held before the run, and then the acts of its
+-- events, in order, without the refused acts
 abbrev pub before_of : EngineView → List Turn → Before
 before_of engine [] = record { peers = peer_of engine; own = held_of engine; subs = subs_of engine }
 before_of engine (turn ∷ past) = after_turn engine.setting turn (before_of engine past)
 
--- what an event asks of a subscriber at that moment
+-- what an event asks of a subscriber after a past
 abbrev pub asked : EngineView → List Turn → Event → Sub → Option Ask
 asked engine past event sub = ask_for engine.setting (before_of engine past) event sub
 
--- The same of a list of turns in order.
+-- The same for a list of turns in order.
 
 -- a subscriber's own entries
 abbrev pub own : EngineView → List Turn → Sub → List Act
@@ -38,25 +38,25 @@ own engine all sub = (before_of engine (reverse all)).own sub
 abbrev pub peers : EngineView → List Turn → ℕ → Option Peer
 peers engine all id = (before_of engine (reverse all)).peers id
 
--- the place in its subscriber's own entries that an event has, after these turns
+-- the place of an event in its subscriber's own entries, after these turns
 abbrev pub entry_place : EngineView → List Turn → Sub → ℕ
 entry_place engine before sub = length (own engine before sub) + 1
 
--- The turn at index k is answered by the outcome at its place in the own entries of the subscriber that it asks, or
--- refused; and its whole out is by its peer's own events.
+-- The turn at index k is answered by the outcome at its place in the own entries of the subscriber that it asks, or is refused. Its
+-- whole out has the form that its event and the state before it define.
 pub record IsAnswered (engine : EngineView) (all : List Turn) (k : ℕ) (turn : Turn) : Type 0 where
   pub subscribers : (sub : Sub) (ask : Ask) → asked engine (reverse (take k all)) turn.event sub ≡ Some ask
       → IsAnsweredFor engine.setting (own engine (take k all) sub) ask sub turn.out
       (outcome engine.setting.plan.terms (own engine all sub) (entry_place engine (take k all) sub))
   pub whole : IsOut engine.setting (before_of engine (reverse (take k all))) turn.event turn.out
 
--- so is each turn of a run
+-- each turn of a run is answered so
 abbrev pub IsRun : EngineView → List Turn → Type 0
 IsRun engine all = (k : ℕ) (turn : Turn) → slice_get all k ≡ Some turn → IsAnswered engine all k turn
 
--- What a subscriber's own events asked and what each was told, without the refused ones, the latest first.
+-- The asks of a subscriber's own events, and the answer to each, without the refused asks, the latest first.
 
--- x in front, where the event asked of the subscriber and was not refused
+-- x in front, if the event asked of the subscriber and was not refused
 abbrev pub with_own : {X : Type 0} → Option Ask → Out → Sub → (Ask → X) → List X → List X
 with_own None out sub x before = before
 with_own (Some ask) out sub x before = if is_refused_for ask out sub then before else x ask ∷ before
@@ -71,7 +71,7 @@ answers_after engine [] sub = []
 answers_after engine (turn ∷ past) sub =
     with_own (asked engine past turn.event sub) turn.out sub (λ ask. said_by ask.source turn.out) (answers_after engine past sub)
 
--- the same of a list of turns in order
+-- the same for a list of turns in order
 abbrev pub own_asks : EngineView → List Turn → Sub → List Ask
 own_asks engine all sub = reverse (asks_after engine (reverse all) sub)
 

@@ -39,7 +39,7 @@ use dcc_tariff::Plan;
 use std::alloc::{AllocError, Global};
 use std::marker::Model;
 
-/// The peers and the accounts, under one plan.
+/// The peers, and the shards with the accounts, under one plan.
 #[derive(Drop)]
 pub struct Engine<R: Records> {
     pub(crate) plan: Plan,
@@ -61,8 +61,8 @@ impl<R: Records> Model for Engine<R> {
 }
 
 impl<R: Records> Engine<R> {
-    /// An engine without peers over these shards, whose accounts are judged by the plan's terms. It answers as they do. How
-    /// many they are changes no answer. The only error is want of memory.
+    /// An engine without peers over these shards. It answers under their identity. The number of shards changes no answer. The
+    /// condition: the accounts are judged by the plan's terms. The only error is want of memory.
     pub fn open(alloc: Global, plan: Plan, shards: Shards<R>) -> Result<Engine<R>, AllocError>
     where
         R: Drop,
@@ -98,7 +98,7 @@ impl<R: Records> Engine<R> {
         shards
     }
 
-    /// The account of a subscriber, where there is one.
+    /// The account of a subscriber, if there is one.
     pub fn account(&self, sub: Sub) -> Option<&Account>
         ensures terms { IfSome result (λ account. account.now.terms ≡ self.now.setting.plan.terms) }
         ensures acts { IfSome result (λ account. account.now.acts ≡ held_of self.now sub) }
@@ -108,18 +108,18 @@ impl<R: Records> Engine<R> {
         self.shards.account(sub)
     }
 
-    /// Answers events in order, each with one out.
+    /// Answers events in order, each by one out.
     ///
-    /// An `Err` is want of memory for the outs and for the new peers with their hosts, and changes nothing. Want of memory
-    /// inside an event, and records that fail or are stopped, are a busy answer, or none where the busy answer finds no memory
-    /// either, and that event changes nothing that is held.
+    /// An `Err` is want of memory for the outs and for the new peers with their hosts, and changes nothing. Want of memory inside an event,
+    /// and records that fail or are stopped, are no `Err`: a message is answered busy, or not at all if memory is short for the busy answer
+    /// too; a top-up is answered as refused; a sweep reports the subscribers whose expiry was refused. What is refused changes no held act.
     pub fn run(&mut self, alloc: Global, events: &[Event]) -> Result<Vec<Out>, AllocError>
         // One out for each event.
         ensures count { IfOk result (λ outs. length outs.items ≡ length events.now) }
-        // A subscriber's event is answered by its outcome at its place in that subscriber's own entries, or is refused; an
-        // event of nobody is answered by its peer's own events, and, where it names nobody, by who opened its session.
+        // A subscriber's event is answered by its outcome at its place in that subscriber's own entries, or is refused. The subscriber of a
+        // request that names nobody follows from who opened its session. An event of nobody is answered by its peer's own events.
         ensures answers { IfOk result (λ outs. IsRun self.old (turns events.now outs.items)) }
-        // Of each subscriber the acts of the own entries are held, and the money is theirs.
+        // The held acts and the money of each subscriber are those of its own entries.
         ensures acts { IfOk result (λ outs. (sub : Sub) →
             held_of self.new sub ≡ acts self.old.setting.plan.terms (own self.old (turns events.now outs.items) sub)) }
         ensures funds { IfOk result (λ outs. (sub : Sub) → funds self.old.setting.plan.terms (held_of self.new sub)
@@ -128,9 +128,9 @@ impl<R: Records> Engine<R> {
             ≡ free self.old.setting.plan.terms (own self.old (turns events.now outs.items) sub)) }
         ensures overrun { IfOk result (λ outs. (sub : Sub) → overrun self.old.setting.plan.terms (held_of self.new sub)
             ≡ overrun self.old.setting.plan.terms (own self.old (turns events.now outs.items) sub)) }
-        // Each peer is where its own events leave it.
+        // Each peer is in the state to which its own events brought it.
         ensures peers { IfOk result (λ outs. (id : ℕ) → peer_of self.new id ≡ peers self.old (turns events.now outs.items) id) }
-        // What a sweep refused is told by shard, and then by type and data.
+        // A sweep reports the refused subscribers by shard, and then by type and data.
         ensures order { IfOk result (λ outs. All (λ out. IsStrictlySortedBy (route_order self.old.shards) out.refused) outs.items) }
         ensures setting { self.new.setting ≡ self.old.setting }
         ensures shards { self.new.shards ≡ self.old.shards }
@@ -152,7 +152,7 @@ impl<R: Records> Engine<R> {
         Ok(outs)
     }
 
-    /// Answers one event. The room for a new peer is there, and its host.
+    /// Answers one event. The conditions: there is room for a new peer, and `host` is the host of the event.
     fn step(&mut self, alloc: Global, event: &Event, host: Option<Host>) -> Out
         requires room { 0 < self.old.peers.room }
         requires host { host ≡ host_in event.now }
@@ -211,8 +211,7 @@ impl<R: Records> Engine<R> {
         }
     }
 
-    /// What a message of an open peer comes to that names nobody: of all shards it is found out who opened its session from the peer's
-    /// host.
+    /// Settles a message of an open peer that names nobody: all shards are asked who opened its session from the peer's host.
     fn settle(&self, alloc: Global, peer: u32, sought: Sought) -> Settled
         requires { is_some (host_on (peer_of self.now peer)) ≡ true }
         ensures { (host : List ℕ) (message : MessageView) (verdict : Verdict) → host_on (peer_of self.now peer) ≡ Some host
@@ -228,7 +227,7 @@ impl<R: Records> Engine<R> {
     }
 }
 
-/// Asks a subscriber's account for an act. These are the octets of its answer, none where it is silent.
+/// Asks a subscriber's account for an act, and returns the octets of the answer; no octets if there is no answer.
 fn ask<R: Records>(shards: &mut Shards<R>, alloc: Global, asked: Asked) -> OctetString
     requires { is_some (request_key asked.act.kind) ≡ true }
     ensures handed { IsHandedOn shards.old.shard shards.new.shard asked result }
@@ -255,7 +254,7 @@ fn connected(host: Option<Host>) -> Peer
     }
 }
 
-/// The hosts of the events, each where there is one.
+/// The host of each event, if it has a host. The only error is want of memory.
 fn hosts_of(alloc: Global, events: &[Event]) -> Result<Vec<Option<Host>>, AllocError>
     ensures { IfOk result (λ hosts. hosts.items ≡ map host_in events.now) }
 {

@@ -1,4 +1,4 @@
-//! What comes to an engine, and what goes out.
+//! The events of an engine, and their outs.
 
 use crate::subs::Subs;
 use dcc_act::{Moment, Sub};
@@ -9,8 +9,8 @@ use dcc_shard::TopUpAnswer;
 /// Something that happens to the server.
 #[derive(Debug, Drop)]
 pub enum Event {
-    /// A peer's connection is made: it is made anew where it was there before, closed or not. With a host the peer is open at
-    /// once under that name; without one it waits for the exchange of capabilities.
+    /// A peer's connection is made. If the peer was there before, closed or not, it is made anew. With a host the peer is open at once
+    /// under the name of the host; without a host it waits for the exchange of capabilities.
     Connect {
         peer: u32,
         host: Option<Host>,
@@ -32,26 +32,26 @@ pub enum Event {
         ticket: u64,
         amount: u64,
     },
-    /// A look at all subscribers: each session ends that is held until this moment or an earlier one.
+    /// An expiry of every subscriber: each session ends whose deadline is this moment or an earlier moment.
     Sweep {
         moment: Moment,
     },
 }
 
-/// What an event is answered.
+/// The effect of an event.
 #[derive(Debug, Drop)]
 pub struct Out {
     /// The peer that the event named, if it named one.
     pub peer: Option<u32>,
-    /// The answer's octets, none where there is no answer.
+    /// The octets of the answer; no octets if there is no answer.
     pub octets: OctetString,
     /// Whether the peer's connection is to be closed, behind the answer if there is one.
     pub close: bool,
-    /// What a top-up is told.
+    /// The answer to a top-up.
     pub top_up: Option<TopUpAnswer>,
-    /// The subscribers whose expiry a sweep refused, each once, by shard and then by type and data, and each one that has acts: memory
-    /// was short for it, or its shard's records failed or were stopped, and nothing that is held of it has changed.
+    /// The subscribers whose expiry a sweep refused, each once, by shard and then by type and data. Each of them has acts. Memory was short
+    /// for the expiry, or the records of the subscriber's shard failed or were stopped. The subscriber's held acts stay as they were.
     pub refused: Subs,
-    /// Whether a sweep refused the expiry of all subscribers, as memory was short to tell who they are.
+    /// Whether a sweep refused the expiry of all subscribers, since memory was short for the list of them.
     pub refused_all: bool,
 }

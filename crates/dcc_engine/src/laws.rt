@@ -1,4 +1,5 @@
-//! The laws of isolation, of runs in turn, and of whose a request is that names nobody. No function does anything: each has a law as its contract.
+//! The laws of isolation, of runs in turn, and of the subscriber of a request that names nobody. Each function does nothing: it has its
+//! law as its contract.
 
 ghost use Rattle.std.specs.Prelude.{◌≡◌, ◌↔◌, ◌++◌, ℕ, true, List, map, Some};
 ghost use Rattle.dcc_act.specs.declared.sub.Sub.{Sub};
@@ -32,7 +33,7 @@ pub fn isolation()
         → AreAlike (held_of a sub) (held_of b sub) → AsksAreAlike (own_asks a xs sub) (own_asks b ys sub) → answers a xs sub ≡ answers b ys sub }
     ensures alike_own { (sub : Sub) (a b : EngineView) (xs ys : List Turn)
         → AreAlike (held_of a sub) (held_of b sub) → AsksAreAlike (own_asks a xs sub) (own_asks b ys sub) → AreAlike (own a xs sub) (own b ys sub) }
-    // The acts that its events asked are those that it owns beyond the ones held before.
+    // The subscriber's own entries are the acts held before, and then the acts that its events asked for.
     ensures asks { (sub : Sub) (a : EngineView) (xs : List Turn)
         → own a xs sub ≡ held_of a sub ++ map (λ ask. ask.act) (own_asks a xs sub) }
 {
@@ -41,9 +42,9 @@ pub fn isolation()
     hosts_change_nothing();
 }
 
-/// Two runs in turn are one run of both lists, where the second begins as the first left off: with the same answers, the
-/// same acts held afterwards and the same peers, and for each subscriber what the first run's events asked and were
-/// answered, and then the second's. So the law of isolation serves for a history of runs.
+/// If a run begins as another left off, both in turn are one run of both lists: with the same answers, the same acts held afterwards and
+/// the same peers. Each subscriber's asks and answers are those of the first run, and then those of the second. So the law of isolation
+/// serves for a history of runs.
 pub fn runs_in_turn()
     ensures run { (a b : EngineView) (xs ys : List Turn) → IsRun a xs → IsRun b ys → Follows a b xs → IsRun a (xs ++ ys) }
     ensures acts { (a b : EngineView) (xs ys : List Turn) → Follows a b xs
@@ -63,8 +64,8 @@ pub fn runs_in_turn()
     later_acts_change_no_outcome();
 }
 
-/// A request that names nobody is that of the only subscriber whose own entries opened its session from the host of its peer. If
-/// nobody's did, or several's, nobody is found.
+/// A subscriber is found for a session and a host exactly if its own entries opened the session from the host, and those of no other
+/// subscriber did.
 pub fn openers_are_found()
     ensures { (engine : EngineView) (past : List Turn) (host sid : List ℕ) (sub : Sub)
         → (the_one (openers engine.setting.plan.terms (before_of engine past) host sid) ≡ Some sub)

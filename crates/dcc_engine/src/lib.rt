@@ -1,13 +1,13 @@
 //! The engine: events in, answers out, each subscriber as if alone.
 //!
-//! Stands on `dcc_dispatch` for what a message to a peer comes to, on `dcc_shard` for a subscriber's step, and on the crates below
-//! them. The contract that it gives is that of `Engine::run`: for every list of
-//! events, a subscriber's request is answered with the octets of the outcome at its place in that subscriber's own entries, or
-//! refused with nothing changed; afterwards the subscriber's acts and money are those of the own entries. A request that names nobody
-//! is that of the only subscriber who opened its session from the host of its peer, as the law `openers_are_found` says. A message of no
-//! subscriber is answered by its definition, from the message and its peer's own events, or refused with nothing changed. A
-//! sweep is one expiry of each subscriber, each by itself, and what memory or a shard's records refused of it is told subscriber by subscriber. The
-//! law `isolation` follows: two runs that agree on a subscriber's own events agree on its answers, octet for octet.
+//! Stands on `dcc_dispatch` for the verdict on a peer's message, on `dcc_shard` for a subscriber's step, and on the crates below them.
+//! The contract that it gives is the contract of `Engine::run`, for every list of events. A subscriber's request is answered by the
+//! octets of the outcome at its place in that subscriber's own entries, or is refused with nothing changed. Afterwards the subscriber's
+//! acts and money are those of its own entries. A request that names nobody belongs to the only subscriber who opened its session from
+//! the host of its peer, by the law `openers_are_found`. A message of no subscriber is answered by its definition, from the message and
+//! its peer's own events, or is refused with nothing changed. A sweep is one expiry of each subscriber, each by itself; it reports each
+//! subscriber whose expiry memory or a shard's records refused. The law `isolation` follows: two runs that agree on a subscriber's own
+//! events agree on its answers, octet for octet.
 #![tactic(auto)]
 
 mod engine;

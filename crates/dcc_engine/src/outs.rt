@@ -1,4 +1,4 @@
-//! Outs, and the octets that an answer puts into one.
+//! Outs, and the octets of an answer in an out.
 
 ghost use Rattle.std.specs.Prelude.{◌≡◌, [], true, false, Some};
 ghost use Rattle.dcc_shard.specs.Answers.{octets_of};
@@ -11,7 +11,7 @@ use dcc_octets::OctetString;
 use dcc_shard::{RequestAnswer, TopUpAnswer};
 use std::alloc::Global;
 
-/// An out that sends a peer an answer, or nothing where there are no octets.
+/// An out that sends a peer an answer; nothing if there are no octets.
 pub(crate) fn sending(alloc: Global, peer: u32, octets: OctetString) -> Out
     ensures { result ≡ out_octets (Some peer) octets }
 {
@@ -32,7 +32,7 @@ pub(crate) fn quiet(alloc: Global, peer: u32) -> Out
     sending(alloc, peer, OctetString::new(alloc))
 }
 
-/// An out of what a peer is replied.
+/// An out of a peer's reply.
 pub(crate) fn replying(alloc: Global, peer: u32, reply: Reply) -> Out
     ensures { result ≡ out_reply peer reply }
 {
@@ -46,7 +46,7 @@ pub(crate) fn replying(alloc: Global, peer: u32, reply: Reply) -> Out
     }
 }
 
-/// An out that tells a top-up its answer.
+/// An out of the answer to a top-up.
 pub(crate) fn telling(alloc: Global, answer: TopUpAnswer) -> Out
     ensures { result ≡ out_top_up answer }
 {
@@ -60,7 +60,7 @@ pub(crate) fn telling(alloc: Global, answer: TopUpAnswer) -> Out
     }
 }
 
-/// An out of a sweep, with the subscribers whose expiry was refused, or with all.
+/// An out of a sweep, with the subscribers whose expiry was refused; `refused_all` if it was refused for all.
 pub(crate) fn sweeping(alloc: Global, refused: Subs, refused_all: bool) -> Out
     ensures { result ≡ out_sweep refused refused_all }
 {
@@ -74,7 +74,7 @@ pub(crate) fn sweeping(alloc: Global, refused: Subs, refused_all: bool) -> Out
     }
 }
 
-/// The octets of an answer; none where it is silent.
+/// The octets of an answer; no octets if there is no answer.
 pub(crate) fn octets_of(alloc: Global, answer: RequestAnswer) -> OctetString
     ensures { result ≡ octets_of answer }
 {

@@ -45,7 +45,7 @@ impl Peers {
         }
     }
 
-    /// Makes room for more peers. Refused, the peers are as before.
+    /// Makes room for so many more peers. The only error is want of memory. The peers stay, also after the error.
     pub fn reserve(&mut self, more: usize) -> Result<(), AllocError>
         ensures rows { self.new.rows ≡ self.old.rows }
         ensures room { OnOk result (more ≤ self.new.room) }
@@ -53,7 +53,7 @@ impl Peers {
         self.rows.reserve(more)
     }
 
-    /// Makes a peer, or changes one that is there.
+    /// Adds a peer, or replaces the peer that has this number. The condition: there is room for a peer.
     pub fn set(&mut self, id: u32, peer: Peer)
         requires { 0 < self.old.room }
         ensures rows { (q : ℕ) → peer_in self.new.rows q ≡ (if id == q then Some peer else peer_in self.old.rows q) }
@@ -63,7 +63,7 @@ impl Peers {
         self.rows.push_reserved(PeerRow { id, peer });
     }
 
-    /// Removes a peer, where it is there.
+    /// Removes a peer, if it is there.
     pub fn remove(&mut self, id: u32)
         ensures rows { (q : ℕ) → peer_in self.new.rows q ≡ (if id == q then None else peer_in self.old.rows q) }
         ensures room { self.old.room ≤ self.new.room }
@@ -71,7 +71,7 @@ impl Peers {
         self.rows.retain(|row| row.id != id);
     }
 
-    /// What a message comes to, of all its octets, where its peer is connected.
+    /// Dispatches a whole message of a peer; none if the peer is not connected.
     pub(crate) fn hear(
         &mut self,
         alloc: Global,
@@ -92,7 +92,7 @@ impl Peers {
         Some(dispatch(alloc, plan, identity, &mut row.peer, moment, octets))
     }
 
-    /// The name of the host of a peer, where it is connected and open.
+    /// The name of a peer's host, if the peer is connected and open.
     pub(crate) fn host(&self, id: u32) -> Option<&Host>
         ensures { option_map (λ host. host.now) result ≡ host_on (peer_in self.now.rows id) }
     {
@@ -101,7 +101,7 @@ impl Peers {
     }
 }
 
-/// Where a peer stands.
+/// The index of a peer's row, if the peer is connected.
 fn find(rows: &[PeerRow], id: u32) -> Option<usize>
     ensures found { IfSome result (λ i. IsAt rows.now id i) }
     ensures none { IfNone result (peer_in rows.now id ≡ None) }

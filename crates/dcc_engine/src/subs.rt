@@ -6,7 +6,7 @@ use dcc_act::Sub;
 use std::alloc::Global;
 use std::marker::Model;
 
-/// Subscribers, as many as there is memory for.
+/// Subscribers, in order.
 #[derive(Debug, Drop)]
 pub struct Subs {
     items: Vec<Sub>,
@@ -31,7 +31,7 @@ impl Subs {
         }
     }
 
-    /// These subscribers, without memory.
+    /// These subscribers. It takes no memory.
     pub fn from_vec(items: Vec<Sub>) -> Self
         ensures { result ≡ items.items }
     {

@@ -19,7 +19,7 @@ use dcc_shard::{ExpiryAnswer, Shards};
 use std::alloc::{AllocError, Global};
 
 impl<R: Records> Engine<R> {
-    /// Expires the sessions of every subscriber.
+    /// Ends the due sessions of every subscriber.
     pub(crate) fn sweep(&mut self, alloc: Global, moment: Moment) -> Out
         ensures done { IsTurnDone self.old self.new (record { event = Sweep moment; out = result }) }
         ensures peers { self.new.peers ≡ self.old.peers }
@@ -37,8 +37,8 @@ impl<R: Records> Engine<R> {
     }
 }
 
-/// Expires the sessions of these subscribers, and tells of whom that was refused. An `Err` is want of memory for these, and
-/// changes nothing.
+/// Ends the due sessions of these subscribers, and returns the subscribers whose expiry was refused. The only error is want of memory
+/// for this list; it changes nothing.
 fn expire_each<R: Records>(
     shards: &mut Shards<R>,
     alloc: Global,
@@ -62,7 +62,7 @@ fn expire_each<R: Records>(
     Ok(Subs::from_vec(refused))
 }
 
-/// Expires the sessions of a subscriber, and puts it with the refused where that is refused.
+/// Ends the due sessions of a subscriber, and adds the subscriber to the refused ones if this is refused.
 fn expire_one<R: Records>(
     shards: &mut Shards<R>,
     alloc: Global,

@@ -1,4 +1,4 @@
--- Whether two acts are one.
+-- Whether two acts are equal, field by field.
 use Rattle.std.specs.Prelude.{◌≡◌, ◌↔◌, ℕ, Bool, true, false, ◌&&◌, ◌==◌, bytes_eq, List, [], ◌∷◌, Option, Some, None}
 use Rattle.std.specs.Cmp.Lexicographic.{pointwise}
 use Rattle.dcc_tariff.specs.Terms.{TariffView}
@@ -81,10 +81,10 @@ same_kind (Event a) (Event b) = same_event a b
 same_kind Expiry Expiry = true
 same_kind _ _ = false
 
--- whether two acts are one: the same happened at the same moment
+-- whether two acts are equal: their moments, and all fields of their kinds
 abbrev pub same_act : Act → Act → Bool
 same_act a b = (a.moment == b.moment) && same_kind a.kind b.kind
 
--- that is, where they are equal
+-- two acts agree field by field exactly if they are equal
 abbrev pub SameActsAreEqual : Type 0
 SameActsAreEqual = (a b : Act) → (same_act a b ≡ true) ↔ (a ≡ b)

@@ -1,4 +1,4 @@
--- What receipts have to say of a subscriber's acts.
+-- The tests of receipts against a subscriber's acts.
 use Rattle.std.specs.Prelude.{◌≡◌, ℕ, ◌-◌, ◌<◌, ◌≤◌, Bool, true, false, not, ◌&&◌, ◌||◌, ◌==◌, nat_lt, if◌then◌else◌, bytes_eq, List, [], ◌∷◌, length, take, filter, slice_get, count_by, Option, Some, None}
 use Rattle.std.specs.Cmp.Lexicographic.{pointwise}
 use Rattle.std.specs.List.{list_all, sum_by}
@@ -22,17 +22,17 @@ use Rattle.dcc_receipts.specs.declared.receipt.Told.TheVariants.{Octets, Added, 
 abbrev pub own : Sub → List Receipt → List Receipt
 own sub receipts = filter (λ r. same_sub r.sub sub) receipts
 
--- the acts begin with those that were there at opening
+-- the acts begin with the acts at opening
 abbrev pub begins : List Act → List Act → Bool
 begins opening all = pointwise same_act opening (take (length opening) all)
 
--- at a receipt's place stands its act where it is fresh, and else an act of its key
+-- the act at a receipt's place is the receipt's act if the receipt is fresh, and otherwise an act with the same key
 abbrev pub is_there : Option Act → Receipt → Bool
 is_there None r = false
 is_there (Some there) r = if r.fresh then same_act there r.act else same_key r.act.kind there.kind
 
--- A receipt agrees with a subscriber's acts, of which the first ones were there at opening. A fresh one is of an act since then. One
--- without a place is of an unknown subscriber, who had no acts at opening.
+-- A receipt agrees with a subscriber's acts, of which the first `opened` were there at opening. A fresh receipt is of an act since then.
+-- A receipt without a place is of an unknown subscriber, who had no acts at opening.
 abbrev pub agrees : (opened : ℕ) → List Act → Receipt → Bool
 agrees opened all r =
     if r.place == 0 then not r.fresh && (opened == 0)
@@ -41,7 +41,7 @@ agrees opened all r =
 abbrev pub all_agree : (opened : ℕ) → List Act → List Receipt → Bool
 all_agree opened all receipts = list_all (agrees opened all) receipts
 
--- an act of a request comes to an answer
+-- the outcome is one of a request
 abbrev pub is_answer : Outcome → Bool
 is_answer (outcomes.Unknown request key) = true
 is_answer (outcomes.Answered answer) = true
@@ -49,7 +49,7 @@ is_answer outcomes.Added = false
 is_answer outcomes.Ceiling = false
 is_answer (outcomes.Expired sessions) = false
 
--- what was told is what the act came to: a request's answer octet for octet, under the receipt's header and with its proxies
+-- the answer is the answer by the outcome: a request's answer octet for octet, under the receipt's header and with its proxies
 abbrev pub tells : Identity → TermsView → Receipt → Told → Outcome → Bool
 tells identity terms r (Octets octets) come = is_answer come && bytes_eq octets (answer_octets identity terms r.header r.proxies come)
 tells identity terms r Added outcomes.Added = true
@@ -61,22 +61,23 @@ abbrev pub tells_of : Identity → TermsView → Receipt → Option Outcome → 
 tells_of identity terms r None = false
 tells_of identity terms r (Some come) = tells identity terms r r.answer come
 
--- what a receipt's act came to: the outcome at its place, or without a place that of an unknown subscriber
+-- the outcome of a receipt's act: the outcome at its place; without a place, the outcome for an unknown subscriber
 abbrev pub came_to : TermsView → List Act → Receipt → Option Outcome
 came_to terms all r = if r.place == 0 then unknown_of r.act.kind else outcome terms all r.place
 
 abbrev pub is_answered : Identity → TermsView → List Act → Receipt → Bool
 is_answered identity terms all r = tells_of identity terms r (came_to terms all r)
 
--- how many fresh receipts there are of a place
+-- the number of fresh receipts of a place
 abbrev pub times : ℕ → List Receipt → ℕ
 times place receipts = count_by (λ r. r.fresh && (r.place == place)) receipts
 
--- what a seat was told later: a fresh receipt's place is past an earlier one's, and one without a place comes before any place
+-- a later receipt of a seat is after an earlier one: a fresh receipt has a greater place, and no receipt without a place follows one
+-- with a place
 abbrev pub is_after : Receipt → Receipt → Bool
 is_after earlier later = if later.fresh then nat_lt earlier.place later.place else nat_lt 0 later.place || (earlier.place == 0)
 
--- each receipt is after all that its seat had before it
+-- each receipt is after all receipts of its seat before it
 abbrev pub in_order : (before : List Receipt) → List Receipt → Bool
 in_order before [] = true
 in_order before (r ∷ rest) = list_all (λ earlier. is_after earlier r) before && in_order (r ∷ before) rest

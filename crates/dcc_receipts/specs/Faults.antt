@@ -3,7 +3,7 @@ use Rattle.std.specs.Prelude.{ℕ, Option, Some, None}
 use Rattle.dcc_receipts.specs.declared.fault.CloseFault.{CloseFault}
 use Rattle.dcc_receipts.specs.declared.fault.CloseFault.TheVariants.{Memory, ReceiptStray, ActWithoutReceipt, OutOfOrder}
 
--- want of memory has no number
+-- the number of a fault; want of memory has none
 abbrev pub fault_number : CloseFault → Option ℕ
 fault_number Memory = None
 fault_number ReceiptStray = Some 60

@@ -9,14 +9,14 @@ use crate::same::same_act;
 use dcc_act::{Act, Journal, Kind, Looks};
 use dcc_model::request_key;
 
-/// Whether each receipt agrees with the acts, of which so many were there at opening.
+/// Whether each receipt agrees with the acts, of which the first `opened` were there at opening.
 pub(crate) fn all_agree(opened: usize, acts: &[Act], receipts: &[Receipt]) -> bool
     ensures { result ≡ all_agree opened acts.now receipts.now }
 {
     receipts.iter().all(|r| agrees(opened, acts, r))
 }
 
-/// Whether a receipt agrees with the acts, of which so many were there at opening.
+/// Whether a receipt agrees with the acts, of which the first `opened` were there at opening.
 #[tactic(auto, using(crate::proofs::Places::agrees_at))]
 fn agrees(opened: usize, acts: &[Act], receipt: &Receipt) -> bool
     ensures { result ≡ agrees opened acts.now receipt.now }
@@ -30,7 +30,9 @@ fn agrees(opened: usize, acts: &[Act], receipt: &Receipt) -> bool
     is_at(opened, &acts[(receipt.place - 1) as usize], receipt)
 }
 
-/// Whether a receipt agrees with the acts of a journal, of which so many were there at opening.
+/// Whether a receipt agrees with the acts of a journal, of which the first `opened` were there at opening. A fresh receipt has to have
+/// the act at its place, which was made since opening; any other, the key of the act at its place. A receipt without a place is of an
+/// unknown subscriber, who had no acts at opening.
 #[tactic(auto, using(crate::proofs::Places::agrees_where))]
 pub fn agrees_with(opened: usize, journal: &Journal, receipt: &Receipt) -> bool
     ensures { result ≡ agrees opened journal.now.acts receipt.now }
@@ -44,7 +46,8 @@ pub fn agrees_with(opened: usize, journal: &Journal, receipt: &Receipt) -> bool
     }
 }
 
-/// Whether what stands at a receipt's place is its act, made since opening, or an act of its key.
+/// Whether the act at a receipt's place is the receipt's act, made since opening, if the receipt is fresh, and otherwise an act with the
+/// same key.
 fn is_at(opened: usize, there: &Act, receipt: &Receipt) -> bool
     ensures { result ≡ (is_there (Some there.now) receipt.now && (not receipt.now.fresh || nat_lt opened receipt.now.place)) }
 {
@@ -55,7 +58,7 @@ fn is_at(opened: usize, there: &Act, receipt: &Receipt) -> bool
     }
 }
 
-/// Whether two acts have one key: requests their session and number, top-ups their ticket.
+/// Whether two acts have the same key: requests, the session and the number; top-ups, the ticket.
 fn is_same_key(a: &Kind, b: &Kind) -> bool
     ensures { result ≡ same_key a.now b.now }
 {
@@ -68,7 +71,7 @@ fn is_same_key(a: &Kind, b: &Kind) -> bool
     }
 }
 
-/// Whether the acts of a journal begin with those at opening.
+/// Whether the acts of a journal begin with the acts at opening.
 pub fn begins(opening: &[Act], journal: &Journal) -> bool
     ensures { result ≡ begins opening.now journal.now.acts }
 {

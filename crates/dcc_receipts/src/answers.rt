@@ -1,4 +1,4 @@
-//! Whether what was told is what the act came to.
+//! Whether the answer in a receipt is the answer by the outcome of its act.
 
 ghost use Rattle.std.specs.Prelude.{◌≡◌, ◌≤◌, ◌<◌, map, reverse, IfOk};
 ghost use Rattle.dcc_model.specs.Outcomes.{acts, outcome_of, history};
@@ -12,8 +12,9 @@ use dcc_model::unknown;
 use dcc_tariff::Terms;
 use std::alloc::{AllocError, Global};
 
-/// Whether a receipt was told what its act came to, by the acts of a journal and what they came to: a request's answer is written anew
-/// and compared octet for octet. The only error is want of memory.
+/// Whether the answer in a receipt is the answer by the outcome at its place among the acts of a journal. A request's answer is written
+/// anew and compared octet for octet. The conditions: the journal's acts are exactly those that their own list makes, and `outcomes`
+/// are their outcomes, in order. The only error is want of memory.
 pub fn is_answered(
     alloc: Global,
     identity: &Identity,
@@ -26,7 +27,7 @@ pub fn is_answered(
     requires came { outcomes.now ≡ reverse (map outcome_of (history terms.now (reverse journal.now.acts))) }
     ensures { IfOk result (λ answered. answered ≡ is_answered identity.now terms.now journal.now.acts receipt.now) }
 {
-    // Nothing of it is read: the conditions speak of its acts.
+    // The body reads nothing of the journal: only the conditions speak of its acts.
     let _journal = journal;
     if receipt.place == 0 {
         return match unknown(&receipt.act.kind)? {
@@ -41,7 +42,7 @@ pub fn is_answered(
     tells(alloc, identity, terms, receipt, come)
 }
 
-/// Whether what was told is this outcome.
+/// Whether the answer in a receipt is the answer by this outcome.
 fn tells(
     alloc: Global,
     identity: &Identity,
@@ -74,7 +75,7 @@ fn tells(
     }
 }
 
-/// Whether a request may come to this.
+/// Whether a request may have this outcome.
 fn is_answer(come: &Outcome) -> bool
     ensures { result ≡ is_answer come.now }
 {

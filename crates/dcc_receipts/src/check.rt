@@ -12,12 +12,12 @@ use crate::order::in_order;
 use crate::receipt::Receipt;
 use dcc_act::Act;
 
-/// Compares the receipts of one seat, in order, with the acts of one subscriber, who had none at opening. Whose receipts they
-/// are and what was answered isn't looked at. It takes no memory, and is slow: it looks at all receipts for each act.
+/// Compares the receipts of one seat, in order, with the acts of one subscriber, who had no acts at opening. It reads neither the
+/// subscribers nor the answers of the receipts. It takes no memory, and is slow: it reads all receipts for each act.
 ///
-/// Errors, each only where none before it holds: [`CloseFault::ReceiptStray`], a receipt isn't of these acts, or a place has two
-/// that are fresh; [`CloseFault::ActWithoutReceipt`], an act has no fresh receipt; [`CloseFault::OutOfOrder`], a receipt is after one
-/// that comes later.
+/// Errors, each only if no error before it in this list holds: [`CloseFault::ReceiptStray`], a receipt isn't of these acts, or a place
+/// has two fresh receipts; [`CloseFault::ActWithoutReceipt`], an act has no fresh receipt; [`CloseFault::OutOfOrder`], the receipts are
+/// out of order.
 pub fn check_receipts(acts: &[Act], receipts: &[Receipt]) -> Result<(), CloseFault>
     ensures ok { OnOk result (AreTrue acts.now receipts.now × AreCovered acts.now receipts.now × AreOrdered receipts.now) }
     ensures stray { result ≡ Err ReceiptStray → AreTrue acts.now receipts.now → ⊥ }
@@ -67,7 +67,7 @@ fn are_covered(count: usize, receipts: &[Receipt]) -> bool
     true
 }
 
-/// How many fresh receipts there are of a place.
+/// The number of fresh receipts of a place.
 fn times(place: u64, receipts: &[Receipt]) -> usize
     ensures { result ≡ times place receipts.now }
 {

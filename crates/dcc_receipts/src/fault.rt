@@ -1,4 +1,4 @@
-//! Why receipts and acts disagree.
+//! The faults of a comparison of receipts with acts.
 
 ghost use Rattle.std.specs.Prelude.{◌≡◌};
 ghost use Rattle.dcc_receipts.specs.Faults.{fault_number};
@@ -6,19 +6,20 @@ ghost use Rattle.dcc_receipts.specs.Faults.{fault_number};
 use std::alloc::AllocError;
 use thiserror::Error;
 
-/// Why receipts and acts disagree, or can't be compared.
+/// The reason for which receipts and acts disagree, or can't be compared.
 #[derive(Clone, Copy, Debug, PartialEq, Eq, Error)]
 pub enum CloseFault {
     /// Memory was refused.
     #[error("out of memory")]
     Memory,
-    /// Fault 60: the acts don't begin with those at opening, a receipt isn't of these acts, or two fresh ones are of one place.
+    /// Fault 60: the acts don't begin with the acts at opening, a receipt isn't of these acts, or two fresh receipts have the same place.
     #[error("a receipt is not of these acts")]
     ReceiptStray,
     /// Fault 61: an act since opening has no fresh receipt.
     #[error("an act has no receipt")]
     ActWithoutReceipt,
-    /// Fault 62: a seat was told a place, or that its subscriber is unknown, after a place that comes later.
+    /// Fault 62: in a seat's receipts of a subscriber, a fresh receipt has no greater place than a receipt before it, or a receipt without a
+    /// place, which is of an unknown subscriber, follows a receipt with a place.
     #[error("receipts are out of order")]
     OutOfOrder,
 }

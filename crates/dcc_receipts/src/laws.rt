@@ -5,12 +5,12 @@ ghost use Rattle.dcc_receipts.specs.Acts.{SameActsAreEqual};
 ghost use Rattle.dcc_receipts.specs.Faults.{fault_number};
 ghost use Rattle.dcc_receipts.specs.declared.fault.CloseFault.TheVariants as fault;
 
-/// Two acts are alike, field by field, exactly where they are equal.
+/// Two acts agree field by field exactly if they are equal.
 pub fn same_acts_are_equal()
     ensures { SameActsAreEqual }
 {}
 
-/// A stray receipt is fault 60, an act without one 61, and receipts out of order 62.
+/// A stray receipt is fault 60, an act without a receipt is fault 61, and receipts out of order are fault 62.
 pub fn numbers_are_given()
     ensures stray { fault_number fault.ReceiptStray ≡ Some 60 }
     ensures uncovered { fault_number fault.ActWithoutReceipt ≡ Some 61 }

@@ -1,8 +1,8 @@
 //! Receipts of calls, and whether they agree with the acts that were made.
 //!
-//! Stands on `dcc_model` for what acts come to and on `dcc_credit` for the octets of answers. A receipt says what one call
-//! brought and what it was told. The contract that this crate gives: each test of receipts against acts is its definition,
-//! whether they pass or fail. It knows of no shards and no threads: it works on plain data.
+//! Stands on `dcc_model` for the outcomes of acts and on `dcc_credit` for the octets of answers. A receipt has the act of one call and
+//! the call's answer. The contract that this crate gives: each test of receipts against acts passes exactly if its definition holds. It
+//! knows of no shards and no threads: it works on plain data.
 #![tactic(auto)]
 
 mod agree;

@@ -14,7 +14,7 @@ use std::collections::HashSet;
 use std::hash::RandomState;
 use std::marker::Model;
 
-/// The places of subscribers that have a fresh receipt, each once. To a contract it is whether a subscriber's place has one.
+/// The places of subscribers that have a fresh receipt, each once. Contracts see it as a list of these places.
 #[derive(Drop)]
 pub struct Marks {
     places: HashSet<(Sub, u64), RandomState>,
@@ -30,7 +30,7 @@ impl Model for Marks {
 }
 
 impl Marks {
-    /// No places.
+    /// No places. It takes no memory.
     pub fn new(alloc: Global, hasher: RandomState) -> Marks
         ensures { (sub : Sub) (place : ℕ) → is_marked result sub place ≡ false }
     {
@@ -46,7 +46,7 @@ impl Marks {
         self.places.contains(&(sub, place))
     }
 
-    /// Adds a place, and says whether it is new. The only error is want of memory.
+    /// Adds a place, and returns whether it is new. The only error is want of memory.
     fn add(&mut self, sub: Sub, place: u64) -> Result<bool, AllocError>
         ensures added { IfOk result (λ added. added ≡ not (is_marked self.old sub place)) }
         ensures marks { IfOk result (λ added. (other : Sub) (at : ℕ) → is_marked self.new other at
@@ -56,7 +56,8 @@ impl Marks {
         Ok(added)
     }
 
-    /// Adds the place of a receipt that is fresh, and says whether it is new; any other adds nothing. The only error is want of memory.
+    /// Adds the place of a fresh receipt, and returns whether the place is new. A receipt that is not fresh adds nothing, and passes. The
+    /// only error is want of memory.
     #[tactic(auto, using(crate::proofs::Marked::marked_more))]
     fn add_fresh(&mut self, receipt: &Receipt) -> Result<bool, AllocError>
         ensures single { IfOk result (λ single. single ≡ true → (sub : Sub) (place : ℕ)
@@ -71,7 +72,8 @@ impl Marks {
         self.add(receipt.sub, receipt.place)
     }
 
-    /// Adds the places of a seat's fresh receipts, and says whether each is new. The only error is want of memory.
+    /// Adds the places of a seat's fresh receipts, and returns whether each place is new. It stops at the first place that is not new. The
+    /// only error is want of memory.
     pub fn add_all(&mut self, receipts: &[Receipt]) -> Result<bool, AllocError>
         ensures single { IfOk result (λ single. single ≡ true → (sub : Sub) (place : ℕ)
             → cond (is_marked self.new sub place) 1 0 ≡ cond (is_marked self.old sub place) 1 0 + times place (own sub receipts.now)) }

@@ -11,7 +11,7 @@ use std::alloc::{AllocError, Global};
 use std::collections::HashMap;
 use std::hash::RandomState;
 
-/// Whether each receipt is after all before it.
+/// Whether each receipt is after all receipts before it.
 #[tactic(auto, using(crate::proofs::Orders::by_top))]
 pub(crate) fn in_order(receipts: &[Receipt]) -> bool
     ensures { result ≡ in_order [] receipts.now }
@@ -32,7 +32,7 @@ fn in_order_by_top(receipts: &[Receipt]) -> bool
     true
 }
 
-/// Whether a receipt is after all of which this is the greatest place.
+/// Whether a receipt is after all receipts before it, of whose places this is the greatest; none if there is no receipt before it.
 fn follows(top: Option<u64>, receipt: &Receipt) -> bool
     ensures { result ≡ follows top receipt.now }
 {
@@ -48,7 +48,7 @@ fn follows(top: Option<u64>, receipt: &Receipt) -> bool
     }
 }
 
-/// The greatest place of a receipt and those before it.
+/// The greatest place of a receipt and of the receipts before it.
 fn top_after(top: Option<u64>, receipt: &Receipt) -> u64
     ensures { result ≡ top_after top receipt.now }
 {
@@ -58,7 +58,7 @@ fn top_after(top: Option<u64>, receipt: &Receipt) -> u64
     }
 }
 
-/// Whether each receipt of a seat is after all that it had of the same subscriber before. The only error is want of memory.
+/// Whether each receipt of a seat is after all earlier receipts of the same subscriber in the seat. The only error is want of memory.
 #[tactic(auto, using(crate::proofs::Orders::by_top))]
 pub fn each_in_order(
     alloc: Global,

@@ -1,11 +1,11 @@
-//! Receipts: what a call brought, and what it was told.
+//! Receipts: the act of a call, and the call's answer.
 
 use dcc_act::{Act, Sub};
 use dcc_answer::Proxies;
 use dcc_message::Header;
 use dcc_octets::OctetString;
 
-/// What was told of an act.
+/// The answer to the call of an act.
 #[derive(Debug, Drop)]
 pub enum Told {
     /// A request's answer: its octets.
@@ -18,12 +18,12 @@ pub enum Told {
     Closed { sessions: u64 },
 }
 
-/// What one call brought, and what it was told.
+/// The record of one call: its act, and its answer.
 #[derive(Debug, Drop)]
 pub struct Receipt {
     pub sub: Sub,
-    /// The place of the act in the subscriber's list of acts, counted from 1: its own where the receipt is fresh, else that of
-    /// the act which came first with its key. 0 is that of a request whose subscriber is unknown.
+    /// A place in the subscriber's list of acts, counted from 1: the place of this act if the receipt is fresh, and otherwise the place of
+    /// the first act with the same key. 0 for a request whose subscriber is unknown.
     pub place: u64,
     pub act: Act,
     /// The header of the request; all zeros for a top-up and an expiry.
@@ -31,6 +31,6 @@ pub struct Receipt {
     /// The Proxy-Info of the request; none for a top-up and an expiry.
     pub proxies: Proxies,
     pub answer: Told,
-    /// Whether the act was made in that call.
+    /// Whether the act was made in this call.
     pub fresh: bool,
 }

@@ -1,4 +1,4 @@
-//! Whether two acts are one.
+//! Whether two acts are equal, field by field.
 
 ghost use Rattle.std.specs.Prelude.{◌≡◌};
 ghost use Rattle.std.specs.Cmp.Lexicographic.{pointwise};
@@ -11,7 +11,7 @@ use dcc_act::{
 use dcc_octets::Host;
 use dcc_tariff::{Tariff, UnitKind};
 
-/// Whether two acts are one: the same happened at the same moment.
+/// Whether two acts are equal: their moments, and all fields of their kinds.
 pub(crate) fn same_act(a: &Act, b: &Act) -> bool
     ensures { result ≡ same_act a.now b.now }
 {

@@ -1,4 +1,4 @@
--- One turn: an event, its out, and what both left of the engine.
+-- One turn: an event, its out, and the engine after both.
 use Rattle.std.specs.Prelude.{◌≡◌, ℕ, ◌==◌, if◌then◌else◌, List, Option, Some, option_and_then}
 use Rattle.dcc_base.specs.declared.peer.Peer.{Peer}
 use Rattle.dcc_act.specs.declared.act.Act.{Act}
@@ -20,36 +20,36 @@ use Rattle.dcc_engine.specs.Engines.{EngineView, peer_in, peer_of, held_of, subs
 use Rattle.dcc_engine.specs.Openers.{Before}
 use Rattle.dcc_engine.specs.Asks.{Turn, Ask, ask_for, own_with, moved_by, IsAnsweredFor, IsOut}
 
--- what an engine holds is what was before its next event
+-- the state before the next event of an engine: its peers, and its held acts as own entries
 abbrev pub now_with : (ℕ → Option Peer) → ShardView → Before
 now_with peers shard = record { peers = peers; own = held shard; subs = subs_in shard }
 
 abbrev pub now_of : EngineView → Before
 now_of engine = now_with (peer_of engine) engine.shard
 
--- the name of the host of a peer, where it is connected and open
+-- the name of a peer's host, if the peer is connected and open
 abbrev pub host_on : Option Peer → Option (List ℕ)
 host_on peer = option_and_then host_of_peer peer
 
--- a turn is answered by what was before it
+-- a turn is answered by the state before it
 pub record IsNext (setting : Setting) (before : Before) (turn : Turn) : Type 0 where
   pub subscribers : (sub : Sub) (ask : Ask) → ask_for setting before turn.event sub ≡ Some ask
       → IsAnsweredFor setting (before.own sub) ask sub turn.out (Some (after setting.plan.terms (before.own sub) ask.act))
   pub whole : IsOut setting before turn.event turn.out
 
--- it is answered so, and what is then held is what it made
+-- a turn is answered by the state before it, and the held acts after it are those that it made
 pub record IsJudged (setting : Setting) (before : Before) (then_held : Sub → List Act) (turn : Turn) : Type 0 where
   pub next : IsNext setting before turn
   pub held : (sub : Sub) → then_held sub
       ≡ acts setting.plan.terms (own_with (ask_for setting before turn.event sub) turn.out sub (before.own sub))
 
--- and the peers are where it leaves them
+-- a turn is judged, and moved its peer
 pub record IsTurnDone (old new : EngineView) (turn : Turn) : Type 0 where
   pub judged : IsJudged old.setting (now_of old) (held_of new) turn
   pub peers : (id : ℕ) → peer_of new id ≡ moved_by old.setting id turn (peer_of old id)
   pub setting : new.setting ≡ old.setting
 
--- a message was heard by a peer among others, who stay
+-- a peer heard a message; all other peers stay
 pub record IsHeard (setting : Setting) (old new : List PeerRow) (id moment : ℕ) (octets : List ℕ) (made : Dispatched) : Type 0 where
   pub from : Peer
   pub to : Peer
@@ -64,7 +64,7 @@ pub record IsHeard (setting : Setting) (old new : List PeerRow) (id moment : ℕ
   pub replied : IfReplied made (λ reply. IsRepliedTo setting moment (received from octets) from to reply)
   pub rows : (q : ℕ) → peer_in new q ≡ (if id == q then Some to else peer_in old q)
 
--- a subscriber's account was asked for an act, and these are the octets of its answer
+-- a subscriber's account was asked for an act, and the octets are those of its answer
 pub record IsHandedOn (old new : ShardView) (asked : Asked) (octets : List ℕ) : Type 0 where
   pub answer : RequestAnswer
   pub is : IsAnswer old asked.sub asked.act asked.header asked.proxies answer

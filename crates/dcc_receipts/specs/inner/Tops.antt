@@ -2,7 +2,7 @@
 use Rattle.std.specs.Prelude.{ℕ, Bool, true, false, ◌&&◌, ◌||◌, ◌==◌, nat_lt, if◌then◌else◌, max, List, [], ◌∷◌, Option, Some, None}
 use Rattle.dcc_receipts.specs.declared.receipt.Receipt.{Receipt}
 
--- a receipt is after all of which this is the greatest place
+-- a receipt is after all receipts before it, of whose places this is the greatest
 abbrev pub follows : Option ℕ → Receipt → Bool
 follows None r = true
 follows (Some top) r = if r.fresh then nat_lt top r.place else nat_lt 0 r.place || (top == 0)
