@@ -1,4 +1,4 @@
--- What the writer's side of a connection does.
+-- The writer's side of a connection.
 use Rattle.std.specs.Prelude.{◌≡◌, ℕ, ◌+◌, ◌-◌, ◌≤◌, ◌<◌, ◌⊎◌, nat_le, if◌then◌else◌, List, [], ◌∷◌, ◌++◌, length, take, Option, Some, None}
 use Rattle.std.specs.Io.KnownBytes.{Appends}
 use mathlib.Core.List.{IsPrefix}
@@ -9,7 +9,7 @@ use Rattle.dcc_connect.specs.declared.writing.WriteEnd.{WriteEnd}
 use Rattle.dcc_connect.specs.declared.fault.ConnectFault.{ConnectFault}
 use Rattle.dcc_connect.specs.declared.fault.ConnectFault.TheVariants.{Read, Write, TooManyTurns, Header, Memory}
 
--- what was taken of a lane, without the senders' numbers
+-- the taken items of a lane, without the senders' numbers
 abbrev pub items_of : {T : Type 0} → List (Tagged T) → List T
 items_of [] = []
 items_of (tagged ∷ more) = tagged.item ∷ items_of more
@@ -20,24 +20,24 @@ octets_in [] = []
 octets_in (Octets octets ∷ items) = octets ++ octets_in items
 octets_in (End ∷ items) = octets_in items
 
--- those before the last
+-- the items before the last
 abbrev pub but_last : List Item → List Item
 but_last items = take (length items - 1) items
 
--- how many senders have ended
+-- the number of senders that have ended
 abbrev pub ends_in : List Item → ℕ
 ends_in [] = 0
 ends_in (Octets octets ∷ items) = ends_in items
 ends_in (End ∷ items) = ends_in items + 1
 
--- how many items of octets are whole within the first so many octets
+-- the number of items of octets that are whole within the first so many octets
 abbrev pub whole_in : ℕ → List Item → ℕ
 whole_in count [] = 0
 whole_in count (Octets octets ∷ items) = if nat_le (length octets) count then whole_in (count - length octets) items + 1 else 0
 whole_in count (End ∷ items) = whole_in count items
 
--- what went out of the items that were taken: all, or with a fault a beginning; where turns were used up, all of those before the last, and
--- of the last a beginning
+-- the octets that went out of the taken items: all; with a fault of the writer, a beginning; with used-up turns, all octets of the items
+-- before the last, and a beginning of the last
 abbrev pub GoesOut : Option ConnectFault → List Item → List ℕ → Type 0
 GoesOut None items out = out ≡ octets_in items
 GoesOut (Some (Write written)) items out = (written < length (octets_in items)) × (out ≡ take written (octets_in items))
@@ -46,8 +46,8 @@ GoesOut (Some Read) items out = ⊥
 GoesOut (Some (Header fault)) items out = ⊥
 GoesOut (Some Memory) items out = ⊥
 
--- it ends once every sender has, with a fault of the writer too, or where the turns are used up: by an item taken, octets that went out, or
--- the write that failed
+-- the side ends once every sender has ended, also after a fault of the writer, or once the turns are used up: by taken items, by octets that
+-- went out, and by the write that failed
 abbrev pub EndsWithSenders : Option ConnectFault → (senders turns : ℕ) → List Item → List ℕ → Type 0
 EndsWithSenders None senders turns items out = ends_in items ≡ senders
 EndsWithSenders (Some (Write written)) senders turns items out = (ends_in items ≡ senders) ⊎ (turns ≤ length items + length out + 1)
@@ -64,7 +64,7 @@ pub record IsWritten (end : WriteEnd) (senders turns : ℕ) (items : List Item) 
   pub few : ends_in items ≤ senders
   pub counted : end.ended ≡ ends_in items
 
--- items were taken, and of their octets just these went out
+-- items were taken, and exactly these of their octets went out
 abbrev pub TakesAndWrites : WriteEnd → (senders turns : ℕ) → Option (List ℕ) → Option (List ℕ) → List (Tagged Item) → List (Tagged Item) → Type 0
 TakesAndWrites end senders turns before after old new =
     (more : List (Tagged Item)) × (out : List ℕ) × (new ≡ old ++ more) × Appends before after out × IsWritten end senders turns (items_of more) out

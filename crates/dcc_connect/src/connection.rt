@@ -21,8 +21,7 @@ pub trait Answerer {
     ghost use Rattle.std.specs.Prelude.{ℕ, List};
     ghost use Rattle.dcc_base.specs.declared.reply.Reply.{Reply};
 
-    /// What answering a message may do: the answerer before it, the moment, the message's octets, the reply, and the answerer after
-    /// it.
+    /// The relation of an answered message: the answerer before it, the moment, the message's octets, the reply, and the answerer after it.
     ghost answers: { Self → ℕ → List ℕ → Reply → Self → Type 0 };
 
     /// Answers one whole message, at this moment.
@@ -30,16 +29,16 @@ pub trait Answerer {
         ensures { answers self.old moment message.now result self.new };
 }
 
-/// Serves a connection: answers the messages of what is read, in order and each once, and writes each answer's octets before the next
-/// message is looked at, until the reader ends, the connection closes behind an answer, a fault comes or the turns are used up. A turn
-/// is one call of the reader or the writer, which is given at most 65,536 octets; a call that is interrupted is made again in the same
-/// turn, up to 16 times, and has failed then. A rest of less than a message is dropped at the end. It waits where the reader or the
-/// writer waits.
+/// Serves a connection: answers the messages in the octets that it reads, in order and each once, and writes each answer's octets before
+/// the next message is answered. It ends when the reader ends, the connection closes behind an answer, a fault comes, or the turns are
+/// used up. A turn is one call of the reader or the writer; the writer is given at most 65,536 octets. An interrupted call is repeated in
+/// the same turn; at the 16th interruption of a turn it has failed. A rest of less than a message is dropped at the end. The function
+/// waits when the reader or the writer waits.
 ///
 /// Faults: [`ConnectFault::Read`](crate::ConnectFault), the reader failed; `Write`, the writer failed or took no octet, after so many
 /// octets of the answers, and nothing was written after it; `TooManyTurns`, the turns were used up; `Header`, a message's header can't
-/// be read or a length field is that of no message: those before it were answered; `Memory`, a growth was refused for what was read
-/// last, of which nothing was answered.
+/// be read or no message has its length field, and the messages before it were answered; `Memory`, memory was short for the octets that
+/// were read last, of which nothing was answered.
 pub fn serve_connection<I: Read, O: Write, C: Clock, A: Answerer>(
     alloc: Global,
     input: &mut I,
@@ -73,7 +72,7 @@ pub fn serve_connection<I: Read, O: Write, C: Clock, A: Answerer>(
     ConnectionEnd::Fault(ConnectFault::TooManyTurns)
 }
 
-/// Answers the whole messages that the framer holds, each once the answer before it is out.
+/// Answers the whole messages that the framer holds, each after the answer before it went out.
 fn answer_ready<O: Write, C: Clock, A: Answerer>(
     output: &mut O,
     framer: &mut Framer,

@@ -1,4 +1,4 @@
-//! Why a connection doesn't go on.
+//! The faults and ends of a connection.
 
 ghost use Rattle.std.specs.Prelude.{◌≡◌};
 ghost use Rattle.dcc_connect.specs.Faults.{connect_fault_number};
@@ -7,19 +7,19 @@ use dcc_message::{HeaderFault, LengthFault};
 use std::alloc::AllocError;
 use thiserror::Error;
 
-/// Why a connection, or one of its sides, doesn't go on.
+/// The reason for which a connection, or one of its sides, doesn't go on.
 #[derive(Clone, Copy, Debug, PartialEq, Eq, Error)]
 pub enum ConnectFault {
     /// Fault 70: the reader failed.
     #[error("the reader failed")]
     Read,
-    /// Fault 71: the writer failed, or took no octet. So many it had taken, and none since.
+    /// Fault 71: the writer failed, or took no octet. It took so many octets before, and none since.
     #[error("the writer failed after {written} octets")]
     Write { written: u64 },
     /// Fault 72: the bound on turns was reached.
     #[error("too many turns")]
     TooManyTurns,
-    /// Fault 10, 11 or 12: what was read is no message here.
+    /// Fault 10, 11 or 12: the octets that were read are no message.
     #[error("no message can be read")]
     Header(HeaderFault),
     /// Memory was refused.
@@ -73,14 +73,14 @@ impl From<LengthFault> for ConnectFault {
     }
 }
 
-/// How a connection, or the reader's side of one, ended.
+/// The end of a connection, or of its reader's side.
 #[derive(Clone, Copy, Debug, PartialEq, Eq)]
 pub enum ConnectionEnd {
     /// The reader ended. A rest of less than a message is dropped.
     End,
-    /// The connection closes behind the last message that was passed on. What was read behind it is dropped.
+    /// The connection closes behind the last message that was passed on. The octets behind this message are dropped.
     Closed,
-    /// It doesn't go on.
+    /// A fault ended the connection.
     Fault(ConnectFault),
 }
 
@@ -94,5 +94,5 @@ impl From<ConnectFault> for ConnectionEnd {
     }
 }
 
-/// How the reader's side of a connection ended.
+/// The end of the reader's side of a connection.
 pub type ReadEnd = ConnectionEnd;

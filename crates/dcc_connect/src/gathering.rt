@@ -5,19 +5,19 @@ ghost use Rattle.dcc_connect.specs.inner.Gathers.{within, Joins};
 
 use std::alloc::Global;
 
-/// So many octets are gathered, at most: an answer beyond them goes out by itself.
+/// At most so many octets are gathered. An answer with which they would be more goes out by itself, behind them.
 const MOST_GATHERED: usize = 16_384;
 
-/// The octets of items that were taken and haven't gone out.
+/// The octets of items that were taken, and haven't gone out yet.
 #[derive(Drop)]
 pub(crate) struct Gathered {
     pub octets: Vec<u8>,
-    /// Where each item ends among the octets.
+    /// The end of each item among the octets.
     pub ends: Vec<usize>,
 }
 
 impl Gathered {
-    /// None yet. It takes no memory.
+    /// No octets. It takes no memory.
     pub fn new(alloc: Global) -> Gathered
         ensures octets { result.octets.items ≡ [] }
         ensures ends { result.ends.items ≡ [] }
@@ -28,8 +28,8 @@ impl Gathered {
         }
     }
 
-    /// Adds an item's octets and tells whether it did: it doesn't where there are none, where with them there are more octets than turns or
-    /// more than are gathered, or where memory is refused.
+    /// Adds an item's octets, and returns whether it did. It adds nothing if the item has no octets, if there would then be more octets than
+    /// turns or than may be gathered, or if memory is refused.
     pub fn add(&mut self, octets: &[u8], turns: u32) -> bool
         ensures { MatchBool result (Joins turns octets.now self.old self.new) ((self.new.octets.items ≡ self.old.octets.items) × (self.new.ends.items ≡ self.old.ends.items)) }
     {
@@ -46,7 +46,7 @@ impl Gathered {
         true
     }
 
-    /// How many items end within the first so many octets.
+    /// The number of items that end within the first so many octets.
     pub fn whole(&self, count: u64) -> u64
         ensures { result ≡ within count self.now.ends.items }
     {

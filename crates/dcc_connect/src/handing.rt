@@ -1,16 +1,16 @@
-//! Who tells the moment, and who takes the messages.
+//! The clock of a connection, and the receiver of its messages.
 
 use dcc_act::Moment;
 use std::sync::Wait;
 
-/// A clock. Each reading is a step of it, so that contracts tell one reading from another.
+/// A clock. Each reading is a step of the clock, so that contracts distinguish its readings.
 pub trait Clock {
     ghost use Rattle.std.specs.Prelude.{ℕ};
 
-    /// What a reading may tell: the clock before it, the moment, and the clock after it.
+    /// The relation of a reading: the clock before it, the moment, and the clock after it.
     ghost tells: { Self → ℕ → Self → Type 0 };
 
-    /// The moment as of now.
+    /// The present moment.
     fn moment(&mut self) -> Moment
         ensures { tells self.old result self.new };
 }
@@ -24,12 +24,12 @@ pub enum Handed {
     Closes,
 }
 
-/// What takes a connection's messages, one after another.
+/// The receiver of a connection's messages, one after another.
 pub trait Submitter {
     ghost use Rattle.std.specs.Prelude.{ℕ, List};
     ghost use Rattle.dcc_connect.specs.declared.handing.Handed.{Handed};
 
-    /// What handing a message on may do: the submitter before it, the moment, the message's octets, whether the connection stays,
+    /// The relation of a message that is handed on: the submitter before it, the moment, the message's octets, whether the connection stays,
     /// and the submitter after it.
     ghost hands: { Self → ℕ → List ℕ → Handed → Self → Type 0 };
 

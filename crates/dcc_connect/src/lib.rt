@@ -1,15 +1,16 @@
-//! Connections: the two sides of one over any reader and writer, each for a thread of its own, and a whole one for a single thread.
+//! Connections over any reader and writer: the two sides of a connection, each for a thread of its own, and a whole connection for a
+//! single thread.
 //!
-//! Stands on `dcc_message` for the messages of a stream, on `dcc_lane` for what a writer is given, and on `dcc_base` for what a reply
-//! is. The contract that it gives, for readers and writers that tell their octets: [`read_side`] hands on the messages of what was
-//! read, in order, each once, up to and including the first behind which the connection closes; [`write_side`] writes the octets of
-//! the items that it takes, in order; [`serve_connection`] writes the answers to the messages of what was read, in order. With a fault
-//! of the writer what went out is the beginning of as many octets as the fault tells, and nothing is written after it. Each counts its
-//! turns, ends at their bound, and tells [`ConnectFault::TooManyTurns`] just there. Each message is taken at the moment of a reading of the clock that is its own
-//! ([`Clock`]).
+//! Stands on `dcc_message` for the messages of a stream, on `dcc_lane` for the items of a writer, and on `dcc_base` for replies. The
+//! contract that it gives, for readers and writers whose octets contracts can see: [`read_side`] hands on the messages in the octets that
+//! it read, in order, each once, up to and including the first message behind which the connection closes. [`write_side`] writes the
+//! octets of the items that it takes, in order. [`serve_connection`] writes the answers to the messages in the octets that it read, in
+//! order. After a fault of the writer, exactly as many octets as the fault names have gone out, and nothing is written any more. Each
+//! function counts its turns, ends at their bound, and reports [`ConnectFault::TooManyTurns`] only there. Each message has a reading of
+//! the clock of its own, and is taken at the moment of this reading ([`Clock`]).
 //!
-//! What a clause can't say, and tests show: that a reader or writer that fails is told as its own fault; and that what a lane has at once goes
-//! out in one call, up to 16,384 octets, and isn't held back while the lane is empty.
+//! Tests show three facts that no clause can say. A reader or writer that fails is reported by its own fault. The items that are in a lane
+//! at one time go out in one call, up to 16,384 octets. No octets are held back while the lane is empty.
 #![tactic(auto)]
 
 mod connection;

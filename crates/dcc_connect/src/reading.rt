@@ -13,14 +13,14 @@ use std::alloc::Global;
 use std::io::Read;
 use std::sync::Wait;
 
-/// Hands on the messages of what is read, in order and each once, until the reader ends, a message closes the connection, a fault
-/// comes or the turns are used up. A turn is one call of the reader; a call that is interrupted is made again in the same turn, up to
-/// 16 times, and has failed then. All whole messages of what was read are handed on before the next call. A rest of less than a
-/// message is dropped at the end. It waits where the reader or the submitter waits.
+/// Hands on the messages in the octets that it reads, in order and each once, until the reader ends, a message closes the connection, a
+/// fault comes, or the turns are used up. A turn is one call of the reader. An interrupted call is repeated in the same turn; at the 16th
+/// interruption of a turn it has failed. All whole messages that were read are handed on before the next call of the reader. A rest of
+/// less than a message is dropped at the end. The function waits when the reader or the submitter waits.
 ///
 /// Faults: [`ConnectFault::Read`], the reader failed; [`ConnectFault::TooManyTurns`], each turn brought octets and no end;
-/// [`ConnectFault::Header`], a message's header can't be read or a length field is that of no message: those before it were handed
-/// on, and it isn't; [`ConnectFault::Memory`], a growth was refused for what was read last, of which nothing was handed on.
+/// [`ConnectFault::Header`], a message's header can't be read or no message has its length field, and only the messages before it were
+/// handed on; [`ConnectFault::Memory`], memory was short for the octets that were read last, of which nothing was handed on.
 pub fn read_side<W: Wait, I: Read, C: Clock, S: Submitter>(
     rt: &W,
     alloc: Global,

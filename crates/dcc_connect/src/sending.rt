@@ -1,4 +1,4 @@
-//! How octets go out.
+//! Sending octets.
 
 ghost use Rattle.std.specs.Prelude.{◌≡◌, ◌+◌, ◌*◌, ◌≤◌, ◌<◌, ◌^◌, length, take, MatchBool};
 ghost use Rattle.std.specs.Io.KnownBytes.{Appends};
@@ -8,10 +8,10 @@ use crate::fault::ConnectFault;
 use crate::turns::MOST_CALLS;
 use std::io::{ErrorKind, Write};
 
-/// As many octets a writer is given at a time, at most, so that what goes out in all turns can be counted.
+/// A writer is given at most so many octets in a call, so that the octets of all turns can be counted.
 pub(crate) const MOST_AT_ONCE: usize = 65_536;
 
-/// The turns that are left, and how many octets the writer took.
+/// The number of turns that are left, and the number of octets that the writer took.
 #[derive(Drop)]
 pub(crate) struct Tally {
     pub left: u32,
@@ -31,7 +31,7 @@ impl Tally {
         }
     }
 
-    /// Takes a turn, or tells that none is left.
+    /// Takes a turn, and returns whether a turn was left.
     pub fn spend(&mut self) -> bool
         ensures written { self.new.written ≡ self.old.written }
         ensures left { MatchBool result (self.old.left ≡ self.new.left + 1) ((self.old.left ≡ 0) × (self.new.left ≡ 0)) }
@@ -43,7 +43,8 @@ impl Tally {
         true
     }
 
-    /// One turn of the writer: how many octets it took, which are some.
+    /// One turn of the writer, which is given at least one octet: the number of octets that it took, at least 1. Errors:
+    /// [`ConnectFault::TooManyTurns`], no turn was left; [`ConnectFault::Write`], the writer failed or took no octet.
     pub fn write<O: Write>(&mut self, output: &mut O, octets: &[u8]) -> Result<usize, ConnectFault>
         requires { 0 < length octets.now }
         ensures { WritesOnce result (O.contents output.old) (O.contents output.new) octets.now
@@ -65,7 +66,7 @@ impl Tally {
     }
 }
 
-/// How many octets the writer took; none where it failed.
+/// The number of octets that the writer took; 0 if it failed.
 fn write_once<O: Write>(output: &mut O, octets: &[u8]) -> usize
     ensures bound { result ≤ length octets.now }
     ensures octets { Appends (O.contents output.old) (O.contents output.new) (take result octets.now) }
@@ -83,7 +84,7 @@ fn write_once<O: Write>(output: &mut O, octets: &[u8]) -> usize
     0
 }
 
-/// Writes octets until all are out, the writer fails or no turn is left.
+/// Writes octets until all of them went out, the writer fails, or no turn is left.
 pub(crate) fn send<O: Write>(
     output: &mut O,
     octets: &[u8],

@@ -10,22 +10,22 @@ use dcc_message::{Framer, read_header};
 use dcc_octets::OctetString;
 use std::io::{ErrorKind, Read};
 
-/// As many octets are asked for at a time.
+/// The number of octets that a call of the reader asks for.
 pub(crate) const PIECE: usize = 4096;
 
-/// So often a call that is interrupted is made again in the same turn.
+/// The number of calls in a turn: an interrupted call is repeated up to this number, the first call included.
 pub(crate) const MOST_CALLS: u32 = 16;
 
-/// What a turn of the reader brought.
+/// The result of a turn of the reader.
 #[derive(Clone, Copy, Debug, PartialEq, Eq)]
 pub(crate) enum Turn {
-    /// Octets, which the framer was fed.
+    /// Octets, with which the framer was fed.
     Fed,
     /// The reader's end.
     End,
 }
 
-/// One turn of the reader, by way of this piece. The framer is fed all that it gives, or nothing where memory is refused.
+/// One turn of the reader, over this buffer. The framer is fed with all octets that the reader gave, or with none if memory is refused.
 pub(crate) fn read_turn<I: Read>(
     input: &mut I,
     framer: &mut Framer,
@@ -43,7 +43,7 @@ pub(crate) fn read_turn<I: Read>(
     }
 }
 
-/// How many octets the reader gave, 0 at its end; none where it failed.
+/// The number of octets that the reader gave, 0 at its end; none if it failed.
 fn read_once<I: Read>(input: &mut I, piece: &mut [u8]) -> Option<usize>
     requires { 0 < length piece.old }
     ensures bound { IfSome result (λ count. count ≤ length piece.new) }
@@ -64,7 +64,7 @@ fn read_once<I: Read>(input: &mut I, piece: &mut [u8]) -> Option<usize>
     None
 }
 
-/// Takes the next message off, once its header is read.
+/// Takes the next whole message off the framer, and checks its header; none if there is no whole message.
 pub(crate) fn next_message(framer: &mut Framer) -> Result<Option<OctetString>, ConnectFault>
     ensures { Nexts result framer.old framer.new }
 {

@@ -15,7 +15,7 @@ use std::alloc::Global;
 use std::io::Write;
 use std::sync::Wait;
 
-/// What a writer takes of its lane.
+/// An item in the lane of a writer.
 #[derive(Debug, Drop)]
 pub enum Item {
     /// The octets of one answer.
@@ -24,26 +24,26 @@ pub enum Item {
     End,
 }
 
-/// How the writer's side of a connection ended.
+/// The end of the writer's side of a connection.
 #[derive(Clone, Copy, Debug, PartialEq, Eq)]
 pub struct WriteEnd {
-    /// The first fault: the writer's, with how many octets went out, or that the turns were used up. With none, all that was taken
-    /// went out and every sender ended.
+    /// The first fault: the writer's, with the number of octets that went out, or the used-up turns. Without a fault, the octets of all
+    /// taken items went out, and every sender ended.
     pub fault: Option<ConnectFault>,
-    /// How many items of octets went out whole.
+    /// The number of items whose octets went out whole.
     pub answers: u64,
-    /// How many of the lane's senders have ended: all, but where the turns were used up before.
+    /// The number of the lane's senders that have ended: all of them, unless the turns were used up before.
     pub ended: usize,
 }
 
-/// Takes items of a lane and writes their octets, in order, until every sender has ended. What the lane has at once goes out in one call of
-/// the writer, up to some 16,000 octets, where memory isn't refused; nothing is held back while the lane is empty. A turn is an item taken
-/// or one call of the writer, which is given at most 65,536 octets; a call that is interrupted is made again in the same turn, up to 16
-/// times. After a fault of the writer nothing more is written, and items are still taken and dropped until every sender has ended or the
-/// turns are used up. It waits where the lane or the writer waits.
+/// Takes items of a lane and writes their octets, in order, until every sender has ended. The items that are in the lane at one time go out
+/// in one call of the writer, up to 16,384 octets, unless memory is refused. No octets are held back while the lane is empty. A turn is one
+/// taken item, or one call of the writer, which is given at most 65,536 octets. An interrupted call is repeated in the same turn; at the
+/// 16th interruption of a turn it has failed. After a fault of the writer nothing more is written; items are still taken, and dropped,
+/// until every sender has ended or the turns are used up. The function waits when the lane or the writer waits.
 ///
 /// Faults: [`ConnectFault::Write`], the writer failed or took no octet; [`ConnectFault::TooManyTurns`], the turns were used up before
-/// every sender had ended, and no fault came before: all that was taken is out, but for what is missing of the last item.
+/// every sender had ended, and no fault came before: only octets of the last taken item can be missing.
 pub fn write_side<W: Wait, O: Write>(
     rt: &W,
     alloc: Global,
@@ -75,7 +75,7 @@ pub fn write_side<W: Wait, O: Write>(
     progress.end(senders)
 }
 
-/// Sends what was gathered, where behind the next turn there is none for each of its octets.
+/// Sends the gathered octets if, behind the next turn, there would not be a turn for each of them.
 fn leave_turns<O: Write>(
     output: &mut O,
     gathered: &mut Gathered,
@@ -93,7 +93,7 @@ fn leave_turns<O: Write>(
     }
 }
 
-/// Takes the next item; where there is none at once, what was gathered goes out before it waits.
+/// Takes the next item. If the lane is empty, the gathered octets go out before it waits.
 fn take_next<W: Wait, O: Write>(
     rt: &W,
     output: &mut O,
@@ -116,7 +116,7 @@ fn take_next<W: Wait, O: Write>(
     from.take(rt)
 }
 
-/// Counts the end of a sender, or gathers an item's octets, where they fit; else what was gathered goes out, and they behind it.
+/// Counts the end of a sender, or gathers an item's octets, as `gather_octets` does.
 fn gather<O: Write>(
     output: &mut O,
     item: Item,
@@ -138,7 +138,7 @@ fn gather<O: Write>(
     }
 }
 
-/// Gathers octets, where they fit; else what was gathered goes out, and they behind it.
+/// Gathers octets if they fit. Otherwise the gathered octets go out, and these octets behind them.
 fn gather_octets<O: Write>(
     output: &mut O,
     octets: &[u8],
@@ -158,7 +158,7 @@ fn gather_octets<O: Write>(
     write_octets(output, octets, tally, progress);
 }
 
-/// Sends what was gathered: one call of the writer, where it takes all. The condition: there is a turn for each octet.
+/// Sends the gathered octets, in one call of the writer if it takes all. The condition: there is a turn for each octet.
 fn flush<O: Write>(
     output: &mut O,
     gathered: &mut Gathered,
@@ -182,12 +182,12 @@ fn flush<O: Write>(
     gathered.ends.clear();
 }
 
-/// How far a writer has come.
+/// The progress of a writer's side.
 #[derive(Drop)]
 struct Progress {
-    /// So many senders have ended.
+    /// The number of senders that have ended.
     pub ended: usize,
-    /// So many items of octets went out whole.
+    /// The number of items whose octets went out whole.
     pub answers: u64,
     pub fault: Option<ConnectFault>,
 }
@@ -203,7 +203,7 @@ impl Progress {
         }
     }
 
-    /// How it ended, where it takes nothing more of a lane with so many senders.
+    /// The end of a side that takes nothing more of a lane with so many senders.
     fn end(self, senders: usize) -> WriteEnd
         ensures fault { result.fault ≡ last_fault self.fault (nat_lt self.ended senders) }
         ensures answers { result.answers ≡ self.answers }
@@ -222,7 +222,7 @@ impl Progress {
     }
 }
 
-/// Writes octets, or drops them where there was a fault before.
+/// Writes octets, or drops them if there was a fault before.
 fn write_octets<O: Write>(output: &mut O, octets: &[u8], tally: &mut Tally, progress: &mut Progress)
     requires { progress.old.answers + 1 < 2 ^ 64 }
     ensures { WritesOctets progress.old.fault octets.now progress.old progress.new (O.contents output.old) (O.contents output.new)

@@ -1,4 +1,4 @@
--- What a clause says of a lane's ends.
+-- The ends of a lane, as clauses see them.
 use Rattle.std.specs.Prelude.{◌≡◌, ◌≢◌, ℕ, ◌+◌, ◌<◌, List, [], ◌∷◌, ◌++◌, Some, length, slice_get, vec_len}
 use Rattle.std.specs.List.{All}
 use mathlib.Core.List.{IsPrefix}
@@ -14,7 +14,7 @@ use Rattle.dcc_lane.specs.declared.receiver.LaneFault.TheVariants.{SenderMissing
 use Rattle.dcc_lane.specs.Rule.{of, IsIn}
 
 module _ {T : Type 0} where
-  -- which lane an end is of
+  -- the lane of an end
   abbrev pub lane_of : Receiver T → TableId
   lane_of r = r.pass.table_id
 
@@ -24,18 +24,18 @@ module _ {T : Type 0} where
   abbrev pub number_of : Sender T → ℕ
   number_of s = s.number
 
-  -- every item that it put, in order
+  -- the items that a sender put, in order
   abbrev pub put_of : Sender T → List T
   put_of s = (view s.pass).put
 
-  -- for how many items the lane has room
+  -- the number of items for which the lane has room
   abbrev pub capacity_of : Receiver T → ℕ
   capacity_of r = ruled_capacity (arc_value r.shared).queue
 
   abbrev pub senders_of : Receiver T → ℕ
   senders_of r = vec_len r.taken
 
-  -- every item that was taken, in order, with its sender's number
+  -- the taken items, in order, each with its sender's number
   abbrev pub taken_of : Receiver T → List (Tagged T)
   taken_of r = (view r.pass).taken
 
@@ -57,11 +57,11 @@ module _ {T : Type 0} where
   abbrev pub IsOfLane : TableId → Sender T → Type 0
   IsOfLane lane s = lane_of_sender s ≡ lane
 
-  -- what was taken of a sender is a beginning of what it put
+  -- the taken items of a sender are a beginning of the items that it put
   abbrev pub IsBegun : Receiver T → Sender T → Type 0
   IsBegun r s = IsPrefix (of (number_of s) (taken_of r)) (put_of s)
 
-  -- each item that was taken is one that one of these senders put
+  -- each taken item is an item that its sender, one of these, put
   abbrev pub AreHeard : Receiver T → List (Sender T) → Type 0
   AreHeard r ss = (t : Tagged T) → IsIn t (taken_of r) → (s : Sender T) × IsIn s ss × (number_of s ≡ t.from) × IsIn t.item (put_of s)
 
@@ -72,7 +72,7 @@ module _ {T : Type 0} where
   abbrev pub HasNoneOf : ℕ → List (Sender T) → Type 0
   HasNoneOf k ss = All (λ s. number_of s ≢ k) ss
 
-  -- the counts of each sender are the lengths of what it put and of what was taken of it
+  -- the counts of each sender are the number of the items that it put, and the number of its taken items
   abbrev pub AreCounts : Receiver T → List (Sender T) → List Count → Type 0
   AreCounts r ss cs = (k : ℕ) (c : Count) → slice_get cs k ≡ Some c → IsPutBy ss k c.put × (c.taken ≡ length (of k (taken_of r)))
 
@@ -80,6 +80,6 @@ module _ {T : Type 0} where
   IsMissing SenderMissing r ss = (k : ℕ) × (k < senders_of r) × HasNoneOf k ss
   IsMissing Memory r ss = Unit {0}
 
-  -- what a sender's pass leaves with the receiver's
+  -- the knowledge that a sender's pass leaves with the receiver's pass
   abbrev pub left_by : Sender T → ℕ × List T
   left_by s = (number_of s, put_of s)

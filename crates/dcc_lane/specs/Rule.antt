@@ -1,4 +1,4 @@
--- The rule of a lane's queue, over what the queue holds and what each pass knows.
+-- The rule of a lane's queue, over the items in the queue and the knowledge of each pass.
 use Rattle.std.specs.Prelude.{◌≡◌, ℕ, ◌≤◌, ◌<◌, ◌⊎◌, true, false, cond, nat_eq, Option, Some, None, List, [], ◌∷◌, ◌++◌}
 use Rattle.std.specs.List.{AllByRecursion}
 use mathlib.Core.Option.{some}
@@ -7,7 +7,7 @@ use lib.ListN.{get_elem?}
 use Rattle.dcc_lane.specs.declared.rule.Known.{Known}
 use Rattle.dcc_lane.specs.declared.rule.Tagged.{Tagged}
 
--- it stands in the list
+-- a value stands in a list
 abbrev pub IsIn : {X : Type 0} → X → List X → Type 0
 IsIn x [] = ⊥
 IsIn x (y ∷ ys) = (y ≡ x) ⊎ IsIn x ys
@@ -28,7 +28,7 @@ module _ {T : Type 0} where
   of k [] = []
   of k (t ∷ ts) = cond (nat_eq t.from k) (t.item ∷ of k ts) (of k ts)
 
-  -- each sender has one pass, which knows what it put
+  -- each sender has one pass, which knows the items that the sender put
   abbrev pub FitsSender : (ℕ → Option ℕ) → List (Tagged T) → ℕ → Known T → Type 0
   FitsSender seat all pass v = v.sends ≡ true → (seat v.number ≡ Some pass) × (v.put ≡ of v.number all)
 
@@ -39,18 +39,18 @@ module _ {T : Type 0} where
   abbrev pub HasEnded : ℕ → (ℕ → Option ℕ) → List (Tagged T) → ℕ × List T → Type 0
   HasEnded made seat all e = (e.0 < made) × (seat e.0 ≡ None) × (e.1 ≡ of e.0 all)
 
-  -- the one receiver knows what it took, how many senders were made, and what those that have ended put
+  -- the only receiver knows the items that it took, the number of senders that were made, and the items that the ended senders put
   abbrev pub FitsReceiver : ℕ → (ℕ → Option ℕ) → List (Tagged T) → List (Tagged T) → ℕ → Known T → Type 0
   FitsReceiver reader seat taken all pass v =
       v.receives ≡ true
       → (pass ≡ reader) × (v.taken ≡ taken) × ((k : ℕ) → v.made ≤ k → IsUnmade seat all k) × AllByRecursion (HasEnded v.made seat all) v.ended
 
-  -- of each sender, what was taken and then what waits is what it put
+  -- the taken items of a sender, and then its queued items, are the items that it put
   abbrev pub Delivers : List (Tagged T) → List (Known T) → Type 0
   Delivers items views =
       (reader : ℕ) × (seat : ℕ → Option ℕ) × (taken : List (Tagged T))
       × ((pass : ℕ) (v : Known T) → get_elem? views pass ≡ some v → FitsSender seat (taken ++ items) pass v × FitsReceiver reader seat taken (taken ++ items) pass v)
 
-  -- of each sender that has ended, what was taken is a beginning of what it put
+  -- the taken items of each ended sender are a beginning of the items that it put
   abbrev pub AreBegun : List (Tagged T) → List (ℕ × List T) → Type 0
   AreBegun taken ended = AllByRecursion (λ (e : ℕ × List T). IsPrefix (of e.0 taken) e.1) ended

@@ -8,12 +8,12 @@ ghost use Rattle.dcc_lane.specs.declared.receiver.LaneFault.TheVariants.{SenderM
 ghost use Rattle.dcc_lane.specs.declared.receiver.Receiver.{Receiver};
 ghost use Rattle.dcc_lane.specs.declared.sender.Sender.{Sender};
 
-/// A sender that is missing is fault 80.
+/// A missing sender is fault 80.
 pub fn numbers_are_given()
     ensures { lane_fault_number SenderMissing ≡ Some 80 }
 {}
 
-/// Where as many items were taken of a sender as it put, just what it put was taken.
+/// If as many items of a sender were taken as it put, exactly the items that it put were taken, in order.
 pub fn equal_counts<T: Drop>()
     ensures { (receiver : Receiver T) (sender : Sender T) → IsBegun receiver sender
         → length (of (number_of sender) (taken_of receiver)) ≡ length (put_of sender) → of (number_of sender) (taken_of receiver) ≡ put_of sender }

@@ -1,4 +1,4 @@
-//! How a lane is made.
+//! The making of a lane.
 ghost use Rattle.std.specs.Prelude.{◌≡◌, ◌<◌, [], IfOk, vec_len};
 ghost use Rattle.std.specs.List.{All};
 ghost use Rattle.dcc_lane.specs.Ends.{lane_of, capacity_of, senders_of, taken_of, AreNew, IsOfLane};
@@ -18,8 +18,8 @@ pub struct Lane<T> {
 }
 
 impl<T: Drop> Lane<T> {
-    /// A lane with room for so many items: as many senders as asked for, by their numbers from 0, and the receiver. The only error is
-    /// want of memory.
+    /// A lane with room for `capacity` items: its senders, with the numbers 0 to `senders` - 1 in order, and its receiver. The conditions:
+    /// there is room for an item, and there is a sender. The only error is want of memory.
     pub fn new(
         alloc: Global,
         capacity: usize,

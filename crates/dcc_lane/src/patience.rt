@@ -1,16 +1,16 @@
-//! How an end waits without work: it tries a while, and then sleeps until the other side rings.
+//! The wait of an end: it tries for a while, and then sleeps until the other side rings.
 use crate::bell::{Bell, Word};
 use std::hint::spin_loop;
 use std::sync::Wait;
 
-/// So many tries an end spins between.
+/// The number of tries between which an end spins.
 const SPINS: u32 = 40;
 
 /// One wait for a move, between tries.
 #[derive(Drop)]
 pub struct Patience {
     turns: u32,
-    /// Its word that it is going to sleep, behind the spins.
+    /// The word of the end that it is going to sleep, behind the spins.
     word: Option<Word>,
 }
 
@@ -22,9 +22,9 @@ impl Patience {
         }
     }
 
-    /// Waits a little after a try that failed; another try has to follow. Behind the spins it gives its word that it is going to sleep, and
-    /// with the call after that it sleeps, unless the bell rang since. It doesn't yield: where other programs are busy, an end that yields
-    /// waits for the rest of their turn, and an end that is rung doesn't.
+    /// Waits a little after a try that failed; another try has to follow. The first call behind the spins gives the end's word that it is
+    /// going to sleep. The next call sleeps, unless the bell rang since. A wait doesn't yield: if other programs are busy, an end that
+    /// yields waits for the rest of their turn, and an end that is rung doesn't.
     pub fn pause<R: Wait>(&mut self, rt: &R, bell: &Bell) {
         if self.turns < SPINS {
             self.turns += 1;

@@ -13,14 +13,14 @@ use std::alloc::Global;
 use std::sync::{Arc, Wait};
 use thiserror::Error;
 
-/// The receiver of a lane. It counts what it took of each sender.
+/// The receiver of a lane. It counts the items that it took of each sender.
 #[derive(Drop)]
 pub struct Receiver<T> {
     pub(crate) alloc: Global,
     pub(crate) shared: Arc<Shared<T>, Global>,
     pub(crate) taken: Vec<u64>,
     pub(crate) pass: End<T>,
-    /// So many items were taken since senders that wait for room were rung; at a quarter of the lane's room they are.
+    /// The number of items taken since the senders that wait for room were rung. They are rung again at a quarter of the lane's room.
     pub(crate) freed: usize,
     pub(crate) quarter: usize,
     ghost tied: { IsPassOf (arc_value shared).queue pass },
@@ -29,17 +29,17 @@ pub struct Receiver<T> {
     ghost numbered: { (t : Tagged T) → IsIn t (view pass).taken → t.from < vec_len taken },
 }
 
-/// How many items of one sender were put and taken.
+/// The numbers of items of one sender that were put and taken.
 #[derive(Clone, Copy, Debug, PartialEq, Eq)]
 pub struct Count {
     pub put: u64,
     pub taken: u64,
 }
 
-/// Why a lane isn't ended.
+/// The reason for which a lane isn't ended.
 #[derive(Clone, Copy, Debug, PartialEq, Eq, Error)]
 pub enum LaneFault {
-    /// Fault 80: one of the lane's senders isn't there.
+    /// Fault 80: a sender of the lane is missing.
     #[error("a sender is missing")]
     SenderMissing,
     /// Memory was short for the counts.
@@ -61,7 +61,7 @@ impl LaneFault {
     }
 }
 
-/// A lane that isn't ended: why, and its ends as they were.
+/// A lane that isn't ended: the reason, and its ends as they were.
 #[derive(Drop)]
 pub struct Unfinished<T> {
     pub fault: LaneFault,
@@ -74,14 +74,14 @@ impl<T: Drop> Receiver<T> {
     ghost use Rattle.std.specs.List.{All};
     ghost use Rattle.dcc_lane.specs.Ends.{lane_of, senders_of, number_of, taken_of, IsSameReceiver, TakesOne, IsOfLane, HasNoneOf, IsBegun, IsPutBy, AreCounts, AreHeard, IsMissing};
 
-    /// How many senders the lane was made with.
+    /// The number of senders with which the lane was made.
     pub fn senders(&self) -> usize
         ensures { result ≡ senders_of self.now }
     {
         self.taken.len()
     }
 
-    /// Takes the oldest item. It waits while there is none. Senders are woken as by [`Receiver::try_take`].
+    /// Takes the next item. It waits while the lane is empty. Senders are woken as by [`Receiver::try_take`].
     pub fn take<R: Wait>(&mut self, rt: &R) -> T
         ensures same { IsSameReceiver self.old self.new }
         ensures taken { TakesOne self.old result self.new }
@@ -96,9 +96,9 @@ impl<T: Drop> Receiver<T> {
         unreachable!()
     }
 
-    /// Takes the oldest item, or none where the lane was empty at one moment. It waits for no item, but may try again while a sender
-    /// is in the midst of its step. Senders that wait for room are woken together, once a quarter of the lane's room was taken, or none was
-    /// found: who then takes nothing for a while has to ring first.
+    /// Takes the next item; none if the lane was empty at one moment. It waits for no item, but may try again while a sender is in the midst
+    /// of its step. Senders that wait for room are woken together, once a quarter of the lane's room was taken, or no item was found. So a
+    /// caller that then takes nothing for a while has to call [`Receiver::ring`] first.
     pub fn try_take<R: Wait>(&mut self, rt: &R) -> Option<T>
         ensures same { IsSameReceiver self.old self.new }
         ensures taken { MatchOption result (taken_of self.new ≡ taken_of self.old) (λ x. TakesOne self.old x self.new) }
@@ -113,7 +113,7 @@ impl<T: Drop> Receiver<T> {
         taken
     }
 
-    /// Wakes the senders that wait for room, where there is some since they were woken.
+    /// Wakes the senders that wait for room, if an item was taken since they were woken.
     pub fn ring(&mut self)
         ensures same { IsSameReceiver self.old self.new }
         ensures taken { taken_of self.new ≡ taken_of self.old }
@@ -124,7 +124,7 @@ impl<T: Drop> Receiver<T> {
         }
     }
 
-    /// Takes the oldest item, or none where the lane was empty at one moment, and wakes nobody.
+    /// Takes the next item; none if the lane was empty at one moment. It wakes nobody.
     fn pop<R: Wait>(&mut self, rt: &R) -> Option<T>
         ensures same { IsSameReceiver self.old self.new }
         ensures taken { MatchOption result (taken_of self.new ≡ taken_of self.old) (λ x. TakesOne self.old x self.new) }
@@ -138,10 +138,11 @@ impl<T: Drop> Receiver<T> {
         Some(item)
     }
 
-    /// Ends the lane: how many items of each sender were put and taken, by their numbers. It takes nothing more. The condition: the
-    /// senders are of this lane.
+    /// Ends the lane, and returns the counts of its senders in the order of their numbers. Items that are still queued are dropped. The
+    /// condition: the senders are of this lane.
     ///
-    /// Errors, with all ends handed back: [`LaneFault::SenderMissing`], not all senders are there; [`LaneFault::Memory`].
+    /// Errors, with all ends handed back: [`LaneFault::SenderMissing`], a sender of the lane isn't among `senders`; [`LaneFault::Memory`],
+    /// memory was short for the counts.
     pub fn finish(self, senders: Vec<Sender<T>>) -> Result<Vec<Count>, Unfinished<T>>
         requires { All (IsOfLane (lane_of self)) senders.items }
         ensures counts { IfOk result (λ counts. (vec_len counts ≡ senders_of self) × AreCounts self senders.items counts.items) }
@@ -163,7 +164,7 @@ impl<T: Drop> Receiver<T> {
         }
     }
 
-    /// How many items of each sender were put and taken.
+    /// The counts of the senders, in the order of their numbers.
     fn counts(&self, senders: &[Sender<T>]) -> Result<Vec<Count>, LaneFault>
         ensures len { IfOk result (λ counts. vec_len counts ≡ senders_of self.now) }
         ensures ok { IfOk result (λ counts. AreCounts self.now senders.now counts.items) }
@@ -184,7 +185,7 @@ impl<T: Drop> Receiver<T> {
         Ok(all)
     }
 
-    /// Takes what each sender knows into what the receiver knows, and compares.
+    /// Joins the knowledge of each sender into the receiver's, and compares both.
     fn join(self, senders: Vec<Sender<T>>)
         requires { All (IsOfLane (lane_of self)) senders.items }
         ensures { All (IsBegun self) senders.items }

@@ -1,4 +1,4 @@
-//! The rule of the queue: of each sender, what was taken and then what waits is what it put.
+//! The rule of the queue: the taken items of a sender, and then its queued items, are the items that it put.
 use crate::bell::Bell;
 use crossbeam_queue::protocol::{Join, Lesson, Outcome, Protocol, Split};
 use crossbeam_queue::{Pass, RuledArrayQueue};
@@ -11,8 +11,8 @@ pub struct Tagged<T> {
     pub item: T,
 }
 
-/// What an end knows of the queue. A sender knows what it put. The receiver knows what it took, how many senders were made, and what
-/// those that have ended put. No value of it is made.
+/// The knowledge of an end about the queue. A sender knows the items that it put. The receiver knows the items that it took, the number of
+/// senders that were made, and the items that the ended senders put. No value of this type is made.
 pub struct Known<T> {
     pub sends: bool,
     pub number: usize,
@@ -27,7 +27,7 @@ pub type Queue<T> = RuledArrayQueue<Tagged<T>, Known<T>, InOrder>;
 
 pub type End<T> = Pass<Tagged<T>, Known<T>>;
 
-/// What the ends of a lane share.
+/// The parts that the ends of a lane share.
 #[derive(Drop)]
 pub struct Shared<T> {
     pub queue: Queue<T>,

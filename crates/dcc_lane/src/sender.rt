@@ -17,7 +17,7 @@ pub struct Sender<T> {
     pub(crate) number: usize,
     pub(crate) sent: u64,
     pub(crate) pass: End<T>,
-    /// Whether an item was left for which the receiver wasn't rung.
+    /// Whether an item was left for which the receiver wasn't rung yet.
     pub(crate) owes: AtomicBool,
     ghost tied: { IsPassOf (arc_value shared).queue pass },
     ghost known: { view pass ≡ sender number (view pass).put },
@@ -35,8 +35,8 @@ impl<T: Drop> Sender<T> {
         self.number
     }
 
-    /// Puts an item at the lane's end, and wakes the receiver. Where the lane is full it waits until the receiver rings for room, and the
-    /// receiver is woken first for what was left.
+    /// Puts an item at the lane's end, and wakes the receiver. If the lane is full, it first wakes the receiver for items that were left, and
+    /// then waits until the receiver rings for room.
     pub fn put<R: Wait>(&mut self, rt: &R, item: T)
         ensures same { IsSameSender self.old self.new }
         ensures put { put_of self.new ≡ put_of self.old ++ item ∷ [] }
@@ -56,7 +56,7 @@ impl<T: Drop> Sender<T> {
         unreachable!()
     }
 
-    /// Puts an item and wakes the receiver, or hands it back where the lane was full at one moment, and wakes nobody.
+    /// Puts an item and wakes the receiver. If the lane was full at one moment, it hands the item back and wakes nobody.
     pub fn try_put<R: Wait>(&mut self, rt: &R, item: T) -> Result<(), T>
         ensures same { IsSameSender self.old self.new }
         ensures ok { OnOk result (put_of self.new ≡ put_of self.old ++ item ∷ []) }
@@ -67,8 +67,8 @@ impl<T: Drop> Sender<T> {
         Ok(())
     }
 
-    /// Puts an item as [`Sender::try_put`] does, but wakes nobody: a receiver that sleeps does so until [`Sender::ring`], or until an item is put.
-    /// Who leaves items has to ring before it waits for anything, and before it ends.
+    /// Puts an item as [`Sender::try_put`] does, but wakes nobody: a sleeping receiver sleeps on until [`Sender::ring`], or until an item is put
+    /// by another function. A caller that leaves items has to ring before it waits for anything, and before it ends.
     pub fn try_leave<R: Wait>(&mut self, rt: &R, item: T) -> Result<(), T>
         ensures same { IsSameSender self.old self.new }
         ensures ok { OnOk result (put_of self.new ≡ put_of self.old ++ item ∷ []) }
@@ -98,7 +98,7 @@ impl<T: Drop> Sender<T> {
         }
     }
 
-    /// Wakes the receiver, where it sleeps and an item was left for it.
+    /// Wakes the receiver, if it sleeps and this sender left an item for it.
     pub fn ring(&self) {
         if self.owes.load(Ordering::Relaxed) {
             self.owes.store(false, Ordering::Relaxed);
@@ -107,7 +107,7 @@ impl<T: Drop> Sender<T> {
     }
 }
 
-/// Waits for ever: where a count has come to its end, 2^64.
+/// Waits for ever, since a count of items would reach 2^64.
 pub(crate) fn never<R: Wait>(rt: &R) -> ! {
     for _ in rt.forever() {}
     unreachable!()

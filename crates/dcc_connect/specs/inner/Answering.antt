@@ -1,4 +1,4 @@
--- How the messages that are held are answered.
+-- The answering of held messages.
 use Rattle.std.specs.Prelude.{◌≡◌, ℕ, ◌+◌, ◌≤◌, ◌<◌, List, [], ◌++◌, length, take, Option, Result, Ok, Err}
 use Rattle.std.specs.Io.KnownBytes.{Appends}
 use Rattle.dcc_message.specs.Streams.{rest}
@@ -12,11 +12,11 @@ use Rattle.dcc_connect.specs.inner.Sends.{Counts}
 use Rattle.dcc_connect.specs.inner.Steps.{HasPassed, HasRead}
 
 module _ {A : Type 0} (answers : A → ℕ → List ℕ → Reply → A → Type 0) where
-  -- of what is due all went out
+  -- all due octets went out
   abbrev pub AllSent : (due out : List ℕ) → Counts → Counts → Type 0
   AllSent due out old new = (out ≡ due) × (old.left ≤ new.left + length out)
 
-  -- which messages were answered, whatever was due before, and what went out
+  -- the messages that were answered, whatever was due before, and the octets that went out
   abbrev pub Answered : Result (Unit {0}) ConnectionEnd → List ℕ → List ℕ → A → A → (due out : List ℕ) → Counts → Counts → Type 0
   Answered (Ok done) held now a b due out old new =
       ((before : List ℕ) → PassesAll (AnswersOn answers) held (a, before) (b, before ++ due)) × (now ≡ rest held) × AllSent due out old new
@@ -39,7 +39,7 @@ module _ {A : Type 0} (answers : A → ℕ → List ℕ → Reply → A → Type
       (due out : List ℕ) × Appends sent after out × (new.written ≡ old.written + length out) × (new.left ≤ old.left)
       × Answered result held now a b due out old new
 
-  -- some messages were answered, and all that was due for them went out
+  -- some messages were answered, and all octets that were due for them went out
   pub record HasAnswered (held now : List ℕ) (a b : A) (sent after : Option (List ℕ)) (old new : Counts) : Type 0 where
     pub due : List ℕ
     pub passed : (before : List ℕ) → HasPassed (AnswersOn answers) held now (a, before) (b, before ++ due)
@@ -48,7 +48,7 @@ module _ {A : Type 0} (answers : A → ℕ → List ℕ → Reply → A → Type
     pub fewer : new.left ≤ old.left
     pub turned : old.left ≤ new.left + length due
 
-  -- so far has a connection come: pieces were read, and the answers to their messages went out
+  -- the state of a connection: pieces were read, and the answers to their messages went out
   pub record HasServed (turn turns : ℕ) (before now : Option (List ℕ)) (sent after : Option (List ℕ)) (held : List ℕ) (a b : A) (counts : Counts) : Type 0 where
     pub due : List ℕ
     pub reading : HasRead (AnswersOn answers) turn before now held (a, []) (b, due)

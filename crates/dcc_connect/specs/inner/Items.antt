@@ -1,4 +1,4 @@
--- How a writer's items go out, one after another.
+-- The writing of items, one after another.
 use Rattle.std.specs.Prelude.{◌≡◌, ℕ, ◌+◌, ◌≤◌, ◌<◌, List, [], ◌++◌, length, take, Option, Some, None, Bool, true, false}
 use Rattle.std.specs.Io.KnownBytes.{Appends}
 use Rattle.dcc_connect.specs.declared.writing.Item.{Item}
@@ -14,7 +14,7 @@ use Rattle.dcc_connect.specs.Writing.{items_of, octets_in, but_last, ends_in, wh
 abbrev pub Stays : Option (List ℕ) → Option (List ℕ) → Counts → Counts → Type 0
 Stays before after old new = Appends before after [] × (new.written ≡ old.written) × (new.left ≡ old.left)
 
--- how the first fault came, with so many octets of so many
+-- the first fault, if so many octets of all went out
 abbrev pub FirstFault : Option ConnectFault → (count all : ℕ) → Counts → Counts → Type 0
 FirstFault None count all old new = (count ≡ all) × (old.left ≤ new.left + count)
 FirstFault (Some (Write written)) count all old new = (count < all) × (written ≡ new.written) × (old.left ≤ new.left + count + 1)
@@ -23,12 +23,12 @@ FirstFault (Some Read) count all old new = ⊥
 FirstFault (Some (Header fault)) count all old new = ⊥
 FirstFault (Some Memory) count all old new = ⊥
 
--- one more answer, where it went out whole
+-- the number of answers, with one more if it went out whole
 abbrev pub answers_with : Option ConnectFault → ℕ → ℕ
 answers_with None answers = answers + 1
 answers_with (Some fault) answers = answers
 
--- octets go out where there was no fault before
+-- octets go out if there was no fault before
 abbrev pub WritesOctets : Option ConnectFault → List ℕ → Progress → Progress → Option (List ℕ) → Option (List ℕ) → Counts → Counts → Type 0
 WritesOctets (Some fault) octets p q before after old new = (q ≡ p) × Stays before after old new
 WritesOctets None octets p q before after old new =
@@ -39,7 +39,7 @@ abbrev pub WritesItem : Item → Progress → Progress → Option (List ℕ) →
 WritesItem End p q before after old new = (q ≡ record p { ended = p.ended + 1 }) × Stays before after old new
 WritesItem (Octets octets) p q before after old new = WritesOctets p.fault octets p q before after old new
 
--- what went out of items, by the first fault
+-- the octets that went out of items, by the first fault
 abbrev pub HasSent : Option ConnectFault → (senders turns : ℕ) → List Item → List ℕ → Counts → Type 0
 HasSent None senders turns items out counts = (out ≡ octets_in items) × (turns ≤ length items + length out + counts.left)
 HasSent (Some (Write written)) senders turns items out counts =
@@ -51,7 +51,7 @@ HasSent (Some Read) senders turns items out counts = ⊥
 HasSent (Some (Header fault)) senders turns items out counts = ⊥
 HasSent (Some Memory) senders turns items out counts = ⊥
 
--- so far have the items come that were taken
+-- the state of a writer's side after these items
 pub record HasWritten (senders turns : ℕ) (items : List Item) (progress : Progress) (sent : List ℕ) (counts : Counts) : Type 0 where
   pub went : HasSent progress.fault senders turns items sent counts
   pub written : counts.written ≡ length sent
@@ -60,7 +60,7 @@ pub record HasWritten (senders turns : ℕ) (items : List Item) (progress : Prog
   pub ended : ends_in items ≡ progress.ended
   pub spent : length items + counts.left ≤ turns
 
--- of a lane
+-- the same after the taken items of a lane
 pub record HasTaken (senders turns : ℕ) (before now : Option (List ℕ)) (old new : List (Tagged Item)) (progress : Progress) (counts : Counts) : Type 0 where
   pub more : List (Tagged Item)
   pub sent : List ℕ
@@ -68,7 +68,7 @@ pub record HasTaken (senders turns : ℕ) (before now : Option (List ℕ)) (old 
   pub out : Appends before now sent
   pub so : HasWritten senders turns (items_of more) progress sent counts
 
--- the fault that is told at the end, by whether a sender hasn't ended
+-- the fault that is reported at the end, by whether a sender hasn't ended
 abbrev pub last_fault : Option ConnectFault → Bool → Option ConnectFault
 last_fault (Some fault) missing = Some fault
 last_fault None true = Some TooManyTurns

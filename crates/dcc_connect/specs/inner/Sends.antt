@@ -1,10 +1,10 @@
--- How octets go out.
+-- Sending octets.
 use Rattle.std.specs.Prelude.{◌≡◌, ℕ, ◌+◌, ◌≤◌, ◌<◌, List, [], length, take, Option, Result, Ok, Err}
 use Rattle.std.specs.Io.KnownBytes.{Appends}
 use Rattle.dcc_connect.specs.declared.fault.ConnectFault.{ConnectFault}
 use Rattle.dcc_connect.specs.declared.fault.ConnectFault.TheVariants.{Read, Write, TooManyTurns, Header, Memory}
 
--- turns that are left and octets that went out, before and after
+-- the number of turns that are left, and the number of octets that went out
 pub record Counts : Type 0 where
   pub left : ℕ
   pub written : ℕ
@@ -21,7 +21,7 @@ WritesOnce (Err Read) before after octets old new = ⊥
 WritesOnce (Err (Header fault)) before after octets old new = ⊥
 WritesOnce (Err Memory) before after octets old new = ⊥
 
--- how sending so many of the octets ended
+-- the result of sending, if so many octets of all went out
 abbrev pub StopsAt : Result (Unit {0}) ConnectFault → (count all : ℕ) → Counts → Counts → Type 0
 StopsAt (Ok done) count all old new = (count ≡ all) × (old.left ≤ new.left + count)
 StopsAt (Err (Write written)) count all old new = (count < all) × (written ≡ new.written) × (old.left ≤ new.left + count + 1) × (new.left < old.left)
