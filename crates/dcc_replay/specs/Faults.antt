@@ -1,4 +1,4 @@
--- Why a replay isn't made, by what its parts tell.
+-- The faults of a replay, by the faults of its parts.
 use Rattle.dcc_streams.specs.declared.reading.ReadFault.{ReadFault}
 use Rattle.dcc_streams.specs.declared.reading.ReadFault.TheVariants as read
 use Rattle.dcc_replay.specs.declared.fault.ReplayFault.{ReplayFault}

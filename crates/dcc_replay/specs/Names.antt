@@ -1,4 +1,4 @@
--- Who answers, as a plan names it.
+-- The identity of the server that a plan names.
 use Rattle.dcc_tariff.specs.Plans.{PlanView}
 use Rattle.dcc_message.specs.declared.identity.Identity.{Identity}
 

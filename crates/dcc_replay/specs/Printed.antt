@@ -1,4 +1,4 @@
--- What is printed of the outs of a run.
+-- The printed form of the outs of a run.
 use Rattle.std.specs.Prelude.{ℕ, ◌+◌, ◌==◌, if◌then◌else◌, List, [], ◌∷◌, ◌++◌, length, map, codes, Some, None}
 use Rattle.std.specs.Fmt.{decimal}
 use Rattle.hex.specs.Hex.{encode_lower}
@@ -6,21 +6,21 @@ use Rattle.dcc_act.specs.declared.sub.Sub.{Sub}
 use Rattle.dcc_engine.specs.declared.event.Out.{Out}
 use Rattle.dcc_shard.specs.Answers.{word_of}
 
--- the answer's octets in hex, where there are any, under the peer
+-- the answer's octets in hexadecimal digits, if there are any, behind the peer's number
 unfoldable pub answered : Out → List (List ℕ)
 answered out = elim out.peer [
   | None ↦ []
   | Some peer ↦ if length out.octets == 0 then [] else (codes "answer " ++ decimal peer ++ codes " " ++ encode_lower out.octets) ∷ []
 ]
 
--- that the peer is closed
+-- the end of the peer's connection
 unfoldable pub closed : Out → List (List ℕ)
 closed out = elim out.peer [
   | None ↦ []
   | Some peer ↦ if out.close then (codes "close " ++ decimal peer) ∷ [] else []
 ]
 
--- what a top-up is told
+-- the answer to a top-up
 unfoldable pub topped_up : Out → List (List ℕ)
 topped_up out = elim out.top_up [ None ↦ [] | Some answer ↦ (codes "topup " ++ word_of answer) ∷ [] ]
 
@@ -31,11 +31,11 @@ refused_of sub = codes "refused " ++ decimal sub.kind ++ codes ":" ++ sub.name
 abbrev pub all_refused : Out → List (List ℕ)
 all_refused out = if out.refused_all then (codes "refused " ++ codes "all") ∷ [] else []
 
--- whose expiries a sweep refused
+-- the subscribers whose expiry a sweep refused
 unfoldable pub refused : Out → List (List ℕ)
 refused out = map refused_of out.refused ++ all_refused out
 
--- what is told of a top-up, or of a sweep
+-- the lines of a top-up, or of a sweep
 abbrev pub told : Out → List (List ℕ)
 told out = topped_up out ++ refused out
 
@@ -53,7 +53,7 @@ numbered n (phrase ∷ phrases) = (decimal n ++ codes " " ++ phrase ++ 10 ∷ []
 abbrev pub lines_of_out : ℕ → Out → List ℕ
 lines_of_out n out = numbered n (or_dash (answered out ++ closed out ++ told out))
 
--- the lines of outs of which the first is event n's
+-- the lines of outs, of which the first is the out of event n
 unfoldable pub lines_from : ℕ → List Out → List ℕ
 lines_from n [] = []
 lines_from n (out ∷ outs) = lines_of_out n out ++ lines_from (n + 1) outs

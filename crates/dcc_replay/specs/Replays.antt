@@ -15,7 +15,7 @@ use Rattle.dcc_replay.specs.Names.{identity_of}
 use Rattle.dcc_replay.specs.Scripts.{script_of}
 use Rattle.dcc_replay.specs.Printed.{printed}
 
--- an engine just opened: under the plan and the names that it gives, over the plan's number of shards, without peers and acts
+-- a new engine: under the plan and the identity that the plan names, over the plan's number of shards, without peers and acts
 pub record IsNew (plan : PlanView) (engine : EngineView) : Type 0 where
   pub setting : engine.setting ≡ record { plan = plan; identity = identity_of plan }
   pub shards : engine.shards ≡ plan.shards
@@ -26,7 +26,7 @@ pub record IsNew (plan : PlanView) (engine : EngineView) : Type 0 where
 abbrev pub AreInOrder : EngineView → List Out → Type 0
 AreInOrder engine outs = All (λ out. IsStrictlySortedBy (route_order engine.shards) out.refused) outs
 
--- what is written is the printed form of the outs of a run over the script's events, one for each
+-- the written text is the printed form of the outs of a run over the script's events, one out for each event
 pub record IsReplayed (plan : PlanView) (text written : List ℕ) : Type 0 where
   pub events : List Event
   pub outs : List Out
@@ -38,20 +38,19 @@ pub record IsReplayed (plan : PlanView) (text written : List ℕ) : Type 0 where
   pub order : AreInOrder engine outs
   pub shown : written ≡ printed outs
 
--- this is what is printed of the script, where it is known
+-- the text is the printed form for the script, if the script is known
 abbrev pub IsShown : PlanView → Option (List ℕ) → List ℕ → Type 0
 IsShown plan script written = IfSome script (λ text. IsReplayed plan text written)
 
--- a writer, before and after, has grown by all of what is printed
+-- a writer, before and after, has grown by the whole printed form
 abbrev pub IsWritten : PlanView → (script old new : Option (List ℕ)) → Type 0
 IsWritten plan script old new = (written : List ℕ) × IsShown plan script written × Appends old new written
 
--- or by its first octets
+-- a writer has grown by the first octets of the printed form
 abbrev pub IsBegun : PlanView → (script old new : Option (List ℕ)) → Type 0
 IsBegun plan script old new = (written : List ℕ) × (n : ℕ) × IsShown plan script written × Appends old new (take n written)
 
--- the faults that a replay comes to: that of the script's first line with a fault, where the script is known, or memory, or
--- input or output
+-- the faults of a replay: the first line of the script with a fault, if the script is known; or memory, input or output
 abbrev pub IsReplayFault : Option (List ℕ) → ReplayFault → Type 0
 IsReplayFault script (Line line) = IfSome script (λ text. script_of text ≡ Err line)
 IsReplayFault script Memory = ⊤

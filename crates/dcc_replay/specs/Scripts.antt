@@ -71,7 +71,7 @@ abbrev pub is_remark : List ℕ → Bool
 is_remark [] = true
 is_remark (octet ∷ line) = octet == 35
 
--- the event of line n before those of the later lines; n is the fault of a line that has none of the forms
+-- the event of line n, before the events of the later lines; n is the fault of a line that has none of the forms
 abbrev pub then_later : ℕ → Option Event → Result (List Event) ℕ → Result (List Event) ℕ
 then_later n None later = Err n
 then_later n (Some event) (Ok events) = Ok (event ∷ events)
@@ -88,7 +88,7 @@ events_from n (line ∷ lines) =
 unfoldable pub script_of : List ℕ → Result (List Event) ℕ
 script_of text = events_from 1 (lines_of text)
 
--- the fault that a script's reading tells: the line that the definition gives, or want of memory
+-- the faults of a script's reading: the line that the definition returns, or want of memory
 abbrev pub IsFaultOf : Result (List Event) ℕ → ScriptFault → Type 0
 IsFaultOf script (Line n) = script ≡ Err n
 IsFaultOf script Memory = Unit {0}

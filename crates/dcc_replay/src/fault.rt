@@ -1,4 +1,4 @@
-//! Why a replay isn't made.
+//! The faults of a replay.
 
 ghost use Rattle.std.specs.Prelude.{◌≡◌};
 ghost use Rattle.dcc_replay.specs.Faults.{of_script, of_read};
@@ -9,7 +9,7 @@ use dcc_streams::{ReadFault, WriteFault};
 use std::alloc::AllocError;
 use thiserror::Error;
 
-/// Why a replay isn't made, or isn't written whole.
+/// The reason for which a replay isn't made, or isn't written whole.
 #[derive(Clone, Copy, Debug, PartialEq, Eq, Error)]
 pub enum ReplayFault {
     /// The line of the script with this number, from 1, has none of the forms.
@@ -21,7 +21,7 @@ pub enum ReplayFault {
     /// The script could not be read to its end.
     #[error("the script could not be read")]
     Input,
-    /// What is printed could not be written whole.
+    /// The output could not be written whole.
     #[error("the output could not be written")]
     Output,
 }

@@ -1,8 +1,8 @@
-//! Scripts of events, replayed: what a script says, the run of an engine over its events, and what is printed of it.
+//! Scripts of events, replayed: the events of a script, the run of an engine over them, and the printed form of the run.
 //!
 //! Stands on `dcc_engine`, on `dcc_words` for words, and on `dcc_streams` for readers and writers. The contract that it gives:
-//! [`replay_run`] writes the printed form of the outs of a run over the events that the script says, or a beginning of it where
-//! the writer fails, or nothing where a line of the script has a fault.
+//! [`replay_run`] writes the printed form of the outs of a run over the events of the script. If the writer fails, a beginning of it is
+//! written; with any other fault nothing is written.
 #![tactic(auto)]
 
 mod fault;

@@ -1,4 +1,4 @@
-//! Who answers, as a plan names it.
+//! The identity of the server that a plan names.
 
 ghost use Rattle.std.specs.Prelude.{◌≡◌, true, IfOk};
 ghost use Rattle.dcc_octets.specs.Names.{is_name};
@@ -8,7 +8,7 @@ use dcc_message::{DiameterIdentity, Identity};
 use dcc_tariff::Plan;
 use std::alloc::{AllocError, Global};
 
-/// Who answers under a plan: its host, its realm and its address.
+/// The identity of the server under a plan: host, realm and address. The only error is want of memory.
 pub fn identity_of(alloc: Global, plan: &Plan) -> Result<Identity, AllocError>
     ensures { IfOk result (λ identity. identity ≡ identity_of plan.now) }
 {

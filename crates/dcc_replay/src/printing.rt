@@ -1,4 +1,4 @@
-//! What is printed of the outs of a run.
+//! The printed form of the outs of a run.
 
 ghost use Rattle.std.specs.Prelude.{◌≡◌, ◌++◌, ◌==◌, ◌||◌, ◌∷◌, [], true, OnOk, IfOk, map, codes, string_bytes, not, length};
 ghost use Rattle.dcc_octets.specs.Names.{are_visible};
@@ -10,8 +10,9 @@ use std::alloc::{AllocError, Global};
 use std::fmt::Write;
 use std::str;
 
-/// The printed form of the outs of a run, whose events are numbered from 1: what applies of an answer's octets in hex, that
-/// its peer is closed, what a top-up is told, and whose expiries a sweep refused, each on a line of its own, or a dash.
+/// The printed form of the outs of a run, whose events are numbered from 1. An event has a line for each of these that it has: the
+/// answer's octets in hexadecimal digits, the end of its peer's connection, the answer to a top-up, each subscriber whose expiry a
+/// sweep refused. An event without any of them has a dash. The only error is want of memory.
 pub fn printed(alloc: Global, outs: &[Out]) -> Result<String, AllocError>
     ensures { IfOk result (λ text. string_bytes text ≡ printed outs.now) }
 {
@@ -35,7 +36,7 @@ fn put_out(text: &mut String, alloc: Global, n: u64, out: &Out) -> Result<(), Al
     Ok(())
 }
 
-/// Appends the line of the answer, if there is one, and says whether there is.
+/// Appends the line of the answer, if there is one, and returns whether there is.
 #[tactic(auto, unfolding(crate::specs::Printed::answered))]
 fn put_answer(text: &mut String, alloc: Global, n: u64, out: &Out) -> Result<bool, AllocError>
     ensures line { OnOk result (string_bytes text.new ≡ string_bytes text.old ++ numbered n (answered out.now)) }
@@ -52,7 +53,7 @@ fn put_answer(text: &mut String, alloc: Global, n: u64, out: &Out) -> Result<boo
     Ok(true)
 }
 
-/// Appends the line of the closing, if the peer is closed, and says whether it is.
+/// Appends the line of the closing, if the peer is closed, and returns whether it is.
 #[tactic(auto, unfolding(crate::specs::Printed::closed))]
 fn put_closing(text: &mut String, n: u64, out: &Out) -> Result<bool, AllocError>
     ensures line { OnOk result (string_bytes text.new ≡ string_bytes text.old ++ numbered n (closed out.now)) }
@@ -68,7 +69,7 @@ fn put_closing(text: &mut String, n: u64, out: &Out) -> Result<bool, AllocError>
     Ok(true)
 }
 
-/// Appends the lines of what is told of a top-up or of a sweep, and says whether there are any.
+/// Appends the lines of a top-up or of a sweep, and returns whether there are any.
 fn put_told(text: &mut String, n: u64, out: &Out) -> Result<bool, AllocError>
     ensures line { OnOk result (string_bytes text.new ≡ string_bytes text.old ++ numbered n (told out.now)) }
     ensures some { IfOk result (λ some. some ≡ not (length (told out.now) == 0)) }
@@ -78,7 +79,7 @@ fn put_told(text: &mut String, n: u64, out: &Out) -> Result<bool, AllocError>
     Ok(is_either(has_top_up, has_refused))
 }
 
-/// Appends the line of what a top-up is told, if the event was one, and says whether it was.
+/// Appends the line of the answer to a top-up, if the event was a top-up, and returns whether it was.
 #[tactic(auto, unfolding(crate::specs::Printed::topped_up))]
 fn put_top_up(text: &mut String, n: u64, out: &Out) -> Result<bool, AllocError>
     ensures line { OnOk result (string_bytes text.new ≡ string_bytes text.old ++ numbered n (topped_up out.now)) }
@@ -92,7 +93,7 @@ fn put_top_up(text: &mut String, n: u64, out: &Out) -> Result<bool, AllocError>
     Ok(true)
 }
 
-/// Appends the lines of whose expiries a sweep refused, and says whether there are any.
+/// Appends the lines of the subscribers whose expiry a sweep refused, and returns whether there are any.
 fn put_refused(text: &mut String, n: u64, out: &Out) -> Result<bool, AllocError>
     ensures line { OnOk result (string_bytes text.new ≡ string_bytes text.old ++ numbered n (refused out.now)) }
     ensures some { IfOk result (λ some. some ≡ not (length (refused out.now) == 0)) }
@@ -154,7 +155,7 @@ fn text_of(octets: &[u8]) -> &str
     }
 }
 
-/// Appends the line that all expiries were refused, where they were.
+/// Appends the line for the refusal of all expiries, if all were refused.
 fn put_all(text: &mut String, n: u64, out: &Out) -> Result<(), AllocError>
     ensures { OnOk result (string_bytes text.new ≡ string_bytes text.old ++ numbered n (all_refused out.now)) }
 {

@@ -19,10 +19,14 @@ use std::alloc::{AllocError, Global};
 use std::hash::RandomState;
 use std::io::{Read, Write};
 
-/// Reads a script, runs its events on an engine just opened under the plan, over as many shards in memory as the plan has, and writes what is printed of the outs.
+/// Reads a script, runs its events on a new engine under the plan, over as many shards in memory as the plan has, and writes the printed
+/// form of the outs.
 ///
-/// The whole script is judged before anything is written: at a fault of the script, and where memory is short, nothing is; where the
-/// writer fails, a beginning is. A script that has not ended after 4,294,967,295 reads is a failure of input.
+/// The whole script is read and run before anything is written. If the writer fails, a beginning of the text is written; with any other
+/// fault nothing is written. A script that has not ended after 4,294,967,295 reads is a failure of input.
+///
+/// Faults: [`ReplayFault::Line`], a line of the script has none of the forms; [`ReplayFault::Memory`], memory was short;
+/// [`ReplayFault::Input`], the script could not be read; [`ReplayFault::Output`], the output could not be written whole.
 pub fn replay_run<R: Read, W: Write>(
     alloc: Global,
     plan: &Plan,
@@ -44,7 +48,7 @@ pub fn replay_run<R: Read, W: Write>(
     Ok(())
 }
 
-/// The outs of a run of an engine just opened under the plan.
+/// The outs of a run of a new engine under the plan. The only error is want of memory.
 fn outs_of(
     alloc: Global,
     plan: &Plan,

@@ -9,7 +9,7 @@ use dcc_engine::Event;
 use dcc_words::{any_u64, hex_octets, host, moment, parts, peer, sub};
 use std::alloc::{AllocError, AllocFailed, Global};
 
-/// Why a script gives no events.
+/// The reason for which a script has no events.
 #[derive(Clone, Copy, Debug, PartialEq, Eq)]
 pub enum ScriptFault {
     /// The line with this number, from 1, has none of the forms.
@@ -34,7 +34,9 @@ impl<T: Drop> From<AllocFailed<T>> for ScriptFault {
     }
 }
 
-/// The events of a script, or the first of its lines that has none of the forms.
+/// The events of a script, in order.
+///
+/// Errors: [`ScriptFault::Line`], the first line that has none of the forms; [`ScriptFault::Memory`], memory was short.
 pub fn read_script(alloc: Global, text: &[u8]) -> Result<Vec<Event>, ScriptFault>
     ensures ok { IfOk result (λ events. script_of text.now ≡ Ok events.items) }
     ensures err { IfErr result (IsFaultOf (script_of text.now)) }

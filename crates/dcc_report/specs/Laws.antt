@@ -1,4 +1,4 @@
--- What the reader of a ledger may rest on.
+-- Laws for the reader of a ledger.
 use Rattle.std.specs.Prelude.{◌≡◌, ℕ, ◌^◌, ◌<◌, ◌≤◌, Some}
 use Rattle.hex.specs.Hex.{IsBytes}
 use Rattle.dcc_tariff.specs.PlanTexts.{moment_of}
@@ -13,10 +13,10 @@ abbrev pub IsName : EntryName → Type 0
 IsName (Ticket ticket) = ticket < 2 ^ 64
 IsName (Session sid) = IsBytes sid
 
--- names that look alike are one
+-- names with the same text are equal
 abbrev pub NamesAreApart : Type 0
 NamesAreApart = (a b : EntryName) → IsName a → IsName b → name_text a ≡ name_text b → a ≡ b
 
--- what is shown of a moment is what a plan has for that moment
+-- a plan reads the text of a moment as the same moment
 abbrev pub MomentsAreReadBack : Type 0
 MomentsAreReadBack = (moment : ℕ) → moment ≤ LAST_SECOND → moment_of (moment_text moment) ≡ Some moment

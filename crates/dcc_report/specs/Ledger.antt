@@ -1,4 +1,4 @@
--- The ledger of an account: whose it is, a line for each entry in the books, and how the account stands.
+-- The ledger of an account: a line with the subscriber, a line for each entry in the books, and a line with the account's standing.
 use Rattle.std.specs.Prelude.{ℕ, Bool, not, ◌&&◌, if◌then◌else◌, nat_eq, List, [], ◌∷◌, ◌++◌, codes, Option, Some, None, ℤ, pos, ◌+ℤ◌}
 use Rattle.std.specs.List.{starts_with}
 use Rattle.std.specs.Fmt.{decimal, signed_decimal}
@@ -13,31 +13,31 @@ use Rattle.dcc_act.specs.declared.entry.EntryName.TheVariants.{Ticket, Session}
 use Rattle.dcc_report.specs.Columns.{padded_left, padded_right, with_sign}
 use Rattle.dcc_report.specs.Moments.{moment_text}
 
--- what an entry stands for, as a word
+-- the word of an entry's kind
 abbrev pub word_of : EntryKind → List ℕ
 word_of TopUp = codes "TOPUP"
 word_of Debit = codes "DEBIT"
 word_of Refund = codes "REFUND"
 word_of Charge = codes "CHARGE"
 
--- the Rating-Group as sent, and a dash where none was
+-- the Rating-Group as it was sent; a dash if there was none
 abbrev pub group_text : Option ℕ → List ℕ
 group_text (Some group) = decimal group
 group_text None = codes "-"
 
--- a Session-Id is shown as it is where it is visible ASCII and can't be taken for one in hex digits
+-- a Session-Id is shown as it is if it is visible ASCII and can't be taken for one in hexadecimal digits
 abbrev pub is_shown : List ℕ → Bool
 is_shown sid = are_visible sid && not (starts_with nat_eq sid (codes "hex:"))
 
 abbrev pub session_text : List ℕ → List ℕ
 session_text sid = if is_shown sid then sid else codes "hex:" ++ encode_lower sid
 
--- by what an entry is known
+-- the name of an entry
 abbrev pub name_text : EntryName → List ℕ
 name_text (Ticket ticket) = codes "ticket " ++ decimal ticket
 name_text (Session sid) = session_text sid
 
--- the line of an entry, and of what the funds are after it: a column on each of these lines
+-- the line of an entry, with the funds after it: each line here is a column
 unfoldable pub entry_line : Entry → ℤ → List ℕ
 entry_line entry funds =
     padded_left 8 (decimal entry.place) ++ codes " "
@@ -54,18 +54,18 @@ abbrev pub sum_of : List Entry → ℤ
 sum_of [] = pos 0
 sum_of (entry ∷ entries) = entry.amount +ℤ sum_of entries
 
--- the lines of entries behind earlier ones, each with the sum of all amounts up to its own
+-- the lines of entries behind earlier entries, each with the sum of all amounts up to its own
 unfoldable pub lines_after : List Entry → List Entry → List ℕ
 lines_after earlier [] = []
 lines_after earlier (entry ∷ entries) =
     let so_far = earlier ++ entry ∷ [] in
     entry_line entry (sum_of so_far) ++ lines_after so_far entries
 
--- whose ledger it is, by the type and the data of the Subscription-Id
+-- the line with the subscriber, by the type and the data of the Subscription-Id
 abbrev pub head_line : SubView → List ℕ
 head_line sub = codes "account " ++ decimal sub.kind ++ codes ":" ++ sub.name ++ codes "\n"
 
--- how an account stands, in minor units
+-- the standing of an account, in minor units
 abbrev pub account_line : ℤ → ℤ → ℤ → List ℕ
 account_line funds reserved overrun =
     codes "funds " ++ signed_decimal funds ++ codes " reserved " ++ signed_decimal reserved

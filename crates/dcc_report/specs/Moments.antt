@@ -11,7 +11,8 @@ unfoldable pub last_begun : (ℕ → ℤ) → ℕ → ℕ → ℕ
 last_begun first_day day zero = zero
 last_begun first_day day (suc n) = if int_le (first_day (suc n)) (pos day) then suc n else last_begun first_day day n
 
--- the date of a day, counted from 1 January 1970: the last year (of 9999), and in it the last month, that has begun by then
+-- the date of a day, counted from 1 January 1970: the last year up to 9999 that has begun by then, and in this year the last month that
+-- has begun
 abbrev pub year_of : ℕ → ℕ
 year_of day = last_begun (λ year. first_of_month year 1) day 9999
 
@@ -21,7 +22,7 @@ month_of day = last_begun (λ month. first_of_month (year_of day) month) day 12
 abbrev pub day_of_month : ℕ → ℕ
 day_of_month day = unsigned_abs (pos day -ℤ first_of_month (year_of day) (month_of day)) + 1
 
--- a number below 100 in two digits, and one below 10,000 in four
+-- a number below 100 in two digits, and a number below 10,000 in four
 abbrev pub two_digits : ℕ → List ℕ
 two_digits n = (48 + n / 10) ∷ (48 + n % 10) ∷ []
 
@@ -36,6 +37,6 @@ date_text day = four_digits (year_of day) ++ codes "-" ++ two_digits (month_of d
 abbrev pub time_text : ℕ → List ℕ
 time_text second = two_digits (second / 3600) ++ codes ":" ++ two_digits (second / 60 % 60) ++ codes ":" ++ two_digits (second % 60)
 
--- 2025-06-01T00:01:00Z, from the seconds since 1970-01-01T00:00:00Z, where each day has 86,400
+-- 2025-06-01T00:01:00Z, from the seconds since 1970-01-01T00:00:00Z; each day has 86,400 seconds
 unfoldable pub moment_text : ℕ → List ℕ
 moment_text seconds = date_text (seconds / 86_400) ++ codes "T" ++ time_text (seconds % 86_400) ++ codes "Z"

@@ -2,12 +2,12 @@
 
 ghost use Rattle.dcc_report.specs.Laws.{MomentsAreReadBack, NamesAreApart};
 
-/// What the ledger shows of a moment, a plan reads as that moment: the date and the time are those that tariffs have too.
+/// A plan reads the text of a moment in the ledger as the same moment: both have the same form of date and time.
 pub fn moments_are_read_back()
     ensures { MomentsAreReadBack }
 {}
 
-/// Two names of entries that are shown alike are one: the ledger tells each session and each ticket from every other.
+/// Two names of entries with the same text are equal: the ledger distinguishes each session and each ticket from every other.
 pub fn names_are_apart()
     ensures { NamesAreApart }
 {}

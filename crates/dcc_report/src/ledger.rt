@@ -7,12 +7,12 @@ use crate::line::put_entry;
 use dcc_act::{Entry, Sub};
 use std::alloc::{AllocError, Global};
 
-/// The ledger of a subscriber's account: whose it is, a line for each entry in the order in which they are handed in, and
-/// how the account stands. Every line ends in a line feed, the last too.
+/// The ledger of a subscriber's account: a line with the subscriber, a line for each entry in the order of `entries`, and a line with
+/// the standing of the account. Every line ends in a line feed, the last line too.
 ///
-/// The entries are all of the account's, from its first on, so that the funds after the last one are the account's. What is
-/// reserved (the funds less what is free) and what was overrun are in minor units, as an account tells them. No number is
-/// too great to be shown: not a sum of amounts either, which fits `i128` however many entries there are.
+/// The caller passes all entries of the account, from the first on, so the funds after the last entry are the account's. The reserved
+/// money (the funds less the free money) and the overrun are in minor units, as an account returns them. Every number can be shown. A sum
+/// of amounts fits `i128` for any number of entries.
 ///
 /// The only error is want of memory.
 pub fn ledger_text(
@@ -35,8 +35,8 @@ pub fn ledger_text(
     Ok(text)
 }
 
-/// How an account stands, as the last line of its ledger says it: its funds, what is reserved of them, and what was overrun,
-/// in minor units. The line ends in a line feed. The only error is want of memory.
+/// The standing of an account, as the last line of its ledger: its funds, the reserved money and the overrun, in minor units. The line
+/// ends in a line feed. The only error is want of memory.
 pub fn account_line(
     alloc: Global,
     funds: i128,
@@ -50,7 +50,7 @@ pub fn account_line(
     Ok(line)
 }
 
-/// Appends whose ledger it is.
+/// Appends the line with the subscriber.
 fn put_head(text: &mut Vec<u8>, alloc: Global, sub: &Sub) -> Result<(), AllocError>
     ensures { OnOk result (text.new.items ≡ text.old.items ++ head_line sub.now) }
 {
@@ -61,7 +61,7 @@ fn put_head(text: &mut Vec<u8>, alloc: Global, sub: &Sub) -> Result<(), AllocErr
     text.extend_from_slice(b"\n")
 }
 
-/// Appends how the account stands.
+/// Appends the line with the standing of the account.
 fn put_account(
     text: &mut Vec<u8>,
     alloc: Global,

@@ -11,10 +11,10 @@ use dcc_act::{Entry, EntryKind, EntryName};
 use dcc_octets::are_visible;
 use std::alloc::{AllocError, Global};
 
-/// What stands before a Session-Id in hex digits.
+/// The octets before a Session-Id in hexadecimal digits.
 const HEX: &[u8] = b"hex:";
 
-/// Appends the line of an entry, after which the funds are these.
+/// Appends the line of an entry, after which the funds are `funds`. The only error is want of memory.
 pub(crate) fn put_entry(
     text: &mut Vec<u8>,
     alloc: Global,
@@ -30,7 +30,7 @@ pub(crate) fn put_entry(
     text.extend_from_slice(b"\n")
 }
 
-/// Appends the place and the moment of the act, and what the entry stands for.
+/// Appends the place and the moment of the act, and the entry's kind.
 fn put_act(text: &mut Vec<u8>, alloc: Global, entry: &Entry) -> Result<(), AllocError>
     ensures { OnOk result (text.new.items ≡ text.old.items
         ++ (padded_left 8 (decimal entry.now.place) ++ codes " "
@@ -55,7 +55,7 @@ fn word_of(kind: EntryKind) -> &'static str
     }
 }
 
-/// Appends the Rating-Group, or a dash.
+/// Appends the Rating-Group; a dash if there is none.
 fn put_group(text: &mut Vec<u8>, alloc: Global, group: Option<u32>) -> Result<(), AllocError>
     ensures { OnOk result (text.new.items ≡ text.old.items ++ (padded_left 10 (group_text group) ++ codes " ")) }
 {
@@ -66,7 +66,7 @@ fn put_group(text: &mut Vec<u8>, alloc: Global, group: Option<u32>) -> Result<()
     text.extend_from_slice(column.as_bytes())
 }
 
-/// Appends the units, what the funds change by, and what they are then.
+/// Appends the units, the change of the funds, and the funds after the change.
 fn put_amounts(
     text: &mut Vec<u8>,
     alloc: Global,
@@ -84,7 +84,7 @@ fn put_amounts(
     text.extend_from_slice(columns.as_bytes())
 }
 
-/// Appends by what the entry is known.
+/// Appends the name of the entry: its ticket or its session.
 fn put_name(text: &mut Vec<u8>, alloc: Global, name: &EntryName) -> Result<(), AllocError>
     ensures { OnOk result (text.new.items ≡ text.old.items ++ name_text name.now) }
 {
@@ -97,7 +97,8 @@ fn put_name(text: &mut Vec<u8>, alloc: Global, name: &EntryName) -> Result<(), A
     }
 }
 
-/// Appends the name of a session: as it is where it is visible and can't be taken for hex digits, and else in hex digits.
+/// Appends the name of a session: as it is if it is visible ASCII and doesn't begin with `hex:`, and otherwise in hexadecimal digits
+/// behind `hex:`.
 fn put_session(text: &mut Vec<u8>, alloc: Global, sid: &[u8]) -> Result<(), AllocError>
     ensures { OnOk result (text.new.items ≡ text.old.items ++ session_text sid.now) }
 {

@@ -1,4 +1,4 @@
--- What the words of a script say.
+-- The values of the words of a script.
 use Rattle.std.specs.Prelude.{ℕ, ◌^◌, ◌-◌, ◌+◌, ◌==◌, ◌&&◌, nat_lt, nat_le, if◌then◌else◌, List, length, take, drop, position, Option, Some}
 use Rattle.std.specs.Prelude.{None, Result, Ok, Err}
 use Rattle.std.specs.List.{list_all, slice_split}
@@ -10,17 +10,17 @@ use Rattle.dcc_octets.specs.Names.{is_short}
 use Rattle.dcc_tariff.specs.declared.limits.TheConstants.{LAST_SECOND}
 use Rattle.dcc_act.specs.Subs.{SubView, is_sub}
 
--- one step after another, up to the first that gives nothing
+-- one step after another, up to the first step that returns nothing
 infixl 10 ◌>>=◌
 abbrev pub ◌>>=◌ : {A B : Type 0} → Option A → (A → Option B) → Option B
 (Some x) >>= f = f x
 None >>= f = None
 
--- the lines of a text: what stands between its line feeds
+-- the lines of a text: the parts between its line feeds
 abbrev pub lines_of : List ℕ → List (List ℕ)
 lines_of text = slice_split (λ octet. octet == 10) text
 
--- the words of a line: what stands between its spaces
+-- the words of a line: the parts between its spaces
 abbrev pub words_of : List ℕ → List (List ℕ)
 words_of line = slice_split (λ octet. octet == 32) line
 
@@ -52,7 +52,7 @@ abbrev pub sized : Result (List ℕ) FromHexError → Option (List ℕ)
 sized (Ok octets) = if nat_le 1 (length octets) && nat_le (length octets) 65_536 then Some octets else None
 sized (Err fault) = None
 
--- octets in hex digits of either case
+-- octets in hexadecimal digits of either case
 unfoldable pub hex_octets : List ℕ → Option (List ℕ)
 hex_octets word = sized (decode_of word)
 
@@ -60,7 +60,7 @@ hex_octets word = sized (decode_of word)
 unfoldable pub known_sub : List ℕ → ℕ → Option SubView
 known_sub name kind = if is_sub kind name then Some (record { kind = kind; name = name }) else None
 
--- a subscriber: its type and its data, with a colon between, the word's first
+-- a subscriber: its type and its data, on the two sides of the word's first colon
 unfoldable pub sub : List ℕ → Option SubView
 sub word = do
   colon ← position (λ octet. octet == 58) word

@@ -1,9 +1,9 @@
-//! The words that say events in a script, and what a command is to do on a command line: numbers, moments, hosts, octets in hex
-//! digits, and subscribers.
+//! The words of events in a script and of commands on a command line: numbers, moments, hosts, octets in hexadecimal digits, and
+//! subscribers.
 //!
-//! Stands on `dcc_act` for moments and subscribers, on `dcc_tariff` for their limit, on `dcc_base` for hosts, and on `dcc_octets`;
-//! `hex` reads digits. The contract that it gives: each function gives what a word says by `specs/Words.antt`, and nothing where
-//! it has no such form, or a value out of its limits.
+//! Stands on `dcc_act` for moments and subscribers, on `dcc_tariff` for the last moment, on `dcc_base` for hosts, and on `dcc_octets`;
+//! `hex` reads digits. The contract that it gives: each function returns the value of a word by `specs/Words.antt`, or nothing if the
+//! word doesn't have the form, or its value is outside the limits.
 #![tactic(auto)]
 
 mod words;

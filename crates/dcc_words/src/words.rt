@@ -1,4 +1,4 @@
-//! What the words of a script say.
+//! The values of the words of a script.
 
 ghost use Rattle.std.specs.Prelude.{◌≡◌, ◌<◌, ◌==◌, ◌≤◌, length, position, map, IfOk, IfSome};
 ghost use Rattle.std.specs.List.{list_all, slice_split};
@@ -12,17 +12,17 @@ use dcc_tariff::LAST_SECOND;
 use hex::FromHexError;
 use std::alloc::{AllocError, Global};
 
-/// A message of a script has at most as many octets.
+/// A message of a script has at most so many octets.
 const MOST_OCTETS: usize = 65_536;
 
-/// The parts of a text, cut at each separator.
+/// The parts of a text, cut at each separator. The only error is want of memory.
 pub fn parts(alloc: Global, text: &[u8], separator: u8) -> Result<Vec<&[u8]>, AllocError>
     ensures { IfOk result (λ parts. map (λ part. part.now) parts.items ≡ slice_split (λ octet. octet == separator) text.now) }
 {
     text.split(|octet| *octet == separator).collect(alloc)
 }
 
-/// A number in decimal digits, up to a limit.
+/// A number in decimal digits, 0 to `limit`.
 fn number(word: &[u8], limit: u64) -> Option<u64>
     ensures value { result ≡ number limit word.now }
     ensures limit { IfSome result (λ number. number ≤ limit) }
@@ -45,7 +45,7 @@ fn are_digits(word: &[u8]) -> bool
     word.iter().all(|octet| octet.is_ascii_digit())
 }
 
-/// The number of a peer.
+/// The number of a peer, 0 to 2^32 - 1.
 pub fn peer(word: &[u8]) -> Option<u32>
     ensures { result ≡ peer word.now }
 {
@@ -53,21 +53,21 @@ pub fn peer(word: &[u8]) -> Option<u32>
     Some(number as u32)
 }
 
-/// A ticket, or an amount in minor units.
+/// A ticket, or an amount in minor units: 0 to 2^64 - 1.
 pub fn any_u64(word: &[u8]) -> Option<u64>
     ensures { result ≡ any_u64 word.now }
 {
     number(word, u64::MAX)
 }
 
-/// A moment, in seconds since 1970-01-01T00:00:00Z.
+/// A moment, in seconds since 1970-01-01T00:00:00Z, up to the end of 2099.
 pub fn moment(word: &[u8]) -> Option<Moment>
     ensures { result ≡ moment word.now }
 {
     Moment::new(number(word, LAST_SECOND)?)
 }
 
-/// A host's name: any word of 1 to 255 octets.
+/// A host's name: any word of 1 to 255 octets. The only error is want of memory.
 pub fn host(alloc: Global, word: &[u8]) -> Result<Option<Host>, AllocError>
     ensures { IfOk result (λ name. name ≡ host word.now) }
 {
@@ -75,7 +75,7 @@ pub fn host(alloc: Global, word: &[u8]) -> Result<Option<Host>, AllocError>
     Ok(Host::from_octets(OctetString::from_vec(name)))
 }
 
-/// Octets in hex digits of either case, 1 to 65,536.
+/// 1 to 65,536 octets in hexadecimal digits of either case. The only error is want of memory.
 #[tactic(auto, unfolding(crate::specs::Words::hex_octets))]
 pub fn hex_octets(alloc: Global, word: &[u8]) -> Result<Option<OctetString>, AllocError>
     ensures { IfOk result (λ octets. octets ≡ hex_octets word.now) }
@@ -89,7 +89,7 @@ pub fn hex_octets(alloc: Global, word: &[u8]) -> Result<Option<OctetString>, All
     }
 }
 
-/// A subscriber: its type and its data, with a colon between.
+/// A subscriber: its type and its data, on the two sides of the word's first colon.
 #[tactic(auto, unfolding(crate::specs::Words::sub))]
 pub fn sub(word: &[u8]) -> Option<Sub>
     ensures { result ≡ sub word.now }
