@@ -2,7 +2,7 @@
 use Rattle.std.specs.Prelude.{Bool}
 use Rattle.dcc_records.specs.Memory.{MemoryView}
 
--- the records, and whether the gate stayed shut once, so that they are stopped
+-- the records, and whether they are stopped since the gate once stayed shut
 pub record GateView : Type 0 where
   pub inner : MemoryView
   pub stopped : Bool

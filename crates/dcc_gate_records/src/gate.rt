@@ -4,17 +4,17 @@ use std::hint::spin_loop;
 use std::sync::atomic::{AtomicBool, Ordering};
 use std::thread;
 
-/// A gate, which is shut until it is opened, and tells whether an append has come to it.
+/// A gate, which is shut until it is opened, and which keeps whether an append has reached it.
 #[derive(Drop)]
 pub struct Gate {
     reached: AtomicBool,
     open: AtomicBool,
 }
 
-/// How often an append looks at a shut gate.
+/// The number of times that an append looks at a shut gate.
 const TURNS: u32 = 100_000;
 
-/// How often it spins between two looks.
+/// The number of spins between two looks.
 const SPINS: u32 = 64;
 
 impl Gate {
@@ -31,12 +31,12 @@ impl Gate {
         self.open.store(true, Ordering::SeqCst);
     }
 
-    /// Whether an append has come to the gate.
+    /// Whether an append has reached the gate.
     pub fn is_reached(&self) -> bool {
         self.reached.load(Ordering::SeqCst)
     }
 
-    /// Waits for the gate to open, and says whether it did: up to 100,000 turns, each of which is one look and a pause.
+    /// Waits until the gate is open, and returns whether it is: up to 100,000 turns, each of which is one look and a pause.
     pub(crate) fn lets_in(&self) -> bool {
         self.reached.store(true, Ordering::SeqCst);
         for _ in 0..TURNS {

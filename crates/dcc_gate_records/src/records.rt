@@ -12,8 +12,8 @@ use dcc_records::{Book, MemoryRecords, Records, StoreFault};
 use dcc_tariff::Terms;
 use std::marker::Model;
 
-/// Records in memory whose appends wait at a gate, for tests of what stands above records. Where the gate stays shut for 100,000 turns
-/// the append fails, as a store does, and the records are stopped.
+/// Records in memory whose appends wait at a gate, for tests of the layers above. If the gate stays shut for 100,000 turns, the append
+/// fails as the append of a store does, and the records are stopped.
 #[derive(Drop)]
 pub struct GateRecords<'a> {
     inner: MemoryRecords,

@@ -1,4 +1,4 @@
--- What the tables hold of a book.
+-- A book in the tables.
 use Rattle.std.specs.Prelude.{◌≡◌, ◌≢◌, ℕ, [], slice_get, Some}
 use Rattle.sqlite.specs.Tree.{Trees}
 use Rattle.sqlite.specs.State.{State, HasCleanDisk}
@@ -14,8 +14,8 @@ use Rattle.dcc_sqlrows.specs.Held.{AreJust, IsActRow, IsEntryRow, IsAccountRow}
 use Rattle.dcc_sqlrows.specs.OldRows.{IsOldActRow}
 use Rattle.dcc_sqlrec.specs.Trees.{act_rows, entry_rows, account_rows}
 
--- The tables hold this book under these terms: of each subscriber the acts, which are those that the list itself makes, their
--- entries and the account, each once.
+-- The tables hold this book under these terms. They have the acts of each subscriber, their entries and the account, each once. The acts
+-- are exactly those that their own list makes.
 pub record HoldsBook (terms : TermsView) (db : Trees) (held : Held) : Type 0 where
   pub own : IsBook terms held
   pub subs : (sub : Sub) → held sub ≢ [] → IsSub sub
@@ -24,7 +24,7 @@ pub record HoldsBook (terms : TermsView) (db : Trees) (held : Held) : Type 0 whe
   pub entries : AreJust (entry_rows db) (IsEntryRow terms held)
   pub accounts : AreJust (account_rows db) (IsAccountRow terms held)
 
--- The same of the tables of layout 1: the acts have records of version 1.
+-- The same for the tables of layout 1: the acts have records of version 1.
 pub record HoldsOldBook (terms : TermsView) (db : Trees) (held : Held) : Type 0 where
   pub own : IsBook terms held
   pub subs : (sub : Sub) → held sub ≢ [] → IsSub sub
@@ -33,7 +33,8 @@ pub record HoldsOldBook (terms : TermsView) (db : Trees) (held : Held) : Type 0 
   pub entries : AreJust (entry_rows db) (IsEntryRow terms held)
   pub accounts : AreJust (account_rows db) (IsAccountRow terms held)
 
--- What an open after a stop may find, where the disk has returned what was written: the content of the book that the tables hold, and anything
--- at all where they hold none. So who says that a stop leaves some book's content, and nothing else, says that no tables in disarray are left.
+-- The contents that an opening after a stop may find, if the disk returns what was written: the content of the book that the tables hold, or
+-- any content if they hold no book. So a clause by which a stop leaves the content of some book, and nothing else, excludes tables that hold
+-- no book.
 abbrev pub leaves : TermsView → State → Content → Type 0
 leaves terms s content = HasCleanDisk s × ((db : Trees) × s.may_leave db × ((held : Held) → HoldsBook terms db held → IsContentOf terms held content))

@@ -1,4 +1,4 @@
--- What an opening finds.
+-- The state that an opening finds.
 use Rattle.std.specs.Prelude.{◌≡◌, ◌≢◌, ◌⊎◌, List, [], ◌∷◌}
 use Rattle.sqlite.specs.Tree.{Trees}
 use Rattle.dcc_tariff.specs.Terms.{TermsView}
@@ -20,7 +20,7 @@ pub record ShowsRows (db : Trees) (rows : Rows) : Type 0 where
   pub entries : Shows entries_query db rows.entries
   pub accounts : Shows accounts_query db rows.accounts
 
--- some row is no act's, or is of nobody
+-- some row is no act's, or does not begin with a subscriber
 abbrev pub IsDamagedIn : Trees → Type 0
 IsDamagedIn db = (rows : Rows) × ShowsRows db rows × IsDamaged rows
 
@@ -32,12 +32,12 @@ DisagreeIn terms db = (rows : Rows) × ShowsRows db rows × (¬ IsDamaged rows) 
 abbrev pub FindsBook : TermsView → Trees → (Content → Type 0) → Type 0
 FindsBook terms db left = (held : Held) × HoldsBook terms db held × LeavesOnly terms held left
 
--- the rows of the setting are not that of this one
+-- the rows of the setting are not exactly the row of this setting
 abbrev pub HasOtherSetting : Setting → Trees → Type 0
 HasOtherSetting setting db = setting_rows db ≢ setting_row setting ∷ []
 
--- why a store that a stop left isn't opened as that of a setting: memory was refused, the database failed, or a database that the stop
--- leaves has another setting
+-- the faults for which a store that a stop left isn't opened under a setting: memory was refused, the database failed, or a database that
+-- the stop leaves has another setting
 abbrev pub IsRefusedAfter : (Trees → Type 0) → Setting → OpenFault → Type 0
 IsRefusedAfter may_leave setting fault =
     (fault ≡ Memory) ⊎ ((fault ≡ Device) ⊎ ((fault ≡ Layout) × ∥ ((db : Trees) × may_leave db × HasOtherSetting setting db) ∥₁))

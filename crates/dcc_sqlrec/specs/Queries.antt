@@ -1,4 +1,4 @@
--- What is read of the tables: each by one statement, in the order of its key.
+-- The queries of the tables: each table is read by one statement, in the order of its key.
 use Rattle.std.specs.Prelude.{ℕ, pos, negsuc, false, List, [], ◌∷◌, None, codes}
 use Rattle.sqlite.specs.declared.types.Value.TheVariants.{Int}
 use Rattle.sqlite.specs.Order.{Row}
@@ -11,7 +11,7 @@ use Rattle.sqlite_value.specs.declared.keys.Key.{Key}
 use Rattle.sqlite_value.specs.Keys.{ascending}
 use Rattle.dcc_sqlrec.specs.Trees.{setting_tree, act_tree, entry_tree, account_tree}
 
--- these columns of all rows of a tree, in the order of these
+-- the columns `shown` of all rows of a tree, in the order of the columns `order`
 abbrev pub all_of : ℕ → List Term → List (Term × Key) → Query
 all_of tree shown order =
     record {
@@ -58,6 +58,6 @@ all_rowids = codes "SELECT rowid FROM account ORDER BY rowid"
 abbrev pub rowids_query : Query
 rowids_query = all_of account_tree (col 1 0 ∷ []) ((col 1 0, ascending Binary) ∷ [])
 
--- the rows are what such a query shows
+-- the rows are the answer to a query
 abbrev pub Shows : Query → Trees → List Row → Type 0
 Shows query db rows = IsAnswer query (overlay db []) [] rows

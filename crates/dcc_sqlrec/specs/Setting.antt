@@ -6,7 +6,7 @@ use Rattle.sqlite.specs.Tree.{Trees}
 use Rattle.dcc_sqlrec.specs.declared.setting.Setting.{Setting}
 use Rattle.dcc_sqlrec.specs.Trees.{AreEmpty, IsStore, setting_rows}
 
--- row 1, of a layout
+-- row 1, of a store of this layout
 abbrev pub setting_row_in : (layout : ℕ) → Setting → Row
 setting_row_in layout setting =
     Int (pos 1)

@@ -1,4 +1,4 @@
--- The tables in the trees of a database, and when a connection is as it was.
+-- The tables in the trees of a database, and the state of a connection that is undone.
 use Rattle.std.specs.Prelude.{◌≡◌, ℕ, false, IsTrue, List, [], ◌∷◌, map}
 use Rattle.sqlite.specs.Order.{Row, column}
 use Rattle.sqlite.specs.Tree.{Trees}
@@ -6,7 +6,7 @@ use Rattle.sqlite.specs.State.{State}
 use Rattle.sqlite.specs.Effect.{IsDatabase}
 use Rattle.dcc_sqlrec.specs.Tables.{layout}
 
--- the trees list the tables of a store and nothing else, and obey them
+-- the trees have exactly the tables of a store, and obey their schema
 unfoldable pub IsStore : Trees → Type 0
 IsStore db = IsDatabase (record { schema = layout; trees = db })
 
@@ -23,7 +23,7 @@ entry_tree = 3
 abbrev pub account_tree : ℕ
 account_tree = 5
 
--- the columns of a row of three, or of seven, which has its rowid before them
+-- the columns of a row of three columns, or of seven, behind its rowid
 abbrev pub three_columns : Row → Row
 three_columns row = column row 1 ∷ column row 2 ∷ column row 3 ∷ []
 
@@ -51,7 +51,7 @@ account_rows db = map three_columns (db account_tree)
 abbrev pub AreEmpty : Trees → Type 0
 AreEmpty db = (db act_tree ≡ []) × (db entry_tree ≡ []) × (db account_tree ≡ [])
 
--- nothing is changed, and the connection may be used
+-- the connection went back to the last commit, which is unchanged, and may be used
 pub record IsUndone (old new : State) : Type 0 where
   pub is_open : IsTrue new.is_open
   pub autocommit : new.in_transaction ≡ false

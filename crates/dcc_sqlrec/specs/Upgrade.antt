@@ -1,4 +1,4 @@
--- What an upgrade finds and makes: a store of layout 1 becomes one of layout 2.
+-- An upgrade: a store of layout 1 becomes a store of layout 2.
 use Rattle.std.specs.Prelude.{◌≡◌, List, [], ◌∷◌}
 use Rattle.sqlite.specs.Tree.{Trees}
 use Rattle.dcc_tariff.specs.Terms.{TermsView}
@@ -11,11 +11,11 @@ use Rattle.dcc_sqlrec.specs.Setting.{setting_row, old_setting_row}
 use Rattle.dcc_sqlrec.specs.declared.setting.Setting.{Setting}
 use Rattle.dcc_sqlrec.specs.Opening.{ShowsRows}
 
--- The store is of layout 1: the row of its setting is that of this setting, but for the layout.
+-- The store is of layout 1: the row of its setting is the row of this setting, except for the layout.
 abbrev pub HasOldSetting : Setting → Trees → Type 0
 HasOldSetting setting db = setting_rows db ≡ old_setting_row setting ∷ []
 
--- A store of layout 1 became the store of layout 2 of the same acts, under the same setting.
+-- A store of layout 1 became the store of layout 2 with the same acts, under the same setting.
 pub record IsUpgraded (setting : Setting) (old new : Trees) : Type 0 where
   pub held : Held
   pub was : HoldsOldBook setting.terms old held
@@ -24,7 +24,7 @@ pub record IsUpgraded (setting : Setting) (old new : Trees) : Type 0 where
   pub is_of : setting_rows new ≡ setting_row setting ∷ []
   pub store : IsStore new
 
--- some row of a store of layout 1 is no act's, or is of nobody
+-- some row of a store of layout 1 is no act's, or does not begin with a subscriber
 abbrev pub IsOldDamagedIn : Trees → Type 0
 IsOldDamagedIn db = (rows : Rows) × ShowsRows db rows × IsOldDamaged rows
 

@@ -1,4 +1,4 @@
--- The tables as they are dropped: those first that refer to others.
+-- The tables while they are dropped: first the tables that refer to others.
 use Rattle.std.specs.Prelude.{◌≡◌, IsTrue}
 use Rattle.sqlite.specs.Schema.{Schema}
 use Rattle.sqlite.specs.State.{State}
@@ -6,7 +6,7 @@ use Rattle.sqlite_catalog.specs.Change.{without_table}
 use Rattle.dcc_sqlrec.specs.Tables.{layout}
 use Rattle.dcc_sqlrec.specs.Trees.{act_tree, entry_tree, account_tree}
 
--- the schema shrinks by one table after the other
+-- the schema shrinks by one table after another
 abbrev pub without_entries : Schema
 without_entries = without_table layout entry_tree
 

@@ -1,4 +1,4 @@
--- What records over a connection keep.
+-- The state that records over a connection keep.
 use Rattle.std.specs.Prelude.{◌≡◌, false, IsTrue, List}
 use Rattle.sqlite.specs.State.{State}
 use Rattle.dcc_tariff.specs.Terms.{TermsView}
@@ -10,7 +10,7 @@ use Rattle.dcc_sqlrows.specs.declared.tally.Tally.{Tally}
 use Rattle.dcc_sqlrec.specs.inner.Tallies.{AreTallies}
 use Rattle.dcc_sqlrec.specs.inner.Trees.{account_tree, IsKeyed}
 
--- the connection is between two transactions, over the tables of this book
+-- the connection is open, in no transaction, over the tables of this book
 pub record Keeps (terms : TermsView) (s : State) (held : Held) : Type 0 where
   pub is_open : IsTrue s.is_open
   pub autocommit : s.in_transaction ≡ false
@@ -19,6 +19,6 @@ pub record Keeps (terms : TermsView) (s : State) (held : Held) : Type 0 where
   pub keyed : IsKeyed (s.now.trees account_tree)
   pub holds : HoldsBook terms s.now.trees held
 
--- a book that the tables hold, and whose tallies these are
+-- the tables hold a book, and these are the tallies of the book
 abbrev pub KeepsBook : TermsView → State → List (Sub × Tally) → Type 0
 KeepsBook terms s tallies = (held : Held) × Keeps terms s held × AreTallies terms tallies held

@@ -16,7 +16,7 @@ at_tree tree table = record table { tree = tree }
 abbrev pub formed : ColumnForm → Column
 formed form = column_of form.0.now form.1 form.2
 
--- the keys that have an index: none where it is the rowid
+-- the keys that have an index: none if the key is the rowid
 abbrev pub keys_of : Option ℕ → List ℕ → List (List ℕ)
 keys_of None key = key ∷ []
 keys_of (Some rowid) key = []

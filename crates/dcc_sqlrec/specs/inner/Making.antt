@@ -1,4 +1,4 @@
--- The tables as they are made.
+-- The tables while they are made.
 use Rattle.std.specs.Prelude.{◌≡◌, IsTrue, []}
 use Rattle.sqlite.specs.Schema.{Schema}
 use Rattle.sqlite.specs.Tree.{Trees}

@@ -1,4 +1,4 @@
--- What is read when a store is opened.
+-- The rows that are read when a store is opened.
 use Rattle.std.specs.Prelude.{List}
 use Rattle.sqlite.specs.Tree.{Trees}
 use Rattle.dcc_tariff.specs.Terms.{TermsView}
@@ -15,13 +15,13 @@ use Rattle.dcc_sqlrec.specs.inner.Tallies.{AreTallies}
 abbrev pub rows_in : Found → Rows
 rows_in found = record { acts = found.acts.items; entries = found.entries.items; accounts = found.accounts.items }
 
--- it is what the tables show
+-- the rows are those that the tables show
 pub record ShowsStore (db : Trees) (found : Found) : Type 0 where
   pub setting : Shows settings_query db found.setting.items
   pub rowids : Shows rowids_query db found.rowids.items
   pub rows : ShowsRows db (rows_in found)
 
--- the rowids rise, and the rows are those of a book that has these tallies
+-- the rowids rise, and the rows are the rows of a book that has these tallies
 pub record IsOfBook (terms : TermsView) (found : Found) (tallies : List (Sub × Tally)) : Type 0 where
   pub rising : AreRising found.rowids.items
   pub pages : List PageView

@@ -1,4 +1,4 @@
--- The tables as they are filled anew.
+-- The tables while they are filled anew.
 use Rattle.std.specs.Prelude.{◌≡◌, ℕ, ◌+◌, List, [], ◌∷◌, ◌++◌, length}
 use Rattle.std.specs.List.Sorted.{IsPermutation}
 use Rattle.sqlite.specs.Order.{Row}
@@ -24,12 +24,12 @@ pub record Gathers (acts entries accounts : List Row) (old new : Trees) : Type 0
   pub entries_are : IsPermutation (entry_rows old ++ entries) (entry_rows new)
   pub accounts_are : IsPermutation (account_rows old ++ accounts) (account_rows new)
 
--- The same, and the tables of a store are those of a store again.
+-- The same; and if the tables were those of a store, they are so again.
 pub record Refills (acts entries accounts : List Row) (old new : Trees) : Type 0 where
   pub gathers : Gathers acts entries accounts old new
   pub store : IsStore old → IsStore new
 
--- The row of an act behind these acts is added, with the rows of the entries that it adds to theirs.
+-- The row of an act behind these acts is added, with the rows of the entries that the act adds.
 pub record AddsNext (terms : TermsView) (sub : List ℕ) (before : List Act) (act : Act) (old new : State) : Type 0 where
   pub more : List Entry
   pub adds : entries terms (before ++ act ∷ []) ≡ entries terms before ++ more

@@ -1,4 +1,4 @@
--- What records know of each subscriber.
+-- The tallies that records keep of subscribers.
 use Rattle.std.specs.Prelude.{◌≡◌, ◌+◌, ◌<◌, ◌^◌, ◌⊎◌, ℤ, pos, ◌+ℤ◌, FitsSigned, List, [], ◌∷◌, length, unwrap_or}
 use Rattle.std.specs.Int.{w64}
 use Rattle.std.specs.Map.{lookup}
@@ -10,22 +10,22 @@ use Rattle.dcc_model.specs.Outcomes.{funds}
 use Rattle.dcc_records.specs.Books.{Held, sub_order}
 use Rattle.dcc_sqlrows.specs.declared.tally.Tally.{Tally}
 
--- of a subscriber who has none: no acts, no funds
+-- the tally of a subscriber without one: no acts, no funds
 abbrev pub no_tally : Tally
 no_tally = record { acts = 0; funds = pos 0 }
 
 abbrev pub tally_in : List (Sub × Tally) → Sub → Tally
 tally_in tallies sub = unwrap_or (lookup (λ key. is_eq (sub_order sub key)) tallies) no_tally
 
--- they are those of a book
+-- the tallies are the tallies of a book
 abbrev pub AreTallies : TermsView → List (Sub × Tally) → Held → Type 0
 AreTallies terms tallies held = (sub : Sub) → tally_in tallies sub ≡ record { acts = length (held sub); funds = funds terms (held sub) }
 
--- funds to which these amounts are added in order pass 64 bits
+-- funds to which these amounts are added in order leave the range of 64 bits
 abbrev pub Pass : ℤ → List Entry → Type 0
 Pass funds [] = ⊥
 Pass funds (entry ∷ entries) = (¬ FitsSigned w64 (funds +ℤ entry.amount)) ⊎ Pass (funds +ℤ entry.amount) entries
 
--- one act more with these entries is more than a row can hold
+-- the tally after one act more with these entries is too great for a row
 abbrev pub IsTooMuch : Tally → List Entry → Type 0
 IsTooMuch tally entries = (¬ (tally.acts + 1 < 2 ^ 64)) ⊎ Pass tally.funds entries

@@ -1,4 +1,4 @@
--- What a failure of the database is told as.
+-- The fault that is reported for a failure of the database.
 use Rattle.std.specs.Prelude.{Bool, true, false, ◌&&◌, if◌then◌else◌}
 use Rattle.sqlite.specs.declared.error.Error.{Error}
 use Rattle.sqlite.specs.declared.error.Error.TheVariants.{SqliteFailure}
@@ -15,7 +15,7 @@ abbrev pub is_memory : Error → Bool
 is_memory (SqliteFailure OutOfMemory) = true
 is_memory _ = false
 
--- want of memory, where the database answers since; else the store failed
+-- want of memory, if the database answers since then; otherwise a failure of the store
 abbrev pub told : Error → Bool → StoreFault
 told error answers = if answers && is_memory error then store.Memory else store.Device
 

@@ -1,4 +1,4 @@
--- What a statement of a transaction does to the tables.
+-- The effects of the statements of a transaction on the tables.
 use Rattle.std.specs.Prelude.{◌≡◌, ◌≢◌, ◌⊎◌, AllPairs, ℕ, ℤ, false, IsTrue, List, [], ◌∷◌, ◌++◌}
 use Rattle.std.specs.List.{Contains}
 use Rattle.std.specs.List.Sorted.{IsPermutation}
@@ -12,30 +12,30 @@ use Rattle.dcc_act.specs.declared.entry.Entry.{Entry}
 use Rattle.dcc_sqlrec.specs.Tables.{layout}
 use Rattle.dcc_sqlrows.specs.Rows.{act_row, entry_rows_of, account_row}
 
--- the rows are added to the table of acts, and the others stay
+-- the rows are added to the table of acts, and the other tables stay
 pub record AddsActs (rows : List Row) (old new : Trees) : Type 0 where
   pub setting : new setting_tree ≡ old setting_tree
   pub acts : IsPermutation (act_rows old ++ rows) (act_rows new)
   pub entries : new entry_tree ≡ old entry_tree
   pub accounts : new account_tree ≡ old account_tree
 
--- the rows are added to the table of entries, and the others stay
+-- the rows are added to the table of entries, and the other tables stay
 pub record AddsEntries (rows : List Row) (old new : Trees) : Type 0 where
   pub setting : new setting_tree ≡ old setting_tree
   pub acts : new act_tree ≡ old act_tree
   pub entries : IsPermutation (entry_rows old ++ rows) (entry_rows new)
   pub accounts : new account_tree ≡ old account_tree
 
--- the rowids are integers, and tell the rows of a tree apart
+-- the rowids are integers, and no two rows of a tree have the same rowid
 pub record IsKeyed (rows : List Row) : Type 0 where
   pub numbered : (row : Row) → Contains rows row → (id : ℤ) × (rowid row ≡ Int id)
   pub apart : (one other : Row) → Contains rows one → Contains rows other → rowid one ≡ rowid other → one ≡ other
 
--- no row comes twice
+-- no row stands in the list twice
 abbrev pub AreApart : List Row → Type 0
 AreApart rows = AllPairs (λ one other. one ≢ other) rows
 
--- The rows of accounts are without those of one subscriber, and the other tables stay.
+-- The rows of one subscriber are removed from the table of accounts, and the other tables stay.
 pub record DropsAccount (sub : List ℕ) (old new : Trees) : Type 0 where
   pub setting : new setting_tree ≡ old setting_tree
   pub acts : new act_tree ≡ old act_tree
@@ -54,7 +54,7 @@ pub record AddsAccount (row : Row) (old new : Trees) : Type 0 where
   pub accounts : IsPermutation (account_rows old ++ row ∷ []) (account_rows new)
   pub store : IsStore new
 
--- The row of one subscriber's account is set, those of the others and the other tables stay.
+-- The row of one subscriber's account is set. The rows of other subscribers, and the other tables, stay.
 pub record SetsAccount (sub : List ℕ) (set : Row) (old new : Trees) : Type 0 where
   pub setting : new setting_tree ≡ old setting_tree
   pub acts : new act_tree ≡ old act_tree

@@ -1,4 +1,4 @@
--- What is found of a store of layout 1, and what an upgrade leaves.
+-- A store of layout 1 as an upgrade finds it, and the store that the upgrade leaves.
 use Rattle.std.specs.Prelude.{◌≡◌, ℕ, IsTrue, List, length}
 use Rattle.sqlite.specs.Tree.{Trees}
 use Rattle.sqlite.specs.State.{State}
@@ -12,7 +12,7 @@ use Rattle.dcc_sqlrec.specs.Opening.{ShowsRows}
 use Rattle.dcc_sqlrec.specs.Upgrade.{HasOldSetting, IsUpgraded}
 use Rattle.dcc_sqlrec.specs.declared.setting.Setting.{Setting}
 
--- the tables show the rows of these pages, with as many rows of acts
+-- the tables show the rows of these pages, with so many rows of acts
 abbrev pub ShowsOldPages : TermsView → Trees → List PageView → ℕ → Type 0
 ShowsOldPages terms db pages acts = (rows : Rows) × ShowsRows db rows × AreOfOldBook terms pages rows × (acts ≡ length rows.acts)
 
@@ -24,6 +24,6 @@ pub record HasUpgraded (setting : Setting) (old new : State) (count : ℕ) : Typ
   pub upgraded : IsUpgraded setting old.now.trees new.now.trees
   pub counted : count ≡ length (act_rows old.now.trees)
 
--- what may be committed over a store of layout 1; of another database nothing is said
+-- the trees that may be committed over a store of layout 1; for another database, any trees
 abbrev pub CanUpgrade : Setting → State → Trees → Type 0
 CanUpgrade setting old db = old.now.schema ≡ layout → HasOldSetting setting old.now.trees → ∥ IsUpgraded setting old.now.trees db ∥₁
