@@ -1,4 +1,4 @@
--- That the receipts of all seats agree with the books.
+-- The tests of the receipts of all seats against the books.
 use Rattle.std.specs.Prelude.{◌≡◌, ℕ, ◌<◌, ◌≤◌, Bool, true, ◌&&◌, List, [], length}
 use Rattle.std.specs.List.{list_all, sum_by}
 use Rattle.dcc_tariff.specs.Terms.{TermsView}
@@ -12,41 +12,41 @@ use Rattle.dcc_receipts.specs.declared.receipt.Receipt.{Receipt}
 use Rattle.dcc_records.specs.Books.{Held}
 use Rattle.dcc_running.specs.Books.{BooksView, AreShards, at_opening, book}
 
--- a receipt agrees with its subscriber's acts, of which the first ones were there at opening, and tells what its act came to
+-- a receipt agrees with its subscriber's acts, of which the first were there at opening, and has the answer by the outcome of its act
 abbrev pub is_true : Identity → TermsView → Held → Held → Receipt → Bool
 is_true identity terms opening held r = agrees (length (opening r.sub)) (held r.sub) r && is_answered identity terms (held r.sub) r
 
 abbrev pub are_true : Identity → TermsView → Held → Held → List (List Receipt) → Bool
 are_true identity terms opening held seats = list_all (λ receipts. list_all (is_true identity terms opening held) receipts) seats
 
--- how many fresh receipts all seats have of a subscriber's place
+-- the number of fresh receipts that all seats have of a subscriber's place
 abbrev pub times_in : Sub → ℕ → List (List Receipt) → ℕ
 times_in sub place seats = sum_by (λ receipts. times place (own sub receipts)) seats
 
--- The shards are those that were opened, each subscriber's acts begin with those at opening, each receipt is true, and no place has two
--- fresh receipts.
+-- The shards may work as one, each subscriber's acts begin with the acts at opening, each receipt is true, and no place has two fresh
+-- receipts.
 pub record AreTrue {R : Type 0} (books : BooksView R) (seats : List (List Receipt)) : Type 0 where
   pub shards : AreShards books.terms books.identity books.parts
   pub begun : (sub : Sub) → begins (at_opening books.opening sub) (book books.parts sub) ≡ true
   pub true_all : are_true books.identity books.terms (at_opening books.opening) (book books.parts) seats ≡ true
   pub single : (sub : Sub) (place : ℕ) → times_in sub place seats ≤ 1
 
--- each act since opening has just one fresh receipt
+-- each act since opening has exactly one fresh receipt
 abbrev pub AreCovered : {R : Type 0} → BooksView R → List (List Receipt) → Type 0
 AreCovered books seats = (sub : Sub) (place : ℕ) → length (at_opening books.opening sub) < place → place ≤ length (book books.parts sub)
     → times_in sub place seats ≡ 1
 
--- in each seat a receipt is after all that it had of the same subscriber before
+-- each receipt of a seat is after all earlier receipts of the same subscriber in the seat
 abbrev pub AreOrdered : List (List Receipt) → Type 0
 AreOrdered seats = (sub : Sub) → list_all (λ receipts. in_order [] (own sub receipts)) seats ≡ true
 
--- why the comparison fails: each test is the first that doesn't hold; nothing is said where memory was short
+-- the reason for which the comparison fails: its first test that doesn't hold; nothing is said if memory was short
 abbrev pub IsFault : {R : Type 0} → CloseFault → BooksView R → List (List Receipt) → Type 0
 IsFault Memory books seats = Unit {0}
 IsFault ReceiptStray books seats = AreTrue books seats → ⊥
 IsFault ActWithoutReceipt books seats = AreTrue books seats × (AreCovered books seats → ⊥)
 IsFault OutOfOrder books seats = AreTrue books seats × AreCovered books seats × (AreOrdered seats → ⊥)
 
--- what is held of each subscriber is what its own list makes
+-- the acts of each subscriber are exactly those that their own list makes
 abbrev pub AreOwn : {R : Type 0} → BooksView R → Type 0
 AreOwn books = (sub : Sub) → acts books.terms (book books.parts sub) ≡ book books.parts sub

@@ -1,4 +1,4 @@
--- Shards that work under locks, and what they hold once they are out of these.
+-- Shards that work under locks, and their acts once they are out of the locks.
 use Rattle.std.specs.Prelude.{◌≡◌, ◌≢◌, ℕ, ◌<◌, Bool, true, false, List, [], length, slice_index_or, Option, Some, None, slice_get}
 use Rattle.std.specs.Global.{Vec}
 use Rattle.std.specs.Map.{lookup}
@@ -19,8 +19,8 @@ use Rattle.dcc_shard.specs.Stored.{StoredView, GoesOnFrom, LeavesHeld, LeavesOne
 abbrev pub Opening : Type 0
 Opening = List (Sub × Vec Act)
 
--- shards under locks, of which nothing is known but how many there are: by what terms they judge, who answers, and the acts that were
--- held of each subscriber when they were opened
+-- shards under locks: the terms by which they judge, the identity of the server, the acts held for each subscriber at opening, and the
+-- number of shards; of a shard under its lock nothing else is known
 pub record LockedView : Type 0 where
   pub terms : TermsView
   pub identity : Identity
@@ -42,30 +42,30 @@ abbrev pub held_by : {R : Type 0} → Option (StoredView R) → Held
 held_by None sub = []
 held_by (Some part) sub = held part.shard sub
 
--- the acts of a subscriber: those that the shard holds which keeps it
+-- the acts of a subscriber: those that the subscriber's own shard holds
 abbrev pub book : {R : Type 0} → List (StoredView R) → Held
 book parts sub = held_by (slice_get parts (shard_of sub (length parts))) sub
 
--- shards that may work as one: they judge by these terms, answer for this server, and each holds only subscribers that it keeps
+-- shards that may work as one: they judge by these terms and answer for this server, and each holds acts of its own subscribers alone
 pub record AreShards {R : Type 0} (terms : TermsView) (identity : Identity) (parts : List (StoredView R)) : Type 0 where
   pub terms_are : (i : ℕ) (none : StoredView R) → i < length parts → (slice_index_or parts i none).shard.terms ≡ terms
   pub identity_is : (i : ℕ) (none : StoredView R) → i < length parts → (slice_index_or parts i none).shard.identity ≡ identity
   pub placed : (i : ℕ) (none : StoredView R) (sub : Sub) → i < length parts
       → held (slice_index_or parts i none).shard sub ≢ [] → shard_of sub (length parts) ≡ i
 
--- What a stop leaves of a shard: while its records go on what it holds, and nothing else; once they are stopped this or, with it, the one
--- act on which they failed. So of each subscriber all its acts are left, and at most one beyond them.
+-- The contents that a stop leaves of a shard. If its records are not stopped, a stop leaves exactly the held acts. If they are stopped, it
+-- leaves these, or these and the one act on which the records failed. So each subscriber keeps all its acts, with at most one act more.
 pub record IsKeptBy {R : Type 0} (is_stopped : R → Bool) (may_leave : R → Content → Type 0) (part : StoredView R) : Type 0 where
   pub going : is_stopped part.records ≡ false → LeavesOnly part.shard.terms (held part.shard) (may_leave part.records)
   pub stopped : is_stopped part.records ≡ true → LeavesOneMore part.shard.terms (held part.shard) (may_leave part.records)
   pub left : LeavesHeld (held part.shard) (may_leave part.records)
 
--- so it is of each of these shards
+-- a stop leaves such contents of each of these shards
 abbrev pub AreKept : {R : Type 0} → (R → Bool) → (R → Content → Type 0) → List (StoredView R) → Type 0
 AreKept {R} is_stopped may_leave parts = (i : ℕ) (none : StoredView R) → i < length parts → IsKeptBy is_stopped may_leave (slice_index_or parts i none)
 
--- Whatever a stop leaves of the shard that keeps a subscriber begins with the subscriber's acts: the act of each fresh receipt is among
--- them, and each receipt's place. At most one act stands beyond.
+-- Each content that a stop leaves of a subscriber's shard begins with the subscriber's acts: the act of each fresh receipt is among them, and
+-- each receipt's place. At most one act more follows.
 abbrev pub AreLeft : {R : Type 0} → (R → Content → Type 0) → List (StoredView R) → Type 0
 AreLeft {R} may_leave parts = (sub : Sub) (none : StoredView R) (found : Content)
     → may_leave (slice_index_or parts (shard_of sub (length parts)) none).records found

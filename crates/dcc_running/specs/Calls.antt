@@ -1,4 +1,4 @@
--- What a call under a lock answers, and the receipt that it gives.
+-- The answer of a call under a lock, and its receipt.
 use Rattle.std.specs.Prelude.{◌≡◌, ◌≢◌, ◌↔◌, ℕ, Bool, true, false, List, [], ◌∷◌, length}
 use Rattle.std.specs.List.{AllByRecursion}
 use Rattle.dcc_message.specs.HeaderView.{HeaderView}
@@ -21,11 +21,11 @@ use Rattle.dcc_shard.specs.declared.answers.ExpiryAnswer.TheVariants as expiries
 use Rattle.dcc_shard.specs.declared.answers.TopUpAnswer.{TopUpAnswer}
 use Rattle.dcc_shard.specs.declared.answers.TopUpAnswer.TheVariants as top_ups
 
--- what some shard answers to a job: under the job's own header and with its own proxies
+-- an answer of some shard to a job, under the job's own header and with its own proxies
 abbrev pub IsAnswerTo : Job → RequestAnswer → Type 0
 IsAnswerTo job answer = (shard : ShardView) × IsAnswer shard job.sub job.act job.header job.proxies answer
 
--- what some shard tells of a top-up, and of an expiry
+-- an answer of some shard to a top-up, and to an expiry
 abbrev pub IsToldOf : Sub → ℕ → ℕ → ℕ → TopUpAnswer → Type 0
 IsToldOf sub moment ticket amount answer = (shard : ShardView) × IsTold shard sub moment ticket amount answer
 
@@ -36,7 +36,7 @@ IsEndOf sub moment answer = (shard : ShardView) × IsExpired shard sub moment an
 abbrev pub AreSubs : List Sub → Type 0
 AreSubs subs = (shard : ShardView) × ((sub : Sub) → is_among sub subs ≡ true ↔ held shard sub ≢ [])
 
--- who opened the session from the host, by what some shard holds
+-- the finding of who opened the session from the host, by the acts that some shard holds
 abbrev pub IsFoundBy : (host sid : List ℕ) → Found → Type 0
 IsFoundBy host sid who = (shard : ShardView) × IsFound (opened shard host sid) who
 
@@ -44,7 +44,7 @@ abbrev pub joined_with : Found → List Found → Found
 joined_with who [] = who
 joined_with who (part ∷ parts) = joined_with (joined who part) parts
 
--- so many shards were asked, each once, and who they found is joined; so of one subscriber alone some shard held that it opened the session
+-- so many shards were asked, each once, and their findings are joined; so if one subscriber is found, some shard found this subscriber
 abbrev pub IsResolved : (count : ℕ) → (host sid : List ℕ) → Found → Type 0
 IsResolved count host sid who =
     (parts : List Found) × (length parts ≡ count) × AllByRecursion (IsFoundBy host sid) parts × (who ≡ joined_with found.None parts)
@@ -53,7 +53,7 @@ IsResolved count host sid who =
 abbrev pub IsToldStopped : {R : Type 0} → (R → Bool) → Bool → Type 0
 IsToldStopped {R} is_stopped told = (records : R) × (told ≡ is_stopped records)
 
--- the receipt of a job, of an answer at a place; 0 is that of an unknown subscriber
+-- the receipt of a job, with its answer and a place, which is 0 for an unknown subscriber
 abbrev pub receipt : Job → List ℕ → ℕ → Bool → Receipt
 receipt job octets at fresh =
     record { sub = job.sub; place = at; act = job.act; header = job.header; proxies = job.proxies; answer = Octets octets; fresh = fresh }

@@ -1,4 +1,4 @@
--- That what goes out of a round answers what came in.
+-- The octets that go out of a round answer the messages that came in.
 use Rattle.std.specs.Prelude.{◌≡◌, ℕ, ◌⊎◌, List, [], ◌∷◌, ◌++◌, Option, Some}
 use Rattle.std.specs.Io.KnownBytes.{Appends}
 use Rattle.std.specs.List.{AllByRecursion, concat}
@@ -23,7 +23,7 @@ use Rattle.dcc_serve.specs.declared.tasks.Task.{Task}
 use Rattle.dcc_serve.specs.declared.tasks.Task.TheVariants.{Work, Time, Place}
 use Rattle.dcc_shard.specs.declared.answers.RequestAnswer.{RequestAnswer}
 
--- the octets of a reply, or of what some shard answers to the job that a message asks for
+-- the octets of a reply, or of an answer of some shard to the job that a message asks for
 abbrev pub Says : Settled → List ℕ → Type 0
 Says (Replied reply) octets = octets ≡ reply.octets
 Says (Asked asked) octets = (answer : RequestAnswer) × IsAnswerTo (job_of asked) answer × (working.octets_in answer ≡ Some octets)
@@ -37,18 +37,18 @@ IsAnswerOf setting count message octets =
 
 module _ {I O C : Type 0} (remaining : I → Option (List ℕ)) (contents : O → Option (List ℕ)) (tells : C → ℕ → C → Type 0) (closed : Type 0) (clock : C) (setting : Setting)
     (count : ℕ) where
-  -- a message stands whole in what was read of a gateway
+  -- a message stands whole in the octets that were read of a gateway
   abbrev pub HasRead : Visit I O → List ℕ → Type 0
   HasRead visit message =
       (pieces : List (List ℕ)) × (front : List ℕ) × (behind : List ℕ) × ReadsPieces (remaining visit.came.input) (remaining visit.input) pieces
       × (concat pieces ≡ front ++ behind) × IsIn message (messages front)
 
-  -- so it is of one of these
+  -- a message was read so of one of these gateways
   abbrev pub AmongVisits : List (Visit I O) → List ℕ → Type 0
   AmongVisits [] message = ⊥
   AmongVisits (visit ∷ visits) message = HasRead visit message ⊎ AmongVisits visits message
 
-  -- of one that a place served
+  -- a message was read so of a gateway that a place served
   abbrev pub CameTo : Task I O → Task I O → List ℕ → Type 0
   CameTo (Work worker) new message = ⊥
   CameTo (Time timer) new message = ⊥
@@ -57,19 +57,19 @@ module _ {I O C : Type 0} (remaining : I → Option (List ℕ)) (contents : O �
   CameTo (Place old) (Place new) message =
       (visits : List (Visit I O)) × ServesEach remaining contents tells closed clock setting count visits old new × AmongVisits visits message
 
-  -- of one that a place of a round served
+  -- a message was read so of a gateway that a place of a round served
   abbrev pub CameIn : (begun ended : List (Task I O)) → List ℕ → Type 0
   CameIn [] ended message = ⊥
   CameIn (old ∷ olds) [] message = ⊥
   CameIn (old ∷ olds) (new ∷ news) message = CameTo old new message ⊎ CameIn olds news message
 
-  -- what went out to a gateway is a beginning of some octets, item by item, each of which answers a message that came in
+  -- the octets that went out to a gateway are a beginning of the octets of some items, each of which answers a message that came in
   abbrev pub WritesAnswers : (List ℕ → Type 0) → Visit I O → Type 0
   WritesAnswers came visit =
       (items : List Item) × (out : List ℕ) × Appends (contents visit.came.output) (contents visit.output) out × IsPrefix out (octets_in items)
       × ((octets : List ℕ) → IsIn (Octets octets) items → (message : List ℕ) × came message × IsAnswerOf setting count message octets)
 
-  -- so it is of each gateway that a place served
+  -- the octets that went out to each gateway of a place answer so
   abbrev pub AnswersAll : (List ℕ → Type 0) → Task I O → Task I O → Type 0
   AnswersAll came (Work worker) new = Unit {0}
   AnswersAll came (Time timer) new = Unit {0}
@@ -78,7 +78,7 @@ module _ {I O C : Type 0} (remaining : I → Option (List ℕ)) (contents : O �
   AnswersAll came (Place old) (Place new) =
       (visits : List (Visit I O)) × ServesEach remaining contents tells closed clock setting count visits old new × AllByRecursion (WritesAnswers came) visits
 
-  -- so it is of each of a round's threads
+  -- the octets that went out by each thread of a round answer so
   abbrev pub AllAnswer : (List ℕ → Type 0) → (begun ended : List (Task I O)) → Type 0
   AllAnswer came [] ended = Unit {0}
   AllAnswer came (old ∷ olds) [] = ⊥

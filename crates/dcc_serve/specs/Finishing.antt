@@ -1,4 +1,4 @@
--- How the lanes of a round end, once its threads have.
+-- The end of a round's lanes, once its threads have ended.
 use Rattle.std.specs.Prelude.{◌≡◌, List, [], ◌∷◌, ◌++◌, Option, Some, None}
 use Rattle.std.specs.Global.{Vec}
 use Rattle.std.specs.List.{filter_map}
@@ -14,7 +14,7 @@ use Rattle.dcc_serve.specs.declared.tasks.Task.{Task}
 use Rattle.dcc_serve.specs.declared.tasks.Task.TheVariants as task
 use Rattle.dcc_serve.specs.declared.work.Work.{Work}
 
--- which lanes a thread has ends of
+-- the lanes of which a thread has ends
 pub record Ends : Type 0 where
   pub work : Option TableId
   pub asks : Option (List TableId)
@@ -22,7 +22,7 @@ pub record Ends : Type 0 where
   pub reply : Option TableId
   pub answers : Option (List TableId)
 
--- of some threads, the timer, each reader and each worker has a sender of each lane that it puts into
+-- the timer, each reader and each worker of some threads has a sender of each lane into which it puts
 pub record AreTied (ends : List Ends) : Type 0 where
   pub asked : AreOfLanes (filter_map (λ (e : Ends). e.work) ends) (filter_map (λ (e : Ends). e.asks) ends)
   pub answered : AreOfLanes (filter_map (λ (e : Ends). e.items) ends) (filter_map (λ (e : Ends). e.reply) ends ∷ filter_map (λ (e : Ends). e.answers) ends)
@@ -33,7 +33,7 @@ with xs None = xs
 with xs (Some x) = xs ++ x ∷ []
 
 module _ {I O : Type 0} where
-  -- the lane that a worker takes of, and its senders to the writers
+  -- the lane from which a worker takes, and its senders to the writers
   abbrev pub work_in : Task I O → Option (Receiver Work)
   work_in (task.Work worker) = Some worker.from
   work_in (task.Time timer) = None
@@ -44,7 +44,7 @@ module _ {I O : Type 0} where
   answers_of (task.Time timer) = None
   answers_of (task.Place place) = None
 
-  -- the senders of the timer, and of a place's reader, to the workers, and that of the reader to its writer
+  -- the senders of the timer and of a place's reader to the workers, and the sender of the reader to its writer
   abbrev pub asks_of : Task I O → Option (Vec (Sender Work))
   asks_of (task.Work worker) = None
   asks_of (task.Time timer) = Some timer.workers
@@ -55,7 +55,7 @@ module _ {I O : Type 0} where
   reply_of (task.Time timer) = None
   reply_of (task.Place place) = Some place.reader.writer
 
-  -- the lane that a place's writer takes of
+  -- the lane from which a place's writer takes
   abbrev pub items_in : Task I O → Option (Receiver Item)
   items_in (task.Work worker) = None
   items_in (task.Time timer) = None
@@ -73,7 +73,7 @@ module _ {I O : Type 0} where
     answers = None;
   }
 
-  -- what a thread leaves is behind what was there, each with its kind
+  -- the ends and the seat of a thread are added behind those of the threads before, each to its own kind
   pub record AddsTask (one : Task I O) (old new : Parts) : Type 0 where
     pub seats : new.seats.items ≡ with old.seats.items (seat_in one)
     pub work : new.work.items ≡ with old.work.items (work_in one)
@@ -91,8 +91,8 @@ module _ {I O : Type 0} where
     pub replies : parts.replies.items ≡ filter_map reply_of tasks
     pub answers : parts.answers.items ≡ filter_map answers_of tasks
 
-  -- What the worker of a shard took of the timer and of a place's reader is a beginning of what that put for it, and the worker took nothing else. So it
-  -- is of what a place's writer took of its reader and of each worker.
+  -- The items that a shard's worker took from the timer, and from a place's reader, are a beginning of the items that this sender put for it, and the
+  -- worker took nothing else. The same holds of the items that a place's writer took from its reader and from each worker.
   pub record AreFinished (tasks : List (Task I O)) : Type 0 where
     pub asked : AreAllHeard (filter_map work_in tasks) (lists_of (filter_map asks_of tasks))
     pub answered : AreAllHeard (filter_map items_in tasks) (filter_map reply_of tasks ∷ lists_of (filter_map answers_of tasks))

@@ -1,4 +1,4 @@
--- What the threads of a round begin with.
+-- The threads of a round at its beginning.
 use Rattle.std.specs.Prelude.{◌≡◌, ℕ, ◌+◌, Bool, not, List, [], ◌∷◌, ◌++◌, length, Option, is_some}
 use Rattle.std.specs.Global.{Vec}
 use Rattle.std.specs.List.{AllByRecursion}
@@ -15,7 +15,7 @@ use Rattle.dcc_serve.specs.declared.tasks.Task.TheVariants as task
 use Rattle.dcc_serve.specs.declared.work.Work.{Work}
 
 module _ {I O : Type 0} where
-  -- the workers of shards from this one on: each takes of its own lane, has its own senders to the writers, keeps no receipt, and has swept nothing
+  -- the workers of the shards from this one on: each takes from its own lane, has its own senders to the writers, and has no receipt and no sweep yet
   abbrev pub workers_from : ℕ → List (Receiver Work) → List (Vec (Sender Item)) → List (Task I O)
   workers_from shard [] senders = []
   workers_from shard (from ∷ receivers) [] = []
@@ -33,7 +33,7 @@ module _ {I O : Type 0} where
         answers = 0;
       })
 
-  -- the places from this one on, each with the gateway that came for it, if a gateway came
+  -- the places from this place on, each with the gateway that came for it, if a gateway came
   abbrev pub places_from : (stays : Bool) → (every gate : ℕ) → List (Option (Connection I O)) → List (Receiver Item) → List (Vec (Sender Work)) → List (Sender Item) → List (Task I O)
   places_from stays every gate [] receivers senders replies = []
   places_from stays every gate (first ∷ firsts) [] senders replies = []

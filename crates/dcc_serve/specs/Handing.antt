@@ -1,4 +1,4 @@
--- What the reader of a gateway does with its messages.
+-- The messages of a gateway in its reader.
 use Rattle.std.specs.Prelude.{◌≡◌, ℕ, ◌+◌, ◌-◌, ◌^◌, min, Bool, ◌==◌, ◌&&◌, nat_le, nat_lt, if◌then◌else◌, List, [], ◌∷◌, ◌++◌, length, Option, Some}
 use Rattle.dcc_base.specs.declared.peer.Peer.{Peer}
 use Rattle.dcc_connect.specs.Clocks.{timed}
@@ -31,7 +31,7 @@ use Rattle.dcc_serve.specs.declared.work.Work.{Work}
 use Rattle.dcc_serve.specs.declared.work.Work.TheVariants as work
 use Rattle.dcc_shard.specs.Routes.{shard_of}
 
--- what a reader put for each shard and for its writer, and what it counted
+-- the items that a reader put for each shard and for its writer, and its counts
 pub record Reading : Type 0 where
   pub asked : List (List Work)
   pub replied : List Item
@@ -41,7 +41,7 @@ pub record Reading : Type 0 where
 abbrev pub reading_of : Reader → Reading
 reading_of reader = record { asked = all_put reader.workers.items; replied = put_of reader.writer; requests = reader.requests; sweeps = reader.sweeps }
 
--- it is of the same gateway, and puts into the same lanes
+-- the reader is of the same gateway, and puts into the same lanes
 pub record IsSameReader (old new : Reader) : Type 0 where
   pub gate : new.gate ≡ old.gate
   pub workers : lanes_of new.workers.items ≡ lanes_of old.workers.items
@@ -67,7 +67,7 @@ IsSettledBy setting count host message (words.Sought sought) settled =
     × IsSettled setting.identity (message_view sought.header message)
     (found_or_refused setting.identity (message_view sought.header message) sought.act (one_of who)) settled
 
--- what holds of what is asked of a subscriber
+-- a condition on the act that is asked of a subscriber
 abbrev pub IfSettled : Settled → (AskedView → Type 0) → Type 0
 IfSettled (Replied reply) P = Unit {0}
 IfSettled (Asked asked) P = P asked
@@ -76,7 +76,7 @@ IfSettled (Asked asked) P = P asked
 abbrev pub replies : List ℕ → List Item
 replies octets = if length octets == 0 then [] else Octets octets ∷ []
 
--- the job of what is asked of a subscriber
+-- the job of an act that is asked of a subscriber
 abbrev pub job_of : AskedView → Job
 job_of asked = record { sub = asked.sub; act = asked.act; header = asked.header; proxies = asked.proxies }
 
@@ -99,14 +99,14 @@ Passes gate (Asked asked) handed old new =
       sweeps = old.sweeps;
     }))
 
--- a sweep is due behind each message that makes up the number; with 0 never
+-- a sweep is due behind the message that completes the number; with 0 it is never due
 abbrev pub is_due : Sweeps → Bool
 is_due sweeps = nat_lt 0 sweeps.every && nat_le sweeps.every (sweeps.since + 1)
 
 abbrev pub since_then : Sweeps → ℕ
 since_then sweeps = if sweeps.every == 0 then sweeps.since else (if nat_le sweeps.every (sweeps.since + 1) then 0 else sweeps.since + 1)
 
--- then each shard is asked for it
+-- each shard is asked for a sweep if one is due, and the messages since the last sweep are counted
 abbrev pub AsksSweep : ℕ → Reading → Reading → Type 0
 AsksSweep moment old new =
     new ≡ record {
@@ -126,13 +126,13 @@ Hands setting count moment message handed old new =
 abbrev pub HandsUnder : Setting → (count : ℕ) → Reader → ℕ → List ℕ → Handed → Reader → Type 0
 HandsUnder setting count old moment message handed new = Hands setting count moment message handed old new
 
--- a reader that ends says so once, to each shard as its gateway's, and to its writer
+-- a reader that ends reports its end once: to each shard, as the end of its gateway, and to its writer
 abbrev pub Ends : ℕ → Reading → Reading → Type 0
 Ends gate old new =
     new ≡ record { asked = put_all (work.End gate) old.asked; replied = old.replied ++ End ∷ []; requests = old.requests; sweeps = old.sweeps }
 
--- Pieces were read, and of their octets the messages were handed on, each at the moment of a reading of the clock that is its own; behind the last
--- the reader says that it ends.
+-- Pieces were read, and the messages of their octets were handed on, each at the moment of its own reading of the clock. Behind the last message
+-- the reader reports its end.
 abbrev pub ReadsOut : {C : Type 0} → (C → ℕ → C → Type 0) → C → Setting → (count : ℕ) → ConnectionEnd → Option (List ℕ) → Option (List ℕ) → Reader → Reader → Type 0
 ReadsOut {C} tells clock setting count end before after old new =
     (last : Reader) × (later : C) × ReadsAndHands (timed tells (HandsUnder setting count)) end (2 ^ 32 - 1) before after (old, clock) (last, later)

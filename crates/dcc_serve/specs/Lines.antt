@@ -1,4 +1,4 @@
--- The lines behind rounds.
+-- The lines that follow rounds.
 use Rattle.std.specs.Prelude.{◌≡◌, ℕ, ◌+◌, ◌≤◌, ◌<◌, Bool, true, false, List, [], ◌∷◌, ◌++◌, length, take, codes, nat_eq, Option, Some, None}
 use Rattle.std.specs.Fmt.{decimal}
 use Rattle.std.specs.Io.KnownBytes.{Appends}
@@ -30,21 +30,21 @@ EndsWith Io rounds old new =
     (ended : List Counts) × (next : Counts) × (n : ℕ) × (length ended < rounds)
     × Appends old new (round_lines 1 ended ++ take n (round_line (length ended + 1) next))
 
--- whether it has a number: a fault of the comparison, of a lane or of records
+-- whether a fault has a number: a fault of the comparison, of a lane or of records
 abbrev pub is_numbered : ServeFault → Bool
 is_numbered Memory = false
 is_numbered Io = false
 is_numbered (Close number) = true
 is_numbered (Store number) = true
 
--- whether it is want of memory, or that the sender of a lane is missing
+-- whether a fault is want of memory, or a missing sender of a lane
 abbrev pub is_of_lanes : ServeFault → Bool
 is_of_lanes Memory = true
 is_of_lanes Io = false
 is_of_lanes (Close number) = nat_eq number 80
 is_of_lanes (Store number) = false
 
--- what a fault of the comparison that has this number ends a server with; want of memory has none
+-- the fault of a server by the number of a fault of the comparison; want of memory has no number
 abbrev pub of_number : Option ℕ → ServeFault
 of_number None = Memory
 of_number (Some number) = Close number

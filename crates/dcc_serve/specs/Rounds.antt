@@ -1,8 +1,8 @@
 -- Rounds, as a contract sees them.
 use Rattle.std.specs.Prelude.{ℕ, Bool, ◌&&◌, nat_le}
 
--- how many places for gateways each has, how many there are, after how many messages of its gateways a place asks for a sweep, and whether a place is
--- taken again once its gateway has gone
+-- the number of places of each round; the number of rounds; the number of messages of a place's gateways after which the place asks for a sweep; and
+-- whether a place is taken again once its gateway has gone
 pub record RoundsView : Type 0 where
   pub gates : ℕ
   pub rounds : ℕ

@@ -1,4 +1,4 @@
--- What a round is.
+-- Rounds, and the server that serves them.
 use Rattle.std.specs.Prelude.{◌≡◌, ◌⊎◌, ℕ, ◌+◌, ◌<◌, Bool, true, false, List, length, Option, Some}
 use Rattle.std.specs.Io.KnownBytes.{Appends}
 use Rattle.std.specs.List.{FoldsTo, filter_map, list_any}
@@ -26,8 +26,9 @@ abbrev pub AreServed : {S : Type 0} → (S → Counts → S → Type 0) → ℕ 
 AreServed round rounds first last before after =
     (ended : List Counts) × (length ended ≡ rounds) × FoldsTo round first ended last × Appends before after (round_lines 1 ended)
 
--- Why a server of so many rounds ends before these are over. Behind good rounds came a round that ended by this fault and has no line; or, as 51, a
--- round that has its line and behind which records have failed. Nothing is said if memory was short, or if the output or the listener failed.
+-- The reason for which a server of so many rounds ends before these are over. Behind good rounds came a round that ended by this fault and has no
+-- line; or, with fault 51, a round that has its line and after which records have failed. Nothing is said if memory was short, or if the output or
+-- the listener failed.
 abbrev pub EndsRounds : {S : Type 0} → (good round : S → Counts → S → Type 0) → (ends : S → ServeFault → Type 0) → (stopped : S → Bool) → (fault : ServeFault) → ℕ
     → (first : S) → (before after : Option (List ℕ)) → Type 0
 EndsRounds good round ends stopped Memory rounds first before after = Unit {0}
@@ -44,9 +45,9 @@ is_any_stopped {R} is_stopped shards = list_any (λ (part : StoredView R). is_st
 
 module _ {I O C : Type 0} (remaining : I → Option (List ℕ)) (contents : O → Option (List ℕ)) (tells : C → ℕ → C → Type 0) (closed : Type 0) (clock : C)
     (setting : Setting) where
-  -- Its threads were gathered and ran, its lanes were ended with all their senders, and its counts are sums over its threads. The books of its shards
-  -- begin with what these held when it began, are what they themselves make, and agree with the receipts of all its workers; and what a stop leaves of
-  -- a shard has them.
+  -- A round. Its threads were gathered and ran, its lanes were ended with all their senders, and its counts are sums over its threads. The books of
+  -- its shards begin with the acts that the shards held when the round began. They are exactly the acts that their own lists make, and agree with
+  -- the receipts of all workers of the round. Each content that a stop leaves of a shard has them.
   pub record IsRound {R : Type 0} (is_stopped : R → Bool) (may_leave : R → Content → Type 0) (rounds : RoundsView) (old : List (StoredView R)) (counts : Counts) (new : List (StoredView R)) : Type 0 where
     pub begun : List (Task I O)
     pub ended : List (Task I O)
@@ -63,12 +64,12 @@ module _ {I O C : Type 0} (remaining : I → Option (List ℕ)) (contents : O �
     pub kept : AreKept is_stopped may_leave new
     pub held : AreLeft may_leave new
 
-  -- a round behind which no records have failed
+  -- a round after which no records have failed
   abbrev pub IsGoodRound : {R : Type 0} → (is_stopped : R → Bool) (may_leave : R → Content → Type 0) (rounds : RoundsView) → List (StoredView R) → Counts → List (StoredView R) → Type 0
   IsGoodRound is_stopped may_leave rounds old counts new =
       IsRound is_stopped may_leave rounds old counts new × (is_any_stopped is_stopped new ≡ false)
 
-  -- Threads were gathered over these shards and ran, their lanes were ended, and the first test of the comparison that fails is that of this number.
+  -- Threads were gathered over these shards and ran, their lanes were ended, and the first failing test of the comparison has this number.
   pub record Disagrees {R : Type 0} (rounds : RoundsView) (old : List (StoredView R)) (number : ℕ) : Type 0 where
     pub begun : List (Task I O)
     pub ended : List (Task I O)
@@ -82,15 +83,15 @@ module _ {I O C : Type 0} (remaining : I → Option (List ℕ)) (contents : O �
     pub fails : IsFault fault books (filter_map seat_in ended)
     pub numbered : fault_number fault ≡ Some number
 
-  -- Why a round has no counts: receipts and books disagree, or, as 80, the sender of a lane is missing. Nothing is said if memory was short or a
-  -- listener failed.
+  -- The reason for which a round has no counts: receipts and books disagree; or, with fault 80, the sender of a lane is missing. Nothing is said if
+  -- memory was short or a listener failed.
   abbrev pub EndsRound : {R : Type 0} → (rounds : RoundsView) → List (StoredView R) → ServeFault → Type 0
   EndsRound rounds old Memory = Unit {0}
   EndsRound rounds old Io = Unit {0}
   EndsRound rounds old (Close number) = Disagrees rounds old number ⊎ (number ≡ 80)
   EndsRound rounds old (Store number) = ⊥
 
-  -- why a server ends before its rounds are over, each of which is over the shards that the one before it left
+  -- the reason for which a server ends before its rounds are over; each round is over the shards that the round before it left
   abbrev pub EndsServing : {R : Type 0} → (is_stopped : R → Bool) (may_leave : R → Content → Type 0) → RoundsView → (fault : ServeFault) → List (StoredView R)
       → (before after : Option (List ℕ)) → Type 0
   EndsServing is_stopped may_leave rounds fault first before after =

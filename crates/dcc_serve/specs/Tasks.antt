@@ -1,4 +1,4 @@
--- What the threads of a round do.
+-- The work of a round's threads.
 use Rattle.std.specs.Prelude.{◌≡◌, ℕ, ◌<◌, ◌≤◌, List, length, slice_index_or, Option}
 use Rattle.dcc_dispatch.specs.Settings.{Setting}
 use Rattle.dcc_lane.specs.Ends.{senders_of}
@@ -11,12 +11,12 @@ use Rattle.dcc_serve.specs.declared.tasks.Task.TheVariants.{Work, Time, Place}
 use Rattle.dcc_serve.specs.declared.timer.SweepTimer.{SweepTimer}
 use Rattle.dcc_serve.specs.declared.worker.Worker.{Worker}
 
--- `remaining` is what an input has left, and `contents` is what an output was given, if these are known. `tells` is what a reading of a clock may
--- return. `closed` is that no more connections are taken in for places. Each reader begins with a copy of `clock`. `count` is how many shards there
--- are.
+-- `remaining` has the octets that are left of an input, and `contents` has the octets that were given to an output, if these are known. `tells` is
+-- the relation of a clock's reading. `closed` says that no more connections are taken in for places. Each reader begins with a copy of `clock`.
+-- `count` is the number of shards.
 module _ {I O C : Type 0} (remaining : I → Option (List ℕ)) (contents : O → Option (List ℕ)) (tells : C → ℕ → C → Type 0) (closed : Type 0) (clock : C) (setting : Setting)
     (count : ℕ) where
-  -- the worker of a shard that is there works, the timer asks for sweeps, and the gateways of a place are served
+  -- the worker of a shard below `count` works, the timer asks for sweeps, and the gateways of a place are served
   abbrev pub Runs : Task I O → Task I O → Type 0
   Runs (Work worker) new =
       (done : Worker) × (new ≡ Work done) × (worker.shard < count → HasDone worker done (senders_of worker.from)) × (count ≤ worker.shard → done ≡ worker)

@@ -1,4 +1,4 @@
--- What the timer of sweeps does.
+-- The work of the timer of sweeps.
 use Rattle.std.specs.Prelude.{◌≡◌, ℕ, true, false, List, []}
 use Rattle.std.specs.List.{FoldsTo}
 use Rattle.dcc_serve.specs.Lanes.{all_put, lanes_of, put_all}
@@ -16,8 +16,8 @@ module _ {C : Type 0} (tells : C → ℕ → C → Type 0) where
       (moments : List ℕ) × FoldsTo AsksAt (all_put old.workers.items, clock) moments (all_put new.workers.items, later)
       × (lanes_of new.workers.items ≡ lanes_of old.workers.items)
 
-  -- If places are taken again, each worker was asked for sweeps until no more connections are taken in. Else each worker was asked for none. Then
-  -- the timer said once to each worker that nothing more is put.
+  -- If places are taken again, each worker was asked for sweeps until no more connections were taken in. Otherwise no worker was asked for a sweep.
+  -- Then the timer reported once to each worker that it puts nothing more.
   pub record Times (closed : Type 0) (clock : C) (old new : SweepTimer) : Type 0 where
     pub moments : List ℕ
     pub asked : List (List Work)

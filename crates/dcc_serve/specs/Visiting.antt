@@ -1,4 +1,4 @@
--- What the place of gateways does.
+-- The gateways of a place.
 use Rattle.std.specs.Prelude.{◌≡◌, ℕ, Bool, true, false, List, [], map, Option, None}
 use Rattle.std.specs.List.{FoldsTo, cons_option}
 use Rattle.dcc_base.specs.declared.peer.Peer.TheVariants.{Wait}
@@ -14,7 +14,7 @@ use Rattle.dcc_serve.specs.declared.place.Place.{Place}
 use Rattle.dcc_serve.specs.declared.reader.Reader.{Reader}
 use Rattle.dcc_serve.specs.declared.work.Work.TheVariants as work
 
--- one gateway at a place: its connection, what was left of it, and how both of its sides ended
+-- one gateway at a place: its connection, the connection after it was served, and the ends of its two sides
 pub record Visit (I O : Type 0) : Type 0 where
   pub came : Connection I O
   pub input : I
@@ -26,7 +26,7 @@ pub record Visit (I O : Type 0) : Type 0 where
 abbrev pub with_new_peer : Reader → Reader
 with_new_peer reader = record reader { peer = Wait }
 
--- behind its last gateway a reader says once to each worker that it puts nothing more
+-- after its last gateway a reader reports once to each worker that it puts nothing more
 abbrev pub Leaves : Reader → Reader → Type 0
 Leaves old new =
     (reading_of new ≡ record (reading_of old) { asked = put_all work.Over (reading_of old).asked }) × IsSameReader old new
@@ -37,7 +37,7 @@ AreComing {A} first stays came = (later : List A) × (came ≡ cons_option first
 
 module _ {I O C : Type 0} (remaining : I → Option (List ℕ)) (contents : O → Option (List ℕ)) (tells : C → ℕ → C → Type 0) (closed : Type 0) (clock : C) (setting : Setting)
     (count : ℕ) where
-  -- a gateway was read from, each message by a new peer, and written to, until all that answer it had ended
+  -- a gateway was read from, by a peer of its own, and written to, until all that answer it had ended
   pub record IsVisit (old : Place I O) (visit : Visit I O) (new : Place I O) : Type 0 where
     pub reads : ReadsOut tells clock setting count visit.read (remaining visit.came.input) (remaining visit.input) (with_new_peer old.reader) new.reader
     pub writes : WritesOut visit.written old.from new.from (contents visit.came.output) (contents visit.output)

@@ -1,4 +1,4 @@
--- What the worker of a shard does.
+-- The work of a shard's worker.
 use Rattle.std.specs.Prelude.{◌≡◌, ℕ, Bool, true, false, List, [], ◌∷◌, ◌++◌, ◌⊎◌, count_by, Option, Some, None}
 use Rattle.std.specs.List.{FoldsTo}
 use Rattle.std.specs.List.Sorted.{IsStrictlySortedBy}
@@ -37,26 +37,26 @@ octets_in (answers.Unknown octets) = Some octets
 octets_in (answers.Busy octets) = Some octets
 octets_in answers.Silent = None
 
--- they go to the gateway that asked, and to no other
+-- the octets of an answer go to the gateway that asked, and to no other
 abbrev pub put_answer : ℕ → Option (List ℕ) → List (List Item) → List (List Item)
 put_answer gate None lanes = lanes
 put_answer gate (Some octets) lanes = put_into gate (Octets octets) lanes
 
--- A request is answered with what some shard answers to its job, a refusal too; the worker keeps the receipt of it.
+-- A request is answered by the answer of some shard to its job, which may be a refusal. The worker keeps the receipt of the answer.
 abbrev pub Answers : Request → Doing → Doing → Type 0
 Answers request old new =
     (answer : RequestAnswer) × IsAnswerTo request.job answer × IsToldApart answer
     × (new.told ≡ old.told ++ receipts_of request.job answer) × (new.put ≡ put_answer request.gate (octets_in answer) old.put)
 
--- what is due of a subscriber is ended
+-- the due sessions of a subscriber are ended
 abbrev pub Expires : ℕ → List Receipt → Sub → List Receipt → Type 0
 Expires moment old sub new = (answer : ExpiryAnswer) × IsEndOf sub moment answer × (new ≡ old ++ expiry_receipts sub moment answer)
 
--- of each of these subscribers, whatever the others are answered
+-- the same for each of these subscribers, whatever the answer for the others
 abbrev pub ExpiresEach : ℕ → List Sub → List Receipt → List Receipt → Type 0
 ExpiresEach moment subs old new = FoldsTo (Expires moment) old subs new
 
--- of each subscriber of some shard that has acts, once and in order; or of none, if memory was short for their list
+-- the same for each subscriber of some shard that has acts, once and in order; or for none, if memory was short for their list
 abbrev pub Sweeps : ℕ → List Receipt → List Receipt → Type 0
 Sweeps moment old new = (new ≡ old) ⊎ ((subs : List Sub) × IsStrictlySortedBy sub_order subs × AreSubs subs × ExpiresEach moment subs old new)
 
@@ -66,7 +66,8 @@ Does old (work.Sweep moment) new = Sweeps moment old.told new.told × (new.put �
 Does old (work.End gate) new = (new.told ≡ old.told) × (new.put ≡ put_into gate End old.put)
 Does old work.Over new = (new.told ≡ old.told) × (new.put ≡ old.put)
 
--- What a worker's counter shows behind an item: for a sweep the subscribers of the worker's shard were listed once more, and none of them is left to be asked.
+-- A worker's counter after an item. After a sweep, the subscribers of the worker's shard were listed once more, and none of them is left to be
+-- asked.
 abbrev pub CountsFor : ℕ → SweepCounter → Work → SweepCounter → Type 0
 CountsFor shard old (work.Request request) new = new ≡ old
 CountsFor shard old (work.Sweep moment) new = new ≡ record { lists = one_more old.lists; shard = shard; left = 0 }
@@ -91,7 +92,8 @@ pub record DoesOne (old new : Worker) (ended : Bool) : Type 0 where
   pub lanes : lanes_of new.writers.items ≡ lanes_of old.writers.items
   pub shard : new.shard ≡ old.shard
 
--- A worker took items until so many of its senders put nothing more, and did each in its turn. Each of its sweeps asked every subscriber that was listed of its shard.
+-- A worker took items until so many of its senders put nothing more, and did each in its turn. Each of its sweeps asked every subscriber of its
+-- shard that was listed.
 pub record HasDone (old new : Worker) (ended : ℕ) : Type 0 where
   pub works : List Work
   pub taken : items_of (taken_of new.from) ≡ items_of (taken_of old.from) ++ works

@@ -1,4 +1,4 @@
--- What the writer of a gateway does.
+-- The work of a gateway's writer.
 use Rattle.std.specs.Prelude.{◌≡◌, ℕ, ◌+◌, ◌-◌, ◌^◌, List, ◌++◌, Option}
 use Rattle.dcc_connect.specs.Writing.{TakesAndWrites, ends_in, items_of}
 use Rattle.dcc_connect.specs.declared.writing.Item.{Item}
@@ -11,8 +11,8 @@ use Rattle.dcc_lane.specs.declared.rule.Tagged.{Tagged}
 abbrev pub TakesRest : (ended senders : ℕ) → List (Tagged Item) → List (Tagged Item) → Type 0
 TakesRest ended senders old new = (rest : List (Tagged Item)) × (new ≡ old ++ rest) × (ended + ends_in (items_of rest) ≡ senders)
 
--- Of what it took of its lane just those octets went out to its connection that its end says. What came behind that was taken and dropped: it
--- ended with every sender.
+-- Exactly those octets of the taken items went out to the connection that the writer's end defines. Items that came after it were taken and
+-- dropped, until every sender had ended.
 abbrev pub WritesOut : WriteEnd → Receiver Item → Receiver Item → Option (List ℕ) → Option (List ℕ) → Type 0
 WritesOut end old new before after =
     (mid : List (Tagged Item)) × IsSameReceiver old new × TakesAndWrites end (senders_of old) (2 ^ 32 - 1) before after (taken_of old) mid

@@ -1,7 +1,7 @@
--- Locks that know where they stand.
+-- Locks that have their own places.
 use Rattle.std.specs.Prelude.{◌≡◌, ℕ, ◌<◌, List, length, slice_index_or}
 use Rattle.dcc_running.specs.declared.lock.Lock.{Lock}
 
--- these are of so many locks, each at its own place
+-- each of these locks has its own index among so many locks
 abbrev pub AreOf : {R : Type 0} → ℕ → List (Lock R) → Type 0
 AreOf {R} count locks = (i : ℕ) (none : Lock R) → i < length locks → (slice_index_or locks i none).place ≡ record { index = i; count = count }
