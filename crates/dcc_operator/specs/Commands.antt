@@ -1,4 +1,4 @@
--- What a command does over the store of one shard.
+-- The commands over the store of one shard.
 use Rattle.std.specs.Prelude.{⊤, ◌≡◌, ◌≢◌, ℕ, Bool, List, [], Option, Some, None}
 use Rattle.std.specs.Io.KnownBytes.{Appends}
 use Rattle.dcc_tariff.specs.Plans.{PlanView}
@@ -17,36 +17,37 @@ use Rattle.dcc_operator.specs.Ledgers.{page_of, unknown_line}
 use Rattle.dcc_operator.specs.Texts.{IsBegun}
 use Rattle.dcc_operator.specs.TopUps.{line_of}
 
--- a shard as it was opened for a subscriber: under the plan's terms, of acts that are their own, of subscribers of its shard alone
+-- a shard that was opened for a subscriber: under the plan's terms, for this server, with lists of acts that make exactly their own acts, and
+-- with subscribers of the subscriber's shard alone
 pub record IsOpenedFor (plan : PlanView) (identity : Identity) (sub : Sub) (shard : ShardView) : Type 0 where
   pub terms : shard.terms ≡ plan.terms
   pub identity_is : shard.identity ≡ identity
   pub own : AreOwn shard
   pub placed : (other : Sub) → held shard other ≢ [] → shard_of other plan.shards ≡ shard_of sub plan.shards
 
--- a top-up was told what its definition gives from what was held, and what is held since is that with the top-up where it was judged
+-- a top-up was answered as its definition defines from the acts held before; the top-up is among the acts held since if it was judged
 pub record IsMade (plan : PlanView) (identity : Identity) (ask : TopUpAsk) (answer : TopUpAnswer) (after : ShardView) : Type 0 where
   pub before : ShardView
   pub opened : IsOpenedFor plan identity ask.sub before
   pub told : IsTold before ask.sub ask.moment ask.ticket ask.amount answer
   pub step : IsStep before after (is_judged_top_up answer) ask.sub (top_up_act ask.moment ask.ticket ask.amount)
 
--- and its word was written, or the first octets of that
+-- a top-up was made so, and the line of its answer was written, or the first octets of this line
 abbrev pub IsToppedUp : PlanView → Identity → TopUpAsk → ShardView → (old new : Option (List ℕ)) → Type 0
 IsToppedUp plan identity ask after old new = (answer : TopUpAnswer) × IsMade plan identity ask answer after × Appends old new (line_of answer)
 
 abbrev pub IsToppedUpBegun : PlanView → Identity → TopUpAsk → ShardView → (old new : Option (List ℕ)) → Type 0
 IsToppedUpBegun plan identity ask after old new = (answer : TopUpAnswer) × IsMade plan identity ask answer after × IsBegun (line_of answer) old new
 
--- a top-up isn't made, and its fault is told: the store wasn't opened, and opening refused it with this number; or no shard is made over its
--- records, for the fault of this number, and a stop leaves of them what it left before
+-- a top-up isn't made, and its fault is reported: the opening refused the store by the fault of this number; or no shard is made over its
+-- records, for the fault of this number, and a stop leaves no content of them that it did not leave before
 abbrev pub IsRefused : {R : Type 0} → (ℕ → Type 0) → (R → Type 0) → (R → Content → Type 0) → (R → Bool) → ℕ → ℕ → OperatorFault → Option R → Type 0
 IsRefused refuses opens may_leave is_stopped index count fault None = (number : ℕ) × (fault ≡ Store number) × refuses number
 IsRefused {R} refuses opens may_leave is_stopped index count fault (Some records) =
     (number : ℕ) × (fault ≡ Store number) × (given : R) × opens given × IsFaultOver may_leave is_stopped given index count number
     × ((found : Content) → may_leave records found → may_leave given found)
 
--- what is written of a subscriber: its ledger by the shard that was opened, or that its account is unknown where there was none
+-- the text of a subscriber: its page by the shard that was opened, or the line of an unknown account if none was opened
 abbrev pub shown_of : Option ShardView → Sub → List ℕ
 shown_of None sub = unknown_line sub
 shown_of (Some shard) sub = page_of shard.terms sub (held shard sub)

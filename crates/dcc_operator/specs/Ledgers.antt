@@ -1,4 +1,4 @@
--- The page of a subscriber: the ledger of its account, or that there is none.
+-- The page of a subscriber: the ledger of its account, or the line of an unknown account.
 use Rattle.std.specs.Prelude.{ℕ, List, [], ◌∷◌, ◌++◌, codes, pos}
 use Rattle.std.specs.Fmt.{decimal}
 use Rattle.dcc_tariff.specs.Terms.{TermsView}
@@ -9,11 +9,11 @@ use Rattle.dcc_model.specs.Entries.{entries}
 use Rattle.dcc_account.specs.Accounts.{reserved}
 use Rattle.dcc_report.specs.Ledger.{ledger_text}
 
--- what is told of a subscriber for whom nothing was ever done
+-- the line of a subscriber without acts
 abbrev pub unknown_line : SubView → List ℕ
 unknown_line sub = codes "account " ++ decimal sub.kind ++ codes ":" ++ sub.name ++ codes " unknown\n"
 
--- the page of a subscriber whose acts these are: the entries in the books, what live grants hold of the funds, and what was overrun
+-- the page of a subscriber with these acts: the entries in the books, the reserved money, and the overrun
 abbrev pub page_of : TermsView → SubView → List Act → List ℕ
 page_of terms sub [] = unknown_line sub
 page_of terms sub (act ∷ acts) =

@@ -1,4 +1,4 @@
--- A shard over the records of a store that was opened, and why there is none.
+-- A shard over the records of an opened store, and the faults for which there is none.
 use Rattle.std.specs.Prelude.{◌≡◌, ◌≢◌, ◌⊎◌, ℕ, Bool, true, false, []}
 use Rattle.dcc_act.specs.declared.sub.Sub.{Sub}
 use Rattle.dcc_records.specs.Contents.{Content}
@@ -7,25 +7,25 @@ use Rattle.dcc_shard.specs.Routes.{shard_of}
 use Rattle.dcc_shard.specs.Shards.{held}
 use Rattle.dcc_shard.specs.Stored.{StoredView}
 
--- it is over records that opening gave: what it holds is what a stop leaves, and was left before
+-- the shard is over records that the opening returned: its held acts are those that a stop leaves, and that a stop left before
 pub record IsOpenedOver {R : Type 0} (opens : R → Type 0) (may_leave : R → Content → Type 0) (stored : StoredView R) : Type 0 where
   pub given : R
   pub opened : opens given
   pub same : (found : Content) → may_leave stored.records found → may_leave given found
   pub left : LeavesOnly stored.shard.terms (held stored.shard) (may_leave stored.records)
 
--- the records have acts of a subscriber of another shard than that of this index, of so many
+-- the records have acts of a subscriber whose shard, of so many, is not the shard of this index
 abbrev pub HasOthers : {R : Type 0} → (R → Content → Type 0) → R → ℕ → ℕ → Type 0
 HasOthers {R} may_leave records index count =
     (stored : StoredView R) × IsOpenedOver (λ given. given ≡ records) may_leave stored × (¬ ((sub : Sub) → held stored.shard sub ≢ [] → shard_of sub count ≡ index))
 
--- The number of the fault of records over which no shard is made, with its cause: 50 want of memory and 51 a failure, each of records that
--- weren't stopped, 52 records that were, 54 acts of another shard's subscriber.
+-- The number of the fault of records over which no shard is made, with its cause: 50, want of memory, and 51, a failure, each of records that
+-- weren't stopped; 52, stopped records; 54, acts of another shard's subscriber.
 abbrev pub IsFaultOver : {R : Type 0} → (R → Content → Type 0) → (R → Bool) → R → ℕ → ℕ → ℕ → Type 0
 IsFaultOver may_leave is_stopped records index count number =
     ((number ≡ 50) × (is_stopped records ≡ false)) ⊎ (((number ≡ 51) × (is_stopped records ≡ false)) ⊎ (((number ≡ 52) × (is_stopped records ≡ true)) ⊎ ((number ≡ 54) × HasOthers may_leave records index count)))
 
--- a store can't be used, by the number of its fault: opening refused it so, or no shard is made over the records that it gave
+-- a store can't be used, by the number of its fault: the opening refused it by this fault, or no shard is made over the records of the opening
 abbrev pub IsUnusable : {R : Type 0} → (ℕ → Type 0) → (R → Type 0) → (R → Content → Type 0) → (R → Bool) → ℕ → ℕ → ℕ → Type 0
 IsUnusable {R} refuses opens may_leave is_stopped index count number =
     refuses number ⊎ ((given : R) × opens given × IsFaultOver may_leave is_stopped given index count number)

@@ -1,4 +1,4 @@
--- What a writer has of a text where it failed.
+-- The part of a text that a failed writer has.
 use Rattle.std.specs.Prelude.{ℕ, List, Option, take}
 use Rattle.std.specs.Io.KnownBytes.{Appends}
 

@@ -1,4 +1,4 @@
--- The command lines of the program, as they are declared to the reader of command lines, and as it reads them.
+-- The command lines of the program, as they are declared to `clap`, and as `clap` reads them.
 use Rattle.std.specs.Prelude.{◌≡◌, ◌⊎◌, ⊤, ℕ, true, List, [], codes, Option, Some, None, Result, Ok, Err}
 use Rattle.clap.specs.Words.{App, IsAmong, Row, Rule, Text, fault_of, first_of, new_app, new_rule, subcommand_of, with_rule, with_subcommand}
 use Rattle.clap.specs.declared.builder.ArgAction.TheVariants.{Set, SetTrue}
@@ -21,7 +21,7 @@ argument name = record (new_rule name) { required = true; action = Some Set }
 abbrev pub replay_command : App
 replay_command = with_rule (new_app (codes "replay")) (argument (codes "PLAN"))
 
--- a command with the two by which a store is found
+-- a command with the three arguments by which a subscriber's store is found
 abbrev pub store_command : Text → App
 store_command name = with_rule (with_rule (with_rule (new_app name) (argument (codes "PLAN"))) (argument (codes "DIR"))) (argument (codes "SUB"))
 
@@ -35,11 +35,11 @@ ledger_command = store_command (codes "ledger")
 abbrev pub option : Text → Rule
 option name = record (new_rule name) { long = Some name; action = Some Set }
 
--- an option that takes none
+-- an option that takes no value
 abbrev pub flag : Text → Rule
 flag name = record (new_rule name) { long = Some name; action = Some SetTrue }
 
--- a server's plan, its folder, and where it listens
+-- a server's plan, its folder, and the address at which it listens
 abbrev pub listening_command : App
 listening_command = with_rule (with_rule (with_rule (new_app (codes "serve")) (argument (codes "PLAN"))) (argument (codes "DIR"))) (option (codes "listen"))
 
@@ -53,7 +53,7 @@ decode_command = new_app (codes "decode")
 abbrev pub help_command : App
 help_command = new_app (codes "help")
 
--- the program: it has a version, one of its commands has to be there, and `help` is one of its own
+-- the program: it has a version, one of its commands has to be there, and `help` is a command of its own
 abbrev pub with_version : App → App
 with_version app = record app { top = record app.top { has_version = true } }
 
@@ -73,7 +73,7 @@ pub record IsCommand (name : Text) (found : List Row) (words : List Text) : Type
   pub accepted : fault_of dcc_command words ≡ []
   pub named : subcommand_of dcc_command words ≡ Some (name, found)
 
--- the command that a task is asked for by; the version has none
+-- the command by which a task is asked for; the version has none
 abbrev pub name_of : Task → Text
 name_of (Replay path) = codes "replay"
 name_of (TopUp place ask) = codes "topup"
@@ -82,12 +82,12 @@ name_of Decode = codes "decode"
 name_of Help = codes "help"
 name_of Version = []
 
--- where PLAN and DIR are
+-- PLAN and DIR are those of a place
 pub record IsPlace (found : List Row) (place : Place) : Type 0 where
   pub plan_is : first_of (codes "PLAN") found ≡ Some place.plan.now
   pub folder_is : first_of (codes "DIR") found ≡ Some place.folder.now
 
--- what the other arguments say, as scripts say it
+-- the values of the other arguments, which have the form of a script's words
 abbrev pub sub_in : List Row → Option Sub
 sub_in found = first_of (codes "SUB") found >>= sub
 
@@ -104,7 +104,7 @@ pub record IsAsk (found : List Row) (ask : TopUpAsk) : Type 0 where
   pub amount_is : number_in (codes "AMOUNT") found ≡ Some ask.amount
   pub moment_is : moment_in found ≡ Some ask.moment
 
--- the arguments say what a task needs
+-- the arguments have the values of a task
 abbrev pub AsksWith : List Row → Task → Type 0
 AsksWith found (Replay path) = first_of (codes "PLAN") found ≡ Some path.now
 AsksWith found (TopUp place ask) = IsPlace found place × IsAsk found ask
@@ -118,7 +118,7 @@ abbrev pub IsTaskOf : Text → List Row → Option Task → Type 0
 IsTaskOf name found (Some task) = (name ≡ name_of task) × AsksWith found task
 IsTaskOf name found None = (task : Task) → name ≡ name_of task → AsksWith found task → ⊥
 
--- the words name a task's command, with what it needs
+-- the words name a task's command, with the values of the task
 abbrev pub IsAsked : List Text → Task → Type 0
 IsAsked words task = (found : List Row) × IsCommand (name_of task) found words × AsksWith found task
 
@@ -129,7 +129,7 @@ wish_of kind.DisplayVersion = Ok Version
 wish_of kind.OutOfMemory = Err Memory
 wish_of _ = Err Usage
 
--- what the words ask for
+-- the words ask for a task
 abbrev pub Asks : List Text → Task → Type 0
 Asks words Help = IsAmong kind.DisplayHelp (fault_of dcc_command words) ⊎ IsAsked words Help
 Asks words Version = IsAmong kind.DisplayVersion (fault_of dcc_command words)
@@ -144,7 +144,7 @@ IsUnderPlan Decode = ⊥
 IsUnderPlan Help = ⊥
 IsUnderPlan Version = ⊥
 
--- or a script
+-- the words ask for a task that reads a script
 abbrev pub IsOverScript : Task → Type 0
 IsOverScript (Replay path) = ⊤
 IsOverScript (TopUp place ask) = ⊥
@@ -153,7 +153,7 @@ IsOverScript Decode = ⊥
 IsOverScript Help = ⊥
 IsOverScript Version = ⊥
 
--- or a store
+-- the words ask for a task over a store
 abbrev pub IsOverStore : Task → Type 0
 IsOverStore (Replay path) = ⊥
 IsOverStore (TopUp place ask) = ⊤
@@ -162,7 +162,7 @@ IsOverStore Decode = ⊥
 IsOverStore Help = ⊥
 IsOverStore Version = ⊥
 
--- the words have a fault that asks for nothing, or have none and name no command with what it needs
+-- the words have a fault that asks for nothing; or they have no fault, and name no command with the values of a task
 abbrev pub IsNoUse : List Text → Type 0
 IsNoUse words = ((other : ErrorKind) × IsAmong other (fault_of dcc_command words) × (wish_of other ≡ Err Usage))
     ⊎ ((fault_of dcc_command words ≡ []) × ((task : Task) → IsAsked words task → ⊥))

@@ -1,4 +1,4 @@
--- How the program ends.
+-- The ends of the program.
 use Rattle.std.specs.Prelude.{⊤, ℕ, [], ◌∷◌, ◌++◌, List, codes, Option, Some, None, Result, Ok, Err}
 use Rattle.std.specs.Fmt.{decimal}
 use Rattle.dcc_tariff.specs.declared.fault.PlanFault.{PlanFault}
@@ -43,7 +43,7 @@ abbrev pub status_of_end : Result (Unit {0}) Failure → ℕ
 status_of_end (Ok done) = 0
 status_of_end (Err failure) = status_of failure
 
--- what it writes to standard error
+-- the text on standard error of a program that did its work, or failed
 abbrev pub line_of_end : Result (Unit {0}) Failure → List ℕ
 line_of_end (Ok done) = []
 line_of_end (Err failure) = line_of failure ++ 10 ∷ []
@@ -87,7 +87,7 @@ of_decode decode.Memory = Memory
 of_decode decode.Input = Io
 of_decode decode.Output = Io
 
--- the failures that showing messages comes to: of no input
+-- the failures of `dcc decode`, for any input
 abbrev pub IsDecodeFailure : Failure → Type 0
 IsDecodeFailure Usage = ⊥
 IsDecodeFailure Memory = ⊤

@@ -14,15 +14,15 @@ use Rattle.dcc_program.specs.Failures.{of_plan}
 unfoldable pub plan_of_octets : List ℕ → Result PlanView PlanFault
 plan_of_octets octets = if is_utf8 octets then plan_of_text octets else Err NotToml
 
--- the plan is that of the file's octets, if they are known
+-- the plan is the plan of the file's octets, if they are known
 abbrev pub IsPlanOf : Option (List ℕ) → PlanView → Type 0
 IsPlanOf file plan = IfSome file (λ octets. plan_of_octets octets ≡ Ok plan)
 
--- the failure that is reported for a plan that isn't given: its fault, or want of memory
+-- the failure that is reported for a plan that can't be read: its fault, or want of memory
 abbrev pub IsRefusal : Result PlanView PlanFault → Failure → Type 0
 IsRefusal plan failure = (failure ≡ Memory) ⊎ ((fault : PlanFault) × (plan ≡ Err fault) × (failure ≡ of_plan fault))
 
--- the failures that a plan's file comes to: the fault of its octets, if they are known, under its number, or memory, or input
+-- the failures of a plan's file: the fault of its octets, if they are known, by its number; or memory; or input
 abbrev pub IsPlanFailure : Option (List ℕ) → Failure → Type 0
 IsPlanFailure file Usage = ⊥
 IsPlanFailure file Memory = ⊤

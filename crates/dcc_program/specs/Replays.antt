@@ -7,15 +7,15 @@ use Rattle.dcc_program.specs.declared.failure.Failure.{Failure}
 use Rattle.dcc_program.specs.declared.failure.Failure.TheVariants.{Usage, Memory, Io, Plan, Store, Script, Close}
 use Rattle.dcc_program.specs.Plans.{IsPlanOf, IsPlanFailure}
 
--- a writer, before and after, has grown by what is printed of the script under the plan of the file
+-- a writer, before and after, has grown by the printed form for the script under the plan of the file
 abbrev pub IsReplay : (file script old new : Option (List ℕ)) → Type 0
 IsReplay file script old new = (plan : PlanView) × IsPlanOf file plan × run.IsWritten plan script old new
 
--- or by its first octets
+-- a writer has grown by the first octets of this printed form
 abbrev pub IsReplayBegun : (file script old new : Option (List ℕ)) → Type 0
 IsReplayBegun file script old new = (plan : PlanView) × IsPlanOf file plan × run.IsBegun plan script old new
 
--- the failures that a replay comes to: the plan's, or under a good plan that of the script's first line with a fault
+-- the failures of a replay: the plan's, or under a good plan the script's first line with a fault; or memory, input or output
 abbrev pub IsReplayFailure : (file script : Option (List ℕ)) → Failure → Type 0
 IsReplayFailure file script Usage = ⊥
 IsReplayFailure file script Memory = ⊤

@@ -16,8 +16,8 @@ use Rattle.dcc_program.specs.CommandLines.{Asks, IsUnderPlan, IsOverStore, IsOve
 use Rattle.dcc_program.specs.Stores.{IsTopUp, IsTopUpBegun, IsLedger, IsLedgerBegun}
 use Rattle.dcc_program.specs.Plans.{IsPlanFailure}
 
--- a task is done, over the stores that opening gives of a folder: the input before and after, and the writer. A text is printed without a look at
--- the input
+-- a task is done over the stores of a folder as the opening returns them, by its input before and after and its writer before and after. A task
+-- without input reads nothing
 abbrev pub IsDone : {R : Type 0} → (opens : List ℕ → PlanView → ℕ → R → Type 0) → (may_leave : R → Content → Type 0) → Task
     → (unread left old new : Option (List ℕ)) → Type 0
 IsDone opens may_leave (Replay path) unread left old new = (plan : PlanView) × replay.IsWritten plan unread old new
@@ -46,7 +46,7 @@ IsBeforeScript (Store number) = ⊤
 IsBeforeScript (Script line) = ⊥
 IsBeforeScript (Close number) = ⊥
 
--- the failures that the program comes to: usage if the words ask for nothing, and the others if they ask for a task
+-- the failures of the program: usage if the words ask for nothing, and other failures, except memory, only if they ask for a task
 abbrev pub IsRunFailure : List Text → Option (List ℕ) → Failure → Type 0
 IsRunFailure words script Usage = IsNoUse words
 IsRunFailure words script Memory = ⊤

@@ -24,7 +24,7 @@ listening_line address = codes "listening " ++ socket_text address ++ codes "\n"
 abbrev pub IsServed : ℕ → (old new : Option (List ℕ)) → Type 0
 IsServed rounds old new = (address : SocketAddr) × (told : Option (List ℕ)) × Appends old told (listening_line address) × AreTold rounds told new
 
--- the shards are those over the stores of a folder, as many as the plan has, each as opening gives it
+-- the shards are over the stores of a folder, as many as the plan has, each as the opening returns it
 abbrev pub AreOverStores : {R : Type 0} → (opens : ℕ → R → Type 0) → (may_leave : R → Content → Type 0) → PlanView → List (StoredView R) → Type 0
 AreOverStores {R} opens may_leave plan shards =
     (length shards ≡ plan.shards) × ((i : ℕ) (none : StoredView R) → i < length shards → IsOpenedOver (opens i) may_leave (slice_index_or shards i none))
@@ -45,7 +45,7 @@ module _ {I O C : Type 0} (remaining : I → Option (List ℕ)) (contents : O �
     pub served : AreServed (IsGoodRound remaining contents tells closed clock (record { plan = plan; identity = identity_of plan }) is_stopped may_leave rounds)
         rounds.rounds shards last told new
 
--- the failures that come before a gateway is waited for: the plan's, or under a good plan a store's or the address's
+-- the failures before the server waits for a gateway: the plan's, or under a good plan a store's or the address's
 abbrev pub IsBeforeServing : Failure → Type 0
 IsBeforeServing Usage = ⊥
 IsBeforeServing Memory = ⊤
@@ -62,7 +62,7 @@ IsTellingBegun old new failure = (IsBeforeServing failure × Keeps old new)
     ⊎ ((address : SocketAddr) × (n : ℕ) × (failure ≡ Io) × Appends old new (take n (listening_line address)))
 
 module _ {I O C : Type 0} (remaining : I → Option (List ℕ)) (contents : O → Option (List ℕ)) (tells : C → ℕ → C → Type 0) (closed : Type 0) where
-  -- the line with the server's address is written, and then the text that a fault of its rounds leaves, for the cause that this fault has
+  -- the line with the server's address is written, and then the text that a fault of its rounds leaves, with the cause of this fault
   pub record IsServingEnded {R : Type 0} (opens : PlanView → ℕ → R → Type 0) (is_stopped : R → Bool) (may_leave : R → Content → Type 0) (rounds : RoundsView)
       (old new : Option (List ℕ)) (failure : Failure) : Type 0 where
     pub plan : PlanView

@@ -1,4 +1,4 @@
--- `dcc topup` and `dcc ledger`: what is done over the store of one shard under the plan of a file.
+-- `dcc topup` and `dcc ledger`: the commands over the store of one shard under the plan of a file.
 use Rattle.std.specs.Prelude.{⊤, ℕ, Bool, List, Option, IfSome, option_map}
 use Rattle.dcc_tariff.specs.Plans.{PlanView}
 use Rattle.dcc_act.specs.declared.sub.Sub.{Sub}
@@ -15,8 +15,8 @@ use Rattle.dcc_program.specs.declared.failure.Failure.{Failure}
 use Rattle.dcc_program.specs.declared.failure.Failure.TheVariants.{Usage, Memory, Io, Plan, Store, Script, Close}
 use Rattle.dcc_program.specs.Plans.{IsPlanOf, IsPlanFailure}
 
--- a top-up was made under the plan of the file, in the store of its subscriber's shard as opening gives it, and is all that was made there; and a
--- writer, before and after, has grown by its word
+-- a top-up was made under the plan of the file, in the store of its subscriber's shard as the opening returns it. No other act was made there. A
+-- writer, before and after, has grown by the line of its answer
 pub record IsTopUp {R : Type 0} (opens : PlanView → ℕ → R → Type 0) (may_leave : R → Content → Type 0) (file : Option (List ℕ)) (ask : TopUpAsk)
     (old new : Option (List ℕ)) : Type 0 where
   pub plan : PlanView
@@ -28,11 +28,11 @@ pub record IsTopUp {R : Type 0} (opens : PlanView → ℕ → R → Type 0) (may
   pub step : IsStep before.shard after judged ask.sub (top_up_act ask.moment ask.ticket ask.amount)
   pub told : IsToppedUp plan (identity_of plan) ask after old new
 
--- or by the first octets of that
+-- a top-up was made so, and a writer has grown by the first octets of the line of its answer
 abbrev pub IsTopUpBegun : (file : Option (List ℕ)) → TopUpAsk → (old new : Option (List ℕ)) → Type 0
 IsTopUpBegun file ask old new = (plan : PlanView) × IsPlanOf file plan × (after : ShardView) × IsToppedUpBegun plan (identity_of plan) ask after old new
 
--- a writer has grown by the page of a subscriber under the plan of the file, from the store of its shard as opening gives it, if there is one
+-- a writer has grown by the page of a subscriber under the plan of the file, from the store of its shard as the opening returns it, if there is one
 pub record IsLedger {R : Type 0} (opens : PlanView → ℕ → R → Type 0) (may_leave : R → Content → Type 0) (file : Option (List ℕ)) (sub : Sub)
     (old new : Option (List ℕ)) : Type 0 where
   pub plan : PlanView
@@ -41,11 +41,11 @@ pub record IsLedger {R : Type 0} (opens : PlanView → ℕ → R → Type 0) (ma
   pub opened : IfSome stored (IsOpenedOver (opens plan (shard_of sub plan.shards)) may_leave)
   pub shown : IsShown plan (identity_of plan) sub (option_map (λ store. store.shard) stored) old new
 
--- or by its first octets
+-- a writer has grown by the first octets of such a page
 abbrev pub IsLedgerBegun : (file : Option (List ℕ)) → Sub → (old new : Option (List ℕ)) → Type 0
 IsLedgerBegun file sub old new = (plan : PlanView) × IsPlanOf file plan × IsShownBegun plan (identity_of plan) sub old new
 
--- the failures that a command over a store comes to: the plan's, or under a good plan that of the store
+-- the failures of a command over a store: the plan's, or under a good plan the store's; or memory, input or output
 abbrev pub IsStoreFailure : (file : Option (List ℕ)) → Failure → Type 0
 IsStoreFailure file Usage = ⊥
 IsStoreFailure file Memory = ⊤
