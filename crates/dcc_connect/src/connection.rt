@@ -37,7 +37,7 @@ pub trait Answerer {
 ///
 /// Faults: [`ConnectFault::Read`](crate::ConnectFault), the reader failed; `Write`, the writer failed or took no octet, after so many
 /// octets of the answers, and nothing was written after it; `TooManyTurns`, the turns were used up; `Header`, a message's header can't
-/// be read or no message has its length field, and the messages before it were answered; `Memory`, memory was short for the octets that
+/// be read or its length field is invalid, and the messages before it were answered; `Memory`, memory was short for the octets that
 /// were read last, of which nothing was answered.
 pub fn serve_connection<I: Read, O: Write, C: Clock, A: Answerer>(
     alloc: Global,

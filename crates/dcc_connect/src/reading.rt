@@ -19,7 +19,7 @@ use std::sync::Wait;
 /// less than a message is dropped at the end. The function waits when the reader or the submitter waits.
 ///
 /// Faults: [`ConnectFault::Read`], the reader failed; [`ConnectFault::TooManyTurns`], each turn brought octets and no end;
-/// [`ConnectFault::Header`], a message's header can't be read or no message has its length field, and only the messages before it were
+/// [`ConnectFault::Header`], a message's header can't be read or its length field is invalid, and only the messages before it were
 /// handed on; [`ConnectFault::Memory`], memory was short for the octets that were read last, of which nothing was handed on.
 pub fn read_side<W: Wait, I: Read, C: Clock, S: Submitter>(
     rt: &W,

@@ -158,7 +158,7 @@ is_refused_message (Received.Charging host message) out = is_refusal out.octets
 is_refused_message (Received.Base peer message) out = hears peer message.header && is_refusal out.octets
 
 -- A credit-control message of nobody is answered by the refusal that its verdict has, or is refused as busy. The clause of the subscriber
--- defines the answer to any other credit-control message. The subscriber of no message is still sought here.
+-- defines the answer to any other credit-control message. No verdict seeks a subscriber any more here.
 abbrev pub IsOfNobody : Identity → MessageView → Verdict → List ℕ → Type 0
 IsOfNobody identity message (verdicts.Asks sub act) octets = Unit {0}
 IsOfNobody identity message (verdicts.Seeks act) octets = Unit {0}

@@ -17,10 +17,10 @@ use dcc_model::{
     one_more_act_opens,
 };
 
-/// Two runs that agree on a subscriber's own events, with which of them were refused, and on the acts held for it before,
-/// agree on its answers, octet for octet, and on its own entries. The servers answer under one identity and one plan's
-/// terms; all else may differ: shards, tariffs that no own event was priced by, other subscribers, peers, and the order
-/// between subscribers.
+/// Two runs that agree on a subscriber's own events, on which of these were refused, and on the acts held for it before, agree on its
+/// answers, octet for octet, and on its own entries. The condition: both servers answer under one identity and one plan's terms. All
+/// other parts may differ: shards, tariffs by which no own event was priced, other subscribers, peers, and the order between
+/// subscribers.
 pub fn isolation()
     ensures answers { (sub : Sub) (a b : EngineView) (xs ys : List Turn) → IsRun a xs → IsRun b ys
         → a.setting.identity ≡ b.setting.identity → a.setting.plan.terms ≡ b.setting.plan.terms

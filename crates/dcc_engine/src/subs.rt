@@ -6,7 +6,7 @@ use dcc_act::Sub;
 use std::alloc::Global;
 use std::marker::Model;
 
-/// Subscribers, in order.
+/// A list of subscribers.
 #[derive(Debug, Drop)]
 pub struct Subs {
     items: Vec<Sub>,

@@ -25,7 +25,8 @@ pub record IsOpenedFor (plan : PlanView) (identity : Identity) (sub : Sub) (shar
   pub own : AreOwn shard
   pub placed : (other : Sub) → held shard other ≢ [] → shard_of other plan.shards ≡ shard_of sub plan.shards
 
--- a top-up was answered as its definition defines from the acts held before; the top-up is among the acts held since if it was judged
+-- a top-up was answered by its definition from the acts held before; the acts held since are those after the top-up if it was judged, and
+-- otherwise those before
 pub record IsMade (plan : PlanView) (identity : Identity) (ask : TopUpAsk) (answer : TopUpAnswer) (after : ShardView) : Type 0 where
   pub before : ShardView
   pub opened : IsOpenedFor plan identity ask.sub before

@@ -69,7 +69,7 @@ ids_octets ids = to_be_bytes w16 (length ids) ++ flat_map u32_octets ids
 unfoldable pub tariff_octets : TariffView → List ℕ
 tariff_octets tariff = u32_octets tariff.price ++ u64_octets tariff.block
 
--- a service: its form, its group, its identifiers, the units that it asks for, the units that it reports, their kind, and its tariff
+-- a service: its form, its group, its identifiers, the units that it asks for, the units that it reports, the kind of units, and its tariff
 unfoldable pub service_octets : ServiceView → List ℕ
 service_octets service =
     form_octet service.form ∷ optional u32_octets service.group ++ ids_octets service.ids

@@ -1,4 +1,4 @@
--- The content of a store: what it keeps of each subscriber.
+-- The content of a store: the acts, the entries and the account that it keeps of each subscriber.
 use Rattle.std.specs.Prelude.{◌≡◌, ℕ, ℤ, List, [], ◌∷◌, ◌++◌, length}
 use Rattle.dcc_tariff.specs.Terms.{TermsView}
 use Rattle.dcc_act.specs.declared.act.Act.{Act}

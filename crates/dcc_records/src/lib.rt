@@ -4,7 +4,7 @@
 //! for terms. A book has a list of held acts for each subscriber, and each list makes exactly its own acts. The content of a store has
 //! the acts of each subscriber, their entries and the account. A book determines its content under the store's terms.
 //!
-//! What [`Records`] promise, whatever they stand on:
+//! The contract of [`Records`], for a store of any kind:
 //! - [`append`](Records::append) adds one act, with its entries, to one subscriber, whole or not at all. A stop is the end of the
 //!   process. A stop at any moment of the call leaves the content of the book before the call, or of the book with the one act more.
 //! - With [`Memory`](StoreFault::Memory) nothing changed, and the records may be used. [`Device`](StoreFault::Device) is returned only

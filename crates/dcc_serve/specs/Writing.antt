@@ -11,8 +11,8 @@ use Rattle.dcc_lane.specs.declared.rule.Tagged.{Tagged}
 abbrev pub TakesRest : (ended senders : ℕ) → List (Tagged Item) → List (Tagged Item) → Type 0
 TakesRest ended senders old new = (rest : List (Tagged Item)) × (new ≡ old ++ rest) × (ended + ends_in (items_of rest) ≡ senders)
 
--- Exactly those octets of the taken items went out to the connection that the writer's end defines. Items that came after it were taken and
--- dropped, until every sender had ended.
+-- The octets that went out to the connection are exactly those of the taken items that the writer's end defines. Items that came after it were
+-- taken and dropped, until every sender had ended.
 abbrev pub WritesOut : WriteEnd → Receiver Item → Receiver Item → Option (List ℕ) → Option (List ℕ) → Type 0
 WritesOut end old new before after =
     (mid : List (Tagged Item)) × IsSameReceiver old new × TakesAndWrites end (senders_of old) (2 ^ 32 - 1) before after (taken_of old) mid

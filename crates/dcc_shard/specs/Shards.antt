@@ -28,7 +28,7 @@ held_in rows sub = option_map_or (λ (account : Account). account.acts) (account
 abbrev pub held : ShardView → Sub → List Act
 held shard sub = held_in shard.rows sub
 
--- the held acts of a subscriber after one more act: with this act if it was judged, and otherwise as before
+-- the held acts of a subscriber after one more act: those that the list with this act makes if it was judged, and otherwise those before
 abbrev pub held_after : TermsView → Bool → List Act → Act → List Act
 held_after terms is_judged before act = if is_judged then acts terms (before ++ act ∷ []) else before
 

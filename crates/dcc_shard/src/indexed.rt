@@ -70,7 +70,7 @@ impl IndexedBooks {
         }
     }
 
-    /// The books of a book that was loaded from records: each account is made anew from its acts. The only error is want of memory.
+    /// The accounts of a book that was loaded from records, each made anew from its acts. The only error is want of memory.
     pub(crate) fn of_book(
         alloc: Global,
         terms: &Terms,

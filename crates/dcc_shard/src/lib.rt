@@ -3,9 +3,9 @@
 //! Stands on `dcc_account` for the outcome of an act, on `dcc_credit` for the octets of its answer, and on `dcc_records` for the store
 //! of the acts. The contract that it gives: a step answers its subscriber by the defined outcome of one more act after the acts held
 //! for this subscriber. It leaves the held acts of every other subscriber as they were. If memory or the records refuse a step, its
-//! answer reports this, and all held acts stay as they were. In each step, everything that can be refused comes before the first
-//! change: a new act is appended before its answer leaves and before the account changes. A shard whose records are stopped judges
-//! nothing more. An expiry ends a subscriber's sessions that are due; it is such a step without octets.
+//! answer, if there is one, reports this, and all held acts stay as they were. In each step, everything that can be refused comes
+//! before the first change: a new act is appended before its answer leaves and before the account changes. A shard whose records are
+//! stopped judges nothing more. An expiry ends a subscriber's sessions that are due; it is such a step without octets.
 #![tactic(auto)]
 
 mod answers;

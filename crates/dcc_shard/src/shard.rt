@@ -140,8 +140,8 @@ impl<R: Records> Shard<R> {
         self.kept.books().account(&sub)
     }
 
-    /// Whether [`shard_of`] gives each subscriber with held acts the shard of this index, of `count` shards. Shards that stand as one have
-    /// to be so, and so has a store. The condition: `count` is at least 1.
+    /// Whether [`shard_of`] gives each subscriber with held acts the shard of this index, of `count` shards. [`Shards`](crate::Shards) and
+    /// stores require it of each shard. The condition: `count` is at least 1.
     pub fn is_placed(&self, index: usize, count: usize) -> bool
         requires { 0 < count }
         ensures { result ≡ true ↔ ((sub : Sub) → held self.now.shard sub ≢ [] → shard_of sub count ≡ index) }
@@ -183,8 +183,8 @@ impl<R: Records> Shard<R> {
         ensures own { AreOwn self.new.shard }
         ensures kept { IsKept self.old.shard.terms (held self.old.shard) sub act (R.may_leave self.old.records) (R.may_leave self.new.records)
             (R.is_stopped self.old.records) (R.is_stopped self.new.records) (R.faults self.old.records) (R.faults self.new.records) }
-        // If the records are not stopped, a stop leaves exactly the acts that are then held, so all judged acts are among them. A shard whose
-        // records are stopped judges nothing.
+        // If the records are not stopped, a stop leaves exactly the acts that are then held, each made act among them. A shard whose records are
+        // stopped judges nothing.
         ensures left { R.is_stopped self.new.records ≡ false → LeavesOnly self.new.shard.terms (held self.new.shard) (R.may_leave self.new.records) }
         ensures going { is_judged result ≡ true → R.is_stopped self.new.records ≡ false }
         ensures stopped { R.is_stopped self.old.records ≡ true → is_judged result ≡ false }
@@ -225,8 +225,8 @@ impl<R: Records> Shard<R> {
         ensures own { AreOwn self.new.shard }
         ensures kept { IsKept self.old.shard.terms (held self.old.shard) sub (top_up_act moment ticket amount) (R.may_leave self.old.records) (R.may_leave self.new.records)
             (R.is_stopped self.old.records) (R.is_stopped self.new.records) (R.faults self.old.records) (R.faults self.new.records) }
-        // If the records are not stopped, a stop leaves exactly the acts that are then held, so all judged acts are among them. A shard whose
-        // records are stopped judges nothing.
+        // If the records are not stopped, a stop leaves exactly the acts that are then held, each made act among them. A shard whose records are
+        // stopped judges nothing.
         ensures left { R.is_stopped self.new.records ≡ false → LeavesOnly self.new.shard.terms (held self.new.shard) (R.may_leave self.new.records) }
         ensures going { is_judged_top_up result ≡ true → R.is_stopped self.new.records ≡ false }
         ensures stopped { R.is_stopped self.old.records ≡ true → is_judged_top_up result ≡ false }
@@ -254,8 +254,8 @@ impl<R: Records> Shard<R> {
         ensures own { AreOwn self.new.shard }
         ensures kept { IsKept self.old.shard.terms (held self.old.shard) sub (expiry_act moment) (R.may_leave self.old.records) (R.may_leave self.new.records)
             (R.is_stopped self.old.records) (R.is_stopped self.new.records) (R.faults self.old.records) (R.faults self.new.records) }
-        // If the records are not stopped, a stop leaves exactly the acts that are then held, so all judged acts are among them. A shard whose
-        // records are stopped judges nothing.
+        // If the records are not stopped, a stop leaves exactly the acts that are then held, each made act among them. A shard whose records are
+        // stopped judges nothing.
         ensures left { R.is_stopped self.new.records ≡ false → LeavesOnly self.new.shard.terms (held self.new.shard) (R.may_leave self.new.records) }
         ensures going { is_judged_expiry result ≡ true → R.is_stopped self.new.records ≡ false }
         ensures stopped { R.is_stopped self.old.records ≡ true → is_judged_expiry result ≡ false }
