@@ -10,7 +10,7 @@ What is left out can't change a verdict above, since the kit gives it to no crat
 - **Functions that aren't public**, outside traits and their impls: no interface has them, unless definitions of the crate name contracts, in which case the crate counts whole.
 - **The attribute `tactic` of a function**: it says by what the function's own goals are tried.
 - **Proofs**, unless a crate above names them: there they count whole.
-- **Comments** at the beginning of a line, outside clauses, and blanks between Rust's tokens.
+- **Comments** that fill a line, and blanks between Rust's tokens.
 
 A source is read in the layout of `rt fmt`, to which the kit's gate holds it. One that isn't surely read so counts whole.
 """
@@ -234,7 +234,7 @@ def contracts_of(folder, name, names_proofs):
         parts = {**definitions, **sources}
     else:
         parts = {path: of_definitions(text) for path, text in definitions.items()}
-        parts |= {path: of_source(text)[0] for path, text in sources.items()}
+        parts |= {path: of_source(without_comments(path, text))[0] for path, text in sources.items()}
     if names_proofs:
         parts |= files_of(folder, "proofs")
     return "".join(f"== {path}\n{text}\n" for path, text in parts.items())
