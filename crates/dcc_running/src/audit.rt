@@ -140,7 +140,10 @@ fn is_true<R: Records>(
         }
         None => {
             let acts = Journal::new(alloc);
-            is_true_of(alloc, identity, terms, opened, &acts, &[], receipt)
+            let told = is_true_of(alloc, identity, terms, opened, &acts, &[], receipt);
+            // By a call: a journal that is let go in place is proved part by part.
+            drop(acts);
+            told
         }
     }
 }

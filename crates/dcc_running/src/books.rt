@@ -146,7 +146,19 @@ impl<R: Records> Books<R> {
         ensures left { AreLeft R.may_leave result.items }
     {
         self.records_are_kept();
-        self.shards
+        let Books {
+            terms: _,
+            identity,
+            opening,
+            shards,
+            locks,
+            hasher: _,
+        } = self;
+        // By calls: what is let go in place is proved part by part.
+        drop(identity);
+        drop(opening);
+        drop(locks);
+        shards
     }
 
     /// The shards under locks again, with the same acts at opening. It takes no memory.

@@ -5,7 +5,7 @@ ghost use Rattle.dcc_answer.specs.declared.answer.TheConstants.{MAX_ANSWER};
 ghost use Rattle.dcc_model.specs.Keys.{request_key};
 ghost use Rattle.dcc_shard.specs.Answers.{IsAnswer, IsExpired, IsTold, IsToldApart, IsRefusedBy, expiry_act, is_judged, is_judged_expiry, is_judged_top_up, octets_of, session_of_act, top_up_act};
 ghost use Rattle.dcc_shard.specs.Shards.{IsStep};
-ghost use Rattle.dcc_running.specs.Calls.{IsAnswerTo, IsToldOf, IsEndOf, receipts_of, top_up_receipts, told_receipts, expiry_receipts, plain_receipt};
+ghost use Rattle.dcc_running.specs.Calls.{IsAnswerTo, IsToldOf, IsEndOf, receipt, receipts_of, top_up_receipts, told_receipts, expiry_receipts, plain_receipt};
 
 use crate::job::Job;
 use crate::room::twice;
@@ -43,7 +43,10 @@ impl<R: Records> Shards<R> {
         ensures receipt { seat.new ≡ seat.old ++ receipts_of job result }
     {
         let Ok(act) = room_for(&mut seat.receipts, &mut seat.spare, &job.act) else {
-            return busy(alloc, &self.identity, &job);
+            let answer = busy(alloc, &self.identity, &job);
+            // By a call: a job that is let go in place is proved part by part.
+            drop(job);
+            return answer;
         };
         let mut shard = self.lock_of(rt, &job.sub);
         let (receipts, spare) = (&mut seat.receipts, &mut seat.spare);
@@ -179,10 +182,9 @@ fn room_for(receipts: &mut Vec<Receipt>, spare: &mut Vec<u8>, act: &Act) -> Resu
     ensures kept { OnOk result (MAX_ANSWER ≤ vec_capacity spare.new) }
     ensures act { IfOk result (λ copy. copy ≡ act.now) }
 {
-    let act = act.copy()?;
     spare.reserve(MAX_ANSWER)?;
     receipts.reserve(1)?;
-    Ok(act)
+    act.copy()
 }
 
 /// The answer to a job for whose receipt there is no room: busy, or none.
@@ -216,12 +218,6 @@ fn keep(
     ensures spare { spare.new.items ≡ [] }
     ensures receipt { receipts.new.items ≡ receipts.old.items ++ receipts_of job answer }
 {
-    let Job {
-        sub,
-        act,
-        header,
-        proxies,
-    } = job;
     match answer {
         RequestAnswer::Done {
             octets,
@@ -229,16 +225,7 @@ fn keep(
             fresh,
         } => {
             let (kept, octets) = twice(alloc, spare, octets);
-            let answer = Told::Octets(kept);
-            receipts.push_reserved(Receipt {
-                sub,
-                place,
-                act,
-                header,
-                proxies,
-                answer,
-                fresh,
-            });
+            receipts.push_reserved(receipt(job, kept, place, fresh));
             RequestAnswer::Done {
                 octets,
                 place,
@@ -247,20 +234,39 @@ fn keep(
         }
         RequestAnswer::Unknown { octets } => {
             let (kept, octets) = twice(alloc, spare, octets);
-            let answer = Told::Octets(kept);
-            receipts.push_reserved(Receipt {
-                sub,
-                place: 0,
-                act,
-                header,
-                proxies,
-                answer,
-                fresh: false,
-            });
+            receipts.push_reserved(receipt(job, kept, 0, false));
             RequestAnswer::Unknown { octets }
         }
-        RequestAnswer::Busy { octets } => RequestAnswer::Busy { octets },
-        RequestAnswer::Silent => RequestAnswer::Silent,
+        // By a call, here and below: a job that is let go in place is proved part by part.
+        RequestAnswer::Busy { octets } => {
+            drop(job);
+            RequestAnswer::Busy { octets }
+        }
+        RequestAnswer::Silent => {
+            drop(job);
+            RequestAnswer::Silent
+        }
+    }
+}
+
+/// The receipt of an answer of these octets to a job.
+fn receipt(job: Job, octets: OctetString, place: u64, fresh: bool) -> Receipt
+    ensures { result ≡ receipt job octets place fresh }
+{
+    let Job {
+        sub,
+        act,
+        header,
+        proxies,
+    } = job;
+    Receipt {
+        sub,
+        place,
+        act,
+        header,
+        proxies,
+        answer: Told::Octets(octets),
+        fresh,
     }
 }
 
@@ -276,7 +282,8 @@ fn keep_top_up(alloc: Global, receipts: &mut Vec<Receipt>, sub: Sub, act: Act, a
         TopUpAnswer::Ceiling { place, fresh } => {
             receipts.push_reserved(plain(alloc, sub, act, place, Told::Ceiling, fresh));
         }
-        TopUpAnswer::BadAmount | TopUpAnswer::Refused => {}
+        // By a call: an act that is let go in place is proved part by part.
+        TopUpAnswer::BadAmount | TopUpAnswer::Refused => drop(act),
     }
 }
 

@@ -43,7 +43,11 @@ impl<R: Records> Shards<R> {
     {
         let books = Books::of(self);
         match audit(alloc, &books, &seats) {
-            Ok(()) => Ok(books),
+            Ok(()) => {
+                // By a call: seats that are let go in place are proved part by part.
+                drop(seats);
+                Ok(books)
+            }
             Err(fault) => Err(Unclosed {
                 fault,
                 books,

@@ -31,7 +31,11 @@ pub(crate) fn copied<R: Records>(
 {
     let mut opening = HashMap::with_hasher(alloc, hasher);
     for i in 0..shards.len() {
-        add_acts(&mut opening, alloc, &shards[i])?;
+        let Ok(()) = add_acts(&mut opening, alloc, &shards[i]) else {
+            // By a call, here and below: what is let go in place is proved part by part.
+            drop(opening);
+            return Err(AllocError);
+        };
     }
     Ok(opening)
 }
@@ -48,7 +52,7 @@ fn add_acts<R: Records>(
     let subs = shard.subs(alloc)?;
     for sub in &subs {
         let acts = acts_of(alloc, shard, *sub)?;
-        opening.insert(*sub, acts)?;
+        drop(opening.insert(*sub, acts)?);
     }
     Ok(())
 }
@@ -70,7 +74,10 @@ fn copied_acts(alloc: Global, journal: &Journal) -> Result<Vec<Act>, AllocError>
     let count = journal.len();
     let mut acts = Vec::with_capacity(alloc, count)?;
     for before in 0..count {
-        let act = journal.behind(before, &mut Looks::new()).copy()?;
+        let Ok(act) = journal.behind(before, &mut Looks::new()).copy() else {
+            drop(acts);
+            return Err(AllocError);
+        };
         acts.push_reserved(act);
     }
     Ok(acts)

@@ -149,8 +149,16 @@ fn room_for<R: Records>(
     ensures room { IfOk result (λ room. length shards.now ≤ vec_capacity room.2) }
 {
     let identity = identity.copy()?;
-    let opening = copied(alloc, shards, hasher)?;
-    let locks = Vec::with_capacity(alloc, shards.len())?;
+    let Ok(opening) = copied(alloc, shards, hasher) else {
+        // By a call, here and below: what is let go in place is proved part by part.
+        drop(identity);
+        return Err(AllocError);
+    };
+    let Ok(locks) = Vec::with_capacity(alloc, shards.len()) else {
+        drop(identity);
+        drop(opening);
+        return Err(AllocError);
+    };
     Ok((identity, opening, locks))
 }
 

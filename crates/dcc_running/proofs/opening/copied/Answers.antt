@@ -14,7 +14,7 @@ loop-i-preserved g c = λ sub.
     let i = c.loop-i.i in
     let part = c.index-shards-i.result in
     let there : slice_get shards i ≡ Some part = slice_get_read shards (length shards) i part refl c.loop-i-test.true c.index-shards-i.is in
-    c.in_ok-add_acts.ensures sub
+    c.in-Ok.ensures sub
     ∙ next_part (shard_of sub (length shards)) i (book shards sub) (held part.shard sub) (at_opening c.loop-i.opening.entries sub) (c.loop-i.invariant sub)
     (λ some. c.requires.placed i part sub c.loop-i-test.true (λ none. some (ap (λ (p : StoredView _). held p.shard sub) c.index-shards-i.is ∙ none)))
     (λ e. ap (λ (k : ℕ). held_by (slice_get shards k) sub) e ∙ ap (λ o. held_by o sub) there)
