@@ -1,5 +1,5 @@
 -- How the threads of a round are gathered.
-use Rattle.std.proofs.Common.{◌≡◌, ℕ, ◌+◌, Bool, List, [], ◌∷◌, ◌++◌, Option, Result, Ok, Err, IfOk, sym, ap, ◌∙◌, append_assoc}
+use Rattle.std.proofs.Common.{◌≡◌, ℕ, ◌+◌, Bool, List, [], ◌∷◌, ◌++◌, Option, sym, ap, ◌∙◌, append_assoc}
 use Rattle.std.specs.Global.{Vec}
 use Rattle.std.specs.List.{AllByRecursion}
 use Rattle.dcc_connect.specs.declared.writing.Item.{Item}
@@ -9,10 +9,6 @@ use Rattle.dcc_serve.specs.Gathering.{place_of, places_from}
 use Rattle.dcc_serve.specs.declared.face.Connection.{Connection}
 use Rattle.dcc_serve.specs.declared.tasks.Task.{Task}
 use Rattle.dcc_serve.specs.declared.work.Work.{Work}
-
-pub ok_then : {X E : Type 0} (P Q : X → Type 0) (r : Result X E) → ((x : X) → P x → Q x) → IfOk r P → IfOk r Q
-ok_then P Q (Ok x) f p = f x p
-ok_then P Q (Err e) f p = tt
 
 -- one place more
 pub places_next : {I O : Type 0} (done next all : List (Task I O)) (stays : Bool) (every gate : ℕ) (first : Option (Connection I O)) (later : List (Option (Connection I O)))

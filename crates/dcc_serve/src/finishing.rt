@@ -1,6 +1,6 @@
 //! How the lanes of a round end.
 
-ghost use Rattle.std.specs.Prelude.{◌≡◌, ◌∷◌, [], true, map, IfErr, IfOk, OnOk};
+ghost use Rattle.std.specs.Prelude.{◌≡◌, ◌≤◌, ◌+◌, ◌∷◌, [], true, map, vec_len, vec_capacity, IfErr, IfOk, OnOk};
 ghost use Rattle.std.specs.List.{All, filter_map};
 ghost use Rattle.dcc_lane.specs.Ends.{IsOfLane, lane_of};
 ghost use Rattle.dcc_serve.specs.Counting.{seat_in};
@@ -57,11 +57,29 @@ pub(crate) fn finished<I: Drop, O: Drop>(
         replies,
         items,
     } = parted(alloc, tasks)?;
-    finish_all(alloc, work, asks)?;
+    match finish_all(alloc, work, asks) {
+        Ok(()) => {}
+        Err(fault) => {
+            // By a call, here and below: what is let go in place is proved part by part.
+            drop((seats, answers, replies, items));
+            return Err(fault);
+        }
+    }
     let mut putters = answers;
-    putters.insert(0, replies)?;
-    finish_all(alloc, items, putters)?;
-    Ok(seats)
+    match putters.insert(0, replies) {
+        Ok(()) => {}
+        Err(failed) => {
+            drop((failed, seats, putters, items));
+            return Err(ServeFault::Memory);
+        }
+    }
+    match finish_all(alloc, items, putters) {
+        Ok(()) => Ok(seats),
+        Err(fault) => {
+            drop(seats);
+            Err(fault)
+        }
+    }
 }
 
 /// Takes threads apart. The only error is want of memory.
@@ -70,7 +88,10 @@ fn parted<I: Drop, O: Drop>(alloc: Global, tasks: Vec<Task<I, O>>) -> Result<Par
 {
     let mut parts = Parts::new(alloc);
     for task in tasks {
-        parts = with_task(parts, task)?;
+        let Ok(()) = add_task(&mut parts, task) else {
+            drop(parts);
+            return Err(AllocError);
+        };
     }
     Ok(parts)
 }
@@ -94,13 +115,39 @@ impl Parts {
             items: Vec::new(alloc),
         }
     }
+
+    /// Room for what one thread more leaves, of each kind. The only error is want of memory.
+    fn reserve(&mut self) -> Result<(), AllocError>
+        ensures seats { self.new.seats.items ≡ self.old.seats.items }
+        ensures work { self.new.work.items ≡ self.old.work.items }
+        ensures answers { self.new.answers.items ≡ self.old.answers.items }
+        ensures asks { self.new.asks.items ≡ self.old.asks.items }
+        ensures replies { self.new.replies.items ≡ self.old.replies.items }
+        ensures items { self.new.items.items ≡ self.old.items.items }
+        ensures room_seats { OnOk result (vec_len self.new.seats + 1 ≤ vec_capacity self.new.seats) }
+        ensures room_work { OnOk result (vec_len self.new.work + 1 ≤ vec_capacity self.new.work) }
+        ensures room_answers { OnOk result (vec_len self.new.answers + 1 ≤ vec_capacity self.new.answers) }
+        ensures room_asks { OnOk result (vec_len self.new.asks + 1 ≤ vec_capacity self.new.asks) }
+        ensures room_replies { OnOk result (vec_len self.new.replies + 1 ≤ vec_capacity self.new.replies) }
+        ensures room_items { OnOk result (vec_len self.new.items + 1 ≤ vec_capacity self.new.items) }
+    {
+        self.seats.reserve(1)?;
+        self.work.reserve(1)?;
+        self.answers.reserve(1)?;
+        self.asks.reserve(1)?;
+        self.replies.reserve(1)?;
+        self.items.reserve(1)
+    }
 }
 
-/// These parts, and what one thread more leaves. The only error is want of memory.
-fn with_task<I: Drop, O: Drop>(parts: Parts, task: Task<I, O>) -> Result<Parts, AllocError>
-    ensures { IfOk result (λ more. AddsTask task parts more) }
+/// Adds what one thread leaves. The only error is want of memory.
+fn add_task<I: Drop, O: Drop>(parts: &mut Parts, task: Task<I, O>) -> Result<(), AllocError>
+    ensures { OnOk result (AddsTask task parts.old parts.new) }
 {
-    let mut parts = parts;
+    let Ok(()) = parts.reserve() else {
+        drop(task);
+        return Err(AllocError);
+    };
     match task {
         Task::Work(worker) => {
             let Worker {
@@ -110,19 +157,17 @@ fn with_task<I: Drop, O: Drop>(parts: Parts, task: Task<I, O>) -> Result<Parts, 
                 from,
                 writers,
             } = worker;
-            parts.seats.push(seat)?;
-            parts.work.push(from)?;
-            parts.answers.push(writers)?;
-            Ok(parts)
+            parts.seats.push_reserved(seat);
+            parts.work.push_reserved(from);
+            parts.answers.push_reserved(writers);
         }
         Task::Time(timer) => {
             let SweepTimer { stays: _, workers } = timer;
-            parts.asks.push(workers)?;
-            Ok(parts)
+            parts.asks.push_reserved(workers);
         }
         Task::Place(place) => {
             let Place {
-                first: _,
+                first,
                 stays: _,
                 reader,
                 from,
@@ -130,18 +175,19 @@ fn with_task<I: Drop, O: Drop>(parts: Parts, task: Task<I, O>) -> Result<Parts, 
             } = place;
             let Reader {
                 gate: _,
-                peer: _,
+                peer,
                 workers,
                 writer,
                 sweeps: _,
                 requests: _,
             } = reader;
-            parts.asks.push(workers)?;
-            parts.replies.push(writer)?;
-            parts.items.push(from)?;
-            Ok(parts)
+            parts.asks.push_reserved(workers);
+            parts.replies.push_reserved(writer);
+            parts.items.push_reserved(from);
+            drop((first, peer));
         }
     }
+    Ok(())
 }
 
 /// Ends each of these lanes with its sender of each list.

@@ -1,10 +1,11 @@
 //! One round.
 
-ghost use Rattle.std.specs.Prelude.{◌≡◌, ◌≢◌, ◌<◌, ◌≤◌, ◌++◌, ℕ, false, [], length, slice_index_or, IfOk, IfErr};
+ghost use Rattle.std.specs.Prelude.{◌≡◌, ◌≢◌, ◌<◌, ◌≤◌, ◌+◌, ◌++◌, ℕ, false, [], length, slice_index_or, IfOk, IfErr, OnOk};
 ghost use Rattle.dcc_act.specs.declared.sub.Sub.{Sub};
 ghost use Rattle.dcc_running.specs.Books.{AreShards};
 ghost use Rattle.dcc_serve.specs.Counting.{counts_in};
 ghost use Rattle.dcc_serve.specs.Gathering.{AddsPlaces, AreGathered, HasCome, place_of, workers_from};
+ghost use Rattle.dcc_serve.specs.Lanes.{AreLanes};
 ghost use Rattle.dcc_serve.specs.Lines.{is_numbered};
 ghost use Rattle.dcc_serve.specs.Served.{EndsRound, IsRound};
 ghost use Rattle.dcc_serve.specs.Tasks.{AllRun};
@@ -63,16 +64,21 @@ pub(crate) fn serve_round<
         (record { plan = service.now.plan.now; identity = service.now.identity.now }) rounds.now shards.items) }
 {
     let count = shards.len();
-    let Ok(locked) = Shards::new(
+    let locked = match Shards::new(
         alloc,
         service.plan.terms(),
         service.identity,
         shards,
         service.hasher,
-    ) else {
-        return Err(ServeFault::Memory);
+    ) {
+        Ok(locked) => locked,
+        Err(shards) => {
+            // By a call, here and below: shards that are let go in place are proved part by part.
+            drop(shards);
+            return Err(ServeFault::Memory);
+        }
     };
-    let mut tasks = gather::<W, R, I, O, L, N>(
+    let mut tasks = match gather::<W, R, I, O, L, N>(
         rt,
         alloc,
         service.notices,
@@ -80,7 +86,13 @@ pub(crate) fn serve_round<
         count,
         listener,
         rounds,
-    )?;
+    ) {
+        Ok(tasks) => tasks,
+        Err(fault) => {
+            drop(locked);
+            return Err(fault);
+        }
+    };
     serve_all::<W, R, I, O, L, C, N>(
         rt,
         alloc,
@@ -91,10 +103,20 @@ pub(crate) fn serve_round<
         tasks.as_mut_slice(),
     );
     let counts = counted(tasks.as_slice());
-    let seats = finished(alloc, tasks)?;
+    let seats = match finished(alloc, tasks) {
+        Ok(seats) => seats,
+        Err(fault) => {
+            drop(locked);
+            return Err(fault);
+        }
+    };
     match locked.close(alloc, seats) {
         Ok(books) => Ok((counts, books.into_shards())),
-        Err(unclosed) => Err(of_close(unclosed.fault)),
+        Err(unclosed) => {
+            let fault = of_close(unclosed.fault);
+            drop(unclosed);
+            Err(fault)
+        }
     }
 }
 
@@ -114,64 +136,126 @@ fn gather<W: Wait, R: Records, I: Read + Drop, O: Shut + Drop, L: Listener<I, O>
     ensures fault { IfErr result (λ fault. is_numbered fault ≡ false) }
 {
     let gates = rounds.gates;
-    let work = make_lanes::<Work>(alloc, count, gates + 1)?;
-    let items = make_lanes::<Item>(alloc, gates, count + 1)?;
-    let Lanes {
-        receivers: lanes,
-        senders: mut askers,
-    } = work;
-    let Lanes {
-        receivers: writers,
-        senders: mut putters,
-    } = items;
-    let Some(timers) = first_of(&mut askers) else {
+    let mut work = make_lanes::<Work>(alloc, count, gates + 1)?;
+    let mut items = match make_lanes::<Item>(alloc, gates, count + 1) {
+        Ok(items) => items,
+        Err(_) => {
+            // By a call, here and below: what is let go in place is proved part by part.
+            drop(work);
+            return Err(ServeFault::Memory);
+        }
+    };
+    let mut tasks = Vec::new(alloc);
+    match add_tasks::<W, R, I, O, L, N>(
+        rt, alloc, notices, locked, listener, rounds, &mut work, &mut items, &mut tasks,
+    ) {
+        Ok(()) => {
+            drop((work, items));
+            Ok(tasks)
+        }
+        Err(fault) => {
+            drop((work, items, tasks));
+            Err(fault)
+        }
+    }
+}
+
+/// Adds the worker of each shard, the timer and the places, with their ends of the lanes to workers and to writers.
+fn add_tasks<W: Wait, R: Records, I: Read + Drop, O: Shut + Drop, L: Listener<I, O>, N: Notices>(
+    rt: &W,
+    alloc: Global,
+    notices: &N,
+    locked: &Shards<R>,
+    listener: &mut L,
+    rounds: &Rounds,
+    work: &mut Lanes<Work>,
+    items: &mut Lanes<Item>,
+    gathered: &mut Vec<Task<I, O>>,
+) -> Result<(), ServeFault>
+    ensures tasks { OnOk result ((shards : ℕ) → AreLanes shards (rounds.now.gates + 1) work.old → AreLanes rounds.now.gates (shards + 1) items.old
+        → gathered.old.items ≡ [] → AreGathered shards rounds.now gathered.new.items) }
+    ensures fault { IfErr result (λ fault. is_numbered fault ≡ false) }
+{
+    let Some(timers) = first_of(&mut work.senders) else {
         return Err(ServeFault::Memory);
     };
-    let Some(replies) = first_of(&mut putters) else {
+    let Some(mut replies) = first_of(&mut items.senders) else {
+        drop(timers);
         return Err(ServeFault::Memory);
     };
-    let tasks = Vec::with_capacity(alloc, count + 1 + gates)?;
-    let mut tasks = add_workers::<R, I, O>(alloc, locked, lanes, putters, tasks)?;
-    tasks.push(Task::Time(SweepTimer {
+    let Ok(()) = add_workers::<R, I, O>(
+        alloc,
+        locked,
+        &mut work.receivers,
+        &mut items.senders,
+        gathered,
+    ) else {
+        drop((timers, replies));
+        return Err(ServeFault::Memory);
+    };
+    let timer = SweepTimer {
         stays: rounds.stays,
         workers: timers,
-    }))?;
-    add_places::<W, I, O, L, N>(
-        rt, notices, listener, rounds, writers, askers, replies, tasks,
-    )
+    };
+    match gathered.push(Task::Time(timer)) {
+        Ok(()) => {}
+        Err(failed) => {
+            drop((failed, replies));
+            return Err(ServeFault::Memory);
+        }
+    }
+    match add_places::<W, I, O, L, N>(
+        rt,
+        notices,
+        listener,
+        rounds,
+        &mut items.receivers,
+        &mut work.senders,
+        &mut replies,
+        gathered,
+    ) {
+        Ok(()) => {
+            drop(replies);
+            Ok(())
+        }
+        Err(fault) => {
+            drop(replies);
+            Err(fault)
+        }
+    }
 }
 
 /// Adds a worker for each shard, in order. The only error is want of memory.
 fn add_workers<R: Records, I: Drop, O: Drop>(
     alloc: Global,
     locked: &Shards<R>,
-    receivers: Vec<Receiver<Work>>,
-    senders: Vec<Vec<Sender<Item>>>,
-    tasks: Vec<Task<I, O>>,
-) -> Result<Vec<Task<I, O>>, AllocError>
-    ensures { IfOk result (λ all. all.items ≡ tasks.items ++ workers_from 0 receivers.items senders.items) }
+    receivers: &mut Vec<Receiver<Work>>,
+    senders: &mut Vec<Vec<Sender<Item>>>,
+    tasks: &mut Vec<Task<I, O>>,
+) -> Result<(), AllocError>
+    ensures { OnOk result (tasks.new.items ≡ tasks.old.items ++ workers_from 0 receivers.old.items senders.old.items) }
 {
-    let mut receivers = receivers;
-    let mut senders = senders;
-    let mut tasks = tasks;
     let count = receivers.len();
     for shard in 0..count {
-        let Some(from) = first_of(&mut receivers) else {
-            break;
-        };
-        let Some(writers) = first_of(&mut senders) else {
-            break;
-        };
+        tasks.reserve(1)?;
         let seat = locked.seat(alloc)?;
-        tasks.push(Task::Work(Worker {
+        let Some(from) = first_of(receivers) else {
+            drop(seat);
+            break;
+        };
+        let Some(writers) = first_of(senders) else {
+            drop((seat, from));
+            break;
+        };
+        tasks.push_reserved(Task::Work(Worker {
             shard,
             seat,
             counter: SweepCounter::new(shard),
             from,
             writers,
-        }))?;
+        }));
     }
-    Ok(tasks)
+    Ok(())
 }
 
 /// Adds each place of a round, with the gateway that it accepts for the place, or without a gateway if places are taken again.
@@ -180,32 +264,32 @@ fn add_places<W: Wait, I: Read + Drop, O: Shut + Drop, L: Listener<I, O>, N: Not
     notices: &N,
     listener: &mut L,
     rounds: &Rounds,
-    receivers: Vec<Receiver<Item>>,
-    senders: Vec<Vec<Sender<Work>>>,
-    replies: Vec<Sender<Item>>,
-    tasks: Vec<Task<I, O>>,
-) -> Result<Vec<Task<I, O>>, ServeFault>
-    ensures places { IfOk result (λ all. AddsPlaces rounds.now receivers.items senders.items replies.items tasks.items all.items) }
+    receivers: &mut Vec<Receiver<Item>>,
+    senders: &mut Vec<Vec<Sender<Work>>>,
+    replies: &mut Vec<Sender<Item>>,
+    tasks: &mut Vec<Task<I, O>>,
+) -> Result<(), ServeFault>
+    ensures places { OnOk result (AddsPlaces rounds.now receivers.old.items senders.old.items replies.old.items tasks.old.items tasks.new.items) }
     ensures fault { IfErr result (λ fault. is_numbered fault ≡ false) }
 {
-    let mut receivers = receivers;
-    let mut senders = senders;
-    let mut replies = replies;
-    let mut tasks = tasks;
     for gate in 0..rounds.gates {
-        let Some(from) = first_of(&mut receivers) else {
+        tasks.reserve(1)?;
+        let Some(from) = first_of(receivers) else {
             return Err(ServeFault::Memory);
         };
-        let Some(workers) = first_of(&mut senders) else {
+        let Some(workers) = first_of(senders) else {
+            drop(from);
             return Err(ServeFault::Memory);
         };
-        let Some(writer) = first_of(&mut replies) else {
+        let Some(writer) = first_of(replies) else {
+            drop((from, workers));
             return Err(ServeFault::Memory);
         };
         let Ok(first) = first_at::<W, I, O, L, N>(rt, notices, listener, rounds.stays, gate) else {
+            drop((from, workers, writer));
             return Err(ServeFault::Io);
         };
-        let place = place_of(
+        tasks.push_reserved(place_of(
             rounds.stays,
             rounds.every,
             gate,
@@ -213,10 +297,9 @@ fn add_places<W: Wait, I: Read + Drop, O: Shut + Drop, L: Listener<I, O>, N: Not
             from,
             workers,
             writer,
-        );
-        tasks.push(place)?;
+        ));
     }
-    Ok(tasks)
+    Ok(())
 }
 
 /// The gateway that comes for a place before the round begins. None if places are taken again. The only error is the listener's.

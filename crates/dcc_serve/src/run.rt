@@ -81,12 +81,21 @@ pub fn serve_run<
         let (counts, next) = serve_round::<W, R, I, O, L, C, N>(
             rt, alloc, service, shards, listener, rounds,
         )?;
-        write_line(alloc, round.saturating_add(1), counts, output)?;
+        match write_line(alloc, round.saturating_add(1), counts, output) {
+            Ok(()) => {}
+            Err(fault) => {
+                // By a call, here and below: shards that are let go in place are proved part by part.
+                drop(next);
+                return Err(fault);
+            }
+        }
         if tell_stopped(rt, service.notices, next.as_slice()) {
+            drop(next);
             return Err(ServeFault::Store(51));
         }
         shards = next;
     }
+    drop(shards);
     Ok(())
 }
 

@@ -2,7 +2,6 @@ use Rattle.std.proofs.Common.{◌≡◌, ℕ, List, length, map, refl, inl, inr,
 use Rattle.std.proofs.Math.Seq.{take-append_seam}
 use Rattle.std.specs.List.{filter_map}
 use Rattle.dcc_receipts.specs.declared.receipt.Receipt.{Receipt}
-use Rattle.std.proofs.lemmas.Result.{err_from_is_err_and}
 use Rattle.dcc_receipts.specs.Faults.{fault_number}
 use Rattle.dcc_running.specs.Audited.{AreCovered, AreOrdered, AreTrue, IsFault}
 use Rattle.dcc_running.specs.Books.{Opening, at_opening}
@@ -27,26 +26,26 @@ front_is n xs rest is = ap (λ k. take k (xs ++ rest)) is ∙ take-append_seam x
 pub returns-in-Ok-close-clause-round : goal.returns-in-Ok-close-clause-round
 returns-in-Ok-close-clause-round g c =
     let rounds = c.args.rounds.now in
-    let begun = c.in_ok-tasks.tasks.items in
+    let begun = c.in-Ok-gather.tasks.items in
     let ended = c.as_slice.result.now in
     let books = c.in-Ok-close.books in
     let count : c.len-count.result ≡ length c.args.shards.items = omega arith in
     let first : c.as_mut_slice.result.now ≡ begun = c.as_mut_slice.ensures.value in
     let same : length c.serve_all.new.tasks ≡ length begun = omega (arith, ap length first, c.serve_all.auto.tasks) in
-    let long : c.in_ok-tasks.tasks.len ≡ length c.serve_all.new.tasks = omega (arith, same) in
-    let last : c.serve_all.new.tasks ≡ ended = sym (c.as_slice.ensures.value ∙ front_is c.in_ok-tasks.tasks.len c.serve_all.new.tasks _ long) in
-    let seats : c.in_ok-seats.seats.items ≡ filter_map seat_in ended =
-    c.in_ok-seats.ensures.seats ∙ ap (λ (ts : List (Task g.row.I.Denot g.row.O.Denot)). filter_map seat_in ts) (sym c.as_slice.ensures.value) in
+    let long : c.in-Ok-gather.tasks.len ≡ length c.serve_all.new.tasks = omega (arith, same) in
+    let last : c.serve_all.new.tasks ≡ ended = sym (c.as_slice.ensures.value ∙ front_is c.in-Ok-gather.tasks.len c.serve_all.new.tasks _ long) in
+    let seats : c.in-Ok-finished.seats.items ≡ filter_map seat_in ended =
+    c.in-Ok-finished.ensures.seats ∙ ap (λ (ts : List (Task g.row.I.Denot g.row.O.Denot)). filter_map seat_in ts) (sym c.as_slice.ensures.value) in
     record {
       begun = begun;
       ended = ended;
       books = books;
-      gathered = subst (λ (n : ℕ). AreGathered n rounds begun) count c.in_ok-tasks.ensures.tasks;
+      gathered = subst (λ (n : ℕ). AreGathered n rounds begun) count c.in-Ok-gather.ensures.tasks;
       ran = said_of (AllRun g.I.Read.remaining g.O.Write.contents g.C.Clock.tells g.L.Listener.is_closed c.args.service.now.clock.now
           (record { plan = c.args.service.now.plan.now; identity = c.args.service.now.identity.now })) c.len-count.result (length c.args.shards.items)
           c.as_mut_slice.result.now begun c.serve_all.new.tasks ended count first last c.serve_all.ensures;
       all = sym (ap length last) ∙ same;
-      finished = subst (λ (ts : List (Task g.row.I.Denot g.row.O.Denot)). AreFinished ts) (sym c.as_slice.ensures.value) c.in_ok-seats.ensures.finished;
+      finished = subst (λ (ts : List (Task g.row.I.Denot g.row.O.Denot)). AreFinished ts) (sym c.as_slice.ensures.value) c.in-Ok-finished.ensures.finished;
       counted = c.counted-counts.ensures;
       opened = λ sub. ap (λ (opening : Opening). at_opening opening sub) c.in-Ok-close.ensures.opening ∙ c.in-Ok.ensures.opening sub;
       audited = subst (λ (all : List (List Receipt)). AreTrue books all × AreCovered books all × AreOrdered all) seats
@@ -59,54 +58,52 @@ returns-in-Ok-close-clause-round g c =
 
 pub finished-requires : goal.finished-requires
 finished-requires g c =
-    let begun = c.in_ok-tasks.tasks.items in
+    let begun = c.in-Ok-gather.tasks.items in
     let ended = c.as_slice.result.now in
     let first : c.as_mut_slice.result.now ≡ begun = c.as_mut_slice.ensures.value in
     let same : length c.serve_all.new.tasks ≡ length begun = omega (arith, ap length first, c.serve_all.auto.tasks) in
-    let long : c.in_ok-tasks.tasks.len ≡ length c.serve_all.new.tasks = omega (arith, same) in
-    let last : c.serve_all.new.tasks ≡ ended = sym (c.as_slice.ensures.value ∙ front_is c.in_ok-tasks.tasks.len c.serve_all.new.tasks _ long) in
+    let long : c.in-Ok-gather.tasks.len ≡ length c.serve_all.new.tasks = omega (arith, same) in
+    let last : c.serve_all.new.tasks ≡ ended = sym (c.as_slice.ensures.value ∙ front_is c.in-Ok-gather.tasks.len c.serve_all.new.tasks _ long) in
     let setting : Setting = record { plan = c.args.service.now.plan.now; identity = c.args.service.now.identity.now } in
     subst (λ (ts : List (Task g.row.I.Denot g.row.O.Denot)). AreTied (map ends_in ts)) c.as_slice.ensures.value
     (ended_tied g.I.Read.remaining g.O.Write.contents g.C.Clock.tells g.L.Listener.is_closed c.args.service.now.clock.now setting c.len-count.result c.args.rounds.now begun ended
-    c.in_ok-tasks.ensures.tasks
+    c.in-Ok-gather.ensures.tasks
     (said_of (AllRun g.I.Read.remaining g.O.Write.contents g.C.Clock.tells g.L.Listener.is_closed c.args.service.now.clock.now setting) c.len-count.result c.len-count.result c.as_mut_slice.result.now begun
     c.serve_all.new.tasks ended refl first last c.serve_all.ensures)
     (sym (ap length last) ∙ same))
 
-pub returns-in_err-seats-clause-ends : goal.returns-in_err-seats-clause-ends
-returns-in_err-seats-clause-ends g c =
+pub returns-in-Err-finished-clause-ends : goal.returns-in-Err-finished-clause-ends
+returns-in-Err-finished-clause-ends g c =
     let setting : Setting = record { plan = c.args.service.now.plan.now; identity = c.args.service.now.identity.now } in
-    let p = err_from_is_err_and c.from_residual-in_err-seats.result c.from_residual-in_err-seats.ensures.1 in
-    rw (p.1, p.2)
-    (of_lanes (EndsRound g.I.Read.remaining g.O.Write.contents g.C.Clock.tells g.L.Listener.is_closed c.args.service.now.clock.now setting c.args.rounds.now c.args.shards.items)
-    tt (inr refl) c.in_err-seats.field-0.0 c.in_err-seats.ensures.fault)
+    of_lanes (EndsRound g.I.Read.remaining g.O.Write.contents g.C.Clock.tells g.L.Listener.is_closed c.args.service.now.clock.now setting c.args.rounds.now c.args.shards.items)
+    tt (inr refl) c.in-Err-finished.fault c.in-Err-finished.ensures.fault
 
-pub returns-in-Err-clause-ends : goal.returns-in-Err-clause-ends
-returns-in-Err-clause-ends g c =
+pub returns-in-Err-close-clause-ends : goal.returns-in-Err-close-clause-ends
+returns-in-Err-close-clause-ends g c =
     let rounds = c.args.rounds.now in
-    let begun = c.in_ok-tasks.tasks.items in
+    let begun = c.in-Ok-gather.tasks.items in
     let ended = c.as_slice.result.now in
     let setting : Setting = record { plan = c.args.service.now.plan.now; identity = c.args.service.now.identity.now } in
     let count : c.len-count.result ≡ length c.args.shards.items = omega arith in
     let first : c.as_mut_slice.result.now ≡ begun = c.as_mut_slice.ensures.value in
     let same : length c.serve_all.new.tasks ≡ length begun = omega (arith, ap length first, c.serve_all.auto.tasks) in
-    let long : c.in_ok-tasks.tasks.len ≡ length c.serve_all.new.tasks = omega (arith, same) in
-    let last : c.serve_all.new.tasks ≡ ended = sym (c.as_slice.ensures.value ∙ front_is c.in_ok-tasks.tasks.len c.serve_all.new.tasks _ long) in
-    let seats : c.in_ok-seats.seats.items ≡ filter_map seat_in ended =
-    c.in_ok-seats.ensures.seats ∙ ap (λ (ts : List (Task g.row.I.Denot g.row.O.Denot)). filter_map seat_in ts) (sym c.as_slice.ensures.value) in
-    rw c.of_close.ensures.value
+    let long : c.in-Ok-gather.tasks.len ≡ length c.serve_all.new.tasks = omega (arith, same) in
+    let last : c.serve_all.new.tasks ≡ ended = sym (c.as_slice.ensures.value ∙ front_is c.in-Ok-gather.tasks.len c.serve_all.new.tasks _ long) in
+    let seats : c.in-Ok-finished.seats.items ≡ filter_map seat_in ended =
+    c.in-Ok-finished.ensures.seats ∙ ap (λ (ts : List (Task g.row.I.Denot g.row.O.Denot)). filter_map seat_in ts) (sym c.as_slice.ensures.value) in
+    rw c.of_close-fault.ensures.value
     (of_compared (EndsRound g.I.Read.remaining g.O.Write.contents g.C.Clock.tells g.L.Listener.is_closed c.args.service.now.clock.now setting rounds c.args.shards.items) tt
-    (fault_number c.in-Err.unclosed.fault) (λ number told. inl (record {
+    (fault_number c.in-Err-close.unclosed.fault) (λ number told. inl (record {
       begun = begun;
       ended = ended;
-      books = c.in-Err.unclosed.books;
-      fault = c.in-Err.unclosed.fault;
-      gathered = subst (λ (n : ℕ). AreGathered n rounds begun) count c.in_ok-tasks.ensures.tasks;
+      books = c.in-Err-close.unclosed.books;
+      fault = c.in-Err-close.unclosed.fault;
+      gathered = subst (λ (n : ℕ). AreGathered n rounds begun) count c.in-Ok-gather.ensures.tasks;
       ran = said_of (AllRun g.I.Read.remaining g.O.Write.contents g.C.Clock.tells g.L.Listener.is_closed c.args.service.now.clock.now setting) c.len-count.result (length c.args.shards.items)
           c.as_mut_slice.result.now begun c.serve_all.new.tasks ended count first last c.serve_all.ensures;
       all = sym (ap length last) ∙ same;
-      finished = subst (λ (ts : List (Task g.row.I.Denot g.row.O.Denot)). AreFinished ts) (sym c.as_slice.ensures.value) c.in_ok-seats.ensures.finished;
-      opened = λ sub. ap (λ (opening : Opening). at_opening opening sub) c.in-Err.ensures.back.2 ∙ c.in-Ok.ensures.opening sub;
-      fails = subst (λ (all : List (List Receipt)). IsFault c.in-Err.unclosed.fault c.in-Err.unclosed.books all) seats c.in-Err.ensures.fault;
+      finished = subst (λ (ts : List (Task g.row.I.Denot g.row.O.Denot)). AreFinished ts) (sym c.as_slice.ensures.value) c.in-Ok-finished.ensures.finished;
+      opened = λ sub. ap (λ (opening : Opening). at_opening opening sub) c.in-Err-close.ensures.back.2 ∙ c.in-Ok.ensures.opening sub;
+      fails = subst (λ (all : List (List Receipt)). IsFault c.in-Err-close.unclosed.fault c.in-Err-close.unclosed.books all) seats c.in-Err-close.ensures.fault;
       numbered = told;
     })))

@@ -16,15 +16,13 @@ returns-in_err-counts-clause-part g c =
     c.args.rounds.now c.loop-round.shards.items) (λ number it. it) c.in_err-counts.field-0.0 _ _ c.loop-round.round c.args.rounds.now.rounds c.in_err-counts.ensures.ends few
     (told_of _ _ _ _ _ _ (last_of c.loop-round.invariant)))
 
-pub returns-in_err-write_line-clause-part : goal.returns-in_err-write_line-clause-part
-returns-in_err-write_line-clause-part g c =
+pub returns-in-Err-clause-part : goal.returns-in-Err-clause-part
+returns-in-Err-clause-part g c =
     let few : c.loop-round.round < c.args.rounds.now.rounds = search rules in
     let next : c.saturating_add.result ≡ c.loop-round.round + 1 = search rules in
-    let p = err_from_is_err_and c.from_residual-in_err-write_line.result c.from_residual-in_err-write_line.ensures.1 in
-    let fault = c.in_err-write_line.ensures in
-    rw (p.1, p.2)
-    (ends_in_line c.in_err-write_line.field-0.0 _ _ _ c.loop-round.round c.args.rounds.now.rounds c.saturating_add.result c.in_ok-counts.counts fault.fault fault.silent fault.part
-    next few (told_of _ _ _ _ _ _ (last_of c.loop-round.invariant)))
+    let fault = c.in-Err.ensures in
+    ends_in_line c.in-Err.fault _ _ _ c.loop-round.round c.args.rounds.now.rounds c.saturating_add.result c.in_ok-counts.counts fault.fault fault.silent fault.part
+    next few (told_of _ _ _ _ _ _ (last_of c.loop-round.invariant))
 
 pub returns-then-tell_stopped-clause-part : goal.returns-then-tell_stopped-clause-part
 returns-then-tell_stopped-clause-part g c =
@@ -35,7 +33,7 @@ returns-then-tell_stopped-clause-part g c =
         c.loop-round.round + 1,
         omega arith,
         omega (arith, few),
-        one_told _ _ _ c.loop-round.round c.saturating_add.result c.in_ok-counts.counts (told_of _ _ _ _ _ _ (last_of c.loop-round.invariant)) next c.in_ok-write_line.ensures.whole,
+        one_told _ _ _ c.loop-round.round c.saturating_add.result c.in_ok-counts.counts (told_of _ _ _ _ _ _ (last_of c.loop-round.invariant)) next c.in-Ok.ensures.whole,
       ),
     )
 
@@ -54,18 +52,16 @@ returns-in_err-counts-clause-cause g c =
     c.args.shards.items c.loop-round.shards.items (g.P.Write.contents c.args.output.now) (g.P.Write.contents c.loop-round.output) few (last_of c.loop-round.invariant)
     c.in_err-counts.ensures.ends)
 
-pub returns-in_err-write_line-clause-cause : goal.returns-in_err-write_line-clause-cause
-returns-in_err-write_line-clause-cause g c =
+pub returns-in-Err-clause-cause : goal.returns-in-Err-clause-cause
+returns-in-Err-clause-cause g c =
     let setting : Setting = record { plan = c.args.service.now.plan.now; identity = c.args.service.now.identity.now } in
     let clock = c.args.service.now.clock.now in
     let rounds = c.args.rounds.now in
     let good = IsGoodRound g.I.Read.remaining g.O.Write.contents g.C.Clock.tells g.L.Listener.is_closed clock setting g.R.Records.is_stopped g.R.Records.may_leave rounds in
     let round = IsRound {I = g.row.I.Denot} {O = g.row.O.Denot} g.I.Read.remaining g.O.Write.contents g.C.Clock.tells g.L.Listener.is_closed clock setting g.R.Records.is_stopped g.R.Records.may_leave rounds in
     let ends = EndsRound g.I.Read.remaining g.O.Write.contents g.C.Clock.tells g.L.Listener.is_closed clock setting {R = g.row.R.Denot} rounds in
-    let p = err_from_is_err_and c.from_residual-in_err-write_line.result c.from_residual-in_err-write_line.ensures.1 in
-    rw (p.1, p.2)
-    (of_unnumbered (λ (fault : ServeFault). EndsRounds good round ends (is_any_stopped g.R.Records.is_stopped) fault c.args.rounds.now.rounds c.args.shards.items
-    (g.P.Write.contents c.args.output.now) (g.P.Write.contents c.write_line.new.output)) tt tt c.in_err-write_line.field-0.0 c.in_err-write_line.ensures.fault)
+    of_unnumbered (λ (fault : ServeFault). EndsRounds good round ends (is_any_stopped g.R.Records.is_stopped) fault c.args.rounds.now.rounds c.args.shards.items
+    (g.P.Write.contents c.args.output.now) (g.P.Write.contents c.write_line.new.output)) tt tt c.in-Err.fault c.in-Err.ensures.fault
 
 pub returns-then-tell_stopped-clause-cause : goal.returns-then-tell_stopped-clause-cause
 returns-then-tell_stopped-clause-cause g c =
@@ -80,7 +76,7 @@ returns-then-tell_stopped-clause-cause g c =
     ends_stopped good round ends (is_any_stopped g.R.Records.is_stopped) c.loop-round.round c.args.rounds.now.rounds c.saturating_add.result c.args.shards.items
     c.loop-round.shards.items c.in_ok-counts.next.items c.in_ok-counts.counts (g.P.Write.contents c.args.output.now) (g.P.Write.contents c.loop-round.output)
     (g.P.Write.contents c.write_line.new.output) few (last_of c.loop-round.invariant) c.in_ok-counts.ensures.round
-    (sym (c.if-tell_stopped.ensures ∙ ap (is_any_stopped g.R.Records.is_stopped) c.as_slice.ensures.value)) next c.in_ok-write_line.ensures.whole
+    (sym (c.if-tell_stopped.ensures ∙ ap (is_any_stopped g.R.Records.is_stopped) c.as_slice.ensures.value)) next c.in-Ok.ensures.whole
 
 pub loop-round-init : goal.loop-round-init
 loop-round-init g c = (c.requires.shards, c.requires.some, c.requires.most, none_served _ _ _)
@@ -92,5 +88,5 @@ loop-round-preserved g c =
       c.in_ok-counts.ensures.some,
       c.in_ok-counts.ensures.most,
       one_served _ c.loop-round.round c.saturating_add.result _ _ _ c.in_ok-counts.counts _ _ _ (last_of c.loop-round.invariant) (c.in_ok-counts.ensures.round, sym (c.if-tell_stopped.ensures ∙ ap (is_any_stopped g.R.Records.is_stopped) c.as_slice.ensures.value)) next
-          c.in_ok-write_line.ensures.whole,
+          c.in-Ok.ensures.whole,
     )
