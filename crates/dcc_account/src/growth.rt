@@ -9,6 +9,7 @@ use dcc_act::Journal;
 use indexmap::{IndexMap, IndexSet};
 use std::alloc::{AllocError, Global};
 use std::hash::{Hash, RandomState};
+use std::mem::replace;
 
 /// The least room of acts, outcomes, entries and maps, so that the first few acts of an account move nothing.
 pub(crate) const LEAST: usize = 4;
@@ -87,7 +88,8 @@ pub(crate) fn grow_journal(acts: &mut Journal, larger: Option<Journal>)
 {
     if let Some(mut larger) = larger {
         larger.take_all(acts);
-        *acts = larger;
+        // By a call: a journal that is let go in place is proved part by part.
+        drop(replace(acts, larger));
     }
 }
 

@@ -52,8 +52,11 @@ fn ticket(kind: &Kind) -> Option<u64>
 fn opened_by<'a>(kind: &'a Kind, outcome: &Outcome) -> Option<&'a SessionId>
     ensures { option_map (λ sid. sid.now) result ≡ opens_by kind.now outcome.now }
 {
-    match kind {
-        Kind::Initial { request, .. } if has_succeeded(outcome) => Some(&request.key.sid),
-        _ => None,
+    let Kind::Initial { request, .. } = kind else {
+        return None;
+    };
+    if !has_succeeded(outcome) {
+        return None;
     }
+    Some(&request.key.sid)
 }
