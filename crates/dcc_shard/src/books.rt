@@ -165,6 +165,9 @@ impl Books {
                 account.install(step);
                 if has_acts(&account) {
                     add(&mut self.accounts, sub, account);
+                } else {
+                    // By a call: an account that is let go in place is proved part by part.
+                    drop(account);
                 }
             }
         }

@@ -87,8 +87,17 @@ impl IndexedBooks {
         let mut pages = book.into_vec();
         for _ in 0..pages.len() {
             let (sub, acts) = pages.pop().unwrap().into_parts();
-            indexed.add_page(alloc, sub, acts)?;
+            match indexed.add_page(alloc, sub, acts) {
+                Ok(()) => {}
+                Err(error) => {
+                    // By calls: accounts and pages that are let go in place are proved part by part.
+                    drop(indexed);
+                    drop(pages);
+                    return Err(error);
+                }
+            }
         }
+        drop(pages);
         Ok(indexed)
     }
 

@@ -31,8 +31,14 @@ pub fn shards_in_memory(
 {
     let mut shards = Vec::with_capacity(alloc, usize::from(count))?;
     for _ in 0..count {
-        let shard = shard_in_memory(alloc, terms, &identity, hasher)?;
-        shards.push_reserved(shard);
+        match shard_in_memory(alloc, terms, &identity, hasher) {
+            Ok(shard) => shards.push_reserved(shard),
+            Err(error) => {
+                // By a call: shards that are let go in place are proved part by part.
+                drop(shards);
+                return Err(error);
+            }
+        }
     }
     Ok(Shards::new(terms, identity, shards))
 }
@@ -52,6 +58,9 @@ fn shard_in_memory(
     let records = MemoryRecords::new(alloc, terms, hasher);
     match Shard::new(alloc, identity, records, hasher) {
         Ok(shard) => Ok(shard),
-        Err(_) => Err(AllocError),
+        Err((_, records)) => {
+            drop(records);
+            Err(AllocError)
+        }
     }
 }

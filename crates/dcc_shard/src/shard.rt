@@ -297,7 +297,14 @@ fn read<R: Records>(
     ensures frozen { R.is_stopped records.old ≡ true → result ≡ Err Stopped }
 {
     let book = records.load()?;
-    let identity = identity.copy()?;
+    let identity = match identity.copy() {
+        Ok(identity) => identity,
+        Err(_) => {
+            // By a call: a book that is let go in place is proved part by part.
+            drop(book);
+            return Err(StoreFault::Memory);
+        }
+    };
     content_has_one_book();
     let books = IndexedBooks::of_book(alloc, records.terms(), hasher, book)?;
     Ok((identity, books))

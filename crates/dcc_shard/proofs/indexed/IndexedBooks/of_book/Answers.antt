@@ -16,7 +16,7 @@ loop-preserved c =
     let popped = c.pop.ensures.items ∙ ap (λ o. c.pop.new.self.items ++ option_to_list o) c.unwrap.ensures in
     let next = next_page c.same_subscribers_are_equal.ensures c.leaving_out_changes_nothing.ensures.none c.args.book c.loop.pages.items c.pop.new.self.items c.unwrap.result c.args.terms.now
     c.loop.indexed.books c.add_page.new.self.books c.into_parts-sub.result.0 c.into_parts-sub.result.1.items sorted c.requires c.loop.invariant.left popped c.loop.invariant.held
-    c.into_parts-sub.ensures.sub c.into_parts-sub.ensures.acts c.loop.invariant.terms c.in_ok-add_page.ensures.page in
+    c.into_parts-sub.ensures.sub c.into_parts-sub.ensures.acts c.loop.invariant.terms c.in-Ok.ensures.page in
     record {
       left = next.left_is;
       count = search rules;
