@@ -73,7 +73,15 @@ impl<R: Records> Engine<R> {
         ensures shards { IfOk result (λ engine. engine.shards ≡ length shards.parts) }
     {
         shards.acts_are_own();
-        let identity = shards.identity().copy()?;
+        let identity = match shards.identity().copy() {
+            Ok(identity) => identity,
+            Err(error) => {
+                // By calls: shards and a plan that are let go in place are proved part by part.
+                drop(shards);
+                drop(plan);
+                return Err(error);
+            }
+        };
         Ok(Engine {
             plan,
             identity,
@@ -90,11 +98,15 @@ impl<R: Records> Engine<R> {
         ensures identity { result.shard.identity ≡ self.setting.identity }
     {
         let Engine {
-            plan: _,
-            identity: _,
-            peers: _,
+            plan,
+            identity,
+            peers,
             shards,
         } = self;
+        // By calls: a plan and peers that are let go in place are proved part by part.
+        drop(plan);
+        drop(identity);
+        drop(peers);
         shards
     }
 
