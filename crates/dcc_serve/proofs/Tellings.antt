@@ -1,5 +1,6 @@
 -- How the lines of rounds go on.
 use Rattle.std.proofs.Common.{◌≡◌, ◌≢◌, true≢false, ℕ, ◌+◌, ◌<◌, false, List, [], ◌∷◌, ◌++◌, length, take, Option, refl, sym, ap, ◌∙◌, subst, append_assoc, append-nil, arith}
+use Rattle.std.proofs.Math.Seq.{take-length}
 use Rattle.std.proofs.KnownBytes.{Appends-nil, Appends-trans, Appends-kept}
 use Rattle.std.proofs.lemmas.Fn.{FoldsTo-push}
 use Rattle.std.specs.Io.KnownBytes.{Appends, Keeps}
@@ -67,6 +68,14 @@ ends_in_line Io a b c ended rounds number one is silent part next few told =
       omega (arith, few, told.1),
       Appends-trans a b c (round_lines 1 told.0) (take begun.0 (round_line (length told.0 + 1) one)) told.2 line,
     )
+
+-- the listener failed in a round that has its whole line
+pub ends_behind_line : (a b c : Option (List ℕ)) (ended rounds number : ℕ) (one : Counts) → Appends b c (round_line number one)
+    → number ≡ ended + 1 → ended < rounds → AreTold ended a b → EndsWith Io rounds a c
+ends_behind_line a b c ended rounds number one whole next few told =
+    let line = round_line number one in
+    ends_in_line Io a b c ended rounds number one refl (λ other. absurd (other refl))
+    (λ same. (length line, subst (Appends b c) (sym (take-length line)) whole)) next few told
 
 pub last_of : {A B C D : Type 0} → A × B × C × D → D
 last_of (a, b, c, d) = d

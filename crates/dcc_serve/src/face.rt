@@ -45,6 +45,9 @@ pub trait Listener<I, O> {
     /// Waits for a while, and returns what is due behind it.
     fn tick<W: Wait>(&self, rt: &W) -> Tick
         ensures { result ≡ end.End → is_closed };
+
+    /// Whether no more connections are taken in for places because the listener failed.
+    fn has_failed(&self) -> bool;
 }
 
 /// The half of a connection that is written to, which can end both.

@@ -43,9 +43,9 @@ pub struct Service<'a, C, N> {
 /// and all gateways have gone. A fault of a connection ends that connection alone. A shard whose records fail answers busy from then on,
 /// and the others go on. `serve_run` waits for gateways, and for threads of its own.
 ///
-/// Faults: [`ServeFault::Memory`], memory was short for a round; [`ServeFault::Io`], the output or the listener failed;
-/// [`ServeFault::Close`], receipts and books disagree, and no line is written; [`ServeFault::Store`], 51, behind
-/// the line of the round in which the records of a shard failed.
+/// Faults: [`ServeFault::Memory`], memory was short for a round; [`ServeFault::Io`], the output or the listener failed, behind the line of
+/// the round if its places are taken again and the listener failed; [`ServeFault::Close`], receipts and books disagree, and no line is
+/// written; [`ServeFault::Store`], 51, behind the line of the round in which the records of a shard failed.
 pub fn serve_run<
     W: Threads + Wait + Sync,
     R: Records + Send + Sync + Drop,
@@ -92,6 +92,10 @@ pub fn serve_run<
         if tell_stopped(rt, service.notices, next.as_slice()) {
             drop(next);
             return Err(ServeFault::Store(51));
+        }
+        if listener.has_failed() {
+            drop(next);
+            return Err(ServeFault::Io);
         }
         shards = next;
     }

@@ -3,10 +3,11 @@
 use os::unlink;
 use std::sync::atomic::{AtomicBool, Ordering};
 
-/// Whether a server that stays is to end: set once, and seen by all of its threads.
+/// Whether a server that stays is to end, and whether its listener failed: each is set once, and seen by all threads.
 #[derive(Drop)]
 pub struct Closing {
     is_told: AtomicBool,
+    has_failed: AtomicBool,
 }
 
 impl Closing {
@@ -14,12 +15,24 @@ impl Closing {
     pub fn new() -> Closing {
         Closing {
             is_told: AtomicBool::new(false),
+            has_failed: AtomicBool::new(false),
         }
     }
 
     /// Stores that the server is to end.
     pub fn tell(&self) {
         self.is_told.store(true, Ordering::SeqCst);
+    }
+
+    /// Stores that the listener failed, and that the server is to end.
+    pub fn fail(&self) {
+        self.has_failed.store(true, Ordering::SeqCst);
+        self.tell();
+    }
+
+    /// Whether the listener failed.
+    pub fn has_failed(&self) -> bool {
+        self.has_failed.load(Ordering::SeqCst)
     }
 
     /// Whether the server is to end.

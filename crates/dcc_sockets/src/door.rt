@@ -182,7 +182,7 @@ impl<'r, R: Clock + Eprint> Listener<Input<'r, R>, Output<'r, R>> for Door<'r, R
                 Ok(None) => {}
                 Err(error) => {
                     tell(self.rt, Trouble::Over { error });
-                    staying.closing.tell();
+                    staying.closing.fail();
                 }
             }
         }
@@ -208,5 +208,12 @@ impl<'r, R: Clock + Eprint> Listener<Input<'r, R>, Output<'r, R>> for Door<'r, R
             return Tick::Sweep;
         }
         Tick::Nothing
+    }
+
+    fn has_failed(&self) -> bool {
+        match self.staying {
+            Some(staying) => staying.closing.has_failed(),
+            None => false,
+        }
     }
 }

@@ -4,7 +4,7 @@ use Rattle.dcc_dispatch.specs.Settings.{Setting}
 use Rattle.dcc_serve.specs.Served.{EndsRound, EndsRounds, IsGoodRound, IsRound, is_any_stopped}
 use Rattle.dcc_serve.specs.declared.fault.ServeFault.{ServeFault}
 use Rattle.dcc_serve.proofs.Ends.{ends_behind, ends_stopped, of_unnumbered}
-use Rattle.dcc_serve.proofs.Tellings.{ends_before, ends_in_line, last_of, none_served, one_served, one_told, told_of}
+use Rattle.dcc_serve.proofs.Tellings.{ends_before, ends_behind_line, ends_in_line, last_of, none_served, one_served, one_told, told_of}
 use Rattle.dcc_serve.proofs.run.serve_run.Goals as goal
 
 pub returns-in_err-counts-clause-part : goal.returns-in_err-counts-clause-part
@@ -36,6 +36,16 @@ returns-then-tell_stopped-clause-part g c =
         one_told _ _ _ c.loop-round.round c.saturating_add.result c.in_ok-counts.counts (told_of _ _ _ _ _ _ (last_of c.loop-round.invariant)) next c.in-Ok.ensures.whole,
       ),
     )
+
+pub returns-then-has_failed-clause-part : goal.returns-then-has_failed-clause-part
+returns-then-has_failed-clause-part g c =
+    let few : c.loop-round.round < c.args.rounds.now.rounds = search rules in
+    let next : c.saturating_add.result ≡ c.loop-round.round + 1 = search rules in
+    ends_behind_line _ _ _ c.loop-round.round c.args.rounds.now.rounds c.saturating_add.result c.in_ok-counts.counts c.in-Ok.ensures.whole
+    next few (told_of _ _ _ _ _ _ (last_of c.loop-round.invariant))
+
+pub returns-then-has_failed-clause-cause : goal.returns-then-has_failed-clause-cause
+returns-then-has_failed-clause-cause g c = tt
 
 pub returns-in_err-counts-clause-cause : goal.returns-in_err-counts-clause-cause
 returns-in_err-counts-clause-cause g c =
