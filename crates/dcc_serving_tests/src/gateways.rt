@@ -219,6 +219,10 @@ impl<'a> Listener<Input<'a>, Output<'a>> for Gateways<'a> {
     fn tick<W: Wait>(&self, _rt: &W) -> Tick {
         Tick::End
     }
+
+    fn has_failed(&self) -> bool {
+        false
+    }
 }
 
 /// Drops each notice.

@@ -41,7 +41,7 @@ impl Model for IndexedBooks {
     ghost invariant = { λ i. AreOpeners i.books.terms i.books.rows i.openers };
 }
 
-/// A prepared step, with the name of the session that it opens from a host. The index has room for this session.
+/// A prepared step, with the name of the session that it opens from a host. The index has room for the session.
 #[derive(Drop)]
 pub(crate) struct Ready {
     pub(crate) pending: Pending,
