@@ -2,9 +2,9 @@
  * its lines in their order; writes a line for each answer; then stays idle for watchdogs, and shuts the daemon down. A request whose connection is
  * lost is asked again, as it was.
  *
- *     LoadExtension = "gateway.so" : "SETTINGS";    where SETTINGS has the words: WORK ANSWERS LANES SECONDS SERVER
+ *     LoadExtension = "gateway.so" : "SETTINGS";    where SETTINGS has the words: WORK ANSWERS LANES SECONDS SERVER PAUSE
  *
- * The forms of the lines are said in work.py. */
+ * A lane pauses for so many milliseconds behind each answer. The forms of the lines are said in work.py. */
 #include <freeDiameter/extension.h>
 
 #include <errno.h>
@@ -39,12 +39,15 @@ struct lane {
 
 static struct lane lanes[MOST_LANES];
 static char **lines;
-static int line_count, lane_count, seconds;
+static int line_count, lane_count, seconds, milliseconds_between;
 static char work_path[1024], answers_path[1024], server[256];
 static FILE *answers;
 static struct dict_object *request_model;
 static pthread_t conductor;
 static long milliseconds;
+
+/* How often a request was sent again. */
+static atomic_int repeats;
 
 /* Of capabilities exchanges, watchdogs and disconnections: requests sent, and answers received. */
 static atomic_int base[3][2];
@@ -150,9 +153,11 @@ static struct msg *request_of(const char *line)
 	put_text(message, SERVICE_CONTEXT_ID, "data@example");
 	put_u32(message, CC_REQUEST_TYPE, strtoul(words[2], NULL, 10));
 	put_u32(message, CC_REQUEST_NUMBER, strtoul(words[3], NULL, 10));
-	struct avp *subscription = put(message, SUBSCRIPTION_ID, NULL);
-	put_u32(subscription, SUBSCRIPTION_ID_TYPE, 0);
-	put_text(subscription, SUBSCRIPTION_ID_DATA, words[0]);
+	if (*words[0] != '-') {
+		struct avp *subscription = put(message, SUBSCRIPTION_ID, NULL);
+		put_u32(subscription, SUBSCRIPTION_ID_TYPE, 0);
+		put_text(subscription, SUBSCRIPTION_ID_DATA, words[0]);
+	}
 	if (*words[4] != '-')
 		put_u32(message, REQUESTED_ACTION, strtoul(words[4], NULL, 10));
 	for (char *word; (word = strtok_r(NULL, " ", &rest));)
@@ -295,7 +300,7 @@ static void add_answer(struct text *text, struct msg *answer)
 	add_services(text, answer);
 }
 
-/* Whether the daemon itself answered, as it does without a connection. */
+/* Whether the daemon itself answered, or a relay, as they do without a connection. */
 static int is_undelivered(struct msg *answer)
 {
 	struct msg_hdr *header;
@@ -341,9 +346,11 @@ static void *run_lane(void *of)
 			continue;
 		ask(lane);
 		for (int tries = 0; lane->is_lost && tries < MOST_TRIES; tries++) {
+			repeats++;
 			usleep(500000);
 			ask(lane);
 		}
+		usleep(1000 * milliseconds_between);
 	}
 	return NULL;
 }
@@ -416,7 +423,8 @@ static void read_lines(void)
 static int begin(char *settings)
 {
 	FILE *file = settings ? fopen(settings, "r") : NULL;
-	if (!file || fscanf(file, "%1023s %1023s %d %d %255s", work_path, answers_path, &lane_count, &seconds, server) != 5 || lane_count > MOST_LANES)
+	if (!file || fscanf(file, "%1023s %1023s %d %d %255s %d", work_path, answers_path, &lane_count, &seconds, server, &milliseconds_between) != 6
+	    || lane_count > MOST_LANES)
 		give_up("the settings can't be read");
 	fclose(file);
 	read_lines();
@@ -438,7 +446,7 @@ void fd_ext_fini(void)
 	fprintf(answers, "base");
 	for (int i = 0; i < 3; i++)
 		fprintf(answers, " %d %d", base[i][0], base[i][1]);
-	fprintf(answers, " took %ld\n", milliseconds);
+	fprintf(answers, " took %ld again %d\n", milliseconds, repeats);
 	fclose(answers);
 }
 

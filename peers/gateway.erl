@@ -2,9 +2,9 @@
 %% its lines in their order; writes a line for each answer; then stays idle for its peer's and its own watchdogs, and takes its leave. A request
 %% whose connection is lost is asked again, as it was.
 %%
-%%     erl -s gateway main -extra PORT WORK ANSWERS LANES SECONDS HOST SERVER
+%%     erl -s gateway main -extra PORT WORK ANSWERS LANES SECONDS HOST PAUSE
 %%
-%% The forms of the lines are said in work.py.
+%% A lane pauses for so many milliseconds behind each answer. The forms of the lines are said in work.py.
 -module(gateway).
 
 -export([main/0]).
@@ -16,20 +16,23 @@
 -define(REALM, <<"access.example">>).
 
 main() ->
-    [Port, Work, Answers, Lanes, Seconds, Host] = init:get_plain_arguments(),
+    [Port, Work, Answers, Lanes, Seconds, Host, Pause] = init:get_plain_arguments(),
     {ok, Read} = file:read_file(Work),
     Lines = lists:enumerate(0, binary:split(Read, <<"\n">>, [global, trim])),
     {ok, File} = file:open(Answers, [write, raw, {delayed_write, 65536, 1000}]),
     Transport = connect(list_to_integer(Port), list_to_binary(Host)),
     Origin = #{'Origin-Host' => list_to_binary(Host), 'Origin-Realm' => ?REALM},
     Collector = self(),
+    ok = persistent_term:put(?MODULE, counters:new(1, [])),
     Begun = erlang:monotonic_time(millisecond),
-    Running = [spawn_monitor(fun() -> lane(Lane, Lines, Origin, Collector) end) || Lane <- lists:seq(0, list_to_integer(Lanes) - 1)],
+    Ask = fun(Lane) -> lane(Lane, Lines, Origin, list_to_integer(Pause), Collector) end,
+    Running = [spawn_monitor(fun() -> Ask(Lane) end) || Lane <- lists:seq(0, list_to_integer(Lanes) - 1)],
     collect(File, length(Running)),
     Took = erlang:monotonic_time(millisecond) - Begun,
     timer:sleep(list_to_integer(Seconds) * 1000),
     ok = diameter:remove_transport(?SERVICE, Transport),
-    write(File, [["base", [[" ", integer_to_list(N)] || N <- base_messages(Transport, 100)], " took ", integer_to_list(Took)]]),
+    write(File, [["base", [[" ", integer_to_list(N)] || N <- base_messages(Transport, 100)], " took ", integer_to_list(Took),
+                  " again ", integer_to_list(counters:get(persistent_term:get(?MODULE), 1))]]),
     ok = file:close(File),
     halt(0).
 
@@ -61,8 +64,8 @@ base_messages(Transport, Tries) ->
         _ -> timer:sleep(100), base_messages(Transport, Tries - 1)
     end.
 
-lane(Lane, Lines, Origin, Collector) ->
-    [Collector ! {line, ask(Number, Words, Origin)}
+lane(Lane, Lines, Origin, Pause, Collector) ->
+    [begin Collector ! {line, ask(Number, Words, Origin)}, timer:sleep(Pause) end
      || {Number, Line} <- Lines, [At | Words] <- [binary:split(Line, <<" ">>, [global])], binary_to_integer(At) =:= Lane].
 
 collect(_File, 0) ->
@@ -82,7 +85,7 @@ ask(Number, [Sub, Session, Kind, Count, Action, Proxy | Services], Origin) ->
         'Session-Id' => Session, 'Destination-Realm' => <<"charging.example">>, 'Auth-Application-Id' => 4,
         'Service-Context-Id' => <<"data@example">>, 'CC-Request-Type' => binary_to_integer(Kind),
         'CC-Request-Number' => binary_to_integer(Count),
-        'Subscription-Id' => [#{'Subscription-Id-Type' => 0, 'Subscription-Id-Data' => Sub}],
+        'Subscription-Id' => [#{'Subscription-Id-Type' => 0, 'Subscription-Id-Data' => Sub} || Sub =/= <<"-">>],
         'Requested-Action' => [binary_to_integer(Action) || Action =/= <<"-">>],
         'Proxy-Info' => [#{'Proxy-Host' => <<"first.exchange.example">>, 'Proxy-State' => Proxy} || Proxy =/= <<"-">>]
     },
@@ -95,7 +98,7 @@ call(Request, Tries) ->
         Told when Tries =:= 0; hd(Told) =:= 'CCA' -> Told;
         {not_decoded, _} = Told -> Told;
         ['answer-message' | #{'Result-Code' := Result}] = Told when Result =/= 3002 -> Told;
-        _ -> timer:sleep(500), call(Request, Tries - 1)
+        _ -> counters:add(persistent_term:get(?MODULE), 1, 1), timer:sleep(500), call(Request, Tries - 1)
     end.
 
 %% A service without a Rating-Group stands at the message's level.

@@ -6,17 +6,17 @@ A gateway reads lines of words, parted by single blanks, and asks each line as o
     LANE SUB SESSION TYPE NUMBER ACTION PROXY SERVICE..
 
 It asks the lines of a lane in their order, each behind the answer to the one before, and all lanes at once. SUB is the E.164 number of the
-subscriber, TYPE the CC-Request-Type, ACTION the Requested-Action, PROXY the Proxy-State of a Proxy-Info; a word that doesn't apply is a hyphen.
-A service is GROUP:ASKED:USED. Without a group it stands at the message's level. An amount is o1000, t60 or u5 (octets, seconds, units); e is a
-Requested-Service-Unit without one. For each answer the gateway writes
+subscriber, TYPE the CC-Request-Type, ACTION the Requested-Action, PROXY the Proxy-State of a Proxy-Info; a word that doesn't apply is a hyphen. A
+request that names nobody has a hyphen as SUB. A service is GROUP:ASKED:USED. Without a group it stands at the message's level. An amount is o1000, t60
+or u5 (octets, seconds, units); e is a Requested-Service-Unit without one. For each answer the gateway writes
 
     LINE SESSION TYPE NUMBER RESULT PROXY TOLD SERVICE..
 
 with the line's number from 0, check0 or cost4 as TOLD, and GROUP:RESULT:GRANTED:FINAL:VALIDITY of each service; f is a last grant. Its last line is
 
-    base CER CEA DWR DWA DPR DPA took MILLISECONDS
+    base CER CEA DWR DWA DPR DPA took MILLISECONDS again REPEATS
 
-which counts the requests of the base protocol that it sent and the answers to them.
+which counts the requests of the base protocol that it sent and the answers to them, and how often it sent a request again for want of an answer.
 """
 
 import random
@@ -35,11 +35,11 @@ Service = namedtuple("Service", "group asked used", defaults=(None, None))
 Entry = namedtuple("Entry", "place kind group units amount name")
 
 
-def plan_text(shards):
+def plan_text(shards, host=HOST):
     """The server's plan. Sessions are held for as long as a run may take."""
     tariffs = "".join(f'\n[[tariff]]\ngroup = {group}\nunit = "{UNITS[unit]}"\nfrom = "2020-01-01T00:00:00Z"\nprice = {price}\nblock = {block}\n'
                       for group, (unit, price, block) in TARIFFS.items())
-    return (f'host = "{HOST}"\nrealm = "{REALM}"\naddress = "127.0.0.1"\nshards = {shards}\ndefault_group = {DEFAULT}\nquantum = {QUANTUM}\n'
+    return (f'host = "{host}"\nrealm = "{REALM}"\naddress = "127.0.0.1"\nshards = {shards}\ndefault_group = {DEFAULT}\nquantum = {QUANTUM}\n'
             f"validity = {VALIDITY}\nhold = 1000000\ncurrency = 978\nexponent = -2\n{tariffs}")
 
 
@@ -196,10 +196,13 @@ class Work:
     """The requests of one gateway: lines, what each of them is to be answered, and the accounts behind all of them.
 
     Two gateways that ask for the same subscribers at once share their accounts. What one of them is answered doesn't depend on what the other
-    has asked before, since no subscriber whom both ask for is ever short."""
+    has asked before, since no subscriber whom both ask for is ever short.
 
-    def __init__(self, host, requests, lanes, accounts):
-        self.host, self.lanes, self.accounts = host, lanes, accounts
+    If some are to name nobody, the updates and the termination of one session of four have no Subscription-Id. Their subscriber has an account, and
+    is never short, so that the session was opened."""
+
+    def __init__(self, host, requests, lanes, accounts, some_nameless=False):
+        self.host, self.lanes, self.accounts, self.some_nameless = host, lanes, accounts, some_nameless
         self.subscribers = list(accounts)
         self.lane_of = {sub: place % lanes for place, sub in enumerate(self.subscribers)}
         self.choose = random.Random(f"{host} {requests}")
@@ -212,10 +215,10 @@ class Work:
         self.sessions += 1
         return f"{self.host};{self.sessions};1"
 
-    def ask(self, sub, session, kind, number, services=(), action=None):
+    def ask(self, sub, session, kind, number, services=(), action=None, is_named=True):
         """Adds a line and its answer, and gives the units that each group is granted by it."""
         proxy = f"hop{len(self.lines)}" if len(self.lines) % 8 == 3 else "-"
-        words = [self.lane_of[sub], sub, session, kind, number, "-" if action is None else action, proxy]
+        words = [self.lane_of[sub], sub if is_named else "-", session, kind, number, "-" if action is None else action, proxy]
         self.lines.append(" ".join(map(str, words + [self.service_word(service) for service in services])))
         account = self.accounts[sub]
         first, told = account.answer(session, kind, number, action, services) if account else (kind, "5030 -")
@@ -249,13 +252,15 @@ class Work:
 
     def visit(self, sub, groups):
         session, updates = self.name(), self.choose.randint(1, 4)
+        is_named = not (self.some_nameless and self.accounts[sub] and self.choose.randrange(4) == 0)
         granted = self.ask(sub, session, INITIAL, 0, [Service(group, self.asked()) for group in groups])
         for number in range(1, updates + 1):
             services = [Service(group, self.asked(), self.used(granted, group)) for group in groups]
-            granted = self.ask(sub, session, UPDATE, number, services)
+            granted = self.ask(sub, session, UPDATE, number, services, is_named=is_named)
             if number % 3 == 0:
-                self.ask(sub, session, UPDATE, number, services)
-        self.ask(sub, session, TERMINATION, updates + 1, [Service(group, None, self.used(granted, group)) for group in groups])
+                self.ask(sub, session, UPDATE, number, services, is_named=is_named)
+        last = [Service(group, None, self.used(granted, group)) for group in groups]
+        self.ask(sub, session, TERMINATION, updates + 1, last, is_named=is_named)
 
     def events(self, sub):
         """The four one-time events, of which a debit comes twice under one number."""
