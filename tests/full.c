@@ -1,7 +1,7 @@
-/* Has a disk be full for the files whose path has the text of FULL in it; it is preloaded (LD_PRELOAD). The file whose path is in SPACE has eight
- * octets, a signed number in the machine's order: by so many octets these files may still grow, all together. A write past the end of a file takes
- * from it; it does what there is room for, and with no room it fails, as a longer length does. A write over octets that are there is made; but with a number
- * below 0 it fails too, as on a disk that copies what it writes. The number may be changed from outside at any time. */
+/* Has a disk be full for the files whose path has the text of FULL in it, or at its end if END is set; it is preloaded (LD_PRELOAD). The file whose path
+ * is in SPACE has eight octets, a signed number in the machine's order: by so many octets these files may still grow, all together. A write past the
+ * end of a file takes from it; it does what there is room for, and with no room it fails, as a longer length does. A write over octets that are there is
+ * made; but with a number below 0 it fails too, as on a disk that copies what it writes. The number may be changed from outside at any time. */
 #include <errno.h>
 #include <fcntl.h>
 #include <stddef.h>
@@ -16,11 +16,13 @@
 #include <unistd.h>
 
 static const char *full;
+static int at_end;
 static int64_t *space;
 
 __attribute__((constructor)) static void begin(void) {
     const char *path = getenv("SPACE");
     full = getenv("FULL");
+    at_end = getenv("END") != NULL;
     int file = path && full ? open(path, O_RDWR | O_CLOEXEC) : -1;
     if (file < 0) {
         return;
@@ -44,7 +46,8 @@ static off_t length_of(int file) {
         return -1;
     }
     path[length] = 0;
-    return strstr(path, full) ? found.st_size : -1;
+    const char *at = strstr(path, full);
+    return at && (!at_end || !at[strlen(full)]) ? found.st_size : -1;
 }
 
 /* So many of these octets there is room for; they are taken. */
