@@ -47,6 +47,13 @@ Upgrades setting old new = Survives old new (λ db. ∥ IsUpgraded setting old.n
 pub still_alone : (setting : Setting) (a b : State) → Survives a b (λ _. ⊥) → Upgrades setting a b
 still_alone setting a b = survives_weaker a b (λ _. ⊥) (λ db. ∥ IsUpgraded setting a.now.trees db ∥₁) (λ _ db none. absurd none)
 
+pub clean_before : (setting : Setting) (a b : State) → Upgrades setting a b → HasCleanDisk b → HasCleanDisk a
+clean_before setting a b left clean = omega (arith, left.clean, clean)
+
+-- a store that was upgraded is the upgraded one once it is opened
+pub upgraded_still : (setting : Setting) (a b c : State) → b.now ≡ b.committed → IsUndone b c → ∥ IsUpgraded setting a.now.trees b.now.trees ∥₁ → ∥ IsUpgraded setting a.now.trees c.now.trees ∥₁
+upgraded_still setting a b c settled it made = subst (λ (d : Database). ∥ IsUpgraded setting a.now.trees d.trees ∥₁) (settled ∙ sym it.now_is) made
+
 pub still_after : (setting : Setting) (a b c : State) → Upgrades setting a b → Survives b c (λ _. ⊥) → Upgrades setting a c
 still_after setting a b c = survives_then a b c (λ db. ∥ IsUpgraded setting a.now.trees db ∥₁) (λ _. ⊥) (λ db. ∥ IsUpgraded setting a.now.trees db ∥₁) (λ _ db it. it) (λ _ db none. absurd none)
 
@@ -66,6 +73,28 @@ not_device fault told is others e =
     let other : fault ≢ f.Memory = λ m. (let no : f.Memory ≡ f.Device = sym m ∙ e in cc) in
     let no : f.Memory ≡ f.Device = sym is ∙ others other in
     cc
+
+-- nor is it a judgement of rows or of tables
+pub no_judgement : (fault : OpenFault) → (fault ≡ f.Memory) ⊎ (fault ≡ f.Device) → (fault ≡ f.Empty) ⊎ ((fault ≡ f.Layout) ⊎ ((fault ≡ f.Damaged) ⊎ (fault ≡ f.Disagree))) → ⊥
+no_judgement f.Memory either (inl is) = let e = is in cc
+no_judgement f.Memory either (inr (inl is)) = let e = is in cc
+no_judgement f.Memory either (inr (inr (inl is))) = let e = is in cc
+no_judgement f.Memory either (inr (inr (inr is))) = let e = is in cc
+no_judgement f.Device either (inl is) = let e = is in cc
+no_judgement f.Device either (inr (inl is)) = let e = is in cc
+no_judgement f.Device either (inr (inr (inl is))) = let e = is in cc
+no_judgement f.Device either (inr (inr (inr is))) = let e = is in cc
+no_judgement f.Empty either is = elim either [ inl e ↦ let x = e in cc | inr e ↦ let x = e in cc ]
+no_judgement f.Layout either is = elim either [ inl e ↦ let x = e in cc | inr e ↦ let x = e in cc ]
+no_judgement f.Damaged either is = elim either [ inl e ↦ let x = e in cc | inr e ↦ let x = e in cc ]
+no_judgement f.Disagree either is = elim either [ inl e ↦ let x = e in cc | inr e ↦ let x = e in cc ]
+
+-- other tables and refused memory are no failure of a database
+pub no_failure : (fault : OpenFault) → fault ≡ f.Layout → fault ≢ f.Device
+no_failure fault is e = let no : f.Layout ≡ f.Device = sym is ∙ e in cc
+
+pub no_failure_of_memory : (fault : OpenFault) → fault ≡ f.Memory → fault ≢ f.Device
+no_failure_of_memory fault is e = let no : f.Memory ≡ f.Device = sym is ∙ e in cc
 
 module _ {S : Type 0} (g : Ghosts S) (one two three : Held S) where
   pub undone_then : (two ≡ one) ⊎ IsUndone (state g one) (state g two) → (three ≡ two) ⊎ IsUndone (state g two) (state g three) → (three ≡ one) ⊎ IsUndone (state g one) (state g three)

@@ -68,12 +68,12 @@ pub fn open_or_upgrade<S: Alter + Drop>(
         Ok(records) => return Ok((records, None)),
         Err(refused) => refused,
     };
-    if fault != OpenFault::Layout {
-        return Err((fault, conn));
-    }
-    match upgrade_and_open(alloc, conn, setting, hasher) {
-        Ok((records, count)) => Ok((records, Some(count))),
-        Err(refused) => Err(refused),
+    match fault {
+        OpenFault::Layout => match upgrade_and_open(alloc, conn, setting, hasher) {
+            Ok((records, count)) => Ok((records, Some(count))),
+            Err(refused) => Err(refused),
+        },
+        fault => Err((fault, conn)),
     }
 }
 
