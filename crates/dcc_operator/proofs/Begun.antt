@@ -1,6 +1,5 @@
 -- The first octets of two texts in turn.
-use Rattle.std.specs.Prelude.{IsErrAnd}
-use Rattle.std.proofs.Common.{◌≡◌, ℕ, ◌+◌, ◌≤◌, List, ◌++◌, length, take, Option, Result, Ok, Err, IfErr, sym, subst}
+use Rattle.std.proofs.Common.{ℕ, ◌+◌, ◌≤◌, List, ◌++◌, length, take, Option, Result, Ok, Err, IfErr, sym, subst}
 use Rattle.std.specs.Io.KnownBytes.{Appends}
 use Rattle.std.proofs.KnownBytes.{Appends-trans}
 use Rattle.std.proofs.lemmas.List.{take-append-le}
@@ -21,8 +20,3 @@ in_either (Err error) given = given
 pub weaker : {A E : Type 0} {P Q : E → Type 0} (r : Result A E) → ((error : E) → P error → Q error) → IfErr r P → IfErr r Q
 weaker (Ok x) turn given = tt
 weaker (Err error) turn given = turn error given
-
--- what holds of an error holds of the error that is handed on
-pub handed_on : {A E : Type 0} (P : E → Type 0) (result : Result A E) (error : E) → IsErrAnd result (λ other. other ≡ error) → P error → IfErr result P
-handed_on P (Ok value) error is it = tt
-handed_on P (Err other) error is it = subst P (sym is) it

@@ -1,5 +1,5 @@
 -- The shard that a command opens for its subscriber.
-use Rattle.std.proofs.Common.{◌≡◌, ◌≢◌, ◌∙◌, ◌⊎◌, inl, inr, ℕ, Bool, true, false, [], Option, None, Some, refl, sym, subst}
+use Rattle.std.proofs.Common.{◌≡◌, ◌≢◌, ◌∙◌, ◌⊎◌, inl, inr, ℕ, Bool, true, false, [], Option, Some, refl, sym, subst}
 use Rattle.std.proofs.lemmas.Bool.{cases_Bool}
 use Rattle.dcc_records.specs.Contents.{Content}
 use Rattle.dcc_records.specs.Faults.{fault_number}

@@ -117,6 +117,12 @@ pub fn ledger_in<S: Stores, W: Write>(
         return Ok(None);
     };
     let shard = shard_over(alloc, identity, records, index, count, hasher)?;
-    ledger_run(alloc, &shard, sub, output)?;
-    Ok(Some(shard))
+    match ledger_run(alloc, &shard, sub, output) {
+        Ok(()) => Ok(Some(shard)),
+        Err(fault) => {
+            // By a call: a shard that is let go in place is proved part by part.
+            drop(shard);
+            Err(fault)
+        }
+    }
 }

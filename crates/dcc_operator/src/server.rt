@@ -54,9 +54,41 @@ pub fn shards_over<S: Stores>(
     let count = usize::from(plan.shards());
     let mut shards = Vec::with_capacity(alloc, count)?;
     for index in 0..count {
-        let records = stores.open_or_make(folder, plan, index, hasher)?;
-        let shard = shard_over(alloc, identity, records, index, count, hasher)?;
-        shards.push_reserved(shard);
+        match shard_at(alloc, stores, folder, plan, identity, index, hasher) {
+            Ok(shard) => shards.push_reserved(shard),
+            Err(refusal) => {
+                // By a call: shards that are let go in place are proved part by part.
+                drop(shards);
+                return Err(refusal);
+            }
+        }
     }
     Ok(shards)
+}
+
+/// The shard over the store of this index, which is opened, or made where there is none.
+fn shard_at<S: Stores>(
+    alloc: Global,
+    stores: &S,
+    folder: &str,
+    plan: &Plan,
+    identity: &Identity,
+    index: usize,
+    hasher: RandomState,
+) -> Result<Shard<S::Records>, StoreRefusal>
+    ensures terms { IfOk result (λ shard. shard.shard.terms ≡ plan.now.terms) }
+    ensures identity { IfOk result (λ shard. shard.shard.identity ≡ identity.now) }
+    ensures placed { IfOk result (λ shard. (sub : Sub) → held shard.shard sub ≢ [] → shard_of sub plan.now.shards ≡ index) }
+    ensures own { IfOk result (λ shard. AreOwn shard.shard) }
+    ensures found { IfOk result (λ shard. LeavesOnly shard.shard.terms (held shard.shard) (S.Records.may_leave shard.records)) }
+    ensures opened { IfOk result (IsOpenedOver (S.opens stores.now folder.now plan.now index) S.Records.may_leave) }
+    ensures refused { IfErr result (λ refusal. IsUnusable (S.refuses stores.now folder.now plan.now index)
+        (S.opens stores.now folder.now plan.now index) S.Records.may_leave S.Records.is_stopped index plan.now.shards refusal.0) }
+{
+    let count = usize::from(plan.shards());
+    let records = stores.open_or_make(folder, plan, index, hasher)?;
+    match shard_over(alloc, identity, records, index, count, hasher) {
+        Ok(shard) => Ok(shard),
+        Err(refusal) => Err(refusal),
+    }
 }

@@ -1,32 +1,26 @@
 use Rattle.std.proofs.Common.{rules, ◌≡◌, ◌⊎◌, inr, ℕ, ◌∙◌, Some, IfErr, ap, subst}
 use Rattle.dcc_shard.specs.Routes.{shard_of}
-use Rattle.dcc_shard.specs.Shards.{held}
 use Rattle.dcc_operator.specs.declared.fault.OperatorFault.TheVariants.{Memory, Output, Store}
-use Rattle.dcc_operator.specs.Commands.{IsOpenedFor}
-use Rattle.dcc_operator.specs.Ledgers.{page_of}
-use Rattle.dcc_operator.specs.Texts.{IsBegun}
-use Rattle.dcc_operator.proofs.Begun.{weaker, handed_on}
+use Rattle.dcc_operator.proofs.Begun.{weaker}
 use Rattle.dcc_operator.proofs.Opened.{of_found, opened_for, moved, no_store, same_number}
 use Rattle.dcc_operator.proofs.commands.ledger_in.Goals as goal
 
-pub returns-in_err-ledger_run-clause-part : goal.returns-in_err-ledger_run-clause-part
-returns-in_err-ledger_run-clause-part g c =
-    let said =
-    handed_on (λ fault. fault ≡ Output → IsBegun (page_of c.in_ok-shard.shard.shard.terms c.args.sub (held c.in_ok-shard.shard.shard c.args.sub)) (g.W.Write.contents c.args.output.now) (g.W.Write.contents c.ledger_run.new.output))
-    c.from_residual-in_err-ledger_run.result c.in_err-ledger_run.field-0.0 c.from_residual-in_err-ledger_run.ensures.1 c.in_err-ledger_run.ensures.part in
-    let shard = c.in_ok-shard.shard.shard in
-    let opened : IsOpenedFor c.args.plan.now c.args.identity.now c.args.sub shard = opened_for c.args.plan.now c.args.identity.now c.args.sub shard
-    c.from-count.result c.shard_of-index.result
-    (c.in_ok-shard.ensures.terms ∙ of_found _ _ _ c.in-Some.is c.in_ok-records.ensures.terms) c.in_ok-shard.ensures.identity c.in_ok-shard.ensures.own
-    (c.from-count.ensures ∙ c.shards.ensures.value) c.shard_of-index.ensures.value c.in_ok-shard.ensures.placed in
-    weaker c.from_residual-in_err-ledger_run.result (λ fault part output. (Some shard, opened, part output)) said
+pub returns-in-Err-clause-part : goal.returns-in-Err-clause-part
+returns-in-Err-clause-part g c output =
+    let shard = c.in_ok-shard.shard.shard in (
+      Some shard,
+      opened_for c.args.plan.now c.args.identity.now c.args.sub shard c.from-count.result c.shard_of-index.result
+          (c.in_ok-shard.ensures.terms ∙ of_found _ _ _ c.in-Some.is c.in_ok-records.ensures.terms) c.in_ok-shard.ensures.identity c.in_ok-shard.ensures.own
+          (c.from-count.ensures ∙ c.shards.ensures.value) c.shard_of-index.ensures.value c.in_ok-shard.ensures.placed,
+      c.in-Err.ensures.part output,
+    )
 
-pub returns-clause-done : goal.returns-clause-done
-returns-clause-done g c = (
+pub returns-in-Ok-clause-done : goal.returns-in-Ok-clause-done
+returns-in-Ok-clause-done g c = (
   opened_for c.args.plan.now c.args.identity.now c.args.sub c.in_ok-shard.shard.shard c.from-count.result c.shard_of-index.result
       (c.in_ok-shard.ensures.terms ∙ of_found _ _ _ c.in-Some.is c.in_ok-records.ensures.terms) c.in_ok-shard.ensures.identity c.in_ok-shard.ensures.own
       (c.from-count.ensures ∙ c.shards.ensures.value) c.shard_of-index.ensures.value c.in_ok-shard.ensures.placed,
-  c.in_ok-ledger_run.ensures.whole,
+  c.in-Ok.ensures.whole,
 )
 
 pub returns-in_err-unknown_run-clause-refused : goal.returns-in_err-unknown_run-clause-refused
@@ -34,10 +28,8 @@ returns-in_err-unknown_run-clause-refused g c =
     let said : IfErr c.from_residual-in_err-unknown_run.result (λ fault. (fault ≡ Memory) ⊎ (fault ≡ Output)) = search rules in
     weaker c.from_residual-in_err-unknown_run.result (λ fault either number is. absurd (no_store fault number either is)) said
 
-pub returns-in_err-ledger_run-clause-refused : goal.returns-in_err-ledger_run-clause-refused
-returns-in_err-ledger_run-clause-refused g c =
-    let said : IfErr c.from_residual-in_err-ledger_run.result (λ fault. (fault ≡ Memory) ⊎ (fault ≡ Output)) = search rules in
-    weaker c.from_residual-in_err-ledger_run.result (λ fault either number is. absurd (no_store fault number either is)) said
+pub returns-in-Err-clause-refused : goal.returns-in-Err-clause-refused
+returns-in-Err-clause-refused g c number is = absurd (no_store c.in-Err.fault number c.in-Err.ensures.faults is)
 
 pub returns-in_err-shard-clause-refused : goal.returns-in_err-shard-clause-refused
 returns-in_err-shard-clause-refused g c =

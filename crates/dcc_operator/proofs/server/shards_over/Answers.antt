@@ -1,32 +1,28 @@
-use Rattle.std.proofs.Common.{rules, ◌≡◌, ◌<◌, ◌∙◌, inr, ℕ, length, get_or, List, IfErr, refl, sym, subst}
-use Rattle.dcc_operator.proofs.Begun.{weaker}
-use Rattle.dcc_operator.proofs.Opened.{moved}
+use Rattle.std.proofs.Common.{rules, ◌≡◌, ◌<◌, ◌+◌, ◌∙◌, inr, ℕ, length, get_or, sym, subst}
 use Rattle.dcc_shard.specs.Routes.{shard_of}
-use Rattle.dcc_shard.specs.Stored.{StoredView}
 use Rattle.dcc_operator.specs.Openings.{IsOpenedOver}
 use Rattle.dcc_operator.proofs.Served.{AreServed, from_zero, with_next}
 use Rattle.dcc_operator.proofs.server.shards_over.Goals as goal
 
 pub loop-index-preserved : goal.loop-index-preserved
 loop-index-preserved g c =
-    let e = c.in_ok-shard.ensures in
+    let e = c.in-Ok.ensures in
     let i = c.loop-index.invariant in
-    let more = with_next (g.S.Stores.opens c.args.stores.now c.args.folder.now c.args.plan.now) g.S.Records.Records.may_leave c.args.plan.now.terms c.args.identity.now c.from-count.result 0 c.loop-index.shards.items c.in_ok-shard.shard i.served
+    let at : c.loop-index.index ≡ 0 + length c.loop-index.shards.items = sym i.many ∙ sym (from_zero (length c.loop-index.shards.items)) in
+    let more = with_next (g.S.Stores.opens c.args.stores.now c.args.folder.now c.args.plan.now) g.S.Records.Records.may_leave c.args.plan.now.terms c.args.identity.now c.args.plan.now.shards 0 c.loop-index.shards.items c.in-Ok.shard i.served
     (record {
-      terms_are = e.terms ∙ c.in_ok-records.ensures.terms;
+      terms_are = e.terms;
       identity_is = e.identity;
-      placed = λ sub some. e.placed sub some ∙ sym i.many ∙ sym (from_zero (length c.loop-index.shards.items));
+      placed = λ sub some. e.placed sub some ∙ at;
       own = e.own;
       found = e.found;
-      opened = subst (λ (n : ℕ). IsOpenedOver (g.S.Stores.opens c.args.stores.now c.args.folder.now c.args.plan.now n) g.S.Records.Records.may_leave c.in_ok-shard.shard)
-          (sym i.many ∙ sym (from_zero (length c.loop-index.shards.items)))
-          (record { given = c.in_ok-records.records; opened = c.in_ok-records.ensures.given; same = e.same; left = e.found });
+      opened = subst (λ (n : ℕ). IsOpenedOver (g.S.Stores.opens c.args.stores.now c.args.folder.now c.args.plan.now n) g.S.Records.Records.may_leave c.in-Ok.shard) at e.opened;
     }) in
     record {
       many = search rules;
       room = search rules;
       within = search rules;
-      served = subst (λ shards. AreServed (g.S.Stores.opens c.args.stores.now c.args.folder.now c.args.plan.now) g.S.Records.Records.may_leave c.args.plan.now.terms c.args.identity.now c.from-count.result shards) (sym c.push_reserved.ensures.items) more;
+      served = subst (λ shards. AreServed (g.S.Stores.opens c.args.stores.now c.args.folder.now c.args.plan.now) g.S.Records.Records.may_leave c.args.plan.now.terms c.args.identity.now c.args.plan.now.shards shards) (sym c.push_reserved.ensures.items) more;
     }
 
 pub returns-clause-terms : goal.returns-clause-terms
@@ -37,7 +33,7 @@ returns-clause-identity g c = λ i none below. (c.loop-index.invariant.served i 
 
 pub returns-clause-placed : goal.returns-clause-placed
 returns-clause-placed g c =
-    let many : length c.loop-index.shards.items ≡ c.from-count.result = search rules in
+    let many : length c.loop-index.shards.items ≡ c.args.plan.now.shards = search rules in
     λ i none sub below some. subst (λ (n : ℕ). shard_of sub n ≡ i) (sym many) ((c.loop-index.invariant.served i none below).placed sub some ∙ from_zero i)
 
 pub returns-clause-own : goal.returns-clause-own
@@ -51,11 +47,7 @@ returns-clause-opened g c = λ i none below.
     subst (λ (n : ℕ). IsOpenedOver (g.S.Stores.opens c.args.stores.now c.args.folder.now c.args.plan.now n) g.S.Records.Records.may_leave (get_or c.loop-index.shards.items i none))
     (from_zero i) (c.loop-index.invariant.served i none below).opened
 
-pub returns-in_err-shard-clause-refused : goal.returns-in_err-shard-clause-refused
-returns-in_err-shard-clause-refused g c =
-    let counted : c.from-count.result ≡ c.args.plan.now.shards = c.from-count.ensures ∙ c.shards.ensures.value in
-    let index = c.loop-index.index in
-    let records = c.in_ok-records.records in
-    let below : index < c.args.plan.now.shards = subst (λ (n : ℕ). index < n) counted c.loop-index-test.true in
-    let said : IfErr c.from_residual-in_err-shard.result (λ refusal. c.in_err-shard.field-0.0.0 ≡ refusal.0) = search rules in
-    weaker c.from_residual-in_err-shard.result (λ refusal told. inr (index, below, inr (records, c.in_ok-records.ensures.given, moved g.S.Records.Records.may_leave g.S.Records.Records.is_stopped records refl counted told c.in_err-shard.ensures.refused))) said
+pub returns-in-Err-clause-refused : goal.returns-in-Err-clause-refused
+returns-in-Err-clause-refused g c =
+    let below : c.loop-index.index < c.args.plan.now.shards = subst (λ (n : ℕ). c.loop-index.index < n) (c.from-count.ensures ∙ c.shards.ensures.value) c.loop-index-test.true in
+    inr (c.loop-index.index, below, c.in-Err.ensures.refused)

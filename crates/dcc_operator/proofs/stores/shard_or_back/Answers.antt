@@ -1,5 +1,4 @@
-use Rattle.std.proofs.Common.{rules, ◌≡◌, ◌∙◌, inl, inr, false, refl, sym, true≢false}
-use Rattle.dcc_operator.proofs.Opened.{fault_over}
+use Rattle.std.proofs.Common.{rules, ◌≡◌, ◌∙◌, inr, false, refl, sym, true≢false}
 use Rattle.dcc_operator.proofs.stores.shard_or_back.Goals as goal
 
 pub returns-then-not-is_placed-clause-refused : goal.returns-then-not-is_placed-clause-refused
