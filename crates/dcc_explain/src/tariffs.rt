@@ -90,7 +90,11 @@ fn has_moment(alloc: Global, table: &Table) -> Result<bool, AllocError> {
         "host = \"a\"\nrealm = \"a\"\naddress = \"0.0.0.0\"\nshards = 1\ndefault_group = 0\nquantum = 1\nvalidity = 1\nhold = 1\ncurrency = 0\nexponent = 0\n[[tariff]]\ngroup = 0\nunit = \"time\"\nfrom = {value}\nprice = 0\nblock = 1\n"
     )?;
     match Plan::read(alloc, text.as_str()) {
-        Ok(_) => Ok(true),
+        Ok(plan) => {
+            // By a call: a plan that is let go in place is proved part by part.
+            drop(plan);
+            Ok(true)
+        }
         Err(PlanFault::Memory) => Err(AllocError),
         Err(_) => Ok(false),
     }
