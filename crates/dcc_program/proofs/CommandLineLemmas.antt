@@ -1,5 +1,5 @@
 -- What the reader of command lines gives, in the words of a use.
-use Rattle.std.proofs.Common.{◌⊎◌, ◌≡◌, ◌∙◌, true, false, List, [], Option, Some, None, codes, refl, sym, ap, ap₂, subst, inl, inr, option_map, Result, IfOk, IfErr, slice_index, nat_eq, eq-eqb}
+use Rattle.std.proofs.Common.{◌⊎◌, ◌≡◌, ◌∙◌, true, false, List, [], Option, Some, None, codes, refl, sym, ap, ap₂, subst, inl, inr, option_map, Result, IfOk, IfErr, IfSome, slice_index, nat_eq, eq-eqb}
 use Rattle.clap.specs.Words.{App, Row, Text, HasKind, IsAmong, fault_of, first_of, found_of, is_simple, is_simple_and_free, kind_of}
 use Rattle.clap.specs.Words.{app_of, matches_of, rows_of, subcommand_name_of, subcommand_of, subcommand_rows, subcommand_rows_of}
 use Rattle.clap.specs.declared.Error.{Error}
@@ -77,25 +77,25 @@ pair_of (Some p) a b first second =
     let two : p.1 ≡ b = cc in
     ap₂ (λ x y. Some (x, y)) one two
 
-pub found_rows : (words : List Text) (app : App) (m : ArgMatches) (r : Option (Bor Text × Bor ArgMatches)) (name : Bor Text) (found : Bor ArgMatches)
-    → app ≡ dcc_command
-    → (is_simple app ≡ true → (rows_of (found_of m) ≡ matches_of app words) × (subcommand_rows_of m ≡ subcommand_of app words))
+-- the command that was entered, with what was found of its arguments
+pub named_rows : (m : ArgMatches) (r : Option (Bor Text × Bor ArgMatches)) (name : Bor Text) (found : Bor ArgMatches)
     → option_map (λ p. p.0.now) r ≡ subcommand_name_of m → option_map (λ p. rows_of (found_of p.1.now)) r ≡ option_map (λ p. p.1) (subcommand_rows_of m)
-    → r ≡ Some (name, found) → subcommand_of dcc_command words ≡ Some (name.now, rows_of (found_of found.now))
-found_rows words app m r name found is matches named rows whole =
+    → r ≡ Some (name, found) → subcommand_rows_of m ≡ Some (name.now, rows_of (found_of found.now))
+named_rows m r name found named rows whole =
     let name_is : subcommand_name_of m ≡ Some name.now = rw whole at (sym named) in
     let rows_are : option_map (λ p. p.1) (subcommand_rows_of m) ≡ Some (rows_of (found_of found.now)) = rw whole at (sym rows) in
-    sym (entered_rows words app m is matches) ∙ pair_of (subcommand_rows_of m) name.now (rows_of (found_of found.now)) (sym (name_of_rows m) ∙ name_is) rows_are
+    pair_of (subcommand_rows_of m) name.now (rows_of (found_of found.now)) (sym (name_of_rows m) ∙ name_is) rows_are
 
--- words that name no command ask for nothing
-pub no_command : (words : List Text) (app : App) (m : ArgMatches) (r : Option (Bor Text × Bor ArgMatches)) → app ≡ dcc_command
-    → (is_simple app ≡ true → (rows_of (found_of m) ≡ matches_of app words) × (subcommand_rows_of m ≡ subcommand_of app words))
-    → option_map (λ p. p.0.now) r ≡ subcommand_name_of m → r ≡ None → (task : Task) → IsAsked words task → ⊥
-no_command words app m r is matches name none task asked =
-    let rows = entered_rows words app m is matches in
-    let named : subcommand_name_of m ≡ Some (name_of task) = name_of_rows m ∙ ap (option_map (λ p. p.0)) (rows ∙ asked.1.named) in
-    let nothing : subcommand_name_of m ≡ None = rw none at (sym name) in
-    cc
+no_pair : {A B : Type 0} (o : Option (A × B)) → option_map (λ p. p.0) o ≡ None → o ≡ None
+no_pair None none = refl
+no_pair (Some p) none = cc
+
+-- or that none was entered
+pub unnamed_rows : (m : ArgMatches) (r : Option (Bor Text × Bor ArgMatches)) → option_map (λ p. p.0.now) r ≡ subcommand_name_of m → r ≡ None
+    → subcommand_rows_of m ≡ None
+unnamed_rows m r named none =
+    let nothing : subcommand_name_of m ≡ None = rw none at (sym named) in
+    no_pair (subcommand_rows_of m) (sym (name_of_rows m) ∙ nothing)
 
 first_same : {A B : Type 0} (a c : A) (b d : B) → ◌≡◌ {A = Option (A × B)} (Some (a, b)) (Some (c, d)) → (a ≡ c) × (b ≡ d)
 first_same {A} {B} a c b d same =
@@ -111,23 +111,33 @@ asked words Help given = inr given
 asked words Version given = absurd given.2
 
 -- the task that an entered command asks for with the arguments that were found
-pub named_task : (words : List Text) (name : Text) (found : List Row) (o : Option Task) (task : Task) → fault_of dcc_command words ≡ []
-    → subcommand_of dcc_command words ≡ Some (name, found) → IsTaskOf name found o → o ≡ Some task → Asks words task
-named_task words name found o task accepted named given is =
-    let of : IsTaskOf name found (Some task) = subst (λ (t : Option Task). IsTaskOf name found t) is given in
-    asked words task (found, record { accepted = accepted; named = named ∙ ap (λ (t : Text). Some (t, found)) of.0 }, of.1)
+pub task_of_rows : (rows : Option (Text × List Row)) (name : Text) (found : List Row) (o : Option Task) → rows ≡ Some (name, found) → IsTaskOf name found o
+    → IfSome o (λ task. (f : List Row) × (rows ≡ Some (name_of task, f)) × AsksWith f task)
+task_of_rows rows name found None entered given = tt
+task_of_rows rows name found (Some task) entered given = (found, entered ∙ ap (λ (t : Text). Some (t, found)) given.0, given.1)
 
--- or it asks for nothing
-pub no_task : (words : List Text) (name : Text) (found : List Row) (o : Option Task) → fault_of dcc_command words ≡ []
-    → subcommand_of dcc_command words ≡ Some (name, found) → IsTaskOf name found o → o ≡ None → IsNoUse words
-no_task words name found o accepted named given is =
+-- or that it asks for nothing
+pub no_task_of_rows : (rows : Option (Text × List Row)) (name : Text) (found : List Row) (o : Option Task) → rows ≡ Some (name, found) → IsTaskOf name found o
+    → o ≡ None → (task : Task) (f : List Row) → rows ≡ Some (name_of task, f) → AsksWith f task → ⊥
+no_task_of_rows rows name found o entered given is task f asked with_them =
     let none : IsTaskOf name found None = subst (λ (t : Option Task). IsTaskOf name found t) is given in
-    inr (
-      accepted,
-      λ task asks. (
-          let same = first_same _ _ _ _ (sym named ∙ asks.1.named) in
-          none task same.0 (subst (λ (rows : List Row). AsksWith rows task) (sym same.1) asks.2)),
-    )
+    let same = first_same _ _ _ _ (sym entered ∙ asked) in
+    none task same.0 (subst (λ (all : List Row). AsksWith all task) (sym same.1) with_them)
+
+-- what the words ask for if they have no fault
+pub task_asked : (words : List Text) (app : App) (m : ArgMatches) (task : Task) → app ≡ dcc_command → (is_simple_and_free app ≡ true → fault_of app words ≡ [])
+    → (is_simple app ≡ true → (rows_of (found_of m) ≡ matches_of app words) × (subcommand_rows_of m ≡ subcommand_of app words))
+    → ((f : List Row) × (subcommand_rows_of m ≡ Some (name_of task, f)) × AsksWith f task) → Asks words task
+task_asked words app m task is free matches it =
+    asked words task (it.0, record { accepted = accepted_words words app is free; named = sym (entered_rows words app m is matches) ∙ it.1 }, it.2)
+
+pub nothing_asked : (words : List Text) (app : App) (m : ArgMatches) → app ≡ dcc_command → (is_simple_and_free app ≡ true → fault_of app words ≡ [])
+    → (is_simple app ≡ true → (rows_of (found_of m) ≡ matches_of app words) × (subcommand_rows_of m ≡ subcommand_of app words))
+    → ((task : Task) (f : List Row) → subcommand_rows_of m ≡ Some (name_of task, f) → AsksWith f task → ⊥) → IsNoUse words
+nothing_asked words app m is free matches none = inr (
+  accepted_words words app is free,
+  λ task asks. none task asks.0 (entered_rows words app m is matches ∙ asks.1.named) asks.2,
+)
 
 -- texts whose first octets differ are not the same
 apart : (a b : Text) → nat_eq (slice_index a 0) (slice_index b 0) ≡ false → a ≡ b → ⊥

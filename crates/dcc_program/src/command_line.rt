@@ -1,8 +1,8 @@
 //! The task or the server that a command line asks for.
 
-ghost use Rattle.std.specs.Prelude.{◌≡◌, ◌⊎◌, codes, None, IfErr, IfOk, IfSome, map, option_map, string_bytes};
-ghost use Rattle.clap.specs.Words.{app_of, first_of, found_of, rows_of, with_rule};
-ghost use Rattle.dcc_program.specs.CommandLines.{dcc_command, topup_command, store_command, listening_command, serve_command, argument, flag, option, wish_of, Asks, IsTaskOf, IsTaskFailure};
+ghost use Rattle.std.specs.Prelude.{◌≡◌, ◌⊎◌, codes, None, Some, true, IfErr, IfOk, IfSome, map, option_map, string_bytes, List};
+ghost use Rattle.clap.specs.Words.{App, Row, app_of, first_of, found_of, rows_of, subcommand_rows_of, with_rule, with_subcommand};
+ghost use Rattle.dcc_program.specs.CommandLines.{dcc_command, replay_command, topup_command, store_command, listening_command, serve_command, argument, flag, option, name_of, wish_of, Asks, AsksWith, IsTaskOf, IsTaskFailure};
 ghost use Rattle.dcc_program.specs.CommandLines.{IsPlace, IsAsk, sub_in, number_in, moment_in};
 ghost use Rattle.dcc_program.specs.declared.failure.Failure.TheVariants.{Memory, Usage};
 
@@ -86,13 +86,23 @@ pub fn task_of<'a>(alloc: Global, words: &'a [String]) -> Result<Task<'a>, Failu
         Ok(matches) => matches,
         Err(error) => return wish_of(error.kind()),
     };
-    let Some((name, found)) = matches.subcommand() else {
-        return Err(Failure::Usage);
-    };
-    match task_named(name, found) {
+    let task = task_in(&matches);
+    // By a call: words that are let go in place are proved part by part.
+    drop(matches);
+    match task {
         Some(task) => Ok(task),
         None => Err(Failure::Usage),
     }
+}
+
+/// The task that the words ask for, as they were read.
+fn task_in<'a>(matches: &ArgMatches<'a>) -> Option<Task<'a>>
+    ensures some { IfSome result (λ task. (found : List Row) × (subcommand_rows_of matches.now ≡ Some (name_of task, found)) × AsksWith found task) }
+    ensures none { result ≡ None → (task : Task) (found : List Row) → subcommand_rows_of matches.now ≡ Some (name_of task, found)
+        → AsksWith found task → ⊥ }
+{
+    let (name, found) = matches.subcommand()?;
+    task_named(name, found)
 }
 
 /// The server that the words of a command line ask for. None if they ask for something else, which [`task_of`] judges.
@@ -106,6 +116,14 @@ pub fn serve_of<'a>(alloc: Global, words: &'a [String]) -> Result<Option<ServeAs
             };
         }
     };
+    let ask = serve_ask_in(&matches);
+    // By a call: words that are let go in place are proved part by part.
+    drop(matches);
+    ask
+}
+
+/// The server that the words ask for, as they were read.
+fn serve_ask_in<'a>(matches: &ArgMatches<'a>) -> Result<Option<ServeAsk<'a>>, Failure> {
     match matches.subcommand() {
         Some(("serve", found)) => match serve_ask_of(found) {
             Some(ask) => Ok(Some(ask)),
@@ -283,22 +301,41 @@ fn wish_of<'a>(kind: ErrorKind) -> Result<Task<'a>, Failure>
 fn command<'a>(alloc: Global) -> Result<Command<'a>, AllocError>
     ensures { IfOk result (λ command. app_of command ≡ dcc_command) }
 {
-    let replay = with_argument(alloc, Command::new(alloc, "replay"), "PLAN")?;
-    let topup = topup_command(alloc)?;
-    let ledger = store_command(alloc, "ledger")?;
-    let serve = serve_command(alloc)?;
-    let decode = Command::new(alloc, "decode");
-    let help = Command::new(alloc, "help");
-    Command::new(alloc, "dcc")
+    let program = Command::new(alloc, "dcc")
         .version(VERSION)
         .subcommand_required(true)
-        .disable_help_subcommand(true)
-        .subcommand(replay)?
-        .subcommand(topup)?
-        .subcommand(ledger)?
-        .subcommand(serve)?
-        .subcommand(decode)?
-        .subcommand(help)
+        .disable_help_subcommand(true);
+    let with_replay = with_command(program, replay_command(alloc))?;
+    let with_topup = with_command(with_replay, topup_command(alloc))?;
+    let with_ledger = with_command(with_topup, store_command(alloc, "ledger"))?;
+    let with_serve = with_command(with_ledger, serve_command(alloc))?;
+    let with_decode = with_command(with_serve, Ok(Command::new(alloc, "decode")))?;
+    with_command(with_decode, Ok(Command::new(alloc, "help")))
+}
+
+/// The program with one more command, if that could be made.
+fn with_command<'a>(
+    program: Command<'a>,
+    made: Result<Command<'a>, AllocError>,
+) -> Result<Command<'a>, AllocError>
+    ensures { IfOk result (λ given. (app : App) → IfOk made.entry (λ command. app_of command ≡ app) → app.top.is_plain ≡ true
+        → app_of given ≡ with_subcommand (app_of program.entry) app.top) }
+{
+    match made {
+        Ok(command) => program.subcommand(command),
+        Err(error) => {
+            // By a call: a command that is let go in place is proved part by part.
+            drop(program);
+            Err(error)
+        }
+    }
+}
+
+/// The command of a replay.
+fn replay_command<'a>(alloc: Global) -> Result<Command<'a>, AllocError>
+    ensures { IfOk result (λ command. app_of command ≡ replay_command) }
+{
+    with_argument(alloc, Command::new(alloc, "replay"), "PLAN")
 }
 
 /// The command of a server, with its options.
