@@ -1,7 +1,8 @@
 //! `dcc topup` and `dcc ledger`, over the reader of the plan, the stores of a folder and a writer.
 
-ghost use Rattle.std.specs.Prelude.{◌≡◌, ◌≢◌, ◌⊎◌, IfErr, OnOk};
+ghost use Rattle.std.specs.Prelude.{◌≡◌, ◌≢◌, ◌⊎◌, ℕ, List, Option, IfErr, OnOk};
 ghost use Rattle.std.specs.Io.KnownBytes.{Keeps};
+ghost use Rattle.dcc_program.specs.Plans.{IsPlanOf};
 ghost use Rattle.dcc_program.specs.Stores.{IsTopUp, IsTopUpBegun, IsLedger, IsLedgerBegun, IsStoreFailure};
 ghost use Rattle.dcc_program.specs.declared.failure.Failure.TheVariants.{Io};
 
@@ -10,6 +11,7 @@ use crate::plan_file::plan_from;
 use dcc_act::Sub;
 use dcc_operator::{Stores, TopUpAsk, ledger_in, top_up_in};
 use dcc_replay::identity_of;
+use dcc_tariff::Plan;
 use std::alloc::Global;
 use std::hash::RandomState;
 use std::io::{Read, Write};
@@ -35,11 +37,37 @@ pub fn top_up<P: Read, S: Stores, W: Write>(
         ⊎ IsTopUpBegun (P.remaining file.old) ask (W.contents output.old) (W.contents output.new)) }
 {
     let plan = plan_from(alloc, file)?;
-    let identity = identity_of(alloc, &plan)?;
-    match top_up_in(alloc, stores, folder, &plan, &identity, ask, output, hasher) {
-        Ok(_shard) => Ok(()),
+    let done = top_up_under(alloc, stores, folder, &plan, ask, output, hasher);
+    // By a call: a plan that is let go in place is proved part by part.
+    drop(plan);
+    done
+}
+
+/// Makes a top-up under a plan, whichever file gave the plan.
+fn top_up_under<S: Stores, W: Write>(
+    alloc: Global,
+    stores: &S,
+    folder: &str,
+    plan: &Plan,
+    ask: TopUpAsk,
+    output: &mut W,
+    hasher: RandomState,
+) -> Result<(), Failure>
+    ensures whole { (file : Option (List ℕ)) → IsPlanOf file plan.now → OnOk result (IsTopUp (S.opens stores.now folder.now) S.Records.may_leave file ask
+        (W.contents output.old) (W.contents output.new)) }
+    ensures failure { (file : Option (List ℕ)) → IsPlanOf file plan.now → IfErr result (IsStoreFailure file) }
+    ensures silent { IfErr result (λ failure. failure ≢ Io → Keeps (W.contents output.old) (W.contents output.new)) }
+    ensures part { (file : Option (List ℕ)) → IsPlanOf file plan.now → IfErr result (λ failure. failure ≡ Io → Keeps (W.contents output.old) (W.contents output.new)
+        ⊎ IsTopUpBegun file ask (W.contents output.old) (W.contents output.new)) }
+{
+    let identity = identity_of(alloc, plan)?;
+    match top_up_in(alloc, stores, folder, plan, &identity, ask, output, hasher) {
+        Ok(shard) => {
+            // By a call: a shard that is let go in place is proved part by part.
+            drop(shard);
+            Ok(())
+        }
         Err((fault, records)) => {
-            // By a call: records that are let go in place are proved part by part.
             drop(records);
             Err(Failure::from(fault))
         }
@@ -67,7 +95,34 @@ pub fn ledger<P: Read, S: Stores, W: Write>(
         ⊎ IsLedgerBegun (P.remaining file.old) sub (W.contents output.old) (W.contents output.new)) }
 {
     let plan = plan_from(alloc, file)?;
-    let identity = identity_of(alloc, &plan)?;
-    let _shard = ledger_in(alloc, stores, folder, &plan, &identity, sub, output, hasher)?;
-    Ok(())
+    let done = ledger_under(alloc, stores, folder, &plan, sub, output, hasher);
+    drop(plan);
+    done
+}
+
+/// Writes the ledger of a subscriber under a plan, whichever file gave the plan.
+fn ledger_under<S: Stores, W: Write>(
+    alloc: Global,
+    stores: &S,
+    folder: &str,
+    plan: &Plan,
+    sub: Sub,
+    output: &mut W,
+    hasher: RandomState,
+) -> Result<(), Failure>
+    ensures whole { (file : Option (List ℕ)) → IsPlanOf file plan.now → OnOk result (IsLedger (S.opens stores.now folder.now) S.Records.may_leave file sub
+        (W.contents output.old) (W.contents output.new)) }
+    ensures failure { (file : Option (List ℕ)) → IsPlanOf file plan.now → IfErr result (IsStoreFailure file) }
+    ensures silent { IfErr result (λ failure. failure ≢ Io → Keeps (W.contents output.old) (W.contents output.new)) }
+    ensures part { (file : Option (List ℕ)) → IsPlanOf file plan.now → IfErr result (λ failure. failure ≡ Io → Keeps (W.contents output.old) (W.contents output.new)
+        ⊎ IsLedgerBegun file sub (W.contents output.old) (W.contents output.new)) }
+{
+    let identity = identity_of(alloc, plan)?;
+    match ledger_in(alloc, stores, folder, plan, &identity, sub, output, hasher) {
+        Ok(shard) => {
+            drop(shard);
+            Ok(())
+        }
+        Err(fault) => Err(Failure::from(fault)),
+    }
 }

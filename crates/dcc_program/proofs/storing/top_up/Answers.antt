@@ -1,28 +1,10 @@
-use Rattle.std.proofs.Common.{◌≡◌, ◌∙◌, inr, false, sym}
-use Rattle.dcc_records.specs.Stops.{LeavesOnly}
-use Rattle.dcc_shard.specs.Shards.{held}
-use Rattle.dcc_operator.specs.Commands.{IsToppedUpBegun}
-use Rattle.dcc_program.proofs.StoreLemmas.{of_output, stood}
 use Rattle.dcc_program.proofs.storing.top_up.Goals as goal
 
-pub returns-in-Ok-clause-whole : goal.returns-in-Ok-clause-whole
-returns-in-Ok-clause-whole g c =
-    let it = c.in-Ok.ensures in
-    record {
-      plan = c.in_ok-plan.plan;
-      given = c.in_ok-plan.ensures.plan;
-      before = it.opened.0;
-      opened = it.opened.2;
-      after = c.in-Ok._shard.shard;
-      judged = it.opened.1;
-      step = it.opened.3;
-      told = rw (← c.in_ok-identity.ensures) it.done;
-    }
+pub returns-clause-whole : goal.returns-clause-whole
+returns-clause-whole g c = c.top_up_under-done.ensures.whole _ c.in_ok-plan.ensures.plan
+
+pub returns-clause-failure : goal.returns-clause-failure
+returns-clause-failure g c = c.top_up_under-done.ensures.failure _ c.in_ok-plan.ensures.plan
 
 pub returns-clause-part : goal.returns-clause-part
-returns-clause-part g c io =
-    let it = stood c.in-Err.records
-    (λ after. IsToppedUpBegun c.in_ok-plan.plan c.in_ok-identity.identity c.args.ask after (g.W.Write.contents c.args.output.now) (g.W.Write.contents c.top_up_in.new.output))
-    (λ after given. g.S.Records.Records.is_stopped given ≡ false → LeavesOnly after.terms (held after) (g.S.Records.Records.may_leave given))
-    (c.in-Err.ensures.stands (of_output c.in-Err.fault (sym c.from.ensures ∙ io))) in
-    inr (c.in_ok-plan.plan, c.in_ok-plan.ensures.plan, it.0, rw (← c.in_ok-identity.ensures) it.1)
+returns-clause-part g c = c.top_up_under-done.ensures.part _ c.in_ok-plan.ensures.plan
