@@ -54,7 +54,10 @@ pub fn serve<
     let hasher = RandomState::new(rt)?;
     let mut file = fs::open(rt, ask.place.plan)?;
     let plan = plan_from(alloc, &mut file)?;
-    serve_under(rt, stores, &plan, hasher, ask, output)
+    let served = serve_under(rt, stores, &plan, hasher, ask, output);
+    // By a call: a plan that is let go in place is proved part by part.
+    drop(plan);
+    served
 }
 
 /// Serves under a plan.
@@ -83,13 +86,13 @@ fn serve_under<
         (S.opens stores.now ask.now.place.folder.now) S.Records.is_stopped S.Records.may_leave ask.now.rounds (W.contents output.old) (W.contents output.new)) }
 {
     let alloc = rt.alloc();
+    let stop = stop_path(alloc, ask)?;
     let identity = identity_of(alloc, plan)?;
     let opened = shards_over(alloc, stores, ask.place.folder, plan, &identity, hasher);
     let shards = match opened {
         Ok(shards) => shards,
         Err(refusal) => return Err(Failure::from(OperatorFault::from(refusal))),
     };
-    let stop = stop_path(alloc, ask)?;
     let closing = Closing::new();
     let staying = ask.sweep.map(|sweep| Staying {
         closing: &closing,
@@ -156,9 +159,27 @@ fn open_door<'r, N: Net<Listener = TcpListener, Stream = TcpStream>, W: Write>(
         Ok(door) => door,
         Err(error) => return Err(Failure::from(error)),
     };
+    match tell_door(alloc, &door, output) {
+        Ok(()) => Ok(door),
+        Err(failure) => {
+            // By a call: a door that is let go in place is proved part by part.
+            drop(door);
+            Err(failure)
+        }
+    }
+}
+
+/// Writes the address at which a door listens.
+fn tell_door<N: Net<Listener = TcpListener, Stream = TcpStream>, W: Write>(
+    alloc: Global,
+    door: &Door<'_, N>,
+    output: &mut W,
+) -> Result<(), Failure>
+    ensures whole { OnOk result ((address : SocketAddr) × Appends (W.contents output.old) (W.contents output.new) (listening_line address)) }
+    ensures part { IfErr result (IsTellingBegun (W.contents output.old) (W.contents output.new)) }
+{
     let found = door.address()?;
-    tell_address(alloc, found, output)?;
-    Ok(door)
+    tell_address(alloc, found, output)
 }
 
 /// Writes the address at which the server listens.
