@@ -340,24 +340,30 @@ fn put_three<W: Wait>(rt: &W, alloc: Global, sender: &mut Sender<Item>) {
     sender.put(rt, Item::End);
 }
 
-#[test]
-fn what_the_lane_has_goes_out_in_one_call(rt: HostRuntime) -> Result<(), Fail> {
-    let alloc = rt.alloc();
-    let (mut sender, mut receiver) = lane(alloc)?;
-    put_three(&rt, alloc, &mut sender);
+/// Three answers that were all written, and then an end.
+const ALL: WriteEnd = WriteEnd {
+    fault: None,
+    answers: 3,
+    ended: 1,
+};
+
+/// Writes what a lane has of three items, and asserts that it goes out in one call.
+fn check_one_call<W: Wait + Abort + AllocGlobal>(rt: &W, receiver: &mut Receiver<Item>) {
     let mut output = Sink {
-        taken: Vec::new(alloc),
+        taken: Vec::new(rt.alloc()),
         most: 200,
         calls: 0,
     };
-    let end = write_side(&rt, alloc, &mut output, &mut receiver, ENOUGH);
-    let all = WriteEnd {
-        fault: None,
-        answers: 3,
-        ended: 1,
-    };
-    assert_eq!(&rt; end, all);
-    assert_eq!(&rt; output.calls, 1);
-    assert_eq!(&rt; output.taken.len(), 3 * MESSAGES.len());
+    let end = write_side(rt, rt.alloc(), &mut output, receiver, ENOUGH);
+    assert_eq!(rt; end, ALL);
+    assert_eq!(rt; output.calls, 1);
+    assert_eq!(rt; output.taken.len(), 3 * MESSAGES.len());
+}
+
+#[test]
+fn what_the_lane_has_goes_out_in_one_call(rt: HostRuntime) -> Result<(), Fail> {
+    let (mut sender, mut receiver) = lane(rt.alloc())?;
+    put_three(&rt, rt.alloc(), &mut sender);
+    check_one_call(&rt, &mut receiver);
     Ok(())
 }

@@ -68,6 +68,17 @@ fn is_success(outcome: &Outcome) -> bool {
     matches!(outcome, Outcome::Answered(answer) if answer.result == ResultCode::Success)
 }
 
+/// Whether the last of these acts succeeds by the plain program.
+fn last_succeeds(alloc: Global, acts: &[Act]) -> Result<bool, Fail> {
+    if acts.is_empty() {
+        return Err("no acts".into());
+    }
+    let outcome = plain_answer(alloc, &TERMS, acts, acts.len())?;
+    let succeeds = is_success(&outcome);
+    drop(outcome);
+    Ok(succeeds)
+}
+
 /// Asserts that the last of these acts succeeds, and which entries all of them leave.
 fn check(
     rt: &impl Abort,
@@ -76,10 +87,7 @@ fn check(
     acts: &[Act],
     wanted: &[Posted],
 ) -> Result<(), Fail> {
-    if acts.is_empty() {
-        return Err("no acts".into());
-    }
-    assert!(rt; is_success(&plain_answer(alloc, &TERMS, acts, acts.len())?));
+    assert!(rt; last_succeeds(alloc, acts)?);
     let mut posted = Vec::new(alloc);
     judge_all(alloc, made, &mut posted, acts)?;
     assert_eq!(rt; posted.as_slice(), wanted);
@@ -98,26 +106,28 @@ fn check_alone(
     check(rt, alloc, &mut made, &acts, wanted)
 }
 
-/// An overrun at a termination; and two services in one request, of which one reports.
+/// An overrun at a termination.
+const OVERRUN: &[Ask] = &[
+    Ask::TopUp(500),
+    Ask::Initial(&[(10, 0, 100_000)]),
+    Ask::Termination(&[(10, 100_500, 0)]),
+];
+
+const OF_OVERRUN: &[Posted] = &[(1, 0, 0, 500), (3, 10, 100_500, -505)];
+
+/// Two services in one request, of which one reports.
+const TWO: &[Ask] = &[
+    Ask::TopUp(100),
+    Ask::Initial(&[(10, 0, 15_000), (20, 0, 900)]),
+    Ask::Update(&[(20, 700, 0), (10, 0, 10_000)]),
+];
+
+const OF_TWO: &[Posted] = &[(1, 0, 0, 100), (3, 20, 700, -24)];
+
 #[test]
 fn entries(rt: HostRuntime) -> Result<(), Fail> {
-    let overrun = [
-        Ask::TopUp(500),
-        Ask::Initial(&[(10, 0, 100_000)]),
-        Ask::Termination(&[(10, 100_500, 0)]),
-    ];
-    check_alone(
-        &rt,
-        rt.alloc(),
-        &overrun,
-        &[(1, 0, 0, 500), (3, 10, 100_500, -505)],
-    )?;
-    let two = [
-        Ask::TopUp(100),
-        Ask::Initial(&[(10, 0, 15_000), (20, 0, 900)]),
-        Ask::Update(&[(20, 700, 0), (10, 0, 10_000)]),
-    ];
-    check_alone(&rt, rt.alloc(), &two, &[(1, 0, 0, 100), (3, 20, 700, -24)])
+    check_alone(&rt, rt.alloc(), OVERRUN, OF_OVERRUN)?;
+    check_alone(&rt, rt.alloc(), TWO, OF_TWO)
 }
 
 /// Whether a request is of an unknown user, an expiry ends none, or another act is done.
@@ -131,7 +141,26 @@ fn is_told(outcome: &Outcome, ask: Ask) -> bool {
     }
 }
 
-/// Judges an act in short, and asserts its outcome; one that is made is put behind the others.
+/// Judges an act, and asserts its outcome; one that is made is put behind the others.
+fn judge_act(
+    rt: &impl Abort,
+    alloc: Global,
+    made: &mut Vec<Done>,
+    posted: &mut Vec<Posted>,
+    act: &Act,
+    (place, ask): (u32, Ask),
+) -> Result<(), Fail> {
+    let outcome = judged(alloc, made, posted, act)?;
+    assert!(rt; is_told(&outcome, ask), "act {place}");
+    if matches!(ask, Ask::TopUp(_) | Ask::Debit) {
+        push(made, act, outcome)
+    } else {
+        drop(outcome);
+        Ok(())
+    }
+}
+
+/// The same of an act in short.
 fn judge_one(
     rt: &impl Abort,
     alloc: Global,
@@ -140,28 +169,41 @@ fn judge_one(
     (place, ask): (u32, Ask),
 ) -> Result<(), Fail> {
     let act = act(alloc, place, ask)?;
-    let outcome = judged(alloc, made, posted, &act)?;
-    assert!(rt; is_told(&outcome, ask), "act {place}");
-    if matches!(ask, Ask::TopUp(_) | Ask::Debit) {
-        push(made, &act, outcome)?;
+    let judged = judge_act(rt, alloc, made, posted, &act, (place, ask));
+    drop(act);
+    judged
+}
+
+/// The same of each of these.
+fn judge_each(
+    rt: &impl Abort,
+    alloc: Global,
+    made: &mut Vec<Done>,
+    posted: &mut Vec<Posted>,
+    asks: &[(u32, Ask)],
+) -> Result<(), Fail> {
+    for ask in asks {
+        judge_one(rt, alloc, made, posted, *ask)?;
     }
     Ok(())
 }
 
 /// A request before the first top-up, an expiry of no session, and a direct debit.
+const OTHERS: &[(u32, Ask)] = &[
+    (1, Ask::Initial(&[])),
+    (2, Ask::TopUp(100)),
+    (3, Ask::Expiry),
+    (4, Ask::Debit),
+];
+
+const OF_OTHERS: &[Posted] = &[(1, 0, 0, 100), (2, 0, 1001, -10)];
+
 #[test]
 fn others(rt: HostRuntime) -> Result<(), Fail> {
-    let asks = [
-        (1, Ask::Initial(&[])),
-        (2, Ask::TopUp(100)),
-        (3, Ask::Expiry),
-        (4, Ask::Debit),
-    ];
     let (mut made, mut posted) = (Vec::new(rt.alloc()), Vec::new(rt.alloc()));
-    for ask in asks {
-        judge_one(&rt, rt.alloc(), &mut made, &mut posted, ask)?;
-    }
-    let wanted: &[Posted] = &[(1, 0, 0, 100), (2, 0, 1001, -10)];
-    assert_eq!(&rt; posted.as_slice(), wanted);
+    let judged = judge_each(&rt, rt.alloc(), &mut made, &mut posted, OTHERS);
+    drop(made);
+    judged?;
+    assert_eq!(&rt; posted.as_slice(), OF_OTHERS);
     Ok(())
 }

@@ -2,6 +2,7 @@
 
 use dcc_streams::{ReadFault, WriteFault, read_all, write_all};
 use std::io::{self, Error, ErrorKind, Read, Write};
+use std::process::Abort;
 use std::test::Fail;
 
 const TEXT: &[u8] = b"a text";
@@ -76,27 +77,31 @@ impl Write for Narrow {
     }
 }
 
+/// Asserts what is read of a reader that fails so at its end, if it does.
+fn check_read(
+    rt: &(impl Abort + AllocGlobal),
+    failure: Option<ErrorKind>,
+    fault: Option<ReadFault>,
+) {
+    let mut input = Slow {
+        rest: TEXT,
+        interrupts: false,
+        failure,
+    };
+    match read_all(rt.alloc(), &mut input, 100) {
+        Ok(text) => {
+            assert!(rt; fault.is_none());
+            assert_eq!(rt; text.as_slice(), TEXT);
+        }
+        Err(told) => assert_eq!(rt; Some(told), fault),
+    }
+}
+
 #[test]
 fn reads_however_a_text_comes(rt: HostRuntime) -> Result<(), Fail> {
-    let alloc = rt.alloc();
-    for (failure, fault) in [
-        (None, None),
-        (Some(ErrorKind::ConnectionReset), Some(ReadFault::Io)),
-        (Some(ErrorKind::OutOfMemory), Some(ReadFault::Memory)),
-    ] {
-        let mut input = Slow {
-            rest: TEXT,
-            interrupts: false,
-            failure,
-        };
-        match read_all(alloc, &mut input, 100) {
-            Ok(text) => {
-                assert!(&rt; fault.is_none());
-                assert_eq!(&rt; text.as_slice(), TEXT);
-            }
-            Err(told) => assert_eq!(&rt; Some(told), fault),
-        }
-    }
+    check_read(&rt, None, None);
+    check_read(&rt, Some(ErrorKind::ConnectionReset), Some(ReadFault::Io));
+    check_read(&rt, Some(ErrorKind::OutOfMemory), Some(ReadFault::Memory));
     Ok(())
 }
 
@@ -110,28 +115,46 @@ fn gives_up_on_a_reader_that_does_not_end(rt: HostRuntime) -> Result<(), Fail> {
     Ok(())
 }
 
+/// What a text comes to where there is room for so many octets.
+fn expected(sends: bool, room: usize) -> Result<(), WriteFault> {
+    if sends && room == TEXT.len() {
+        Ok(())
+    } else {
+        Err(WriteFault { written: room })
+    }
+}
+
+/// Asserts what is written, and what is told of it, where there is room for so many octets.
+fn check_write(rt: &(impl Abort + AllocGlobal), refuses: bool, sends: bool, room: usize) {
+    let mut output = Narrow {
+        taken: Vec::new(rt.alloc()),
+        room,
+        refuses,
+        sends,
+        interrupts: false,
+    };
+    let told = write_all(&mut output, TEXT);
+    assert_eq!(rt; told, expected(sends, room), "room for {room}");
+    assert_eq!(rt;
+        Some(output.taken.as_slice()),
+        TEXT.get(..room),
+        "room for {room}"
+    );
+}
+
+/// The same for each room.
+fn check_each_room(rt: &(impl Abort + AllocGlobal), refuses: bool, sends: bool) {
+    for room in 0..=TEXT.len() {
+        check_write(rt, refuses, sends, room);
+    }
+}
+
+/// A writer that fails, one that takes no octet any more, and one that fails to send on what it took.
 #[test]
 fn writes_whole_or_tells_how_much(rt: HostRuntime) -> Result<(), Fail> {
-    let alloc = rt.alloc();
-    // A writer that fails, one that takes no octet any more, and one that fails to send on what it took.
-    for (refuses, sends) in [(true, true), (false, true), (true, false)] {
-        for room in 0..=TEXT.len() {
-            let mut output = Narrow {
-                taken: Vec::new(alloc),
-                room,
-                refuses,
-                sends,
-                interrupts: false,
-            };
-            let expected = if sends && room == TEXT.len() {
-                Ok(())
-            } else {
-                Err(WriteFault { written: room })
-            };
-            assert_eq!(&rt; write_all(&mut output, TEXT), expected, "room for {room}");
-            assert_eq!(&rt; output.taken.as_slice(), &TEXT[..room], "room for {room}");
-        }
-    }
+    check_each_room(&rt, true, true);
+    check_each_room(&rt, false, true);
+    check_each_room(&rt, true, false);
     Ok(())
 }
 
