@@ -2,11 +2,12 @@
 
 use dcc_act::Sub;
 use dcc_callers::{Caller, DEBITS, in_memory, locked_alone, one};
-use dcc_records::Records;
+use dcc_records::{MemoryRecords, Records};
 use dcc_running::{Books, Seat, Shards};
 use dcc_shard::{Shard, TopUpAnswer};
 use std::alloc::Global;
 use std::process::Abort;
+use std::random::RandomSource;
 use std::sync::Wait;
 use std::test::Fail;
 use std::thread::{Threads, join};
@@ -25,8 +26,13 @@ const ADDED: TopUpAnswer = TopUpAnswer::Done {
 /// Two gateways of the subscriber.
 fn gateways<R: Records>(alloc: Global, shards: &Shards<R>) -> Result<(Caller, Caller), Fail> {
     let first = Caller::new(alloc, shards, NUMBER, b"gw1.example;1;1")?;
-    let second = Caller::new(alloc, shards, NUMBER, b"gw2.example;1;1")?;
-    Ok((first, second))
+    match Caller::new(alloc, shards, NUMBER, b"gw2.example;1;1") {
+        Ok(second) => Ok((first, second)),
+        Err(fail) => {
+            drop(first);
+            Err(fail)
+        }
+    }
 }
 
 /// Makes the debits of a gateway, and repeats some: how many repeats get their first answer.
@@ -65,10 +71,18 @@ fn seats<R: Records>(
     first: &mut Caller,
     second: &mut Caller,
 ) -> Result<Vec<Seat>, Fail> {
-    let mut seats = Vec::new(alloc);
-    seats.push(first.stand_up(alloc, shards)?)?;
-    seats.push(second.stand_up(alloc, shards)?)?;
-    Ok(seats)
+    let mut seats = Vec::with_capacity(alloc, 2)?;
+    seats.push_reserved(first.stand_up(alloc, shards)?);
+    match second.stand_up(alloc, shards) {
+        Ok(seat) => {
+            seats.push_reserved(seat);
+            Ok(seats)
+        }
+        Err(fail) => {
+            drop(seats);
+            Err(fail)
+        }
+    }
 }
 
 /// How many receipts of these seats are fresh, and how many are not.
@@ -94,7 +108,10 @@ fn sums<R: Records>(books: &Books<R>, sub: Sub) -> Option<(usize, i128)> {
 
 /// The one shard of these books.
 fn shard_of<R: Records + Drop>(books: Books<R>) -> Result<Shard<R>, Fail> {
-    Ok(books.into_shards().pop().ok_or("a shard")?)
+    let mut shards = books.into_shards();
+    let last = shards.pop();
+    drop(shards);
+    Ok(last.ok_or("a shard")?)
 }
 
 /// The shard whose books agree with the receipts of these seats: a top-up of 1,000,000 and 180 debits of 5.
@@ -109,7 +126,10 @@ fn closed_with<S: Abort + AllocGlobal, R: Records + Drop>(
             assert_eq!(rt; sums(&books, sub), Some((181, 999_100)));
             shard_of(books)
         }
-        Err(_) => Err("receipts disagree".into()),
+        Err(unclosed) => {
+            drop(unclosed);
+            Err("receipts disagree".into())
+        }
     }
 }
 
@@ -144,14 +164,42 @@ fn repeat_both<W: Wait + Abort + AllocGlobal, R: Records>(
     assert_eq!(rt; second.repeat(rt, rt.alloc(), shards, DEBITS), DEBITS);
 }
 
+/// The debits of both at once, and their requests again, at the shard that those leave.
+fn debit_and_ask_again<W: Wait + Threads + Abort + Sync + RandomSource + AllocGlobal>(
+    rt: &W,
+    shards: Shards<MemoryRecords>,
+    first: &mut Caller,
+    second: &mut Caller,
+) -> Result<(), Fail> {
+    debit_at_once(rt, &shards, first, second);
+    let shard = closed(rt, shards, first, second, (181, 20))?;
+    let shards = locked_alone(rt, shard)?;
+    repeat_both(rt, &shards, first, second);
+    drop(closed(rt, shards, first, second, (0, 180))?);
+    Ok(())
+}
+
+/// The same of these gateways.
+fn debit_by<W: Wait + Threads + Abort + Sync + RandomSource + AllocGlobal>(
+    rt: &W,
+    shards: Shards<MemoryRecords>,
+    (first, second): (Caller, Caller),
+) -> Result<(), Fail> {
+    let (mut first, mut second) = (first, second);
+    let debited = debit_and_ask_again(rt, shards, &mut first, &mut second);
+    drop(first);
+    drop(second);
+    debited
+}
+
 #[test]
 fn two_gateways_at_once(rt: HostRuntime) -> Result<(), Fail> {
     let shards = one(&rt, in_memory(&rt)?)?;
-    let (mut first, mut second) = gateways(rt.alloc(), &shards)?;
-    debit_at_once(&rt, &shards, &mut first, &mut second);
-    let shard = closed(&rt, shards, &mut first, &mut second, (181, 20))?;
-    let shards = locked_alone(&rt, shard)?;
-    repeat_both(&rt, &shards, &mut first, &mut second);
-    drop(closed(&rt, shards, &mut first, &mut second, (0, 180))?);
-    Ok(())
+    match gateways(rt.alloc(), &shards) {
+        Ok(both) => debit_by(&rt, shards, both),
+        Err(fail) => {
+            drop(shards);
+            Err(fail)
+        }
+    }
 }

@@ -6,7 +6,7 @@ use dcc_act::MAX_AMOUNT;
 use dcc_callers::{Caller, in_memory, one};
 use dcc_receipts::{Receipt, check_receipts};
 use dcc_records::{MemoryRecords, Records};
-use dcc_running::{Seat, Shards};
+use dcc_running::{Books, Seat, Shards, Unclosed};
 use dcc_shard::{ExpiryAnswer, TopUpAnswer};
 use std::alloc::Global;
 use std::process::Abort;
@@ -21,16 +21,30 @@ fn caller<R: Records>(alloc: Global, shards: &Shards<R>) -> Result<Caller, Fail>
 
 /// A seat alone.
 fn alone(alloc: Global, seat: Seat) -> Result<Vec<Seat>, Fail> {
-    let mut seats = Vec::new(alloc);
-    seats.push(seat)?;
-    Ok(seats)
+    match Vec::with_capacity(alloc, 1) {
+        Ok(mut seats) => {
+            seats.push_reserved(seat);
+            Ok(seats)
+        }
+        Err(error) => {
+            drop(seat);
+            Err(error.into())
+        }
+    }
 }
 
 /// The fault's number, 0 for none of these.
 fn close<R: Records + Drop>(alloc: Global, shards: Shards<R>, seats: Vec<Seat>) -> u8 {
     match shards.close(alloc, seats) {
-        Ok(_) => 0,
-        Err(unclosed) => unclosed.fault.number().unwrap_or(1),
+        Ok(books) => {
+            drop(books);
+            0
+        }
+        Err(unclosed) => {
+            let number = unclosed.fault.number().unwrap_or(1);
+            drop(unclosed);
+            number
+        }
     }
 }
 
@@ -78,10 +92,10 @@ fn end_session<W: Wait + Abort + AllocGlobal, R: Records>(
         sessions: 1,
         place: 3,
     };
-    for (seconds, wanted) in [(1199, ExpiryAnswer::Nothing), (1200, closed)] {
-        let ended = caller.expire(rt, rt.alloc(), shards, seconds);
-        assert_eq!(rt; ended, Some(wanted));
-    }
+    let ended = caller.expire(rt, rt.alloc(), shards, 1199);
+    assert_eq!(rt; ended, Some(ExpiryAnswer::Nothing));
+    let ended = caller.expire(rt, rt.alloc(), shards, 1200);
+    assert_eq!(rt; ended, Some(closed));
 }
 
 /// The number of the fault that receipts have beside no acts, 0 for none.
@@ -111,8 +125,21 @@ fn make_each<W: Wait + Abort + AllocGlobal, R: Records>(
     end_session(rt, shards, caller);
     assert_eq!(rt; count(rt, rt.alloc(), shards)?, 1);
     assert_eq!(rt; caller.seat.receipts().len(), 4);
-    assert_eq!(rt; (check(&[]), check(caller.seat.receipts())), (0, 60));
+    assert_eq!(rt; check(&[]), 0);
+    assert_eq!(rt; check(caller.seat.receipts()), 60);
     Ok(())
+}
+
+/// The seat at which this caller makes each call.
+fn seat_of_each_by<W: Wait + Abort + AllocGlobal, R: Records>(
+    rt: &W,
+    shards: &Shards<R>,
+    caller: &mut Caller,
+) -> Result<Seat, Fail>
+    requires { 0 < shards.now.count }
+{
+    make_each(rt, shards, caller)?;
+    caller.stand_up(rt.alloc(), shards)
 }
 
 /// The seat at which each call was made.
@@ -123,8 +150,9 @@ fn seat_of_each<W: Wait + Abort + AllocGlobal, R: Records>(
     requires { 0 < shards.now.count }
 {
     let mut caller = caller(rt.alloc(), shards)?;
-    make_each(rt, shards, &mut caller)?;
-    caller.stand_up(rt.alloc(), shards)
+    let seat = seat_of_each_by(rt, shards, &mut caller);
+    drop(caller);
+    seat
 }
 
 /// A seat of some shards, at which money was topped up in others.
@@ -161,15 +189,26 @@ fn ask_others<S: Wait + Abort + RandomSource + AllocGlobal>(
     Ok(())
 }
 
+/// This caller's seat, whose last receipt is of an act before one that was reported as unknown.
+fn seat_out_of_order_by<W: Wait + Abort + AllocGlobal + RandomSource, R: Records>(
+    rt: &W,
+    shards: &Shards<R>,
+    caller: &mut Caller,
+) -> Result<Seat, Fail> {
+    top_up_each(rt, shards, caller, THREE_TOP_UPS);
+    ask_others(rt, caller)?;
+    caller.stand_up(rt.alloc(), shards)
+}
+
 /// A seat whose last receipt is of an act before one that was reported as unknown.
 fn seat_out_of_order<W: Wait + Abort + AllocGlobal + RandomSource, R: Records>(
     rt: &W,
     shards: &Shards<R>,
 ) -> Result<Seat, Fail> {
     let mut caller = caller(rt.alloc(), shards)?;
-    top_up_each(rt, shards, &mut caller, THREE_TOP_UPS);
-    ask_others(rt, &mut caller)?;
-    caller.stand_up(rt.alloc(), shards)
+    let seat = seat_out_of_order_by(rt, shards, &mut caller);
+    drop(caller);
+    seat
 }
 
 /// What was done at the seat with which shards are closed.
@@ -198,15 +237,26 @@ fn seats_of<W: Wait + Abort + AllocGlobal + RandomSource>(
     alone(rt.alloc(), seat)
 }
 
-/// The outcome of a close without any seat, and of a close with these seats over what the first left.
-fn close_twice<R: Records + Drop>(alloc: Global, shards: Shards<R>, seats: Vec<Seat>) -> (u8, u8) {
+/// The fault's number of a close without any seat, 0 for none of these, and the books that it leaves.
+fn close_without<R: Records + Drop>(alloc: Global, shards: Shards<R>) -> (u8, Books<R>) {
     match shards.close(alloc, Vec::new(alloc)) {
-        Ok(books) => (0, close(alloc, books.into_locks(), seats)),
+        Ok(books) => (0, books),
         Err(unclosed) => {
-            let number = unclosed.fault.number().unwrap_or(1);
-            (number, close(alloc, unclosed.books.into_locks(), seats))
+            let Unclosed {
+                fault,
+                books,
+                seats,
+            } = unclosed;
+            drop(seats);
+            (fault.number().unwrap_or(1), books)
         }
     }
+}
+
+/// The outcome of a close without any seat, and of a close with these seats over what the first left.
+fn close_twice<R: Records + Drop>(alloc: Global, shards: Shards<R>, seats: Vec<Seat>) -> (u8, u8) {
+    let (number, books) = close_without(alloc, shards);
+    (number, close(alloc, books.into_locks(), seats))
 }
 
 /// The same if there are seats.

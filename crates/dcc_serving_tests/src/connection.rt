@@ -67,6 +67,7 @@ impl<R: Records> Node<'_, R> {
     /// The answer of the shard.
     fn ask(&mut self, asked: Asked) -> Reply {
         if matches!(asked.act.kind, Kind::TopUp(_) | Kind::Expiry) {
+            drop(asked);
             return staying(self.alloc, RequestAnswer::Silent);
         }
         let Asked {

@@ -49,8 +49,13 @@ fn shards_over<S: RandomSource + AllocGlobal, R: Records + Drop>(
     ensures { IfOk result (λ shards. shards.shard.terms ≡ terms.now) }
 {
     let shards = pair(rt, first, second)?;
-    let identity = identity_of(&shards)?;
-    as_one(terms, identity, shards)
+    match identity_of(&shards) {
+        Ok(identity) => as_one(terms, identity, shards),
+        Err(fail) => {
+            drop(shards);
+            Err(fail)
+        }
+    }
 }
 
 /// Who the first shard answers for.
@@ -68,6 +73,8 @@ fn as_one<R: Records + Drop>(
 {
     let count = shards.len();
     if count < 1 || count > 8 || !are_shards(terms, &identity, &shards) {
+        drop(shards);
+        drop(identity);
         return Err("shards".into());
     }
     Ok(Shards::new(terms, identity, shards))
@@ -87,10 +94,13 @@ fn reopened(
     engine: Engine<OnceRecords>,
 ) -> Result<Engine<MemoryRecords>, Fail> {
     let mut shards = engine.into_shards().into_vec();
-    let second = healed(&mut shards).ok_or("a shard")?;
-    match healed(&mut shards) {
-        Some(first) => engine_over(rt, first, second),
-        None => {
+    let second = healed(&mut shards);
+    let first = healed(&mut shards);
+    drop(shards);
+    match (first, second) {
+        (Some(first), Some(second)) => engine_over(rt, first, second),
+        (first, second) => {
+            drop(first);
             drop(second);
             Err("a shard".into())
         }
@@ -173,21 +183,36 @@ fn opening(alloc: Global, sub: Sub) -> Result<Vec<u8>, Fail> {
 /// How many seconds after the first messages the sweep comes: no session is held so long.
 const DAY: u32 = 86_400;
 
+/// Money and a session of a subscriber.
+fn put_opening(alloc: Global, events: &mut Vec<Event>, sub: Sub) -> Result<(), Fail> {
+    events.push(top_up(sub)?)?;
+    events.push(message(0, opening(alloc, sub)?)?)?;
+    Ok(())
+}
+
+/// A debit behind the sweep.
+fn put_debit(alloc: Global, events: &mut Vec<Event>, sub: Sub) -> Result<(), Fail> {
+    events.push(message(DAY, debit(alloc, sub)?)?)?;
+    Ok(())
+}
+
+/// The sweep.
+fn put_sweep(events: &mut Vec<Event>) -> Result<(), Fail> {
+    let moment = after(DAY).ok_or("a moment")?;
+    events.push(Event::Sweep { moment })?;
+    Ok(())
+}
+
 /// Money and a session of both, the sweep, the first one's debit twice, and the other's.
 fn put_events(alloc: Global, events: &mut Vec<Event>) -> Result<(), Fail> {
     let [first, other] = subscribers()?;
     events.push(connect(alloc)?)?;
-    for sub in [first, other] {
-        events.push(top_up(sub)?)?;
-        events.push(message(0, opening(alloc, sub)?)?)?;
-    }
-    events.push(Event::Sweep {
-        moment: after(DAY).ok_or("a moment")?,
-    })?;
-    for sub in [first, first, other] {
-        events.push(message(DAY, debit(alloc, sub)?)?)?;
-    }
-    Ok(())
+    put_opening(alloc, events, first)?;
+    put_opening(alloc, events, other)?;
+    put_sweep(events)?;
+    put_debit(alloc, events, first)?;
+    put_debit(alloc, events, first)?;
+    put_debit(alloc, events, other)
 }
 
 /// Asserts that these outs end with that of a sweep which was refused for this subscriber alone, two busy answers, and an answer to a debit.
@@ -216,33 +241,65 @@ fn acts_of<R: Records>(engine: &Engine<R>, sub: Sub) -> usize {
     }
 }
 
-/// Runs all, and asserts what is reported, and that nothing is held of the first subscriber from the sweep on.
+/// Runs all that is put behind these events, and asserts what is reported, and that nothing is held of the first subscriber from the sweep on.
+fn run_all<R: Records>(
+    rt: &(impl Abort + AllocGlobal),
+    engine: &mut Engine<R>,
+    events: &mut Vec<Event>,
+) -> Result<(), Fail> {
+    let [first, other] = subscribers()?;
+    put_events(rt.alloc(), events)?;
+    let outs = engine.run(rt.alloc(), events)?;
+    let told = assert_told(rt, &outs, first);
+    drop(outs);
+    told?;
+    assert_eq!(rt; acts_of(engine, first), 2);
+    assert_eq!(rt; acts_of(engine, other), 4);
+    Ok(())
+}
+
+/// The same with no events before.
 fn run_until_stopped<R: Records>(
     rt: &(impl Abort + AllocGlobal),
     engine: &mut Engine<R>,
 ) -> Result<(), Fail> {
-    let [first, other] = subscribers()?;
     let mut events = Vec::new(rt.alloc());
-    put_events(rt.alloc(), &mut events)?;
-    let outs = engine.run(rt.alloc(), &events)?;
-    assert_told(rt, &outs, first)?;
-    assert_eq!(rt; (acts_of(engine, first), acts_of(engine, other)), (2, 4));
+    let ran = run_all(rt, engine, &mut events);
+    drop(events);
+    ran
+}
+
+/// Asserts that the last of these outs answers the debit.
+fn assert_debited(rt: &(impl Abort + AllocGlobal), outs: &[Out]) -> Result<(), Fail> {
+    assert_octets(rt, outs.last().ok_or("an out")?, ANSWER)
+}
+
+/// Asks for the first subscriber's debit behind these events, and asserts that it is made.
+fn run_debit<R: Records>(
+    rt: &(impl Abort + AllocGlobal),
+    engine: &mut Engine<R>,
+    events: &mut Vec<Event>,
+) -> Result<(), Fail> {
+    let [first, _] = subscribers()?;
+    events.push(connect(rt.alloc())?)?;
+    put_debit(rt.alloc(), events, first)?;
+    let outs = engine.run(rt.alloc(), events)?;
+    let told = assert_debited(rt, &outs);
+    drop(outs);
+    told?;
+    assert_eq!(rt; acts_of(engine, first), 3);
     Ok(())
 }
 
-/// Asks for the first subscriber's debit again, and asserts that it is made.
+/// The same with no events before.
 fn run_again<R: Records>(
     rt: &(impl Abort + AllocGlobal),
     engine: &mut Engine<R>,
 ) -> Result<(), Fail> {
-    let [first, _] = subscribers()?;
     let mut events = Vec::new(rt.alloc());
-    events.push(connect(rt.alloc())?)?;
-    events.push(message(DAY, debit(rt.alloc(), first)?)?)?;
-    let outs = engine.run(rt.alloc(), &events)?;
-    assert_octets(rt, outs.last().ok_or("an out")?, ANSWER)?;
-    assert_eq!(rt; acts_of(engine, first), 3);
-    Ok(())
+    let ran = run_debit(rt, engine, &mut events);
+    drop(events);
+    ran
 }
 
 /// The engine over what is found after a restart.
@@ -250,8 +307,13 @@ fn run_and_reopen(
     rt: &(impl Abort + RandomSource + AllocGlobal),
 ) -> Result<Engine<MemoryRecords>, Fail> {
     let mut engine = failing_engine(rt)?;
-    run_until_stopped(rt, &mut engine)?;
-    reopened(rt, engine)
+    match run_until_stopped(rt, &mut engine) {
+        Ok(()) => reopened(rt, engine),
+        Err(fail) => {
+            drop(engine);
+            Err(fail)
+        }
+    }
 }
 
 /// The expiry of the first shard's subscriber isn't appended: it alone is refused, the other shard's session ends, and from there on the first
@@ -259,5 +321,7 @@ fn run_and_reopen(
 #[test]
 fn an_engine_outlives_an_append_that_fails(rt: HostRuntime) -> Result<(), Fail> {
     let mut again = run_and_reopen(&rt)?;
-    run_again(&rt, &mut again)
+    let ran = run_again(&rt, &mut again);
+    drop(again);
+    ran
 }

@@ -71,9 +71,18 @@ fn call_both<W: Wait + Threads + Abort + Sync + AllocGlobal>(
 ) -> Result<(), Fail> {
     let alloc = rt.alloc();
     let mut held = Caller::new(alloc, shards, b"491700000001", b"gw1.example;1;1")?;
-    let mut beside = Caller::new(alloc, shards, b"491700000002", b"gw2.example;1;1")?;
-    call_at_once(rt, shards, shut, &mut held, &mut beside);
-    Ok(())
+    match Caller::new(alloc, shards, b"491700000002", b"gw2.example;1;1") {
+        Ok(mut beside) => {
+            call_at_once(rt, shards, shut, &mut held, &mut beside);
+            drop(beside);
+            drop(held);
+            Ok(())
+        }
+        Err(fail) => {
+            drop(held);
+            Err(fail)
+        }
+    }
 }
 
 /// Two shards, each behind its gate.

@@ -38,16 +38,21 @@ fn put_debit(alloc: Global, acts: &mut Vec<Act>, name: &[u8], number: u32) -> Re
 /// A copy of a receipt whose call had no proxies.
 fn copied(alloc: Global, receipt: &Receipt) -> Option<Receipt> {
     let answer = copied_answer(&receipt.answer)?;
-    let act = receipt.act.copy().ok()?;
-    Some(Receipt {
-        sub: receipt.sub,
-        place: receipt.place,
-        act,
-        header: receipt.header,
-        proxies: Proxies::none(alloc),
-        answer,
-        fresh: receipt.fresh,
-    })
+    match receipt.act.copy() {
+        Ok(act) => Some(Receipt {
+            sub: receipt.sub,
+            place: receipt.place,
+            act,
+            header: receipt.header,
+            proxies: Proxies::none(alloc),
+            answer,
+            fresh: receipt.fresh,
+        }),
+        Err(_) => {
+            drop(answer);
+            None
+        }
+    }
 }
 
 fn copied_answer(told: &Told) -> Option<Told> {
@@ -79,6 +84,18 @@ fn check_each(rt: &impl Abort, acts: &[Act], receipts: &mut [Receipt]) {
     assert_eq!(rt; check(acts, receipts), 62);
 }
 
+/// The same of copies of these, which are put behind none.
+fn copy_and_check(
+    rt: &(impl Abort + AllocGlobal),
+    acts: &[Act],
+    receipts: &[Receipt],
+    copies: &mut Vec<Receipt>,
+) -> Result<(), Fail> {
+    copy_each(rt.alloc(), receipts, copies)?;
+    check_each(rt, acts, copies);
+    Ok(())
+}
+
 /// The same of copies of these.
 fn check_copies(
     rt: &(impl Abort + AllocGlobal),
@@ -86,9 +103,9 @@ fn check_copies(
     receipts: &[Receipt],
 ) -> Result<(), Fail> {
     let mut copies = Vec::new(rt.alloc());
-    copy_each(rt.alloc(), receipts, &mut copies)?;
-    check_each(rt, acts, &mut copies);
-    Ok(())
+    let checked = copy_and_check(rt, acts, receipts, &mut copies);
+    drop(copies);
+    checked
 }
 
 /// Tops up and makes two debits at the caller's seat.
@@ -123,14 +140,27 @@ fn debit_and_check<W: Wait + Abort + AllocGlobal, R: Records>(
 ) -> Result<(), Fail> {
     let mut caller = Caller::new(rt.alloc(), shards, b"491700000001", b"gw1.example;1;1")?;
     debit_twice(rt, shards, &mut caller);
-    check_receipts_of(rt, caller.seat.receipts())
+    let checked = check_receipts_of(rt, caller.seat.receipts());
+    drop(caller);
+    checked
+}
+
+/// Checks the receipts of a top-up and two debits, whose acts are put behind none.
+fn put_and_check(
+    rt: &(impl Abort + AllocGlobal),
+    acts: &mut Vec<Act>,
+    receipts: &[Receipt],
+) -> Result<(), Fail> {
+    put_acts(rt.alloc(), acts)?;
+    check_copies(rt, acts, receipts)
 }
 
 /// Checks the receipts of a top-up and two debits.
 fn check_receipts_of(rt: &(impl Abort + AllocGlobal), receipts: &[Receipt]) -> Result<(), Fail> {
     let mut acts = Vec::new(rt.alloc());
-    put_acts(rt.alloc(), &mut acts)?;
-    check_copies(rt, &acts, receipts)
+    let checked = put_and_check(rt, &mut acts, receipts);
+    drop(acts);
+    checked
 }
 
 #[test]

@@ -76,15 +76,30 @@ fn serve<W: Threads + Wait + Sync, R: Records + Send + Sync + Drop>(
     Some(served)
 }
 
+/// The subscriber of the first shard.
+const FIRST: &[&[u8]] = &[b"491700000001"];
+
+/// The subscriber of the second.
+const SECOND: &[&[u8]] = &[b"491700000002"];
+
 /// Shards of one subscriber each, the first one's appends behind a gate that may be shut.
 fn gated<'a, S: RandomSource + AllocGlobal>(
     rt: &S,
     first: &'a Gate,
     open: &'a Gate,
 ) -> Result<Vec<Shard<GateRecords<'a>>>, Fail> {
-    let first = GateRecords::new(topped_up(rt, &[b"491700000001"])?, first);
-    let second = GateRecords::new(topped_up(rt, &[b"491700000002"])?, open);
-    pair(rt, first, second)
+    let held = topped_up(rt, FIRST)?;
+    match topped_up(rt, SECOND) {
+        Ok(other) => pair(
+            rt,
+            GateRecords::new(held, first),
+            GateRecords::new(other, open),
+        ),
+        Err(fail) => {
+            drop(held);
+            Err(fail)
+        }
+    }
 }
 
 /// Serves rounds over such shards, of which the first waits at the stage's gate, and writes their lines. It returns whether all were served.

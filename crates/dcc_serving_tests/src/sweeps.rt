@@ -21,35 +21,76 @@ const OTHER: &[Change] = &[(SESSION, b'2')];
 /// The octets that cost all of 1,000 minor units.
 const ALL: u64 = 200_000;
 
-/// A gateway that opens a session, and sends a watchdog once that is answered.
-fn one_session(alloc: Global) -> Result<Talk, Fail> {
+/// Opens a session.
+fn send_opening(alloc: Global, talk: &mut Talk) -> Result<(), Fail> {
     let (message, answer) = (opening(alloc, OTHER)?, opened(alloc, OTHER)?);
-    let mut talk = Talk::new(alloc)?;
-    talk.send(&message, &answer)?;
+    talk.send(&message, &answer)
+}
+
+/// Sends a watchdog once the others are answered.
+fn send_watchdog(alloc: Global, talk: &mut Talk) -> Result<(), Fail> {
     let message = decoded(alloc, &[WATCHDOG])?;
     let answer = decoded(alloc, &[WATCHDOG_ANSWER])?;
-    talk.send_then(&message, &answer)?;
-    Ok(talk)
+    talk.send_then(&message, &answer)
+}
+
+/// Opens a session, and sends a watchdog once that is answered.
+fn talk_of_a_session(alloc: Global, talk: &mut Talk) -> Result<(), Fail> {
+    send_opening(alloc, talk)?;
+    send_watchdog(alloc, talk)
+}
+
+/// A gateway that does so.
+fn one_session(alloc: Global) -> Result<Talk, Fail> {
+    let mut talk = Talk::new(alloc)?;
+    match talk_of_a_session(alloc, &mut talk) {
+        Ok(()) => Ok(talk),
+        Err(fail) => {
+            drop(talk);
+            Err(fail)
+        }
+    }
+}
+
+/// Debits all of the money.
+fn send_debit(alloc: Global, talk: &mut Talk) -> Result<(), Fail> {
+    let (message, answer) = (debit(alloc, ALL, &[])?, debited(alloc, ALL, &[])?);
+    talk.send_then(&message, &answer)
 }
 
 /// A gateway that debits all of the money, of which nothing may be reserved.
 fn debit_of_all(alloc: Global) -> Result<Talk, Fail> {
-    let (message, answer) = (debit(alloc, ALL, &[])?, debited(alloc, ALL, &[])?);
     let mut talk = Talk::new(alloc)?;
-    talk.send_then(&message, &answer)?;
-    Ok(talk)
+    match send_debit(alloc, &mut talk) {
+        Ok(()) => Ok(talk),
+        Err(fail) => {
+            drop(talk);
+            Err(fail)
+        }
+    }
 }
 
-/// One after the other, with no append held.
-fn stage(alloc: Global) -> Result<Stage, Fail> {
-    let (first, second) = (one_session(alloc)?, debit_of_all(alloc)?);
+/// Two gateways, one after the other, with no append held.
+fn stage_of(first: Talk, second: Talk) -> Stage {
     let gate = Gate::new();
     gate.open();
-    Ok(Stage {
+    Stage {
         first,
         second,
         gate,
-    })
+    }
+}
+
+/// The gateway of the session, and then that of the debit.
+fn stage(alloc: Global) -> Result<Stage, Fail> {
+    let first = one_session(alloc)?;
+    match debit_of_all(alloc) {
+        Ok(second) => Ok(stage_of(first, second)),
+        Err(fail) => {
+            drop(first);
+            Err(fail)
+        }
+    }
 }
 
 /// Serves two rounds of one gateway each, with a sweep behind each message: two of the first come at first, and the others 1,200 seconds later.

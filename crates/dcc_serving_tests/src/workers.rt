@@ -19,24 +19,46 @@ const OTHER: &[Change] = &[(SESSION, b'2'), (DEBIT_SUBSCRIBER, b'2')];
 
 const OTHER_ANSWER: &[Change] = &[(SESSION, b'2')];
 
+/// Sends a debit behind the exchange of capabilities.
+fn send_debit(
+    alloc: Global,
+    talk: &mut Talk,
+    asked: &[Change],
+    answered: &[Change],
+) -> Result<(), Fail> {
+    let (message, answer) = (debit(alloc, 1001, asked)?, debited(alloc, 1001, answered)?);
+    talk.send_then(&message, &answer)
+}
+
 /// A gateway that exchanges capabilities, and then sends a debit.
 fn talk(alloc: Global, asked: &[Change], answered: &[Change]) -> Result<Talk, Fail> {
-    let (message, answer) = (debit(alloc, 1001, asked)?, debited(alloc, 1001, answered)?);
     let mut talk = Talk::new(alloc)?;
-    talk.send_then(&message, &answer)?;
-    Ok(talk)
+    match send_debit(alloc, &mut talk, asked, answered) {
+        Ok(()) => Ok(talk),
+        Err(fail) => {
+            drop(talk);
+            Err(fail)
+        }
+    }
 }
 
 /// Two gateways: the debit of the one is held at the gate, and the other's comes behind that and opens the gate once it is answered.
 fn stage(alloc: Global) -> Result<Stage, Fail> {
     let first = talk(alloc, &[], &[])?;
-    let mut second = talk(alloc, OTHER, OTHER_ANSWER)?;
-    second.wait_for_the_gate();
-    Ok(Stage {
-        first,
-        second,
-        gate: Gate::new(),
-    })
+    match talk(alloc, OTHER, OTHER_ANSWER) {
+        Ok(mut second) => {
+            second.wait_for_the_gate();
+            Ok(Stage {
+                first,
+                second,
+                gate: Gate::new(),
+            })
+        }
+        Err(fail) => {
+            drop(first);
+            Err(fail)
+        }
+    }
 }
 
 /// Serves one round of two gateways.
