@@ -4,9 +4,9 @@
 %%
 %%     erl -s relay main -extra PORT COUNTS HOST REALM [FIRST SERVER AT]..
 %%
-%% It listens on PORT. FIRST is the first number of a range, in rising order, all of one length. SERVER is the Origin-Host of its server, which listens
-%% on the port AT. A line of COUNTS has three numbers of each server: the requests that were sent to it, its answers, and the answers 3002 in its
-%% place.
+%% It listens on PORT. FIRST is the first number of a range, in rising order, all of one length. SERVER is the Origin-Host of its server, which
+%% listens on the port AT. A line of COUNTS has three numbers of each server: the requests that were sent to it, its answers, and the answers 3002 in
+%% its place.
 -module(relay).
 
 -export([main/0]).

@@ -7,8 +7,8 @@ A gateway reads lines of words, parted by single blanks, and asks each line as o
 
 It asks the lines of a lane in their order, each behind the answer to the one before, and all lanes at once. SUB is the E.164 number of the
 subscriber, TYPE the CC-Request-Type, ACTION the Requested-Action, PROXY the Proxy-State of a Proxy-Info; a word that doesn't apply is a hyphen. A
-request that names nobody has a hyphen as SUB. A service is GROUP:ASKED:USED. Without a group it stands at the message's level. An amount is o1000, t60
-or u5 (octets, seconds, units); e is a Requested-Service-Unit without one. For each answer the gateway writes
+request that names nobody has a hyphen as SUB. A service is GROUP:ASKED:USED. Without a group it stands at the message's level. An amount is o1000,
+t60 or u5 (octets, seconds, units); e is a Requested-Service-Unit without one. For each answer the gateway writes
 
     LINE SESSION TYPE NUMBER RESULT PROXY TOLD SERVICE..
 
