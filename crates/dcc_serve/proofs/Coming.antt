@@ -1,5 +1,5 @@
 -- What a reader put comes of the messages that it read, and what a worker put of what it took.
-use Rattle.std.proofs.Common.{◌≡◌, ℕ, zero, suc, ◌⊎◌, inl, inr, Bool, true, false, if◌then◌else◌, List, [], ◌∷◌, ◌++◌, length, Option, Some, None, refl, sym, ap, subst, append-nil, ◌==◌}
+use Rattle.std.proofs.Common.{◌≡◌, ℕ, zero, suc, ◌⊎◌, inl, inr, Bool, true, false, if◌then◌else◌, List, [], ◌∷◌, ◌++◌, length, Option, Some, None, refl, sym, ap, subst, append-nil, ◌==◌, ◌∙◌}
 use Rattle.std.proofs.lemmas.Fn.{chained_keeps}
 use Rattle.std.specs.List.{FoldsTo}
 use Rattle.dcc_base.specs.declared.peer.Peer.{Peer}
@@ -27,13 +27,14 @@ use Rattle.dcc_running.specs.declared.job.Job.{Job}
 use Rattle.dcc_serve.specs.Answering.{IsAnswerOf}
 use Rattle.dcc_serve.specs.Handing.{AsksSweep, Ends, HandsUnder, IsDispatched, IsSettledBy, job_of, Passes, Reading, is_due, reading_of, replies}
 use Rattle.dcc_serve.specs.Lanes.{put_all, put_into}
-use Rattle.dcc_serve.specs.Working.{Does, Doing, octets_in, put_answer}
+use Rattle.dcc_serve.specs.Working.{DoesCounted, DoesItem, Doing, octets_in, put_answer, works_in}
 use Rattle.dcc_serve.specs.declared.reader.Reader.{Reader}
 use Rattle.dcc_serve.specs.declared.work.Request.{Request}
 use Rattle.dcc_serve.specs.declared.work.Work.{Work}
 use Rattle.dcc_serve.specs.declared.work.Work.TheVariants as work
 use Rattle.dcc_shard.specs.Routes.{shard_of}
 use Rattle.dcc_shard.specs.declared.answers.RequestAnswer.{RequestAnswer}
+use Rattle.dcc_serve.proofs.Doings.{works_both}
 
 -- it stands in one of these lists
 abbrev pub IsAmong : {X : Type 0} → X → List (List X) → Type 0
@@ -223,13 +224,13 @@ answer_on : (octets : List ℕ) (gate : ℕ) (o : Option (List ℕ)) (put : List
 answer_on octets gate None put i = inl i
 answer_on octets gate (Some told) put i = elim (among_into (Octets octets) (Octets told) gate put i) [ inl j ↦ inl j | inr e ↦ (let is : told ≡ octets = cc in inr (ap (λ x. Some x) is)) ]
 
-does_on : (works : List Work) (q : Doing) (one : Work) (v : Doing) → Answered works q → Does q one v → Answered (works ++ one ∷ []) v
+does_on : (works : List Work) (q : Doing) (one : Work) (v : Doing) → Answered works q → DoesItem q one v → Answered (works ++ one ∷ []) v
 unfolding Answered
 does_on works q (work.Request request) v was h octets i =
-    let answer = h.0 in
-    elim (answer_on octets request.gate (octets_in answer) q.put (subst (IsAmong (Octets octets)) h.4 i)) [
+    let answer = h.0.0 in
+    elim (answer_on octets request.gate (octets_in answer) q.put (subst (IsAmong (Octets octets)) h.0.4 i)) [
       | inl j ↦ (let t = was octets j in (t.0, in_left (work.Request t.0) works (work.Request request ∷ []) t.1, t.2))
-      | inr e ↦ (request, in_right (work.Request request) works (work.Request request ∷ []) (inl refl), (answer, h.1, e))
+      | inr e ↦ (request, in_right (work.Request request) works (work.Request request ∷ []) (inl refl), (answer, h.0.1, e))
     ]
 does_on works q (work.Sweep moment) v was h octets i =
     let t = was octets (subst (IsAmong (Octets octets)) h.1 i) in
@@ -242,5 +243,13 @@ does_on works q work.Over v was h octets i =
     let t = was octets (subst (IsAmong (Octets octets)) h.1 i) in
     (t.0, in_left (work.Request t.0) works (work.Over ∷ []) t.1, t.2)
 
-pub done_answers : (works : List Work) (p q : Doing) → Answered [] p → FoldsTo Does p works q → Answered works q
-done_answers works p q was all = chained_keeps Does (λ (xs : List Work) (d : Doing). Answered xs d) does_on works p q was all
+step_on : (shard : ℕ) (steps : List (Option Work)) (q : Doing) (step : Option Work) (v : Doing) → Answered (works_in steps) q → DoesCounted shard q step v
+    → Answered (works_in (steps ++ step ∷ [])) v
+unfolding Answered
+step_on shard steps q None v was h =
+    subst (λ works. Answered works v) (sym (works_both steps (None ∷ []) ∙ append-nil (works_in steps))) (λ octets i. was octets (subst (IsAmong (Octets octets)) h.0.4 i))
+step_on shard steps q (Some one) v was h = subst (λ works. Answered works v) (sym (works_both steps (Some one ∷ []))) (does_on (works_in steps) q one v was h.0)
+
+pub done_answers : (shard : ℕ) (steps : List (Option Work)) (p q : Doing) → Answered [] p → FoldsTo (DoesCounted shard) p steps q → Answered (works_in steps) q
+done_answers shard steps p q was all =
+    chained_keeps (DoesCounted shard) (λ (xs : List (Option Work)) (d : Doing). Answered (works_in xs) d) (step_on shard) steps p q was all

@@ -28,7 +28,7 @@ use Rattle.dcc_serve.specs.Rounds.{RoundsView}
 use Rattle.dcc_serve.specs.Tasks.{AllRun, Runs}
 use Rattle.dcc_serve.specs.Timing.{AsksAt, Times}
 use Rattle.dcc_serve.specs.Visiting.{IsVisit, ServesEach, Visit, with_new_peer}
-use Rattle.dcc_serve.specs.Working.{doing_of}
+use Rattle.dcc_serve.specs.Working.{counting, doing_of, works_in}
 use Rattle.dcc_serve.specs.Working as working
 use Rattle.dcc_serve.specs.declared.face.Connection.{Connection}
 use Rattle.dcc_serve.specs.declared.place.Place as places
@@ -338,8 +338,9 @@ module _ {I O C : Type 0} (remaining : I → Option (List ℕ)) (contents : O �
   worker_took (Work worker) u us octets fresh h i =
       let done = h.0 in
       let d = h.2 fresh.2 in
-      let all = done_answers d.works (doing_of worker) (doing_of done) (λ o j. absurd (none_put (Octets o) worker.writers.items fresh.1 j)) d.done in
-      let took : items_of (taken_of done.from) ≡ d.works = d.taken ∙ ap (λ ts. items_of ts ++ d.works) fresh.0 in
+      let steps = d.goes.steps in
+      let all = done_answers worker.shard steps (doing_of (counting worker) d.first) (doing_of done d.last) (λ o j. absurd (none_put (Octets o) worker.writers.items fresh.1 j)) d.goes.done in
+      let took : items_of (taken_of done.from) ≡ works_in steps = d.goes.taken ∙ ap (λ ts. items_of ts ++ works_in steps) fresh.0 in
       subst (λ (v : Task I O). Taken (v ∷ us) octets) (sym h.1)
       (elim (subst (λ (v : Task I O). SomePut (Octets octets) (lists_of (cons_option (answers_of v) []))) h.1 i) [
         | inl j ↦ (let a = all octets j in record {

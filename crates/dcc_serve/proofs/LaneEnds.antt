@@ -221,7 +221,7 @@ module _ {I O C : Type 0} (remaining : I → Option (List ℕ)) (contents : O �
   -- a thread keeps its lanes
   ends_same : (t u : Task I O) → Runs remaining contents tells closed clock setting count t u → ends_in u ≡ ends_in t
   ends_same (Work worker) u h = elim (cases_lt worker.shard count) [
-    | inl there ↦ (let d = h.2 there in ap ends_in h.1 ∙ (λ i. record { work = Some (d.same.0 i); asks = None; items = None; reply = None; answers = Some (d.lanes i) }))
+    | inl there ↦ (let d = h.2 there in ap ends_in h.1 ∙ (λ i. record { work = Some (d.goes.same.0 i); asks = None; items = None; reply = None; answers = Some (d.goes.lanes i) }))
     | inr past ↦ ap ends_in h.1 ∙ ap (λ w. ends_in {I = I} {O = O} (Work w)) (h.3 past)
   ]
   ends_same (Time timer) u h = ap ends_in h.1 ∙ (λ i. record { work = None; asks = Some (h.2.lanes i); items = None; reply = None; answers = None })

@@ -36,7 +36,8 @@ impl SweepCounter {
         }
     }
 
-    /// The subscribers of a shard that have acts, each once, in order. None if memory is short for the list.
+    /// The subscribers of a shard that have acts, each once, in order. None if memory is short for the list. The condition: of an earlier
+    /// list none is left to be asked.
     pub fn list<W: Wait, R: Records>(
         &mut self,
         rt: &W,
@@ -44,7 +45,8 @@ impl SweepCounter {
         shards: &Shards<R>,
         shard: usize,
     ) -> Option<Vec<Sub>>
-        requires { shard < shards.now.count }
+        requires shard { shard < shards.now.count }
+        requires none_left { self.old.left ≡ 0 }
         ensures listed { IfSome result (λ subs. self.new ≡ record { lists = one_more self.old.lists; shard = shard; left = length subs.items }) }
         ensures short { IfNone result (self.new ≡ record { lists = one_more self.old.lists; shard = shard; left = 0 }) }
         ensures order { IfSome result (λ subs. IsStrictlySortedBy sub_order subs.items) }
@@ -52,7 +54,6 @@ impl SweepCounter {
     {
         self.lists = self.lists.saturating_add(1);
         self.shard = shard;
-        self.left = 0;
         let Ok(subs) = shards.subs(rt, alloc, shard) else {
             return None;
         };

@@ -25,6 +25,7 @@ mod laws;
 mod line;
 mod place;
 mod reader;
+mod rest;
 mod round;
 mod rounds;
 mod run;

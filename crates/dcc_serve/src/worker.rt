@@ -1,14 +1,15 @@
 //! The worker of a shard.
 
-ghost use Rattle.std.specs.Prelude.{◌≡◌, ◌<◌, length};
-ghost use Rattle.dcc_lane.specs.Ends.{IsSameReceiver, TakesOne, senders_of};
+ghost use Rattle.std.specs.Prelude.{◌≡◌, ◌<◌, ◌≤◌, ◌+◌, drop, if◌then◌else◌, length, MatchOption, take};
+ghost use Rattle.dcc_lane.specs.Ends.{IsSameReceiver, TakesOne, senders_of, taken_of};
 ghost use Rattle.dcc_serve.specs.Counting.{acts_of};
 ghost use Rattle.dcc_serve.specs.Handing.{one_more};
 ghost use Rattle.dcc_serve.specs.Lanes.{all_put, lanes_of};
-ghost use Rattle.dcc_serve.specs.Working.{Answers, DoesOne, ExpiresEach, HasDone, Sweeps, octets_in};
+ghost use Rattle.dcc_serve.specs.Working.{Answers, AreListed, ExpiresEach, Goes, HasDone, IsCounted, left_of, octets_in};
 
 use crate::counter::SweepCounter;
 use crate::lanes::{leave_in, put_into, ring_all};
+use crate::rest::Rest;
 use crate::work::{Request, Work};
 use dcc_act::{Moment, Sub};
 use dcc_connect::Item;
@@ -24,13 +25,16 @@ use std::sync::Wait;
 /// their threads don't take the processor from it.
 const BUSY: u32 = 32;
 
+/// The most subscribers that are asked of a sweep before the lane is looked at again.
+const PIECE: usize = 16;
+
 /// A worker's ends of lanes, and its seat.
 #[derive(Drop)]
 pub(crate) struct Worker {
     /// The index of its shard.
     pub shard: usize,
     pub seat: Seat,
-    /// Counts the calls of its sweeps.
+    /// Counts the calls of its sweeps, from none on in each run.
     pub counter: SweepCounter,
     pub from: Receiver<Work>,
     /// One for each place's writer, by its index.
@@ -38,38 +42,51 @@ pub(crate) struct Worker {
 }
 
 impl Worker {
-    /// Does what its lane asks for, until none of its senders puts anything more.
+    /// Does what its lane asks for, and goes on with its sweep in between, until none of its senders puts anything more and no subscriber is left
+    /// to be asked.
     pub fn run<W: Wait, R: Records>(&mut self, rt: &W, alloc: Global, shards: &Shards<R>)
         requires { self.old.shard < shards.now.count }
         ensures { HasDone self.old self.new (senders_of self.old.from) }
     {
+        self.counter = SweepCounter::new(self.shard);
+        let mut rest = Rest::new(alloc);
         let senders = self.from.senders();
         let mut ended = 0usize;
         let mut since = 0u32;
         for _ in rt.forever() {
             wake(self.writers.as_slice(), since);
-            if ended >= senders {
+            if ended < senders {
+                if self.take_one(rt, alloc, shards, &mut rest, &mut since) {
+                    ended += 1;
+                }
+            } else if rest.count() == 0 {
                 return;
             }
-            if self.take_one(rt, alloc, shards, &mut since) {
-                ended += 1;
-            }
+            self.ask_piece(rt, alloc, shards, &mut rest);
         }
         unreachable!()
     }
 
-    /// Takes one item and does it. It returns whether the item's sender puts nothing more.
+    /// Takes one item and does it. If a subscriber is left to be asked, it waits for no item. It returns whether it took an item whose sender
+    /// puts nothing more.
     fn take_one<W: Wait, R: Records>(
         &mut self,
         rt: &W,
         alloc: Global,
         shards: &Shards<R>,
+        rest: &mut Rest,
         since: &mut u32,
     ) -> bool
-        requires { self.old.shard < shards.now.count }
-        ensures { DoesOne self.old self.new result }
+        requires shard { self.old.shard < shards.now.count }
+        requires counted { IsCounted self.old.counter rest.old }
+        ensures goes { Goes self.old self.new rest.old rest.new (if result then 1 else 0) }
+        ensures counted { IsCounted self.new.counter rest.new }
     {
-        match next(rt, &mut self.from, self.writers.as_slice(), since) {
+        let waits = rest.count() == 0;
+        let Some(work) = next(rt, &mut self.from, self.writers.as_slice(), since, waits) else {
+            return false;
+        };
+        match work {
             Work::Request(request) => {
                 answer(
                     rt,
@@ -89,6 +106,7 @@ impl Worker {
                     self.shard,
                     &mut self.seat,
                     &mut self.counter,
+                    rest,
                     moment,
                 );
                 false
@@ -99,6 +117,35 @@ impl Worker {
             }
             Work::Over => true,
         }
+    }
+
+    /// Asks the next piece of its sweep, if a subscriber is left. Before it, all that sleep are woken, since a piece takes long.
+    fn ask_piece<W: Wait, R: Records>(
+        &mut self,
+        rt: &W,
+        alloc: Global,
+        shards: &Shards<R>,
+        rest: &mut Rest,
+    )
+        requires { IsCounted self.old.counter rest.old }
+        ensures goes { Goes self.old self.new rest.old rest.new 0 }
+        ensures counted { IsCounted self.new.counter rest.new }
+    {
+        let count = rest.count().min(PIECE);
+        if count == 0 {
+            return;
+        }
+        self.from.ring();
+        ring_all(self.writers.as_slice());
+        ask_next(
+            rt,
+            alloc,
+            shards,
+            &mut self.seat,
+            &mut self.counter,
+            rest,
+            count,
+        );
     }
 
     /// How many acts its receipts are of: each act has one receipt that is fresh.
@@ -115,16 +162,18 @@ impl Worker {
     }
 }
 
-/// Takes the next item, and counts the items that were there without a wait. Before it waits, it wakes the writers that were let sleep.
-/// Before an item that is no request, it wakes all that sleep, since a sweep takes long, and an end may have to wait for room.
+/// Takes the next item, and counts the items that were there without a wait. If none is there and it doesn't wait, it returns none. Before it
+/// waits, it wakes the writers that were let sleep. Before an item that is no request, it wakes all that sleep, since a sweep takes long, and an
+/// end may have to wait for room.
 fn next<W: Wait>(
     rt: &W,
     from: &mut Receiver<Work>,
     writers: &[Sender<Item>],
     since: &mut u32,
-) -> Work
+    waits: bool,
+) -> Option<Work>
     ensures same { IsSameReceiver from.old from.new }
-    ensures taken { TakesOne from.old result from.new }
+    ensures taken { MatchOption result (taken_of from.new ≡ taken_of from.old) (λ work. TakesOne from.old work from.new) }
 {
     let work = match from.try_take(rt) {
         Some(work) => {
@@ -132,8 +181,11 @@ fn next<W: Wait>(
             work
         }
         None => {
-            ring_all(writers);
             *since = 0;
+            if !waits {
+                return None;
+            }
+            ring_all(writers);
             from.take(rt)
         }
     };
@@ -141,7 +193,7 @@ fn next<W: Wait>(
         from.ring();
         ring_all(writers);
     }
-    work
+    Some(work)
 }
 
 /// Wakes the writers for which answers were left, by how many items were there without a wait.
@@ -160,8 +212,7 @@ fn answer<W: Wait, R: Records>(
     writers: &mut Vec<Sender<Item>>,
     request: Request,
 )
-    ensures answered { Answers request (record { told = seat.old; put = all_put writers.old.items })
-        (record { told = seat.new; put = all_put writers.new.items }) }
+    ensures answered { Answers request seat.old (all_put writers.old.items) seat.new (all_put writers.new.items) }
     ensures lanes { lanes_of writers.new.items ≡ lanes_of writers.old.items }
 {
     let Request { gate, job } = request;
@@ -172,7 +223,7 @@ fn answer<W: Wait, R: Records>(
     leave_in(rt, writers, gate, Item::Octets(octets));
 }
 
-/// Ends what is due of each subscriber of the shard. Without memory for the list of subscribers nothing is ended.
+/// Asks all that an earlier sweep has left, and then lists the subscribers of the shard. Without memory for the list none is left to be asked.
 fn sweep<W: Wait, R: Records>(
     rt: &W,
     alloc: Global,
@@ -180,16 +231,60 @@ fn sweep<W: Wait, R: Records>(
     shard: usize,
     seat: &mut Seat,
     counter: &mut SweepCounter,
+    rest: &mut Rest,
     moment: Moment,
 )
-    requires { shard < shards.now.count }
-    ensures swept { Sweeps moment seat.old seat.new }
-    ensures asked { counter.new ≡ record { lists = one_more counter.old.lists; shard = shard; left = 0 } }
+    requires shard { shard < shards.now.count }
+    requires counted { IsCounted counter.old rest.old }
+    ensures asked { ExpiresEach rest.old.moment (left_of rest.old) seat.old seat.new }
+    ensures listed { AreListed (left_of rest.new) }
+    ensures moment { rest.new.moment ≡ moment }
+    ensures calls { (counter.new.lists ≡ one_more counter.old.lists) × (counter.new.shard ≡ shard) }
+    ensures counted { IsCounted counter.new rest.new }
 {
-    let Some(subs) = counter.list(rt, alloc, shards, shard) else {
-        return;
+    let left = rest.count();
+    ask_next(rt, alloc, shards, seat, counter, rest, left);
+    let subs = match counter.list(rt, alloc, shards, shard) {
+        Some(subs) => subs,
+        None => Vec::new(alloc),
     };
-    expire_each(rt, alloc, shards, seat, counter, &subs, moment);
+    *rest = Rest {
+        moment,
+        subs,
+        asked: 0,
+    };
+}
+
+/// Asks the expiry of the next subscribers of a sweep, so many as are named.
+fn ask_next<W: Wait, R: Records>(
+    rt: &W,
+    alloc: Global,
+    shards: &Shards<R>,
+    seat: &mut Seat,
+    counter: &mut SweepCounter,
+    rest: &mut Rest,
+    count: usize,
+)
+    requires few { rest.old.asked + count ≤ length rest.old.subs.items }
+    requires counted { IsCounted counter.old rest.old }
+    ensures expired { ExpiresEach rest.old.moment (take count (left_of rest.old)) seat.old seat.new }
+    ensures left { left_of rest.new ≡ drop count (left_of rest.old) }
+    ensures fewer { counter.new.left + count ≡ counter.old.left }
+    ensures moment { rest.new.moment ≡ rest.old.moment }
+    ensures calls { (counter.new.lists ≡ counter.old.lists) × (counter.new.shard ≡ counter.old.shard) }
+    ensures counted { IsCounted counter.new rest.new }
+{
+    let end = rest.asked + count;
+    expire_each(
+        rt,
+        alloc,
+        shards,
+        seat,
+        counter,
+        &rest.subs[rest.asked..end],
+        rest.moment,
+    );
+    rest.pass(alloc, count);
 }
 
 /// Ends what is due of each of these subscribers, in order; one that is refused leaves the others.
@@ -202,9 +297,10 @@ fn expire_each<W: Wait, R: Records>(
     subs: &[Sub],
     moment: Moment,
 )
-    requires { length subs.now ≡ counter.old.left }
+    requires { length subs.now ≤ counter.old.left }
     ensures expired { ExpiresEach moment subs.now seat.old seat.new }
-    ensures asked { counter.new ≡ record { lists = counter.old.lists; shard = counter.old.shard; left = 0 } }
+    ensures asked { counter.new.left + length subs.now ≡ counter.old.left }
+    ensures calls { (counter.new.lists ≡ counter.old.lists) × (counter.new.shard ≡ counter.old.shard) }
 {
     for sub in subs {
         let _answer = counter.ask(rt, alloc, shards, seat, *sub, moment);

@@ -1,23 +1,77 @@
-use Rattle.std.proofs.Common.{◌≡◌, ◌+◌, ◌∙◌, sym, ap, if◌then◌else◌, arith}
-use Rattle.dcc_serve.proofs.Doings.{done_on}
+use Rattle.std.proofs.Common.{◌≡◌, ◌≤◌, ◌+◌, ◌∙◌, refl, sym, ap, subst, length, if◌then◌else◌, arith}
+use Rattle.std.proofs.lemmas.List.{drop_all}
+use Rattle.dcc_serve.specs.Working.{Goes, counting}
+use Rattle.dcc_serve.specs.declared.counter.SweepCounter.{SweepCounter}
+use Rattle.dcc_serve.proofs.Doings.{goes_on, no_step, none_listed, same_end}
 use Rattle.dcc_serve.proofs.worker.Worker.run.Goals as goal
+use Rattle.dcc_serve.proofs.worker.Worker.run.Goals.{then-ended-senders+then-take_one, then-ended-senders+else-take_one, else-ended-senders+else-count-eq0}
 
-pub loop-preserved-then-take_one : goal.loop-preserved-then-take_one
-loop-preserved-then-take_one g c = record {
-  done = done_on c.args.self.now c.loop.self c.take_one.new.self c.loop.ended (c.loop.ended + 1) c.take_one.result c.loop.invariant.done c.take_one.ensures
-      (ap (λ ended. c.loop.ended + (if ended then 1 else 0)) (sym c.if-take_one.true));
-  few = omega arith;
-  shard = c.take_one.ensures.shard ∙ c.loop.invariant.shard;
-  all = c.loop.invariant.all;
-}
+pub loop-init : goal.loop-init
+loop-init g c =
+    let old = c.args.self.now in
+    let counter = c.new-self.ensures in
+    let rest = c.new-rest.ensures in
+    let left = ap (λ (k : SweepCounter). k.left) counter in
+    let none = ap (λ subs. length subs) rest.0 in
+    let first = rest.1 in
+    record {
+      done = (
+        c.new-rest.result,
+        none_listed c.new-rest.result rest.0,
+        no_step (counting old) (record old { counter = c.new-self.result }) c.new-rest.result
+            (ap (λ (k : SweepCounter). record old { counter = k }) counter),
+      );
+      counted = omega (arith, left, none, first);
+      few = omega arith;
+      shard = refl;
+      all = c.senders-senders.ensures;
+    }
+
+pub returns-then-count-eq0 : goal.returns-then-count-eq0
+returns-then-count-eq0 g c =
+    let h = c.loop.invariant.done in
+    let rest = c.loop.rest in
+    let all : c.loop.ended ≡ c.senders-senders.result = omega (arith, c.loop.invariant.few, c.if-ended-senders.false) in
+    record {
+      first = h.0;
+      last = rest;
+      nothing_left = (h.1, drop_all rest.asked rest.subs.items (omega (arith, c.count.ensures, c.if-count-eq0.true)));
+      goes = subst (λ k. Goes (counting c.args.self.now) c.loop.self h.0 rest k) (all ∙ c.loop.invariant.all) h.2;
+    }
 
 pub loop-preserved : goal.loop-preserved
 loop-preserved g c =
+    let old = c.args.self.now in
+    let i = c.loop.invariant in
+    let h = i.done in
+    let taken = c.if-ended-senders in
     let none : c.loop.ended ≡ c.loop.ended + 0 = omega arith in
+    let on : Goes (counting old) taken.self h.0 taken.rest taken.ended = elim taken.branch [
+      | then-ended-senders+then-take_one w ↦
+          same_end (counting old) w.take_one.new.self taken.self h.0 w.take_one.new.rest taken.rest (c.loop.ended + (if w.take_one.result then 1 else 0)) taken.ended w.self-is w.rest-is
+          (w.ended-is ∙ ap (λ ended. c.loop.ended + (if ended then 1 else 0)) (sym w.if-take_one.true))
+          (goes_on (counting old) c.loop.self w.take_one.new.self h.0 c.loop.rest w.take_one.new.rest c.loop.ended (if w.take_one.result then 1 else 0) h.2 w.take_one.ensures.goes)
+      | then-ended-senders+else-take_one w ↦
+          same_end (counting old) w.take_one.new.self taken.self h.0 w.take_one.new.rest taken.rest (c.loop.ended + (if w.take_one.result then 1 else 0)) taken.ended w.self-is w.rest-is
+          (w.ended-is ∙ none ∙ ap (λ ended. c.loop.ended + (if ended then 1 else 0)) (sym w.if-take_one.false))
+          (goes_on (counting old) c.loop.self w.take_one.new.self h.0 c.loop.rest w.take_one.new.rest c.loop.ended (if w.take_one.result then 1 else 0) h.2 w.take_one.ensures.goes)
+      | else-ended-senders+else-count-eq0 w ↦ same_end (counting old) c.loop.self taken.self h.0 c.loop.rest taken.rest c.loop.ended taken.ended w.self-is w.rest-is w.ended-is h.2
+    ] in
+    let few : taken.ended ≤ c.senders-senders.result = elim taken.branch [
+      | then-ended-senders+then-take_one w ↦ omega (arith, w.if-ended-senders.true, w.ended-is)
+      | then-ended-senders+else-take_one w ↦ omega (arith, i.few, w.ended-is)
+      | else-ended-senders+else-count-eq0 w ↦ omega (arith, i.few, w.ended-is)
+    ] in
+    let same : taken.ended ≡ taken.ended + 0 = omega arith in
     record {
-      done = done_on c.args.self.now c.loop.self c.take_one.new.self c.loop.ended c.loop.ended c.take_one.result c.loop.invariant.done c.take_one.ensures
-          (none ∙ ap (λ ended. c.loop.ended + (if ended then 1 else 0)) (sym c.if-take_one.false));
-      few = c.loop.invariant.few;
-      shard = c.take_one.ensures.shard ∙ c.loop.invariant.shard;
-      all = c.loop.invariant.all;
+      done = (
+        h.0,
+        h.1,
+        subst (λ k. Goes (counting old) c.ask_piece.new.self h.0 c.ask_piece.new.rest k) (sym same)
+            (goes_on (counting old) taken.self c.ask_piece.new.self h.0 taken.rest c.ask_piece.new.rest taken.ended 0 on c.ask_piece.ensures.goes),
+      );
+      counted = c.ask_piece.ensures.counted;
+      few = few;
+      shard = c.ask_piece.ensures.goes.shard ∙ on.shard;
+      all = i.all;
     }

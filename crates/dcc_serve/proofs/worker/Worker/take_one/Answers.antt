@@ -1,52 +1,32 @@
-use Rattle.std.proofs.Common.{refl}
+use Rattle.std.proofs.Common.{Some, refl}
 use Rattle.dcc_serve.specs.declared.work.Work.TheVariants as work
-use Rattle.dcc_serve.proofs.Doings.{taken_one}
+use Rattle.dcc_serve.proofs.Doings.{one_step, taken_one}
 use Rattle.dcc_serve.proofs.worker.Worker.take_one.Goals as goal
 
-pub returns-in-Request : goal.returns-in-Request
-returns-in-Request g c = record {
-  one = work.Request c.in-Request.request;
-  taken = taken_one c.args.self.now.from c.next.new.from (work.Request c.in-Request.request) c.in-Request.ensures.taken;
-  done = c.answer.ensures.answered;
-  counted = refl;
-  ended_is = refl;
-  same = c.in-Request.ensures.same;
-  lanes = c.answer.ensures.lanes;
-  shard = refl;
-}
+pub returns-in-Request-clause-goes : goal.returns-in-Request-clause-goes
+returns-in-Request-clause-goes g c =
+    let old = c.args.self.now in
+    let it = c.in-Some.ensures in
+    one_step old (record old { seat = c.answer.new.seat; from = c.next.new.from; writers = c.answer.new.writers }) c.args.rest.now c.args.rest.now (Some (work.Request c.in-Request.request)) 0
+    (taken_one old.from c.next.new.from c.in-Some.work (work.Request c.in-Request.request) it.taken c.in-Request.is) (c.answer.ensures.answered, (refl, refl)) (refl, refl) c.requires.counted refl it.same c.answer.ensures.lanes refl
 
-pub returns-in-Sweep : goal.returns-in-Sweep
-returns-in-Sweep g c = record {
-  one = work.Sweep c.in-Sweep.moment;
-  taken = taken_one c.args.self.now.from c.next.new.from (work.Sweep c.in-Sweep.moment) c.in-Sweep.ensures.taken;
-  done = (c.sweep.ensures.swept, refl);
-  counted = c.sweep.ensures.asked;
-  ended_is = refl;
-  same = c.in-Sweep.ensures.same;
-  lanes = refl;
-  shard = refl;
-}
+pub returns-in-Sweep-clause-goes : goal.returns-in-Sweep-clause-goes
+returns-in-Sweep-clause-goes g c =
+    let old = c.args.self.now in
+    let it = c.in-Some.ensures in
+    one_step old (record old { seat = c.sweep.new.seat; counter = c.sweep.new.counter; from = c.next.new.from }) c.args.rest.now c.sweep.new.rest (Some (work.Sweep c.in-Sweep.moment)) 0
+    (taken_one old.from c.next.new.from c.in-Some.work (work.Sweep c.in-Sweep.moment) it.taken c.in-Sweep.is) (c.sweep.ensures.asked, refl, c.sweep.ensures.moment, c.sweep.ensures.listed) c.sweep.ensures.calls c.sweep.ensures.counted refl it.same refl refl
 
-pub returns-in-End : goal.returns-in-End
-returns-in-End g c = record {
-  one = work.End c.in-End.gate;
-  taken = taken_one c.args.self.now.from c.next.new.from (work.End c.in-End.gate) c.in-End.ensures.taken;
-  done = (refl, c.put_into.ensures.put);
-  counted = refl;
-  ended_is = refl;
-  same = c.in-End.ensures.same;
-  lanes = c.put_into.ensures.lanes;
-  shard = refl;
-}
+pub returns-in-End-clause-goes : goal.returns-in-End-clause-goes
+returns-in-End-clause-goes g c =
+    let old = c.args.self.now in
+    let it = c.in-Some.ensures in
+    one_step old (record old { from = c.next.new.from; writers = c.put_into.new.lanes }) c.args.rest.now c.args.rest.now (Some (work.End c.in-End.gate)) 0
+    (taken_one old.from c.next.new.from c.in-Some.work (work.End c.in-End.gate) it.taken c.in-End.is) (refl, c.put_into.ensures.put, (refl, refl)) (refl, refl) c.requires.counted refl it.same c.put_into.ensures.lanes refl
 
-pub returns-in-Over : goal.returns-in-Over
-returns-in-Over g c = record {
-  one = work.Over;
-  taken = taken_one c.args.self.now.from c.next.new.from work.Over c.in-Over.ensures.taken;
-  done = (refl, refl);
-  counted = refl;
-  ended_is = refl;
-  same = c.in-Over.ensures.same;
-  lanes = refl;
-  shard = refl;
-}
+pub returns-in-Over-clause-goes : goal.returns-in-Over-clause-goes
+returns-in-Over-clause-goes g c =
+    let old = c.args.self.now in
+    let it = c.in-Some.ensures in
+    one_step old (record old { from = c.next.new.from }) c.args.rest.now c.args.rest.now (Some (work.Over)) 1
+    (taken_one old.from c.next.new.from c.in-Some.work (work.Over) it.taken c.in-Over.is) (refl, refl, (refl, refl)) (refl, refl) c.requires.counted refl it.same refl refl
