@@ -64,6 +64,12 @@ def equal(name, found, wanted):
     judge(name, found == wanted, f"{found!r}, and not {wanted!r}")
 
 
+def each_equal(name, found, wanted):
+    """Judges lists of answers, and shows the first that differs."""
+    at = next((it for it, (one, other) in enumerate(zip(found, wanted)) if one != other), min(len(found), len(wanted)))
+    equal(f"{name}, {at} of {len(wanted)}", found[at:at + 1], wanted[at:at + 1])
+
+
 def finish():
     """Says how much held, and ends the script."""
     print(f"{passed} passed, {failed} failed")
@@ -244,6 +250,36 @@ def folder_in(room, *amounts):
 
 def name_of(text):
     return text.encode().hex()
+
+
+def debit(name, number, sub="sub", octets=1000, more=""):
+    """A debit under a session of this name, and its answer, with further words in both. 1,000 octets cost 5 in the plan of the rows."""
+    session = name_of(name)
+    return f"ccs/{session}/4/{number}/debit+{sub}+a{octets}{more}", f"cas/{session}/2001/4/{number}/g{octets}{more}"
+
+
+def each_at_once(does, items):
+    """What comes of each item, each in a thread of its own. A thread that isn't over ends with the script."""
+    found, faults = {}, []
+
+    def doing(at):
+        try:
+            found[at] = does(items[at])
+        except Exception as fault:
+            faults.append(fault)
+
+    for thread in [started(doing, at) for at in range(len(items))]:
+        thread.join()
+    for fault in faults:
+        raise fault
+    return [found[at] for at in range(len(items))]
+
+
+def started(does, *words):
+    """A thread that does this, and doesn't outlive the script."""
+    thread = threading.Thread(target=does, args=words, daemon=True)
+    thread.start()
+    return thread
 
 
 def short_plan(room):
