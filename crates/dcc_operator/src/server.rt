@@ -66,7 +66,7 @@ pub fn shards_over<S: Stores>(
     Ok(shards)
 }
 
-/// The shard over the store of this index, which is opened, or made where there is none.
+/// Opens the store of this index, or makes the store if there is none, and returns the shard over it. The error is the store's.
 fn shard_at<S: Stores>(
     alloc: Global,
     stores: &S,
@@ -87,6 +87,7 @@ fn shard_at<S: Stores>(
 {
     let count = usize::from(plan.shards());
     let records = stores.open_or_make(folder, plan, index, hasher)?;
+    // By a match: the clauses of a shard and the clause of a refusal are proved apart.
     match shard_over(alloc, identity, records, index, count, hasher) {
         Ok(shard) => Ok(shard),
         Err(refusal) => Err(refusal),

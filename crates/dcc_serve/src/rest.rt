@@ -1,4 +1,4 @@
-//! What is left of a sweep.
+//! The rest of a sweep.
 
 ghost use Rattle.std.specs.Prelude.{◌≡◌, ◌+◌, ◌-◌, ◌≤◌, [], drop, length};
 ghost use Rattle.dcc_serve.specs.Working.{left_of};
@@ -12,12 +12,12 @@ pub(crate) struct Rest {
     pub moment: Moment,
     /// The listed subscribers.
     pub subs: Vec<Sub>,
-    /// The number of subscribers, from the first on, that were asked.
+    /// The number of subscribers at the beginning of the list that were asked.
     pub asked: usize,
 }
 
 impl Rest {
-    /// Before the first sweep: no subscriber is left. The moment says nothing.
+    /// The rest before the first sweep: no subscriber is left. The moment has no meaning. It takes no memory.
     pub fn new(alloc: Global) -> Rest
         ensures { (result.subs.items ≡ []) × (result.asked ≡ 0) }
     {
@@ -38,7 +38,7 @@ impl Rest {
         self.subs.len().saturating_sub(self.asked)
     }
 
-    /// The next subscribers were asked. Behind the last one the list is let go.
+    /// Counts so many more subscribers as asked, and drops the list behind its last subscriber. The condition: so many are left.
     pub fn pass(&mut self, alloc: Global, count: usize)
         requires { self.old.asked + count ≤ length self.old.subs.items }
         ensures left { left_of self.new ≡ drop count (left_of self.old) }

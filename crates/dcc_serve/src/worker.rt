@@ -119,7 +119,7 @@ impl Worker {
         }
     }
 
-    /// Asks the next piece of its sweep, if a subscriber is left. Before it, all that sleep are woken, since a piece takes long.
+    /// Asks the next piece of its sweep, if a subscriber is left. Before a piece it wakes all threads that sleep, since a piece takes long.
     fn ask_piece<W: Wait, R: Records>(
         &mut self,
         rt: &W,
@@ -162,9 +162,9 @@ impl Worker {
     }
 }
 
-/// Takes the next item, and counts the items that were there without a wait. If none is there and it doesn't wait, it returns none. Before it
-/// waits, it wakes the writers that were let sleep. Before an item that is no request, it wakes all that sleep, since a sweep takes long, and an
-/// end may have to wait for room.
+/// Takes the next item, and counts the items that were there without a wait. If no item is there, it returns none, or waits if `waits` is set.
+/// Before it waits, it wakes the writers that were let sleep. Before an item that is no request, it wakes all that sleep, since a sweep takes
+/// long, and an end may have to wait for room.
 fn next<W: Wait>(
     rt: &W,
     from: &mut Receiver<Work>,
@@ -223,7 +223,8 @@ fn answer<W: Wait, R: Records>(
     leave_in(rt, writers, gate, Item::Octets(octets));
 }
 
-/// Asks all that an earlier sweep has left, and then lists the subscribers of the shard. Without memory for the list none is left to be asked.
+/// Asks all subscribers that an earlier sweep has left, and then lists the subscribers of the shard. If memory is short for the list, no
+/// subscriber is left to be asked.
 fn sweep<W: Wait, R: Records>(
     rt: &W,
     alloc: Global,
@@ -255,7 +256,7 @@ fn sweep<W: Wait, R: Records>(
     };
 }
 
-/// Asks the expiry of the next subscribers of a sweep, so many as are named.
+/// Asks the expiries of the next `count` subscribers of a sweep. The condition: so many are left.
 fn ask_next<W: Wait, R: Records>(
     rt: &W,
     alloc: Global,
@@ -287,7 +288,7 @@ fn ask_next<W: Wait, R: Records>(
     rest.pass(alloc, count);
 }
 
-/// Ends what is due of each of these subscribers, in order; one that is refused leaves the others.
+/// Ends the due sessions of each of these subscribers, in order. A refused expiry leaves the other expiries.
 fn expire_each<W: Wait, R: Records>(
     rt: &W,
     alloc: Global,
