@@ -1,0 +1,6 @@
+use Rattle.std.proofs.Common.{ℕ, ◌<◌, ◌^◌, arith}
+use Rattle.std.proofs.lemmas.List.Elements.{All-from_get_or}
+use Rattle.dcc_act_codec.proofs.kept.octets_fit.Goals as goal
+
+pub returns : goal.returns
+returns c = All-from_get_or (λ (octet : ℕ). octet < 2 ^ 8) c.args.octets.now 0 (λ i lt. omega (arith, c.type_inv.octets i))

@@ -1,6 +1,0 @@
-use Rattle.std.proofs.Common.{All, take}
-use Rattle.dcc_record.specs.Limits.{WithinService}
-use Rattle.dcc_record.proofs.kept.each_keeps_limits.Given as goal
-
-abbrev pub invariant-loop-service : goal.invariant-loop-service
-invariant-loop-service l = All WithinService (take l.service-index l.services)

@@ -1,7 +1,0 @@
-use Rattle.dcc_record.specs.OldRecords.{old_record_of, IsOldAct}
-use Rattle.dcc_record.specs.inner.OldReading.{first_old_act_in}
-use Rattle.dcc_record.proofs.Acts.{old_act_reads, one_record, told_apart}
-use Rattle.dcc_record.proofs.laws.old_records_differ.Goals as goal
-
-pub returns : goal.returns
-returns c = record { one = one_record old_record_of IsOldAct first_old_act_in old_act_reads; followed = told_apart old_record_of IsOldAct first_old_act_in old_act_reads }
