@@ -1,5 +1,0 @@
-pub mod Sums
-pub mod Adding
-pub mod Reading
-pub mod Orders
-pub mod Stopping

@@ -1,6 +1,0 @@
-use Rattle.std.proofs.Common.{◌≡◌, ◌≤◌, ◌+◌, ◌++◌, length, vec_capacity}
-use Rattle.dcc_records.specs.inner.Rows.{pages_of}
-use Rattle.dcc_records.proofs.row.pages.Given as goal
-
-abbrev pub invariant-loop-sub : goal.invariant-loop-sub
-invariant-loop-sub l = (l.pages.items ++ pages_of l.sub-iterator ≡ pages_of l.rows.entries) × (length l.pages.items + length l.sub-iterator ≤ vec_capacity l.pages)

@@ -1,7 +1,0 @@
-pub mod Books
-pub mod Contents
-pub mod Stops
-pub mod Faults
-pub mod Memory
-pub mod Laws
-pub mod inner

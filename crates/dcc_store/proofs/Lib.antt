@@ -1,0 +1,6 @@
+pub mod Sums
+pub mod Adding
+pub mod Reading
+pub mod Orders
+pub mod Stopping
+pub mod Batches
