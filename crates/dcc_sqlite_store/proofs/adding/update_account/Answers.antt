@@ -1,0 +1,15 @@
+use Rattle.std.proofs.Common.{w64}
+use Rattle.std.proofs.lemmas.Int.{to_z-of_z}
+use Rattle.sqlite.specs.Held.{state}
+use Rattle.dcc_sqlite_store.proofs.Accounts.{updates_account}
+use Rattle.dcc_sqlite_store.proofs.adding.update_account.Goals as goal
+
+pub returns-clause-none : goal.returns-clause-none
+returns-clause-none g c clean inside has keyed =
+    (updates_account (state g.S.Store c.args.tx.now.conn.now) (state g.S.Store c.execute.new.self.conn.now) c.args.sub.now c.args.acts c.args.funds c.in_ok-count.count has keyed
+    (rw (c.params-to_sql.ensures, c.params-to_sql-2.ensures, c.params-to_sql-3.ensures, to_z-of_z w64 c.args.funds c.ranges.funds) at c.in_ok-count.ensures.runs clean inside)).0
+
+pub returns-clause-set : goal.returns-clause-set
+returns-clause-set g c clean inside has keyed =
+    (updates_account (state g.S.Store c.args.tx.now.conn.now) (state g.S.Store c.execute.new.self.conn.now) c.args.sub.now c.args.acts c.args.funds c.in_ok-count.count has keyed
+    (rw (c.params-to_sql.ensures, c.params-to_sql-2.ensures, c.params-to_sql-3.ensures, to_z-of_z w64 c.args.funds c.ranges.funds) at c.in_ok-count.ensures.runs clean inside)).1

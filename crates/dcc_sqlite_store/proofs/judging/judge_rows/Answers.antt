@@ -1,0 +1,8 @@
+use Rattle.std.proofs.Common.{◌≡◌, map, rules}
+use Rattle.dcc_sqlite_rows.specs.Stored.{line_row}
+use Rattle.dcc_sqlite_store.proofs.judging.judge_rows.Goals as goal
+
+pub returns-clause-book : goal.returns-clause-book
+returns-clause-book c =
+    let acts : c.args.acts.now ≡ map line_row c.deref.result.now = search rules in
+    rw acts c.judge_lines.ensures.book

@@ -1,0 +1,11 @@
+use Rattle.std.proofs.Common.{◌≡◌, true, rules}
+use Rattle.dcc_sqlite_rows.specs.Stored.{Rows}
+use Rattle.dcc_sqlite_store.proofs.Verdicts.{not_old_damaged}
+use Rattle.dcc_sqlite_store.proofs.old_store.old_lines_in.Goals as goal
+
+pub returns-clause-whole : goal.returns-clause-whole
+returns-clause-whole c =
+    let rows : Rows = record { acts = c.args.acts.now; entries = c.args.entries.now; accounts = c.args.accounts.now } in
+    let entries : c.are_of_subs.result ≡ true = search rules in
+    let accounts : c.are_of_subs-2.result ≡ true = search rules in
+    not_old_damaged rows c.in-Ok.lines.items c.in-Ok.ensures.lines c.in-Ok.ensures.subs c.in-Ok.ensures.fit (c.are_of_subs.ensures.all entries) (c.are_of_subs-2.ensures.all accounts)

@@ -1,0 +1,13 @@
+pub mod Trees
+pub mod Tallies
+pub mod Steps
+pub mod Keeping
+pub mod Layout
+pub mod Making
+pub mod Reading
+pub mod Rowids
+pub mod Opening
+pub mod Telling
+pub mod Dropping
+pub mod Refilling
+pub mod Upgrading

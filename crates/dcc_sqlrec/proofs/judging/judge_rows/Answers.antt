@@ -1,8 +1,0 @@
-use Rattle.std.proofs.Common.{◌≡◌, map, rules}
-use Rattle.dcc_sqlrows.specs.Stored.{line_row}
-use Rattle.dcc_sqlrec.proofs.judging.judge_rows.Goals as goal
-
-pub returns-clause-book : goal.returns-clause-book
-returns-clause-book c =
-    let acts : c.args.acts.now ≡ map line_row c.deref.result.now = search rules in
-    rw acts c.judge_lines.ensures.book

@@ -1,6 +1,0 @@
-use Rattle.sqlite.specs.Held.{state}
-use Rattle.dcc_sqlrec.proofs.Creates.{made_entry}
-use Rattle.dcc_sqlrec.proofs.making.make_entry.Goals as goal
-
-pub returns-clause-made : goal.returns-clause-made
-returns-clause-made g c clean inside has none = made_entry (state g.S.Store c.args.tx.now.conn.now) (state g.S.Store c.execute.new.self.conn.now) c.in_ok-execute.field-0 has none (c.in_ok-execute.ensures.runs clean inside)

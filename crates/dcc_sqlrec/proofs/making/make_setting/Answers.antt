@@ -1,6 +1,0 @@
-use Rattle.sqlite.specs.Held.{state}
-use Rattle.dcc_sqlrec.proofs.Creates.{made_setting}
-use Rattle.dcc_sqlrec.proofs.making.make_setting.Goals as goal
-
-pub returns-clause-made : goal.returns-clause-made
-returns-clause-made g c clean inside has = made_setting (state g.S.Store c.args.tx.now.conn.now) (state g.S.Store c.execute.new.self.conn.now) c.in_ok-execute.field-0 has (c.in_ok-execute.ensures.runs clean inside)

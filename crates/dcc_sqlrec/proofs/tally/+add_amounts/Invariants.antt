@@ -1,5 +1,0 @@
-use Rattle.std.proofs.Common.{length}
-use Rattle.dcc_sqlrec.proofs.tally.+add_amounts.Given as goal
-
-abbrev pub decreases-add_amounts : goal.decreases-add_amounts
-decreases-add_amounts l = length l.entries.now

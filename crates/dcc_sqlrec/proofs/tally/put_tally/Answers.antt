@@ -1,5 +1,0 @@
-use Rattle.dcc_sqlrec.proofs.Tallying.{tally_put}
-use Rattle.dcc_sqlrec.proofs.tally.put_tally.Goals as goal
-
-pub returns : goal.returns
-returns c = tally_put c.args.tallies.now.entries c.insert.new.self.entries c.args.sub c.args.tally (λ q. c.in_ok-insert.ensures.updates.0 q)
