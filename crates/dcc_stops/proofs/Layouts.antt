@@ -14,8 +14,8 @@ use Rattle.sqlite_trees.specs.Objects.{catalog_tree}
 use Rattle.sqlite_rules.specs.Lists.{Has}
 use Rattle.sqlite_catalog.specs.Listing.{AreListed, IsTableRow, IsIndexRow, IsDefined, is_table_row, is_index_row, is_view_row, automatic}
 use Rattle.sqlite_catalog.proofs.StepLemmas.{same_itself, named_once}
-use Rattle.dcc_sqlrec.specs.Tables.{layout}
-use Rattle.dcc_sqlrec.specs.Trees.{IsStore}
+use Rattle.dcc_sqlite_store.specs.Tables.{layout}
+use Rattle.dcc_sqlite_store.specs.Trees.{IsStore}
 
 -- what each row says is one thing
 zip_once : {A B : Type 0} (R : A → B → Type 0) → ((x : A) (y z : B) → R x y → R x z → y ≡ z) → (xs : List A) (ys zs : List B) → AllZip R xs ys → AllZip R xs zs → ys ≡ zs

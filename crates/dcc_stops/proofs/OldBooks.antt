@@ -4,9 +4,9 @@ use Rattle.sqlite.specs.Tree.{Trees}
 use Rattle.dcc_tariff.specs.Terms.{TermsView}
 use Rattle.dcc_act.specs.declared.act.Act.{Act}
 use Rattle.dcc_act.specs.declared.sub.Sub.{Sub}
-use Rattle.dcc_record.specs.OldRecords.{old_record_of, IsOldAct}
-use Rattle.dcc_records.specs.Books.{Held}
-use Rattle.dcc_sqlrec.specs.Content.{HoldsOldBook}
+use Rattle.dcc_act_codec.specs.OldRecords.{old_record_of, IsOldAct}
+use Rattle.dcc_store.specs.Books.{Held}
+use Rattle.dcc_sqlite_store.specs.Content.{HoldsOldBook}
 
 -- records of version 1 that are read back are what was written
 abbrev pub OldDiffer : Type 0

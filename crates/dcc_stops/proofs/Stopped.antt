@@ -8,11 +8,11 @@ use Rattle.dcc_act.specs.declared.sub.Sub.{Sub}
 use Rattle.dcc_model.specs.Keys.{same_key}
 use Rattle.dcc_model.specs.Laws.{RepeatsAreFirsts, RepeatsAreOld}
 use Rattle.dcc_model.specs.Outcomes.{after, is_new}
-use Rattle.dcc_records.specs.Books.{Held}
-use Rattle.dcc_records.specs.Contents.{Content, Kept, IsContentOf}
-use Rattle.dcc_records.specs.Stops.{LeavesOnly}
-use Rattle.dcc_shard.specs.Shards.{held, held_then}
-use Rattle.dcc_shard.specs.Stored.{StoredView, IsLeft, GoesOnFrom, LeavesHeld, LeavesOneMore}
+use Rattle.dcc_store.specs.Books.{Held}
+use Rattle.dcc_store.specs.Contents.{Content, Kept, IsContentOf}
+use Rattle.dcc_store.specs.Stops.{LeavesOnly}
+use Rattle.dcc_shard.specs.Shards.{held}
+use Rattle.dcc_shard.specs.Stored.{StoredView, IsLeft, GoesOnFrom, LeavesHeld, LeavesBatch, held_then_all}
 use Rattle.dcc_stops.specs.Stops.{AreAlike, HoldsAgain}
 
 -- it holds what was held, and at most one act more of each subscriber
@@ -40,7 +40,7 @@ alike : (terms : TermsView) (one other : Held) (found : Content) → IsContentOf
 alike terms one other found a b sub = sym (ap (λ (kept : Kept). kept.acts) (a sub)) ∙ ap (λ (kept : Kept). kept.acts) (b sub)
 
 pub holds_again : (terms now : TermsView) (one other : Held) (leaves again : Content → Type 0) (was_stopped : Bool) → RepeatsAreFirsts → RepeatsAreOld → now ≡ terms
-    → (was_stopped ≡ false → LeavesOnly terms one leaves) → (was_stopped ≡ true → LeavesOneMore terms one leaves) → LeavesHeld one leaves → IsLeft now other again
+    → (was_stopped ≡ false → LeavesOnly terms one leaves) → (was_stopped ≡ true → LeavesBatch terms one leaves) → LeavesHeld one leaves → IsLeft now other again
     → ((found : Content) → again found → ∥ leaves found ∥₁) → HoldsAgain was_stopped terms one other
 holds_again terms now one other leaves again was_stopped firsts olds same only more held there back =
     let left : IsLeft terms other again = subst (λ (t : TermsView). IsLeft t other again) same there in
@@ -51,9 +51,10 @@ holds_again terms now one other leaves again was_stopped firsts olds same only m
         it.1,
         elim (it.2 found.0 was) [
           | inl before ↦ inl (alike terms one other found.0 before found.1)
-          | inr grown ↦ inr (alike terms (held_then terms it.0 it.1 one) other found.0 grown found.1)
+          | inr grown ↦ inr (alike terms (held_then_all terms it.0 one) other found.0 grown found.1)
         ],
       ))));
+      each = goes_on terms one other leaves again held left back;
       repeats = λ sub earlier later act repeat is made like.
           first_again firsts olds terms (one sub) (other sub) earlier later act repeat is (goes_on terms one other leaves again held left back sub).0 made like;
     }
@@ -61,7 +62,7 @@ holds_again terms now one other leaves again was_stopped firsts olds same only m
 -- so does a shard over what was opened again, if it is made
 pub held_again : {R : Type 0} (may_leave : R → Content → Type 0) (is_stopped : R → Bool) (clean honest : R → Type 0) (terms opened : TermsView) (one : Held)
     (leaves found : Content → Type 0) (was_stopped went : Bool) (again : Option (StoredView R)) → RepeatsAreFirsts → RepeatsAreOld
-    → (was_stopped ≡ false → LeavesOnly terms one leaves) → (was_stopped ≡ true → LeavesOneMore terms one leaves) → LeavesHeld one leaves
+    → (was_stopped ≡ false → LeavesOnly terms one leaves) → (was_stopped ≡ true → LeavesBatch terms one leaves) → LeavesHeld one leaves
     → opened ≡ terms → went ≡ false → ((r : R) → clean r → is_stopped r ≡ false → honest r) → ((content : Content) → found content → ∥ leaves content ∥₁)
     → IfSome again (λ s. s.shard.terms ≡ opened) → IfSome again (λ s. is_stopped s.records ≡ went)
     → IfSome again (λ s. honest s.records → IsLeft s.shard.terms (held s.shard) (may_leave s.records))

@@ -11,17 +11,17 @@ use Rattle.sqlite.specs.Tree.{Trees}
 use Rattle.sqlite_schema.specs.contracts.schema.Schema.{the_row}
 use Rattle.sqlite_trees.specs.declared.store.Store.{Ghosts}
 use Rattle.dcc_tariff.specs.Terms.{TermsView}
-use Rattle.dcc_records.specs.Books.{Held}
-use Rattle.dcc_records.specs.Contents.{Content, IsContentOf}
-use Rattle.dcc_sqlrec.specs.Content.{HoldsBook, HoldsOldBook}
-use Rattle.dcc_sqlrec.specs.Opening.{HasOtherSetting}
-use Rattle.dcc_sqlrec.specs.Setting.{setting_row, old_setting_row}
-use Rattle.dcc_sqlrec.specs.Tables.{no_schema, layout}
-use Rattle.dcc_sqlrec.specs.Trees.{IsStore, IsUndone, setting_rows}
-use Rattle.dcc_sqlrec.specs.Upgrade.{HasOldSetting, IsUpgraded}
-use Rattle.dcc_sqlrec.specs.declared.fault.OpenFault.{OpenFault}
-use Rattle.dcc_sqlrec.specs.declared.fault.OpenFault.TheVariants as f
-use Rattle.dcc_sqlrec.specs.declared.setting.Setting.{Setting}
+use Rattle.dcc_store.specs.Books.{Held}
+use Rattle.dcc_store.specs.Contents.{Content, IsContentOf}
+use Rattle.dcc_sqlite_store.specs.Content.{HoldsBook, HoldsOldBook}
+use Rattle.dcc_sqlite_store.specs.Opening.{HasOtherSetting}
+use Rattle.dcc_sqlite_store.specs.Setting.{setting_row, old_setting_row}
+use Rattle.dcc_sqlite_store.specs.Tables.{no_schema, layout}
+use Rattle.dcc_sqlite_store.specs.Trees.{IsStore, IsUndone, setting_rows}
+use Rattle.dcc_sqlite_store.specs.Upgrade.{HasOldSetting, IsUpgraded}
+use Rattle.dcc_sqlite_store.specs.declared.fault.OpenFault.{OpenFault}
+use Rattle.dcc_sqlite_store.specs.declared.fault.OpenFault.TheVariants as f
+use Rattle.dcc_sqlite_store.specs.declared.setting.Setting.{Setting}
 use Rattle.dcc_stops.specs.Upgrades.{IsOldStore, IsOldOrUpgraded, HoldsJust, IsMemoryOrDevice}
 use Rattle.dcc_stops.proofs.Layouts.{has_layout}
 use Rattle.dcc_stops.proofs.OldBooks.{OldDiffer, one_old_book}

@@ -3,14 +3,14 @@ use Rattle.std.specs.Prelude.{◌≡◌, ◌⊎◌}
 use Rattle.sqlite.specs.State.{State}
 use Rattle.sqlite.specs.Tree.{Trees}
 use Rattle.dcc_tariff.specs.Terms.{TermsView}
-use Rattle.dcc_records.specs.Books.{Held}
-use Rattle.dcc_records.specs.Stops.{LeavesOnly}
-use Rattle.dcc_sqlrec.specs.Content.{HoldsBook, HoldsOldBook, leaves}
-use Rattle.dcc_sqlrec.specs.Trees.{IsStore}
-use Rattle.dcc_sqlrec.specs.Upgrade.{HasOldSetting, IsUpgraded}
-use Rattle.dcc_sqlrec.specs.declared.fault.OpenFault.{OpenFault}
-use Rattle.dcc_sqlrec.specs.declared.fault.OpenFault.TheVariants.{Memory, Device}
-use Rattle.dcc_sqlrec.specs.declared.setting.Setting.{Setting}
+use Rattle.dcc_store.specs.Books.{Held}
+use Rattle.dcc_store.specs.Stops.{LeavesOnly}
+use Rattle.dcc_sqlite_store.specs.Content.{HoldsBook, HoldsOldBook, leaves}
+use Rattle.dcc_sqlite_store.specs.Trees.{IsStore}
+use Rattle.dcc_sqlite_store.specs.Upgrade.{HasOldSetting, IsUpgraded}
+use Rattle.dcc_sqlite_store.specs.declared.fault.OpenFault.{OpenFault}
+use Rattle.dcc_sqlite_store.specs.declared.fault.OpenFault.TheVariants.{Memory, Device}
+use Rattle.dcc_sqlite_store.specs.declared.setting.Setting.{Setting}
 
 -- The tables are those of a store of layout 1 under this setting, and hold this book.
 pub record IsOldStore (setting : Setting) (db : Trees) (held : Held) : Type 0 where

@@ -3,24 +3,25 @@
 ghost use Rattle.std.specs.Prelude.{◌≡◌, false, IfSome};
 ghost use Rattle.sqlite.specs.Files.{file_state};
 ghost use Rattle.sqlite.specs.State.{HasCleanDisk};
-ghost use Rattle.dcc_records.specs.Contents.{Content};
+ghost use Rattle.dcc_store.specs.Contents.{Content};
 ghost use Rattle.dcc_shard.specs.Shards.{held, AreOwn};
 ghost use Rattle.dcc_shard.specs.Stored.{IsLeft};
 ghost use Rattle.dcc_stops.specs.Stops.{HoldsAgain};
 
 use dcc_message::Identity;
 use dcc_model::acts_come_to_their_own;
-use dcc_records::Records;
 use dcc_shard::Shard;
-use dcc_sqlrec::{Setting, SqlRecords, stop_and_reopen};
+use dcc_sqlite_store::{Setting, SqlRecords, stop_and_reopen};
+use dcc_store::Records;
 use sqlite::{FileStore, Options};
 use sqlite_disk::Crash;
 use std::alloc::Global;
 use std::hash::RandomState;
 
 /// The process ends at this moment, and the shard is opened again from what it left of the files, or can't be: a stop inside a call is a
-/// disk that fails from there on, so what is held here is what was held before that call, or its act too. Where the disk has returned what
-/// was written, all acts that were held are there, at their places, and nothing else but the one act on which the records stopped.
+/// disk that fails from there on, so what is held here is what was held before that call, or its acts too. Where the disk has returned what
+/// was written, all acts that were held are there, at their places. Nothing else is there but all acts of the batch on which the records
+/// stopped, or none of them: at most one act of each subscriber.
 pub fn stop_and_reopen_shard<D: Crash + Drop>(
     alloc: Global,
     shard: Shard<SqlRecords<FileStore<D>>>,

@@ -5,13 +5,13 @@ ghost use Rattle.sqlite.specs.Files.{file_state};
 ghost use Rattle.sqlite.specs.Held.{state};
 ghost use Rattle.sqlite.specs.State.{HasCleanDisk, Opens, IsLive};
 ghost use Rattle.sqlite.specs.Tree.{Trees};
-ghost use Rattle.dcc_records.specs.Books.{Held};
-ghost use Rattle.dcc_sqlrec.specs.Setting.{setting_row};
-ghost use Rattle.dcc_sqlrec.specs.Trees.{setting_rows};
+ghost use Rattle.dcc_store.specs.Books.{Held};
+ghost use Rattle.dcc_sqlite_store.specs.Setting.{setting_row};
+ghost use Rattle.dcc_sqlite_store.specs.Trees.{setting_rows};
 ghost use Rattle.dcc_stops.specs.Upgrades.{IsOldStore, IsOldOrUpgraded, LeavesOldOrUpgraded, HoldsJust, IsMemoryOrDevice};
 
-use dcc_record::old_records_differ;
-use dcc_sqlrec::{OpenFault, Setting, SqlRecords, stop_and_open, upgrade};
+use dcc_act_codec::old_records_differ;
+use dcc_sqlite_store::{OpenFault, Setting, SqlRecords, stop_and_open, upgrade};
 use sqlite::{Alter, Connection, FileStore, Options};
 use sqlite_disk::Crash;
 use std::alloc::Global;
@@ -19,7 +19,7 @@ use std::hash::RandomState;
 
 /// The process ends at this moment of an upgrade, and what it left of the files is opened again. The store is upgraded if it is still
 /// of layout 1, and opened. The upgrade was of a store of layout 1 under this setting, so a stop leaves that store or the upgraded one:
-/// `dcc_sqlrec::upgrade` says so of each return, and a stop inside a call is a disk that fails from there on. Then the records hold just
+/// `dcc_sqlite_store::upgrade` says so of each return, and a stop inside a call is a disk that fails from there on. Then the records hold just
 /// the acts that the store held before the upgrade, where the disk has returned what was written.
 ///
 /// Errors, each with the connection where the files were opened: [`OpenFault::Memory`] and [`OpenFault::Device`] alone.
