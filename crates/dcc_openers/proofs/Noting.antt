@@ -1,5 +1,5 @@
 -- What is found after a write.
-use Rattle.std.proofs.Common.{◌≡◌, ◌<◌, ℕ, Bool, true, false, ◌&&◌, cond, List, Option, Some, Result, Ok, Err, OnOk, refl, sym, ap, subst, ◌∙◌, inl, inr, bytes_eq}
+use Rattle.std.proofs.Common.{◌≡◌, ◌≤◌, ◌+◌, ℕ, Bool, true, false, ◌&&◌, cond, List, Option, Some, None, Result, Ok, Err, OnOk, refl, sym, ap, subst, ◌∙◌, inl, inr, bytes_eq, arith}
 use Rattle.std.specs.Prelude.{unwrap_or}
 use Rattle.std.specs.Option.{option_map_or}
 use Rattle.std.proofs.lemmas.Bool.{cases_Bool}
@@ -7,7 +7,7 @@ use Rattle.std.proofs.lemmas.Slice.Eq.{bytes_eq-Decides}
 use Rattle.dcc_act.specs.declared.sub.Sub.{Sub}
 use Rattle.dcc_openers.specs.Found.{noted}
 use Rattle.dcc_openers.specs.Names.{found_in}
-use Rattle.dcc_openers.specs.Openers.{OpenersView, names_of, found_at, HasRoomAt}
+use Rattle.dcc_openers.specs.Openers.{OpenersView, names_of, found_at, HasRoomFor, KeepsRoom}
 use Rattle.dcc_openers.specs.declared.names.Names.{Names}
 use Rattle.dcc_openers.specs.declared.found.Found.{Found}
 use Rattle.dcc_openers.specs.declared.found.Found.TheVariants as found
@@ -61,10 +61,25 @@ found_noted old new host sid sub was names is written note h s =
     ]
 
 -- there is room where names with room were written
-pub room_written : (old new : OpenersView) (host : List ℕ) (names : Names) → IsWritten old new host names → 0 < names.room → HasRoomAt new host
-room_written old new host names written room =
+pub room_written : (old new : OpenersView) (host : List ℕ) (number : ℕ) (names : Names) → IsWritten old new host names → number ≤ names.room → HasRoomFor new host number
+room_written old new host number names written room =
     let own : bytes_eq host host ≡ true = (bytes_eq-Decides host host).1 refl in
     record { names = names; is = written host ∙ rw own refl; room = room }
+
+-- the host itself lost this much room at most, and each other host has what it had
+pub room_after : (old new : OpenersView) (host : List ℕ) (was names : Names) (lost : ℕ) → names_of old host ≡ Some was → IsWritten old new host names → was.room ≤ names.room + lost
+    → (h : List ℕ) (had number : ℕ) → number + lost ≤ had → HasRoomFor old h had → HasRoomFor new h number
+room_after old new host was names lost is written still h had number less there =
+    elim (cases_Bool (bytes_eq host h)) [
+      | inl t ↦
+          let e : host ≡ h = same_octets host h t in
+          let own : Some there.names ≡ Some was = sym there.is ∙ ap (names_of old) (sym e) ∙ is in
+          let one : there.names ≡ was = cc in
+          let room_is : there.names.room ≡ was.room = ap (λ (n : Names). n.room) one in
+          let room = there.room in
+          record { names = names; is = written h ∙ rw t refl; room = omega (arith, room_is, room, still, less) }
+      | inr f ↦ record { names = there.names; is = written h ∙ rw f there.is; room = (let room = there.room in omega (arith, room, less)) }
+    ]
 
 -- what holds on success, where that is known
 pub on_success : {X E : Type 0} (result : Result X E) (x : X) (P : Type 0) → result ≡ Ok x → OnOk result P → P

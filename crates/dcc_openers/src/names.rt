@@ -1,6 +1,6 @@
 //! The sessions that were opened from one host.
 
-ghost use Rattle.std.specs.Prelude.{◌≡◌, ◌<◌, List, ℕ, bytes_eq, if◌then◌else◌, [], IfOk, OnOk};
+ghost use Rattle.std.specs.Prelude.{◌≡◌, ◌≤◌, ◌+◌, List, ℕ, bytes_eq, if◌then◌else◌, [], IfOk, OnOk};
 ghost use Rattle.dcc_openers.specs.Found.{noted};
 ghost use Rattle.dcc_openers.specs.Names.{found_in};
 
@@ -27,13 +27,17 @@ impl Model for Names {
 }
 
 impl Names {
-    /// No names, and room for one name. The only error is want of memory.
-    pub(crate) fn with_room(alloc: Global, hasher: RandomState) -> Result<Names, AllocError>
+    /// No names, and room for this number of names. The only error is want of memory.
+    pub(crate) fn with_room(
+        alloc: Global,
+        hasher: RandomState,
+        number: usize,
+    ) -> Result<Names, AllocError>
         ensures none { IfOk result (λ names. names.names ≡ []) }
-        ensures room { IfOk result (λ names. 0 < names.room) }
+        ensures room { IfOk result (λ names. number ≤ names.room) }
     {
         Ok(Names {
-            names: IndexMap::with_capacity_and_hasher(alloc, 1, hasher)?,
+            names: IndexMap::with_capacity_and_hasher(alloc, number, hasher)?,
         })
     }
 
@@ -47,19 +51,23 @@ impl Names {
         }
     }
 
-    /// Takes the memory for one more name. The only error is want of memory. The names stay, also after the error.
-    pub(crate) fn make_room(&mut self) -> Result<(), AllocError>
+    /// Takes the memory for this number of further names. The only error is want of memory. The names and the room stay, also after the
+    /// error.
+    pub(crate) fn make_room(&mut self, number: usize) -> Result<(), AllocError>
         ensures same { self.new.names ≡ self.old.names }
-        ensures room { OnOk result (0 < self.new.room) }
+        ensures room { OnOk result (number ≤ self.new.room) }
+        ensures kept { self.old.room ≤ self.new.room }
     {
-        self.names.reserve(1)
+        self.names.reserve(number)
     }
 
-    /// Notes that the subscriber opened the session of this name. It takes no memory. The condition: there is room for a name.
+    /// Notes that the subscriber opened the session of this name. It takes no memory, and uses the room for one name at most. The
+    /// condition: there is room for a name.
     pub(crate) fn note(&mut self, sid: SessionId, sub: Sub)
-        requires { 0 < self.old.room }
-        ensures { (s : List ℕ) → found_in self.new.names s
+        requires { 1 ≤ self.old.room }
+        ensures noted { (s : List ℕ) → found_in self.new.names s
             ≡ (if bytes_eq sid s then noted (found_in self.old.names sid) sub else found_in self.old.names s) }
+        ensures room { self.old.room ≤ self.new.room + 1 }
     {
         let found = self.find(&sid).noted(sub);
         self.names.insert(sid, found).unwrap();

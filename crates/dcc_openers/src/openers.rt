@@ -4,7 +4,7 @@ ghost use Rattle.std.specs.Prelude.{◌≡◌, ℕ, ◌<◌, ◌&&◌, List, byt
 ghost use Rattle.indexmap.specs.IndexMap.{spare};
 ghost use Rattle.dcc_openers.specs.Found.{noted};
 ghost use Rattle.dcc_openers.specs.declared.found.Found.TheVariants as found;
-ghost use Rattle.dcc_openers.specs.Openers.{names_of, found_at, HasRoomAt};
+ghost use Rattle.dcc_openers.specs.Openers.{names_of, found_at, HasRoomFor, KeepsRoom, UsesOneRoom};
 
 use crate::found::Found;
 use crate::names::Names;
@@ -50,27 +50,30 @@ impl Openers {
         }
     }
 
-    /// Takes the memory for one more session of the host. The only error is want of memory. Every finding stays, also after the error.
-    pub fn make_room(&mut self, alloc: Global, host: &Host) -> Result<(), AllocError>
+    /// Takes the memory for this number of further sessions of the host. The only error is want of memory. Every finding stays, and so does
+    /// the room of each host, also after the error.
+    pub fn make_room(&mut self, alloc: Global, host: &Host, number: usize) -> Result<(), AllocError>
         ensures same { (h s : List ℕ) → found_at self.new h s ≡ found_at self.old h s }
-        ensures room { OnOk result (HasRoomAt self.new host.now) }
+        ensures room { OnOk result (HasRoomFor self.new host.now number) }
+        ensures kept { KeepsRoom self.old self.new }
     {
         if let Some(names) = self.hosts.get_mut(host) {
-            return names.make_room();
+            return names.make_room(number);
         }
         self.hosts.reserve(1)?;
-        let names = Names::with_room(alloc, *self.hosts.hasher())?;
+        let names = Names::with_room(alloc, *self.hosts.hasher(), number)?;
         let host = host.copy()?;
         add(&mut self.hosts, host, names);
         Ok(())
     }
 
-    /// Notes that the subscriber opened the session from the host. It takes no memory. The condition: [`Openers::make_room`] has made room
-    /// for a session of the host.
+    /// Notes that the subscriber opened the session from the host. It takes no memory, and uses the room for one session of the host at
+    /// most. The condition: [`Openers::make_room`] has made room for a session of the host.
     pub fn note(&mut self, host: &Host, sid: SessionId, sub: Sub)
-        requires { HasRoomAt self.old host.now }
-        ensures { (h s : List ℕ) → found_at self.new h s
+        requires { HasRoomFor self.old host.now 1 }
+        ensures noted { (h s : List ℕ) → found_at self.new h s
             ≡ (if bytes_eq host.now h && bytes_eq sid s then noted (found_at self.old host.now sid) sub else found_at self.old h s) }
+        ensures room { UsesOneRoom self.old self.new }
     {
         let names = self.hosts.get_mut(host).unwrap();
         names.note(sid, sub);

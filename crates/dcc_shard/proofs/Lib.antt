@@ -1,7 +1,13 @@
 pub mod Subs
 pub mod BookRows
 pub mod BookSteps
+pub mod Batching
+pub mod Planning
+pub mod Standing
 pub mod Storing
+pub mod Committing
+pub mod Making
+pub mod Behind
 pub mod Ordered
 pub mod Pages
 pub mod Opening

@@ -15,7 +15,7 @@ use Rattle.std.proofs.lemmas.Map.Keys.{IsDistinct-IsPermutation}
 use Rattle.dcc_act.specs.declared.sub.Sub.{Sub}
 use Rattle.dcc_act.specs.Subs.{same_sub}
 use Rattle.dcc_account.specs.declared.account.Account.{Account}
-use Rattle.dcc_records.specs.Books.{sub_order}
+use Rattle.dcc_store.specs.Books.{sub_order}
 use Rattle.dcc_shard.specs.Shards.{account_in, held_in, is_among}
 use Rattle.dcc_shard.proofs.BookRows.{Rows, acts_held}
 

@@ -14,7 +14,7 @@ use Rattle.dcc_act.specs.declared.sub.Sub.{Sub}
 use Rattle.dcc_act.specs.Subs.{same_sub, SameAreEqual}
 use Rattle.dcc_model.specs.Outcomes.{acts}
 use Rattle.dcc_model.specs.Laws.{NoActs}
-use Rattle.dcc_records.specs.Books.{PageView, acts_in, IsBook, AreInOrder, sub_order}
+use Rattle.dcc_store.specs.Books.{PageView, acts_in, IsBook, AreInOrder, sub_order}
 use Rattle.dcc_shard.specs.Shards.{held_in}
 use Rattle.dcc_shard.specs.inner.Books.{BooksView}
 use Rattle.dcc_shard.specs.inner.Indexed.{IsPageOf}

@@ -15,9 +15,10 @@ use Rattle.std.proofs.lemmas.List.Kept.{IsStrictlySortedBy-filter}
 use Rattle.dcc_act.specs.declared.act.Act.{Act}
 use Rattle.dcc_act.specs.declared.sub.Sub.{Sub}
 use Rattle.dcc_act.specs.Subs.{same_sub, SameAreEqual}
-use Rattle.dcc_records.specs.Books.{sub_order}
+use Rattle.dcc_store.specs.Books.{sub_order}
 use Rattle.dcc_shard.specs.Shards.{is_among, are_apart}
 use Rattle.dcc_shard.specs.Routes.{shard_of, route_order}
+use Rattle.dcc_shard.proofs.Batching.{neither}
 
 routes_total : (count : ℕ) → IsTotalOrder (route_order count)
 routes_total count = search (comparing, rules)
@@ -136,10 +137,6 @@ among_dropped same keeps (one ∷ subs) sub goes = elim (cases_Bool (keeps one))
 one_of : (a b : Bool) → (a || b) ≡ true → (a ≡ true) ⊎ (b ≡ true)
 one_of true b h = inl refl
 one_of false b h = inr h
-
-neither : (a b : Bool) → (a || b) ≡ false → (a ≡ false) × (b ≡ false)
-neither true b h = absurd cc
-neither false b h = (refl, h)
 
 -- with those of the next shard
 pub up_to_next : SameAreEqual → (count i : ℕ) (held : Sub → List Act) (all subs : List Sub) → AreUpTo count i held all → IsStrictlySortedBy sub_order subs

@@ -1,5 +1,5 @@
 -- What an append does to the records, and what a stop then leaves.
-use Rattle.std.proofs.Common.{◌≡◌, ◌≢◌, ◌⊎◌, ℕ, ◌+◌, ◌≤◌, Bool, true, false, List, [], ◌∷◌, ◌++◌, length, take, length-append, Result, Ok, Err, refl, sym, ap, subst, ◌∙◌, arith, inl, inr}
+use Rattle.std.proofs.Common.{◌≡◌, ◌≢◌, ◌⊎◌, ℕ, ◌+◌, ◌≤◌, Bool, true, false, List, [], ◌∷◌, ◌++◌, length, map, take, length-append, Result, Ok, Err, refl, sym, ap, subst, ◌∙◌, arith, inl, inr}
 use Rattle.std.proofs.lemmas.Bool.{cases_Bool}
 use Rattle.std.proofs.lemmas.List.{take_at, take_all}
 use Rattle.std.proofs.Math.Logic.{∥∥₁_map, ∥∥₁_elim}
@@ -8,21 +8,22 @@ use Rattle.dcc_tariff.specs.Terms.{TermsView}
 use Rattle.dcc_act.specs.declared.act.Act.{Act}
 use Rattle.dcc_act.specs.declared.entry.Entry.{Entry}
 use Rattle.dcc_act.specs.declared.sub.Sub.{Sub}
-use Rattle.dcc_act.specs.Subs.{same_sub, SameAreEqual}
+use Rattle.dcc_act.specs.Subs.{SameAreEqual}
 use Rattle.dcc_model.specs.Outcomes.{acts, is_new}
 use Rattle.dcc_model.specs.Laws.{OneMoreAct}
-use Rattle.dcc_records.specs.Books.{Held, no_acts, with_act}
-use Rattle.dcc_records.specs.Contents.{Content, Kept, IsContentOf, IsNext}
-use Rattle.dcc_records.specs.Stops.{LeavesOnly, LeavesEither}
-use Rattle.dcc_records.specs.Laws.{ContentHasOneBook, AlikeBooksHaveOneContent, NewIsNext, NextIsFound, OwnGrows, OthersStay}
-use Rattle.dcc_records.specs.declared.fault.StoreFault.{StoreFault}
-use Rattle.dcc_records.specs.declared.fault.StoreFault.TheVariants.{Memory, Device, Stopped}
-use Rattle.dcc_shard.specs.Shards.{held_in, held_then}
-use Rattle.dcc_shard.specs.Stored.{IsKept, IsLeft, LeavesHeld, LeavesOneMore}
+use Rattle.dcc_store.specs.Books.{Held, no_acts, with_act}
+use Rattle.dcc_store.specs.Contents.{Content, Kept, IsContentOf, IsNext}
+use Rattle.dcc_store.specs.Stops.{LeavesOnly, LeavesEither}
+use Rattle.dcc_store.specs.Laws.{ContentHasOneBook, AlikeBooksHaveOneContent, NewIsNext, NextIsFound, OwnGrows, OthersStay}
+use Rattle.dcc_store.specs.declared.fault.StoreFault.{StoreFault}
+use Rattle.dcc_store.specs.declared.fault.StoreFault.TheVariants.{Memory, Device, Stopped}
+use Rattle.dcc_shard.specs.Shards.{held_in, held_then, are_apart}
+use Rattle.dcc_shard.specs.Stored.{IsKept, IsLeft, LeavesHeld, LeavesBatch, held_then_all}
 use Rattle.dcc_shard.specs.inner.Books.{BooksView, IsStepOfBooks}
 use Rattle.dcc_shard.specs.inner.Pending.{step_of, IsPending}
 use Rattle.dcc_shard.specs.declared.pending.Pending.{Pending}
 use Rattle.dcc_shard.proofs.Subs.{same_sub-same, same_sub-other, one_or_other}
+use Rattle.dcc_shard.proofs.Batching.{one_more_of_each}
 
 -- the act of a pending step that is new may come next
 pub next_of : NewIsNext → (books : BooksView) (sub : Sub) (pending : Pending) → acts books.terms (held_in books.rows sub) ≡ held_in books.rows sub
@@ -153,30 +154,17 @@ kept_without terms held sub act leaves stopped faults kept = record {
   faults = λ same. refl;
 }
 
--- what is held, or this with the act of the append that failed; and so where it is what is held alone
+-- what is held, or this with the acts of the append that failed; and so where it is what is held alone
+pub batch_left : (terms : TermsView) (held : Held) (batch : List (Sub × Act)) (leaves : Content → Type 0) → are_apart (map (λ (one : Sub × Act). one.0) batch) ≡ true
+    → LeavesEither terms held (held_then_all terms batch held) leaves → LeavesBatch terms held leaves
+batch_left terms held batch leaves apart either = ∣ (batch, apart, either) ∣₁
+
 pub one_more_left : (terms : TermsView) (held : Held) (sub : Sub) (act : Act) (leaves : Content → Type 0) → LeavesEither terms held (held_then terms sub act held) leaves
-    → LeavesOneMore terms held leaves
-one_more_left terms held sub act leaves either = ∣ (sub, act, either) ∣₁
+    → LeavesBatch terms held leaves
+one_more_left terms held sub act leaves either = batch_left terms held ((sub, act) ∷ []) leaves refl either
 
-pub only_left : (terms : TermsView) (held : Held) (sub : Sub) (act : Act) (leaves : Content → Type 0) → LeavesOnly terms held leaves → LeavesOneMore terms held leaves
-only_left terms held sub act leaves only = one_more_left terms held sub act leaves (λ found left. inl (only found left))
-
--- what is held of a subscriber with one act more, of it or of another
-then_is : OneMoreAct → (terms : TermsView) (held : Held) (one : Sub) (act : Act) (sub : Sub) → acts terms (held sub) ≡ held sub
-    → (held_then terms one act held sub ≡ held sub ++ act ∷ []) ⊎ (held_then terms one act held sub ≡ held sub)
-then_is more terms held one act sub own = elim (cases_Bool (same_sub one sub)) [
-  | inr apart ↦ inr (rw apart refl)
-  | inl same ↦
-      let then_sub : held_then terms one act held sub ≡ acts terms (held sub ++ act ∷ []) = rw same refl in
-      elim (cases_Bool (is_new terms (held sub) act)) [
-        | inl made ↦
-            let grown : acts terms (held sub ++ act ∷ []) ≡ acts terms (held sub) ++ act ∷ [] = more terms (held sub) act ∙ rw made refl in
-            inl (then_sub ∙ grown ∙ ap (λ (xs : List Act). xs ++ act ∷ []) own)
-        | inr old ↦
-            let stays : acts terms (held sub ++ act ∷ []) ≡ acts terms (held sub) = more terms (held sub) act ∙ rw old refl in
-            inr (then_sub ∙ stays ∙ own)
-      ]
-]
+pub only_in_batch : (terms : TermsView) (held : Held) (leaves : Content → Type 0) → LeavesOnly terms held leaves → LeavesBatch terms held leaves
+only_in_batch terms held leaves only = batch_left terms held [] leaves refl (λ found left. inl (only found left))
 
 all_there : (xs ys : List Act) → ys ≡ xs → (take (length xs) ys ≡ xs) × (length ys ≤ length xs + 1)
 all_there xs ys same = rw same (take_all (length xs) xs (omega (arith)), omega (arith))
@@ -187,16 +175,16 @@ one_beyond xs ys act same =
     rw same (take_at xs (act ∷ []) (length xs) refl, omega (arith, longer))
 
 -- whatever a stop leaves begins with what is held
-pub held_left : OneMoreAct → (terms : TermsView) (held : Held) (stopped : Bool) (leaves : Content → Type 0) → ((sub : Sub) → acts terms (held sub) ≡ held sub)
-    → (stopped ≡ false → LeavesOnly terms held leaves) → (stopped ≡ true → LeavesOneMore terms held leaves) → LeavesHeld held leaves
-held_left more terms held stopped leaves own going beyond found sub left = elim (cases_Bool stopped) [
+pub held_left : SameAreEqual → OneMoreAct → (terms : TermsView) (held : Held) (stopped : Bool) (leaves : Content → Type 0) → ((sub : Sub) → acts terms (held sub) ≡ held sub)
+    → (stopped ≡ false → LeavesOnly terms held leaves) → (stopped ≡ true → LeavesBatch terms held leaves) → LeavesHeld held leaves
+held_left same more terms held stopped leaves own going beyond found sub left = elim (cases_Bool stopped) [
   | inr goes ↦ all_there (held sub) (found sub).acts (ap (λ (k : Kept). k.acts) (going goes found left sub))
-  | inl stops ↦ ∥∥₁_elim (beyond stops) (hlevel props) (λ one. elim (one.2 found left) [
+  | inl stops ↦ ∥∥₁_elim (beyond stops) (hlevel props) (λ batch. elim (batch.2 found left) [
     | inl as_before ↦ all_there (held sub) (found sub).acts (ap (λ (k : Kept). k.acts) (as_before sub))
     | inr with_it ↦
-        let acts_are : (found sub).acts ≡ held_then terms one.0 one.1 held sub = ap (λ (k : Kept). k.acts) (with_it sub) in
-        elim (then_is more terms held one.0 one.1 sub (own sub)) [
-          | inl grown ↦ one_beyond (held sub) (found sub).acts one.1 (acts_are ∙ grown)
+        let acts_are : (found sub).acts ≡ held_then_all terms batch.0 held sub = ap (λ (k : Kept). k.acts) (with_it sub) in
+        elim (one_more_of_each same more terms batch.0 held sub batch.1 (own sub)) [
+          | inl grown ↦ one_beyond (held sub) (found sub).acts grown.0 (acts_are ∙ grown.1)
           | inr stays ↦ all_there (held sub) (found sub).acts (acts_are ∙ stays)
         ]
   ])

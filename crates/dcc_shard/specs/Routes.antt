@@ -4,7 +4,7 @@ use Rattle.std.specs.declared.cmp.Ordering.{Ordering}
 use Rattle.std.specs.Ordering.{nat_cmp, on, then_cmp}
 use Rattle.dcc_act.specs.declared.act.Act.{Act}
 use Rattle.dcc_act.specs.declared.sub.Sub.{Sub}
-use Rattle.dcc_records.specs.Books.{sub_order}
+use Rattle.dcc_store.specs.Books.{sub_order}
 use Rattle.dcc_shard.specs.Shards.{ShardView, IsStep}
 use Rattle.dcc_shard.specs.Stored.{StoredView}
 

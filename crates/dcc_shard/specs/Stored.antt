@@ -1,12 +1,12 @@
 -- A shard and the records that keep its acts.
-use Rattle.std.specs.Prelude.{◌≡◌, ℕ, ◌+◌, ◌≤◌, Bool, true, false, List, length, take}
+use Rattle.std.specs.Prelude.{◌≡◌, ℕ, ◌+◌, ◌≤◌, Bool, true, false, List, [], ◌∷◌, length, map, take}
 use Rattle.dcc_tariff.specs.Terms.{TermsView}
 use Rattle.dcc_act.specs.declared.act.Act.{Act}
 use Rattle.dcc_act.specs.declared.sub.Sub.{Sub}
-use Rattle.dcc_records.specs.Books.{Held}
-use Rattle.dcc_records.specs.Contents.{Content, IsContentOf}
-use Rattle.dcc_records.specs.Stops.{LeavesEither}
-use Rattle.dcc_shard.specs.Shards.{ShardView, held_then}
+use Rattle.dcc_store.specs.Books.{Held}
+use Rattle.dcc_store.specs.Contents.{Content, IsContentOf}
+use Rattle.dcc_store.specs.Stops.{LeavesEither}
+use Rattle.dcc_shard.specs.Shards.{ShardView, held_then, are_apart}
 
 -- the accounts of a shard, and its records
 pub record StoredView (R : Type 0) : Type 0 where
@@ -17,9 +17,16 @@ pub record StoredView (R : Type 0) : Type 0 where
 abbrev pub IsLeft : TermsView → Held → (Content → Type 0) → Type 0
 IsLeft terms held leaves = ∥ ((content : Content) × IsContentOf terms held content × leaves content) ∥₁
 
--- a stop leaves the held acts, or these with one act more of one subscriber, and nothing else
-abbrev pub LeavesOneMore : TermsView → Held → (Content → Type 0) → Type 0
-LeavesOneMore terms held leaves = ∥ ((sub : Sub) × (act : Act) × LeavesEither terms held (held_then terms sub act held) leaves) ∥₁
+-- the held acts after these acts, one after another, were judged
+abbrev pub held_then_all : TermsView → List (Sub × Act) → Held → Held
+held_then_all terms [] held = held
+held_then_all terms (one ∷ more) held = held_then_all terms more (held_then terms one.0 one.1 held)
+
+-- A stop leaves the held acts, or these with the acts of one batch more, and nothing else. The acts of a batch are of different
+-- subscribers.
+abbrev pub LeavesBatch : TermsView → Held → (Content → Type 0) → Type 0
+LeavesBatch terms held leaves =
+    ∥ ((batch : List (Sub × Act)) × (are_apart (map (λ one. one.0) batch) ≡ true) × LeavesEither terms held (held_then_all terms batch held) leaves) ∥₁
 
 -- the found acts of a subscriber are the kept acts, in their order, and at most one act more
 abbrev pub GoesOnFrom : (kept found : List Act) → Type 0

@@ -2,3 +2,4 @@ pub mod Books
 pub mod Indexed
 pub mod Pending
 pub mod Routed
+pub mod Plans

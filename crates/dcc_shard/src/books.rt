@@ -1,7 +1,7 @@
 //! The accounts of a shard's subscribers. An act of a subscriber is prepared, and then installed. Only the preparation can be refused,
 //! and it changes no held act. The acts of all other subscribers stay as they were.
 
-ghost use Rattle.std.specs.Prelude.{◌≡◌, ◌≢◌, ◌<◌, ◌==◌, ◌↔◌, [], true, false, Some, IfOk, OnOk, IfSome, IfNone, if◌then◌else◌};
+ghost use Rattle.std.specs.Prelude.{◌≡◌, ◌≢◌, ◌<◌, ◌≤◌, ◌+◌, ◌==◌, ◌↔◌, [], true, false, Some, IfOk, OnOk, IfSome, IfNone, if◌then◌else◌};
 ghost use Rattle.indexmap.specs.IndexMap.{spare};
 ghost use Rattle.dcc_act.specs.Subs.{same_sub};
 ghost use Rattle.std.specs.List.{list_all};
@@ -9,10 +9,10 @@ ghost use Rattle.std.specs.List.Sorted.{IsStrictlySortedBy};
 ghost use Rattle.std.specs.Map.{keys_of};
 ghost use Rattle.dcc_act.specs.declared.sub.Sub.{Sub};
 ghost use Rattle.dcc_model.specs.Outcomes.{acts};
-ghost use Rattle.dcc_records.specs.Books.{sub_order};
+ghost use Rattle.dcc_store.specs.Books.{sub_order};
 ghost use Rattle.dcc_shard.specs.Shards.{account_in, held_in, is_among};
 ghost use Rattle.dcc_shard.specs.Routes.{shard_of};
-ghost use Rattle.dcc_shard.specs.inner.Books.{IsStepOfBooks};
+ghost use Rattle.dcc_shard.specs.inner.Books.{IsStepOfBooks, StayApart};
 ghost use Rattle.dcc_shard.specs.inner.Pending.{step_of, Stands, IsPending};
 
 use crate::pending::Pending;
@@ -119,7 +119,18 @@ impl Books {
         self.accounts.get(sub)
     }
 
-    /// Prepares an act of a subscriber, who has an account or none. The only error is want of memory.
+    /// Takes the memory for this number of further accounts. The only error is want of memory.
+    pub(crate) fn make_room(&mut self, number: usize) -> Result<(), AllocError>
+        ensures room { OnOk result (number ≤ self.new.room) }
+        ensures kept { self.old.room ≤ self.new.room }
+        ensures terms { self.new.terms ≡ self.old.terms }
+        ensures rows { self.new.rows ≡ self.old.rows }
+    {
+        self.accounts.reserve(number)
+    }
+
+    /// Prepares an act of a subscriber, who has an account or none. The only error is want of memory. The room stays, also after the
+    /// error.
     pub(crate) fn prepare(
         &mut self,
         alloc: Global,
@@ -129,6 +140,7 @@ impl Books {
         ensures pending { IfOk result (IsPending self.new sub.now act) }
         ensures terms { self.new.terms ≡ self.old.terms }
         ensures rows { self.new.rows ≡ self.old.rows }
+        ensures room { self.old.room ≤ self.new.room }
     {
         if let Some(account) = self.accounts.get(sub) {
             let step = account.prepare(act)?;
@@ -147,10 +159,13 @@ impl Books {
         Ok(Pending::First { account, step })
     }
 
-    /// Installs a step that was prepared. It takes no memory.
+    /// Installs a step that was prepared. It takes no memory, and uses the room for one account at most. The accounts of other subscribers
+    /// stay.
     pub(crate) fn install(&mut self, sub: Sub, pending: Pending)
         requires { Stands self.old sub pending }
-        ensures { IsStepOfBooks self.old self.new sub (step_of pending).act }
+        ensures step { IsStepOfBooks self.old self.new sub (step_of pending).act }
+        ensures others { StayApart self.old.rows self.new.rows sub }
+        ensures room { self.old.room ≤ self.new.room + 1 }
     {
         leaving_out_changes_nothing();
         one_more_act();
@@ -185,8 +200,9 @@ fn has_acts(account: &Account) -> bool
 /// Adds an account, for which there is room. It takes no memory.
 fn add(accounts: &mut IndexMap<Sub, Account, RandomState>, sub: Sub, account: Account)
     requires { 0 < spare accounts.old }
-    ensures { (other : Sub) → account_in accounts.new.entries other
+    ensures added { (other : Sub) → account_in accounts.new.entries other
         ≡ (if same_sub sub other then Some account else account_in accounts.old.entries other) }
+    ensures room { spare accounts.old ≤ spare accounts.new + 1 }
 {
     accounts.insert(sub, account).unwrap();
 }

@@ -1,24 +1,29 @@
 //! The books of a shard, with the index of who opened which session from which host.
 
-ghost use Rattle.std.specs.Prelude.{◌≡◌, ℕ, List, [], IfOk, OnOk, option_map};
+ghost use Rattle.std.specs.Prelude.{◌≡◌, ◌≤◌, ◌+◌, ℕ, true, List, [], ◌∷◌, length, map, vec_capacity, IfOk, OnOk, option_map};
+ghost use Rattle.std.specs.List.{AllByRecursion};
 ghost use Rattle.dcc_model.specs.Outcomes.{acts, was_opened_from};
-ghost use Rattle.dcc_openers.specs.Openers.{found_at};
-ghost use Rattle.dcc_records.specs.Books.{acts_in, IsBook};
+ghost use Rattle.dcc_openers.specs.Openers.{found_at, KeepsRoom, UsesOneRoom};
+ghost use Rattle.dcc_store.specs.Books.{acts_in, IsBook};
 ghost use Rattle.dcc_act.specs.declared.sub.Sub.{Sub};
 ghost use Rattle.dcc_shard.specs.Openers.{IsFound};
-ghost use Rattle.dcc_shard.specs.Shards.{held_in};
-ghost use Rattle.dcc_shard.specs.inner.Books.{IsStepOfBooks};
+ghost use Rattle.dcc_shard.specs.Shards.{held_in, are_apart};
+ghost use Rattle.dcc_shard.specs.Stored.{held_then_all};
+ghost use Rattle.dcc_shard.specs.inner.Books.{IsStepOfBooks, StayApart};
 ghost use Rattle.dcc_shard.specs.inner.Indexed.{opening, IsReady, IsPageOf, noted_at};
 ghost use Rattle.dcc_shard.specs.inner.Pending.{step_of, IsPending};
+ghost use Rattle.dcc_shard.specs.inner.Plans.{IsStanding, StayBeside, steps_in, subs_in, reply_in};
 
 use crate::books::Books;
+use crate::call::Reply;
 use crate::pending::Pending;
+use crate::plan::Plan;
 use dcc_account::Step;
 use dcc_act::{Act, Kind, SessionId, Sub, same_subscribers_are_equal};
 use dcc_model::{has_succeeded, leaving_out_changes_nothing, one_more_act_opens};
 use dcc_octets::Host;
 use dcc_openers::{Found, Openers};
-use dcc_records::Book;
+use dcc_store::Book;
 use dcc_tariff::Terms;
 use std::alloc::{AllocError, Global};
 use std::hash::RandomState;
@@ -109,7 +114,7 @@ impl IndexedBooks {
     {
         leaving_out_changes_nothing();
         for act in all {
-            let ready = self.prepare(alloc, &sub, act)?;
+            let ready = self.prepare(alloc, &sub, act, 1)?;
             self.install(sub, ready);
         }
         Ok(())
@@ -136,20 +141,35 @@ impl IndexedBooks {
         self.openers.find(host, sid)
     }
 
-    /// Prepares an act of a subscriber, who has an account or none. The only error is want of memory.
+    /// Takes the memory for this number of further accounts. The only error is want of memory.
+    pub(crate) fn make_room(&mut self, number: usize) -> Result<(), AllocError>
+        ensures room { OnOk result (number ≤ self.new.books.room) }
+        ensures kept { self.old.books.room ≤ self.new.books.room }
+        ensures terms { self.new.books.terms ≡ self.old.books.terms }
+        ensures rows { self.new.books.rows ≡ self.old.books.rows }
+        ensures openers { self.new.openers ≡ self.old.openers }
+    {
+        self.books.make_room(number)
+    }
+
+    /// Prepares an act of a subscriber, who has an account or none. If the act opens a session from a host, there is then room for this
+    /// number of sessions of the host. The only error is want of memory. All room stays, also after the error.
     pub(crate) fn prepare(
         &mut self,
         alloc: Global,
         sub: &Sub,
         act: Act,
+        number: usize,
     ) -> Result<Ready, AllocError>
         ensures pending { IfOk result (λ ready. IsPending self.new.books sub.now act ready.pending) }
-        ensures ready { IfOk result (λ ready. IsReady self.new.openers (opening (step_of ready.pending)) ready.opens) }
+        ensures ready { IfOk result (λ ready. IsReady self.new.openers number (opening (step_of ready.pending)) ready.opens) }
         ensures terms { self.new.books.terms ≡ self.old.books.terms }
         ensures rows { self.new.books.rows ≡ self.old.books.rows }
+        ensures room { self.old.books.room ≤ self.new.books.room }
+        ensures openers { KeepsRoom self.old.openers self.new.openers }
     {
         let pending = self.books.prepare(alloc, sub, act)?;
-        match make_room(&mut self.openers, alloc, pending.step()) {
+        match make_room(&mut self.openers, alloc, pending.step(), number) {
             Ok(opens) => Ok(Ready { pending, opens }),
             Err(error) => {
                 // By a call: a step that is let go in place is proved part by part.
@@ -159,11 +179,15 @@ impl IndexedBooks {
         }
     }
 
-    /// Installs a step that was prepared. It takes no memory.
+    /// Installs a step that was prepared. It takes no memory, and uses the room for one account and for one session of each host at most.
+    /// The accounts of other subscribers stay.
     pub(crate) fn install(&mut self, sub: Sub, ready: Ready)
         requires pending { IsPending self.old.books sub (step_of ready.pending).act ready.pending }
-        requires ready { IsReady self.old.openers (opening (step_of ready.pending)) ready.opens }
-        ensures { IsStepOfBooks self.old.books self.new.books sub (step_of ready.pending).act }
+        requires ready { IsReady self.old.openers 1 (opening (step_of ready.pending)) ready.opens }
+        ensures step { IsStepOfBooks self.old.books self.new.books sub (step_of ready.pending).act }
+        ensures others { StayApart self.old.books.rows self.new.books.rows sub }
+        ensures room { self.old.books.room ≤ self.new.books.room + 1 }
+        ensures openers { UsesOneRoom self.old.openers self.new.openers }
     {
         leaving_out_changes_nothing();
         one_more_act_opens();
@@ -171,6 +195,55 @@ impl IndexedBooks {
         let Ready { pending, opens } = ready;
         note(&mut self.openers, sub, pending.step(), opens);
         self.books.install(sub, pending);
+    }
+}
+
+impl IndexedBooks {
+    /// Installs the planned steps, and adds the replies to an empty list, in order. It takes no memory.
+    pub(crate) fn install_all(&mut self, plans: Vec<Plan>, replies: &mut Vec<Reply>)
+        requires standing { AllByRecursion (IsStanding self.old.books self.old.openers (length plans.items)) plans.items }
+        requires accounts { length plans.items ≤ self.old.books.room }
+        requires apart { are_apart (subs_in plans.items) ≡ true }
+        requires empty { replies.old.items ≡ [] }
+        requires room { length plans.items ≤ vec_capacity replies.old }
+        ensures held { (sub : Sub) → held_in self.new.books.rows sub
+            ≡ held_then_all self.old.books.terms (steps_in plans.items) (held_in self.old.books.rows) sub }
+        ensures terms { self.new.books.terms ≡ self.old.books.terms }
+        ensures replies { replies.new.items ≡ map reply_in plans.items }
+    {
+        same_subscribers_are_equal();
+        for plan in plans {
+            replies.push_reserved(self.install_next(plan));
+        }
+    }
+
+    /// Installs the step of a plan, if there is one, and returns the reply. It takes no memory, and uses the room for one account and for
+    /// one session of each host at most.
+    fn install_next(&mut self, plan: Plan) -> Reply
+        requires { IsStanding self.old.books self.old.openers 1 plan }
+        ensures reply { result ≡ reply_in plan }
+        ensures held { (sub : Sub) → held_in self.new.books.rows sub
+            ≡ held_then_all self.old.books.terms (steps_in (plan ∷ [])) (held_in self.old.books.rows) sub }
+        ensures others { StayBeside self.old.books.rows self.new.books.rows plan }
+        ensures terms { self.new.books.terms ≡ self.old.books.terms }
+        ensures room { self.old.books.room ≤ self.new.books.room + 1 }
+        ensures openers { UsesOneRoom self.old.openers self.new.openers }
+    {
+        same_subscribers_are_equal();
+        match plan {
+            Plan::Refused { reply } => reply,
+            Plan::Step {
+                sub,
+                ready,
+                way,
+                reply,
+            } => {
+                // By a call: a way that is let go in place is proved part by part.
+                drop(way);
+                self.install(sub, ready);
+                reply
+            }
+        }
     }
 }
 
@@ -193,26 +266,30 @@ fn opened(step: &Step) -> Option<(&Host, &SessionId)>
     }
 }
 
-/// Takes the memory to note the session that a step opens. The only error is want of memory. Every finding stays, also after the error.
+/// Takes the memory to note this number of sessions of the host from which a step opens a session. The only error is want of memory.
+/// Every finding and all room stay, also after the error.
 fn make_room(
     openers: &mut Openers,
     alloc: Global,
     step: &Step,
+    number: usize,
 ) -> Result<Option<SessionId>, AllocError>
     ensures same { (host sid : List ℕ) → found_at openers.new host sid ≡ found_at openers.old host sid }
-    ensures ready { IfOk result (λ opens. IsReady openers.new (opening step.now) opens) }
+    ensures ready { IfOk result (λ opens. IsReady openers.new number (opening step.now) opens) }
+    ensures kept { KeepsRoom openers.old openers.new }
 {
     let Some((host, sid)) = opened(step) else {
         return Ok(None);
     };
-    openers.make_room(alloc, host)?;
+    openers.make_room(alloc, host, number)?;
     Ok(Some(sid.copy()?))
 }
 
-/// Notes the session that a step of a subscriber opens. It takes no memory.
+/// Notes the session that a step of a subscriber opens. It takes no memory, and uses the room for one session of each host at most.
 fn note(openers: &mut Openers, sub: Sub, step: &Step, opens: Option<SessionId>)
-    requires { IsReady openers.old (opening step.now) opens }
-    ensures { (host sid : List ℕ) → found_at openers.new host sid ≡ noted_at (opening step.now) sub openers.old host sid }
+    requires { IsReady openers.old 1 (opening step.now) opens }
+    ensures noted { (host sid : List ℕ) → found_at openers.new host sid ≡ noted_at (opening step.now) sub openers.old host sid }
+    ensures room { UsesOneRoom openers.old openers.new }
 {
     if let (Some((host, _)), Some(sid)) = (opened(step), opens) {
         openers.note(host, sid, sub);

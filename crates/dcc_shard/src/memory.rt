@@ -7,7 +7,7 @@ ghost use Rattle.dcc_shard.specs.Shards.{held, AreOwn};
 use crate::shard::Shard;
 use crate::shards::Shards;
 use dcc_message::Identity;
-use dcc_records::{MemoryRecords, content_has_one_book};
+use dcc_store::{MemoryRecords, content_has_one_book};
 use dcc_tariff::Terms;
 use std::alloc::{AllocError, Global};
 use std::hash::RandomState;

@@ -20,7 +20,7 @@ use dcc_credit::{lend_session, write_cca};
 use dcc_message::{Header, Identity};
 use dcc_model::{acts_come_to_their_own, places_hold};
 use dcc_octets::OctetString;
-use dcc_records::{Records, StoreFault};
+use dcc_store::{Records, StoreFault};
 use dcc_tariff::Terms;
 use std::alloc::{AllocError, Global};
 
@@ -78,7 +78,7 @@ pub(crate) fn answer<R: Records>(
     ensures terms { kept.new.books.terms ≡ kept.old.books.terms }
 {
     kept.acts_are_kept();
-    let ready = kept.prepare(alloc, &sub, act)?;
+    let ready = kept.prepare(alloc, &sub, act, 1)?;
     match write_answer(alloc, envelope, kept.books().terms(), ready.step()) {
         Ok(answer) => {
             kept.commit(sub, ready)?;
@@ -93,7 +93,7 @@ pub(crate) fn answer<R: Records>(
 }
 
 /// The answer by the step of a request. The only error is want of memory.
-fn write_answer(
+pub(crate) fn write_answer(
     alloc: Global,
     envelope: &Envelope<'_>,
     terms: &Terms,
@@ -189,7 +189,7 @@ pub(crate) fn tell<R: Records>(
     ensures terms { kept.new.books.terms ≡ kept.old.books.terms }
 {
     kept.acts_are_kept();
-    let ready = kept.prepare(alloc, &sub, act)?;
+    let ready = kept.prepare(alloc, &sub, act, 1)?;
     acts_come_to_their_own();
     places_hold();
     let answer = told_by(ready.step()).unwrap();
@@ -198,7 +198,7 @@ pub(crate) fn tell<R: Records>(
 }
 
 /// The answer to a top-up by its step; none if the step is not a top-up's.
-fn told_by(step: &Step) -> Option<TopUpAnswer>
+pub(crate) fn told_by(step: &Step) -> Option<TopUpAnswer>
     ensures { result ≡ told step.now.outcome step.now.place step.now.is_new }
 {
     let place = step.place()?;
@@ -229,7 +229,7 @@ pub(crate) fn end<R: Records>(
     ensures terms { kept.new.books.terms ≡ kept.old.books.terms }
 {
     kept.acts_are_kept();
-    let ready = kept.prepare(alloc, &sub, act)?;
+    let ready = kept.prepare(alloc, &sub, act, 1)?;
     acts_come_to_their_own();
     let answer = ended_by(ready.step()).unwrap();
     kept.commit(sub, ready)?;
@@ -237,7 +237,7 @@ pub(crate) fn end<R: Records>(
 }
 
 /// The answer to an expiry by its step; none if the step is not an expiry's.
-fn ended_by(step: &Step) -> Option<ExpiryAnswer>
+pub(crate) fn ended_by(step: &Step) -> Option<ExpiryAnswer>
     ensures { result ≡ ended step.now.outcome step.now.place }
 {
     let Outcome::Expired { sessions } = step.outcome() else {

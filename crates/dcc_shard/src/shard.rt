@@ -1,21 +1,25 @@
 //! The shard.
 
-ghost use Rattle.std.specs.Prelude.{◌≡◌, ◌≢◌, ◌≤◌, ◌+◌, ◌<◌, ◌↔◌, [], true, false, length, IfOk, IfErr, IfSome, IfNone, OnOk, IsErr, Err, is_some};
+ghost use Rattle.std.specs.Prelude.{◌≡◌, ◌≢◌, ◌≤◌, ◌+◌, ◌<◌, ◌↔◌, [], true, false, length, map, vec_capacity, IfOk, IfErr, IfSome, IfNone, OnOk, IsErr, Err, is_some};
+ghost use Rattle.std.specs.List.{AllByRecursion, list_all};
 ghost use Rattle.std.specs.List.Sorted.{IsStrictlySortedBy};
 ghost use Rattle.dcc_act.specs.declared.sub.Sub.{Sub};
 ghost use Rattle.dcc_model.specs.Keys.{request_key};
-ghost use Rattle.dcc_records.specs.Books.{sub_order};
-ghost use Rattle.dcc_records.specs.Contents.{Content};
-ghost use Rattle.dcc_records.specs.Stops.{LeavesOnly};
-ghost use Rattle.dcc_records.specs.declared.fault.StoreFault.TheVariants.{Device, Stopped};
+ghost use Rattle.dcc_store.specs.Books.{sub_order};
+ghost use Rattle.dcc_store.specs.Contents.{Content};
+ghost use Rattle.dcc_store.specs.Stops.{LeavesOnly};
+ghost use Rattle.dcc_store.specs.declared.fault.StoreFault.TheVariants.{Device, Stopped};
 ghost use Rattle.dcc_shard.specs.Openers.{IsFound, opened};
-ghost use Rattle.dcc_shard.specs.Shards.{held, held_in, AreOwn, IsStep, is_among};
-ghost use Rattle.dcc_shard.specs.Stored.{IsKept, IsLeft, LeavesHeld, LeavesOneMore};
+ghost use Rattle.dcc_shard.specs.Shards.{held, held_in, AreOwn, IsStep, is_among, are_apart};
+ghost use Rattle.dcc_shard.specs.Stored.{IsKept, IsLeft, LeavesHeld, LeavesBatch};
+ghost use Rattle.dcc_shard.specs.Batches.{sub_of, has_request_act, AreReplies, is_one_judged, IsReplyToldApart, IsReplyBounded, IsBatch, AreKept};
 ghost use Rattle.dcc_shard.specs.Routes.{shard_of};
 ghost use Rattle.dcc_shard.specs.Answers.{IsAnswer, IsToldApart, IsTold, octets_of, is_judged, is_judged_top_up, top_up_act};
 ghost use Rattle.dcc_shard.specs.Answers.{IsExpired, is_judged_expiry, expiry_act};
 
 use crate::answers::{ExpiryAnswer, RequestAnswer, TopUpAnswer};
+use crate::batch::make_all;
+use crate::call::{Call, Reply};
 use crate::indexed::IndexedBooks;
 use crate::kept::KeptBooks;
 use crate::serve::{Envelope, answer, busy, copied, end, session_of_act, tell};
@@ -25,7 +29,7 @@ use dcc_answer::{MAX_ANSWER, Proxies};
 use dcc_message::{Header, Identity};
 use dcc_octets::Host;
 use dcc_openers::Found;
-use dcc_records::{Records, StoreFault, content_has_one_book};
+use dcc_store::{Records, StoreFault, content_has_one_book};
 use std::alloc::{AllocError, Global};
 use std::hash::RandomState;
 use std::marker::Model;
@@ -106,12 +110,13 @@ impl<R: Records> Shard<R> {
     }
 
     /// The records that keep the acts. If they are not stopped, a stop leaves exactly the held acts. If they are stopped, it leaves these,
-    /// or these and the one act on which the records failed. So every content that a stop leaves has all held acts.
+    /// or these and all acts of the append on which the records failed: one act, or the acts of a batch, which are of different
+    /// subscribers. So every content that a stop leaves has all held acts.
     pub fn records(&self) -> &R
         ensures value { result.now ≡ self.now.records }
         ensures terms { R.terms result.now ≡ self.now.shard.terms }
         ensures kept { R.is_stopped result.now ≡ false → LeavesOnly self.now.shard.terms (held self.now.shard) (R.may_leave result.now) }
-        ensures beyond { R.is_stopped result.now ≡ true → LeavesOneMore self.now.shard.terms (held self.now.shard) (R.may_leave result.now) }
+        ensures beyond { R.is_stopped result.now ≡ true → LeavesBatch self.now.shard.terms (held self.now.shard) (R.may_leave result.now) }
         ensures left { LeavesHeld (held self.now.shard) (R.may_leave result.now) }
     {
         self.kept.acts_are_kept();
@@ -123,7 +128,7 @@ impl<R: Records> Shard<R> {
         ensures value { result ≡ self.records }
         ensures terms { R.terms result ≡ self.shard.terms }
         ensures kept { R.is_stopped result ≡ false → LeavesOnly self.shard.terms (held self.shard) (R.may_leave result) }
-        ensures beyond { R.is_stopped result ≡ true → LeavesOneMore self.shard.terms (held self.shard) (R.may_leave result) }
+        ensures beyond { R.is_stopped result ≡ true → LeavesBatch self.shard.terms (held self.shard) (R.may_leave result) }
         ensures left { LeavesHeld (held self.shard) (R.may_leave result) }
     {
         self.kept.acts_are_kept();
@@ -271,6 +276,35 @@ impl<R: Records> Shard<R> {
             Ok(answer) => answer,
             Err(_) => ExpiryAnswer::Refused,
         }
+    }
+
+    /// Makes calls of different subscribers by one append of their new acts, all or none. Each reply is that of the call alone; the list
+    /// of replies is then in the order of the calls. If memory refuses a call, that call is refused by itself and left out. If memory
+    /// refuses the append, each call with a new act is refused, and no held act changes. If the records are stopped, or fail in the append,
+    /// all calls are refused. Without a new act nothing is appended. The conditions: the calls are of different subscribers, the act of
+    /// each request is a request's, and the list of replies is empty and has room for them.
+    pub fn step_all(&mut self, alloc: Global, calls: Vec<Call>, replies: &mut Vec<Reply>)
+        requires apart { are_apart (map sub_of calls.items) ≡ true }
+        requires requests { list_all has_request_act calls.items ≡ true }
+        requires empty { replies.old.items ≡ [] }
+        requires room { length calls.items ≤ vec_capacity replies.old }
+        ensures replies { AreReplies self.old.shard calls.items replies.new.items }
+        ensures batch { IsBatch self.old.shard self.new.shard calls.items replies.new.items }
+        ensures own { AreOwn self.new.shard }
+        ensures kept { AreKept self.old.shard.terms (held self.old.shard) calls.items (R.may_leave self.old.records) (R.may_leave self.new.records)
+            (R.is_stopped self.old.records) (R.is_stopped self.new.records) (R.faults self.old.records) (R.faults self.new.records) }
+        // If the records are not stopped, a stop leaves exactly the acts that are then held, each made act among them. A shard whose records are
+        // stopped judges nothing: not even repeats, if the records failed in this call.
+        ensures left { R.is_stopped self.new.records ≡ false → LeavesOnly self.new.shard.terms (held self.new.shard) (R.may_leave self.new.records) }
+        ensures going { is_one_judged replies.new.items ≡ true → R.is_stopped self.new.records ≡ false }
+        ensures stopped { R.is_stopped self.old.records ≡ true → is_one_judged replies.new.items ≡ false }
+        ensures apart { AllByRecursion IsReplyToldApart replies.new.items }
+        // No answer has more octets.
+        ensures bounded { AllByRecursion IsReplyBounded replies.new.items }
+    {
+        self.kept.acts_are_kept();
+        make_all(&mut self.kept, alloc, &self.identity, calls, replies);
+        self.kept.acts_are_kept();
     }
 }
 

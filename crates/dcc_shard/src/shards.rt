@@ -21,7 +21,7 @@ use dcc_message::{Header, Identity};
 use dcc_model::leaving_out_changes_nothing;
 use dcc_octets::Host;
 use dcc_openers::Found;
-use dcc_records::Records;
+use dcc_store::Records;
 use dcc_tariff::Terms;
 use std::alloc::{AllocError, Global};
 use std::marker::Model;

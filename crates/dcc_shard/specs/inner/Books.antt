@@ -31,3 +31,7 @@ pub record IsStepOfBooks (old new : BooksView) (sub : Sub) (act : Act) : Type 0 
   pub own : held_in new.rows sub ≡ acts old.terms (held_in old.rows sub ++ act ∷ [])
   pub others : (other : Sub) → other ≢ sub → held_in new.rows other ≡ held_in old.rows other
   pub terms : new.terms ≡ old.terms
+
+-- the account of each other subscriber stays
+abbrev pub StayApart : (old new : List (Sub × Account)) → Sub → Type 0
+StayApart old new sub = (other : Sub) → other ≢ sub → account_in new other ≡ account_in old other

@@ -12,7 +12,7 @@ use Rattle.dcc_account.specs.Prepared.{StepView}
 use Rattle.dcc_model.specs.Outcomes.{acts, was_opened_from}
 use Rattle.dcc_model.specs.Results.{succeeded}
 use Rattle.dcc_openers.specs.Found.{noted}
-use Rattle.dcc_openers.specs.Openers.{OpenersView, found_at, HasRoomAt}
+use Rattle.dcc_openers.specs.Openers.{OpenersView, found_at, HasRoomFor}
 use Rattle.dcc_openers.specs.declared.found.Found.{Found}
 use Rattle.dcc_shard.specs.Openers.{IsFound}
 use Rattle.dcc_shard.specs.Shards.{held_in}
@@ -35,9 +35,9 @@ opening_by new outcome _ = None
 abbrev pub opening : StepView → Option (List ℕ × List ℕ)
 opening step = opening_by step.is_new step.outcome step.act.kind
 
--- there is room to note the session that a step opens, and the name of the session is at hand
-abbrev pub IsReady : OpenersView → Option (List ℕ × List ℕ) → Option (List ℕ) → Type 0
-IsReady openers opens name = MatchOption opens (name ≡ None) (λ one. HasRoomAt openers one.0 × (name ≡ Some one.1))
+-- if a step opens a session from a host, there is room to note this number of sessions of the host, and the name of the session is at hand
+abbrev pub IsReady : OpenersView → ℕ → Option (List ℕ × List ℕ) → Option (List ℕ) → Type 0
+IsReady openers number opens name = MatchOption opens (name ≡ None) (λ one. HasRoomFor openers one.0 number × (name ≡ Some one.1))
 
 abbrev pub is_opening : (host sid : List ℕ) → List ℕ × List ℕ → Bool
 is_opening host sid one = bytes_eq one.0 host && bytes_eq one.1 sid

@@ -1,8 +1,8 @@
 use Rattle.std.proofs.Common.{sym, subst, ◌∙◌}
 use Rattle.dcc_tariff.specs.Terms.{TermsView}
-use Rattle.dcc_records.specs.Books.{no_acts}
-use Rattle.dcc_records.specs.Contents.{IsContentOf}
-use Rattle.dcc_records.specs.Memory.{content_of, leaves_of}
+use Rattle.dcc_store.specs.Books.{no_acts}
+use Rattle.dcc_store.specs.Contents.{IsContentOf}
+use Rattle.dcc_store.specs.Memory.{content_of, leaves_of}
 use Rattle.dcc_shard.specs.Shards.{held}
 use Rattle.dcc_shard.proofs.Storing.{empty_left}
 use Rattle.dcc_shard.proofs.memory.shard_in_memory.Goals as goal

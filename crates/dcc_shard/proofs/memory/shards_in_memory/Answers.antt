@@ -1,5 +1,5 @@
 use Rattle.std.proofs.Common.{List, rules, subst, sym}
-use Rattle.dcc_records.specs.Memory.{MemoryView}
+use Rattle.dcc_store.specs.Memory.{MemoryView}
 use Rattle.dcc_shard.specs.Shards.{held}
 use Rattle.dcc_shard.specs.Stored.{StoredView}
 use Rattle.dcc_shard.proofs.Beginnings.{AreEmpty, with_empty, nothing_held}

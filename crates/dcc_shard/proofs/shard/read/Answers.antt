@@ -1,5 +1,5 @@
 use Rattle.std.proofs.Common.{sym, ◌∙◌}
-use Rattle.dcc_records.specs.Books.{acts_in}
+use Rattle.dcc_store.specs.Books.{acts_in}
 use Rattle.dcc_shard.specs.Shards.{held_in}
 use Rattle.dcc_shard.proofs.Storing.{alike_left}
 use Rattle.dcc_shard.proofs.shard.read.Goals as goal

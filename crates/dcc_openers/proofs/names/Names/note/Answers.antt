@@ -7,8 +7,8 @@ use Rattle.dcc_openers.specs.declared.found.Found.TheVariants as found
 use Rattle.dcc_openers.proofs.Noting.{on_success, either_found}
 use Rattle.dcc_openers.proofs.names.Names.note.Goals as goal
 
-pub returns : goal.returns
-returns c s =
+pub returns-clause-noted : goal.returns-clause-noted
+returns-clause-noted c s =
     let names = c.self.inside.names.entries in
     rw (← c.self.view_is) (ap (λ (o : Option Found). unwrap_or o found.None) ((on_success c.insert.result c.unwrap.result _ c.unwrap.ensures c.insert.ensures.updates).0 s)
     ∙ either_found (bytes_eq c.args.sid s) c.noted-found.result _

@@ -10,5 +10,5 @@ invariant_of-self c =
     let step = step_of c.args.ready.pending in
     let pending = subst (λ (v : IndexedView). IsPending v.books c.args.sub step.act c.args.ready.pending) (sym c.self.view_is) c.requires.pending in
     openers_after c.same_subscribers_are_equal.ensures c.leaving_out_changes_nothing.ensures.openers c.one_more_act_opens.ensures c.self.inside.books c.install.new.self c.args.sub step
-    c.self.inside.openers c.note.new.openers c.self.invariant c.install.ensures pending.outcome_is pending.new_is
-    (λ h s. c.note.ensures h s ∙ ap (λ (made : StepView). noted_at (opening made) c.args.sub c.self.inside.openers h s) c.step.ensures)
+    c.self.inside.openers c.note.new.openers c.self.invariant c.install.ensures.step pending.outcome_is pending.new_is
+    (λ h s. c.note.ensures.noted h s ∙ ap (λ (made : StepView). noted_at (opening made) c.args.sub c.self.inside.openers h s) c.step.ensures)

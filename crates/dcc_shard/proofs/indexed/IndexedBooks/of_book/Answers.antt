@@ -1,5 +1,5 @@
 use Rattle.std.proofs.Common.{◌++◌, length, drop, rules, ap, subst, ◌∙◌, option_to_list}
-use Rattle.dcc_records.specs.Books.{acts_in, AreInOrder}
+use Rattle.dcc_store.specs.Books.{acts_in, AreInOrder}
 use Rattle.dcc_shard.proofs.Pages.{next_page, none_held}
 use Rattle.dcc_shard.proofs.indexed.IndexedBooks.of_book.Goals as goal
 

@@ -1,6 +1,6 @@
 use Rattle.std.proofs.Common.{◌≡◌, ◌+◌, length, take, drop}
 use Rattle.dcc_act.specs.declared.sub.Sub.{Sub}
-use Rattle.dcc_records.specs.Books.{acts_in}
+use Rattle.dcc_store.specs.Books.{acts_in}
 use Rattle.dcc_shard.specs.Shards.{held_in}
 use Rattle.dcc_shard.proofs.indexed.IndexedBooks.of_book.Given as goal
 

@@ -8,4 +8,4 @@ returns-clause-beyond g c = rw (← c.self.view_is) c.self.invariant.2
 pub returns-clause-left : goal.returns-clause-left
 returns-clause-left g c =
     let books = c.self.inside.books.books in
-    rw (← c.self.view_is) (held_left c.one_more_act.ensures books.terms (held_in books.rows) _ _ c.acts_are_own.ensures c.self.invariant.1 c.self.invariant.2)
+    rw (← c.self.view_is) (held_left c.same_subscribers_are_equal.ensures c.one_more_act.ensures books.terms (held_in books.rows) _ _ c.acts_are_own.ensures c.self.invariant.1 c.self.invariant.2)

@@ -1,10 +1,10 @@
 use Rattle.std.proofs.Common.{◌≡◌, true, false, sym, ap, subst, ◌∙◌}
 use Rattle.dcc_tariff.specs.Terms.{TermsView}
-use Rattle.dcc_records.specs.Stops.{LeavesOnly}
+use Rattle.dcc_store.specs.Stops.{LeavesOnly}
 use Rattle.dcc_shard.specs.Shards.{held_in}
 use Rattle.dcc_shard.specs.inner.Books.{BooksView, KeptView, IsStepOfBooks}
 use Rattle.dcc_shard.specs.inner.Pending.{step_of, IsPending}
-use Rattle.dcc_shard.proofs.Storing.{next_of, next_in_found, stored_only, alike_only, held_with, held_same, with_then, appended_of, kept_by_append, kept_without, one_more_left, only_left}
+use Rattle.dcc_shard.proofs.Storing.{next_of, next_in_found, stored_only, alike_only, held_with, held_same, with_then, appended_of, kept_by_append, kept_without, one_more_left, only_in_batch}
 use Rattle.dcc_shard.proofs.kept.KeptBooks.commit.Goals.{then-is_new+in-Ok, else-is_new}
 use Rattle.dcc_shard.proofs.kept.KeptBooks.commit.Goals as goal
 
@@ -65,21 +65,21 @@ invariant_of-self-2 g c =
           let made : step.is_new ≡ true = sym (ap (λ s. s.is_new) c.step-step.ensures) ∙ sym c.is_new.ensures ∙ w.if-is_new.true in
           let books_are : c.if-is_new.self-inside.books.books ≡ books = ap (λ i. i.books.books) w.self-inside-is in
           let records_are : c.if-is_new.self-inside.records ≡ w.append.new.self = ap (λ i. i.records) w.self-inside-is in
-          let done = subst (λ (b : BooksView). IsStepOfBooks b c.install.new.self.books c.args.sub step.act) books_are c.install.ensures in
+          let done = subst (λ (b : BooksView). IsStepOfBooks b c.install.new.self.books c.args.sub step.act) books_are c.install.ensures.step in
           let alike = held_with c.same_subscribers_are_equal.ensures c.one_more_act.ensures c.acts_stand_apart.ensures.own c.acts_stand_apart.ensures.others books c.install.new.self.books c.args.sub step.act
           (c.acts_are_own.ensures c.args.sub) (sym pending.new_is ∙ made) done in
           let only =
           stored_only c.content_has_one_book.ensures.alike books.terms _ (held_in books.rows) (held_in c.install.new.self.books.rows) c.args.sub step.act w.act.result.now _ _ c.self.invariant.0 act_is
           w.in-Ok.ensures.stored alike before in
-          rw (records_are, done.terms) (w.append.ensures.terms ∙ c.self.invariant.0, λ _. only, λ _. only_left books.terms (held_in c.install.new.self.books.rows) c.args.sub step.act _ only)
+          rw (records_are, done.terms) (w.append.ensures.terms ∙ c.self.invariant.0, λ _. only, λ _. only_in_batch books.terms (held_in c.install.new.self.books.rows) _ only)
       | else-is_new w ↦
           let old : step.is_new ≡ false = sym (ap (λ s. s.is_new) c.step-step.ensures) ∙ sym c.is_new.ensures ∙ w.if-is_new.false in
           let books_are : c.if-is_new.self-inside.books.books ≡ books = ap (λ i. i.books.books) w.self-inside-is in
           let records_are : c.if-is_new.self-inside.records ≡ c.self.inside.records = ap (λ i. i.records) w.self-inside-is in
-          let done = subst (λ (b : BooksView). IsStepOfBooks b c.install.new.self.books c.args.sub step.act) books_are c.install.ensures in
+          let done = subst (λ (b : BooksView). IsStepOfBooks b c.install.new.self.books c.args.sub step.act) books_are c.install.ensures.step in
           let alike = held_same c.same_subscribers_are_equal.ensures c.one_more_act.ensures books c.install.new.self.books c.args.sub step.act (c.acts_are_own.ensures c.args.sub) (sym pending.new_is ∙ old) done in
           let only = alike_only c.content_has_one_book.ensures.alike books.terms (held_in books.rows) (held_in c.install.new.self.books.rows) _ alike before in
-          rw (records_are, done.terms) (c.self.invariant.0, λ _. only, λ _. only_left books.terms (held_in c.install.new.self.books.rows) c.args.sub step.act _ only)
+          rw (records_are, done.terms) (c.self.invariant.0, λ _. only, λ _. only_in_batch books.terms (held_in c.install.new.self.books.rows) _ only)
     ]
 
 pub returns-clause-kept : goal.returns-clause-kept
