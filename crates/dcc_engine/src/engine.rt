@@ -33,8 +33,8 @@ use dcc_model::{
     one_more_act_opens,
 };
 use dcc_octets::OctetString;
-use dcc_records::Records;
 use dcc_shard::Shards;
+use dcc_store::Records;
 use dcc_tariff::Plan;
 use std::alloc::{AllocError, Global};
 use std::marker::Model;

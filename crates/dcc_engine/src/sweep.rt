@@ -14,8 +14,8 @@ use crate::event::Out;
 use crate::outs::sweeping;
 use crate::subs::Subs;
 use dcc_act::{Moment, Sub, same_subscribers_are_equal};
-use dcc_records::Records;
 use dcc_shard::{ExpiryAnswer, Shards};
+use dcc_store::Records;
 use std::alloc::{AllocError, Global};
 
 impl<R: Records> Engine<R> {
