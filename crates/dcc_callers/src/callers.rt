@@ -3,9 +3,9 @@
 use crate::jobs::{after, event_job, opening};
 use dcc_act::{Action, Kind, Sub};
 use dcc_octets::OctetString;
-use dcc_records::Records;
 use dcc_running::{Job, Seat, Shards};
 use dcc_shard::{ExpiryAnswer, RequestAnswer, TopUpAnswer};
+use dcc_store::Records;
 use std::alloc::Global;
 use std::mem::replace;
 use std::sync::Wait;

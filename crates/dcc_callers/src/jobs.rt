@@ -1,6 +1,7 @@
 //! What gateways ask for: debits, and the opening of a session.
 
-ghost use Rattle.std.specs.Prelude.{◌≡◌, true, is_some};
+ghost use Rattle.std.specs.Prelude.{◌≡◌, true, is_some, IfSome};
+ghost use Rattle.dcc_model.specs.Keys.{request_key};
 
 use dcc_act::{
     Act, Action, Form, Kind, Moment, OneTimeEvent, RequestKey, Service, ServiceIds, Services,
@@ -42,7 +43,9 @@ fn key(alloc: Global, name: &[u8], number: u32) -> Option<RequestKey> {
 }
 
 /// A job of this act, under a header that has its number.
-fn job(alloc: Global, sub: Sub, act: Act, number: u32) -> Job {
+fn job(alloc: Global, sub: Sub, act: Act, number: u32) -> Job
+    ensures { (result.sub ≡ sub) × (result.act ≡ act) }
+{
     let header = Header {
         length: 20,
         flags: 192,
@@ -60,7 +63,9 @@ fn job(alloc: Global, sub: Sub, act: Act, number: u32) -> Job {
 }
 
 /// The act of a one-time event in a session of this name. None if there is no such name, or memory is short.
-pub fn event(alloc: Global, action: Action, name: &[u8], number: u32) -> Option<Act> {
+pub fn event(alloc: Global, action: Action, name: &[u8], number: u32) -> Option<Act>
+    ensures { IfSome result (λ act. is_some (request_key act.kind) ≡ true) }
+{
     let moment = after(0)?;
     let key = key(alloc, name, number)?;
     let kind = Kind::Event(OneTimeEvent {
@@ -78,7 +83,10 @@ pub(crate) fn event_job(
     action: Action,
     name: &[u8],
     number: u32,
-) -> Option<Job> {
+) -> Option<Job>
+    ensures sub { IfSome result (λ job. job.sub ≡ sub) }
+    ensures request { IfSome result (λ job. is_some (request_key job.act.kind) ≡ true) }
+{
     let act = event(alloc, action, name, number)?;
     Some(job(alloc, sub, act, number))
 }

@@ -7,8 +7,8 @@ ghost use Rattle.dcc_shard.specs.Routes.{shard_of};
 ghost use Rattle.dcc_shard.specs.Shards.{held};
 
 use dcc_message::Identity;
-use dcc_records::Records;
 use dcc_shard::Shard;
+use dcc_store::Records;
 use dcc_tariff::Terms;
 
 /// Whether these shards are under these terms, answer as this server, and hold only subscribers that they keep.

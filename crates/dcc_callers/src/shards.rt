@@ -1,8 +1,8 @@
 //! Shards over any records, as these tests and others begin with them.
 
 use dcc_message::{DiameterIdentity, Identity};
-use dcc_records::{MemoryRecords, Records};
 use dcc_shard::Shard;
+use dcc_store::{MemoryRecords, Records};
 use dcc_tariff::Terms;
 use std::alloc::Global;
 use std::hash::RandomState;

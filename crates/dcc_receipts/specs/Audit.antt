@@ -12,7 +12,7 @@ use Rattle.dcc_act.specs.Subs.{same_sub}
 use Rattle.dcc_credit.specs.Answers.{answer_octets}
 use Rattle.dcc_model.specs.Keys.{same_key}
 use Rattle.dcc_model.specs.Outcomes.{acts, outcome, unknown_of}
-use Rattle.dcc_records.specs.Books.{Held}
+use Rattle.dcc_store.specs.Books.{Held}
 use Rattle.dcc_receipts.specs.Acts.{same_act}
 use Rattle.dcc_receipts.specs.declared.receipt.Receipt.{Receipt}
 use Rattle.dcc_receipts.specs.declared.receipt.Told.{Told}

@@ -11,7 +11,7 @@ use Rattle.dcc_act.specs.declared.act.Act.{Act}
 use Rattle.dcc_act.specs.declared.sub.Sub.{Sub}
 use Rattle.dcc_act.specs.Subs.{same_sub, SameAreEqual}
 use Rattle.dcc_receipts.specs.Audit.{begins}
-use Rattle.dcc_records.specs.Books.{Held}
+use Rattle.dcc_store.specs.Books.{Held}
 use Rattle.dcc_running.specs.Books.{Opening, at_opening}
 
 abbrev is_begun : Opening → Held → Sub → Bool

@@ -1,3 +1,4 @@
+pub mod Batching
 pub mod Begun
 pub mod Copies
 pub mod Covering

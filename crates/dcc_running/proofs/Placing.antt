@@ -4,9 +4,9 @@ use Rattle.std.proofs.lemmas.Option.{slice_get-get_or}
 use Rattle.dcc_act.specs.declared.sub.Sub.{Sub}
 use Rattle.dcc_shard.specs.Routes.{shard_of}
 use Rattle.dcc_shard.specs.Shards.{held}
-use Rattle.dcc_records.specs.Contents.{Content}
-use Rattle.dcc_records.specs.Stops.{LeavesOnly}
-use Rattle.dcc_shard.specs.Stored.{StoredView, LeavesHeld, LeavesOneMore}
+use Rattle.dcc_store.specs.Contents.{Content}
+use Rattle.dcc_store.specs.Stops.{LeavesOnly}
+use Rattle.dcc_shard.specs.Stored.{StoredView, LeavesHeld, LeavesBatch}
 use Rattle.dcc_running.specs.Books.{book, held_by, IsKeptBy}
 
 pub placed_in : {R : Type 0} (parts : List (StoredView R)) (sub : Sub) (none : StoredView R) → 1 ≤ length parts
@@ -19,10 +19,10 @@ placed_in {R} parts sub none some =
 -- by what a shard says of its records
 pub kept_by : {R : Type 0} (is_stopped : R → Bool) (may_leave : R → Content → Type 0) (part : StoredView R) (records : R) → records ≡ part.records
     → (is_stopped records ≡ false → LeavesOnly part.shard.terms (held part.shard) (may_leave records))
-    → (is_stopped records ≡ true → LeavesOneMore part.shard.terms (held part.shard) (may_leave records)) → LeavesHeld (held part.shard) (may_leave records)
+    → (is_stopped records ≡ true → LeavesBatch part.shard.terms (held part.shard) (may_leave records)) → LeavesHeld (held part.shard) (may_leave records)
     → IsKeptBy is_stopped may_leave part
 kept_by {R} is_stopped may_leave part records same going stopped left = record {
   going = subst (λ (r : R). is_stopped r ≡ false → LeavesOnly part.shard.terms (held part.shard) (may_leave r)) same going;
-  stopped = subst (λ (r : R). is_stopped r ≡ true → LeavesOneMore part.shard.terms (held part.shard) (may_leave r)) same stopped;
+  stopped = subst (λ (r : R). is_stopped r ≡ true → LeavesBatch part.shard.terms (held part.shard) (may_leave r)) same stopped;
   left = subst (λ (r : R). LeavesHeld (held part.shard) (may_leave r)) same left;
 }

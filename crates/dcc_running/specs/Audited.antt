@@ -9,7 +9,7 @@ use Rattle.dcc_receipts.specs.Audit.{own, begins, agrees, is_answered, times, in
 use Rattle.dcc_receipts.specs.declared.fault.CloseFault.{CloseFault}
 use Rattle.dcc_receipts.specs.declared.fault.CloseFault.TheVariants.{Memory, ReceiptStray, ActWithoutReceipt, OutOfOrder}
 use Rattle.dcc_receipts.specs.declared.receipt.Receipt.{Receipt}
-use Rattle.dcc_records.specs.Books.{Held}
+use Rattle.dcc_store.specs.Books.{Held}
 use Rattle.dcc_running.specs.Books.{BooksView, AreShards, at_opening, book}
 
 -- a receipt agrees with its subscriber's acts, of which the first were there at opening, and has the answer by the outcome of its act

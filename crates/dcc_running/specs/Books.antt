@@ -8,12 +8,12 @@ use Rattle.dcc_message.specs.declared.identity.Identity.{Identity}
 use Rattle.dcc_act.specs.declared.act.Act.{Act}
 use Rattle.dcc_act.specs.declared.sub.Sub.{Sub}
 use Rattle.dcc_act.specs.Subs.{same_sub}
-use Rattle.dcc_records.specs.Books.{Held}
-use Rattle.dcc_records.specs.Contents.{Content}
-use Rattle.dcc_records.specs.Stops.{LeavesOnly}
+use Rattle.dcc_store.specs.Books.{Held}
+use Rattle.dcc_store.specs.Contents.{Content}
+use Rattle.dcc_store.specs.Stops.{LeavesOnly}
 use Rattle.dcc_shard.specs.Routes.{shard_of}
 use Rattle.dcc_shard.specs.Shards.{held}
-use Rattle.dcc_shard.specs.Stored.{StoredView, GoesOnFrom, LeavesHeld, LeavesOneMore}
+use Rattle.dcc_shard.specs.Stored.{StoredView, GoesOnFrom, LeavesHeld, LeavesBatch}
 
 -- subscribers with their acts at opening
 abbrev pub Opening : Type 0
@@ -54,10 +54,10 @@ pub record AreShards {R : Type 0} (terms : TermsView) (identity : Identity) (par
       → held (slice_index_or parts i none).shard sub ≢ [] → shard_of sub (length parts) ≡ i
 
 -- The contents that a stop leaves of a shard. If its records are not stopped, a stop leaves exactly the held acts. If they are stopped, it
--- leaves these, or these and the one act on which the records failed. So each subscriber keeps all its acts, with at most one act more.
+-- leaves these, or these and all acts of the batch on which the records failed. So each subscriber keeps all its acts, with at most one act more.
 pub record IsKeptBy {R : Type 0} (is_stopped : R → Bool) (may_leave : R → Content → Type 0) (part : StoredView R) : Type 0 where
   pub going : is_stopped part.records ≡ false → LeavesOnly part.shard.terms (held part.shard) (may_leave part.records)
-  pub stopped : is_stopped part.records ≡ true → LeavesOneMore part.shard.terms (held part.shard) (may_leave part.records)
+  pub stopped : is_stopped part.records ≡ true → LeavesBatch part.shard.terms (held part.shard) (may_leave part.records)
   pub left : LeavesHeld (held part.shard) (may_leave part.records)
 
 -- a stop leaves such contents of each of these shards

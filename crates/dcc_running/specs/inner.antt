@@ -1,3 +1,4 @@
+pub mod Batches
 pub mod Copies
 pub mod Locks
 pub mod Marked

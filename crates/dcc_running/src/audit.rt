@@ -18,7 +18,7 @@ use crate::seat::Seat;
 use dcc_act::{Journal, Outcome, Sub, same_subscribers_are_equal};
 use dcc_message::Identity;
 use dcc_receipts::{CloseFault, Marks, Receipt, agrees_with, begins, each_in_order, is_answered};
-use dcc_records::Records;
+use dcc_store::Records;
 use dcc_tariff::Terms;
 use std::alloc::{AllocError, Global};
 use std::hash::RandomState;

@@ -1,6 +1,6 @@
 //! The calls of many threads: each takes one lock, and adds its receipt to its caller's seat before it lets go of it.
 
-ghost use Rattle.std.specs.Prelude.{◌≡◌, ◌≤◌, ◌+◌, ◌++◌, [], true, false, is_some, length, vec_len, vec_capacity, IfOk, OnOk};
+ghost use Rattle.std.specs.Prelude.{◌≡◌, ◌≤◌, ◌<◌, ◌+◌, ◌++◌, [], true, false, is_some, length, vec_len, vec_capacity, IfOk, OnOk};
 ghost use Rattle.dcc_answer.specs.declared.answer.TheConstants.{MAX_ANSWER};
 ghost use Rattle.dcc_model.specs.Keys.{request_key};
 ghost use Rattle.dcc_shard.specs.Answers.{IsAnswer, IsExpired, IsTold, IsToldApart, IsRefusedBy, expiry_act, is_judged, is_judged_expiry, is_judged_top_up, octets_of, session_of_act, top_up_act};
@@ -8,18 +8,18 @@ ghost use Rattle.dcc_shard.specs.Shards.{IsStep};
 ghost use Rattle.dcc_running.specs.Calls.{IsAnswerTo, IsToldOf, IsEndOf, receipt, receipts_of, top_up_receipts, told_receipts, expiry_receipts, plain_receipt};
 
 use crate::job::Job;
-use crate::room::twice;
+use crate::room::{Spare, add_spares, twice};
 use crate::seat::Seat;
 use crate::shards::Shards;
 use dcc_act::{Act, Kind, Moment, Sub, TopUp};
-use dcc_answer::{MAX_ANSWER, Proxies, write_busy};
+use dcc_answer::{Proxies, write_busy};
 use dcc_credit::lend_session;
 use dcc_message::{Header, Identity};
 use dcc_model::request_key;
 use dcc_octets::OctetString;
 use dcc_receipts::{Receipt, Told};
-use dcc_records::Records;
 use dcc_shard::{ExpiryAnswer, RequestAnswer, Shard, TopUpAnswer};
+use dcc_store::Records;
 use std::alloc::{AllocError, Global};
 use std::sync::Wait;
 
@@ -42,15 +42,15 @@ impl<R: Records> Shards<R> {
         ensures apart { IsToldApart result }
         ensures receipt { seat.new ≡ seat.old ++ receipts_of job result }
     {
-        let Ok(act) = room_for(&mut seat.receipts, &mut seat.spare, &job.act) else {
+        let Ok(act) = room_for(alloc, &mut seat.receipts, &mut seat.spares, &job.act) else {
             let answer = busy(alloc, &self.identity, &job);
             // By a call: a job that is let go in place is proved part by part.
             drop(job);
             return answer;
         };
         let mut shard = self.lock_of(rt, &job.sub);
-        let (receipts, spare) = (&mut seat.receipts, &mut seat.spare);
-        make(alloc, &mut shard, receipts, spare, job, act)
+        let (receipts, spares) = (&mut seat.receipts, &mut seat.spares);
+        make(alloc, &mut shard, receipts, spares, job, act)
     }
 }
 
@@ -103,28 +103,26 @@ impl<R: Records> Shards<R> {
 }
 
 /// Makes a request's act in this shard, answers it, and adds the receipt of the answer, where it gives one. The conditions: the act is the job's, and
-/// there is room for the receipt.
+/// there is room for the receipt, and a spare room.
 fn make<R: Records>(
     alloc: Global,
     shard: &mut Shard<R>,
     receipts: &mut Vec<Receipt>,
-    spare: &mut Vec<u8>,
+    spares: &mut Vec<Spare>,
     job: Job,
     act: Act,
 ) -> RequestAnswer
     requires request { is_some (request_key job.act.kind) ≡ true }
     requires act { act ≡ job.act }
     requires room { vec_len receipts.old + 1 ≤ vec_capacity receipts.old }
-    requires empty { spare.old.items ≡ [] }
-    requires spare { MAX_ANSWER ≤ vec_capacity spare.old }
+    requires spare { 0 < length spares.old.items }
     ensures answer { IsAnswer shard.old.shard job.sub job.act job.header job.proxies result }
     ensures step { IsStep shard.old.shard shard.new.shard (is_judged result) job.sub job.act }
     ensures apart { IsToldApart result }
-    ensures spare { spare.new.items ≡ [] }
     ensures receipt { receipts.new.items ≡ receipts.old.items ++ receipts_of job result }
 {
     let answer = shard.step(alloc, job.sub, act, &job.header, &job.proxies);
-    keep(alloc, receipts, spare, job, answer)
+    keep(receipts, spares, job, answer)
 }
 
 /// Puts money into a subscriber's account in this shard, and adds the receipt, where there is one. The condition: there is room for it.
@@ -173,16 +171,19 @@ fn end<R: Records>(
     answer
 }
 
-/// Room for one receipt more, spare room for a copy of any answer, where it isn't there from a call before, and a copy of the act. The only
-/// error is want of memory.
-fn room_for(receipts: &mut Vec<Receipt>, spare: &mut Vec<u8>, act: &Act) -> Result<Act, AllocError>
+/// Room for one receipt more, a spare room, where none is there from a call before, and a copy of the act. The only error is want of memory.
+fn room_for(
+    alloc: Global,
+    receipts: &mut Vec<Receipt>,
+    spares: &mut Vec<Spare>,
+    act: &Act,
+) -> Result<Act, AllocError>
     ensures items { receipts.new.items ≡ receipts.old.items }
-    ensures spare { spare.new.items ≡ spare.old.items }
     ensures room { OnOk result (vec_len receipts.new + 1 ≤ vec_capacity receipts.new) }
-    ensures kept { OnOk result (MAX_ANSWER ≤ vec_capacity spare.new) }
+    ensures spare { OnOk result (0 < length spares.new.items) }
     ensures act { IfOk result (λ copy. copy ≡ act.now) }
 {
-    spare.reserve(MAX_ANSWER)?;
+    add_spares(alloc, spares, 1)?;
     receipts.reserve(1)?;
     act.copy()
 }
@@ -203,19 +204,21 @@ fn busy(alloc: Global, identity: &Identity, job: &Job) -> RequestAnswer
     }
 }
 
-/// Adds the receipt of an answer to a job, where it gives one, and gives the answer back.
-fn keep(
-    alloc: Global,
+/// Adds the receipt of an answer to a job, where it gives one, and gives the answer back. The conditions: there is room for the receipt, and a
+/// spare room.
+pub(crate) fn keep(
     receipts: &mut Vec<Receipt>,
-    spare: &mut Vec<u8>,
+    spares: &mut Vec<Spare>,
     job: Job,
     answer: RequestAnswer,
 ) -> RequestAnswer
     requires room { vec_len receipts.old + 1 ≤ vec_capacity receipts.old }
-    requires empty { spare.old.items ≡ [] }
-    requires bounded { length (octets_of answer) ≤ vec_capacity spare.old }
+    requires spare { 0 < length spares.old.items }
+    requires bounded { length (octets_of answer) ≤ MAX_ANSWER }
     ensures same { result ≡ answer }
-    ensures spare { spare.new.items ≡ [] }
+    ensures few { vec_len receipts.new ≤ vec_len receipts.old + 1 }
+    ensures capacity { vec_capacity receipts.new ≡ vec_capacity receipts.old }
+    ensures spares { length spares.old.items ≤ length spares.new.items + 1 }
     ensures receipt { receipts.new.items ≡ receipts.old.items ++ receipts_of job answer }
 {
     match answer {
@@ -224,7 +227,7 @@ fn keep(
             place,
             fresh,
         } => {
-            let (kept, octets) = twice(alloc, spare, octets);
+            let (kept, octets) = twice(spares, octets);
             receipts.push_reserved(receipt(job, kept, place, fresh));
             RequestAnswer::Done {
                 octets,
@@ -233,7 +236,7 @@ fn keep(
             }
         }
         RequestAnswer::Unknown { octets } => {
-            let (kept, octets) = twice(alloc, spare, octets);
+            let (kept, octets) = twice(spares, octets);
             receipts.push_reserved(receipt(job, kept, 0, false));
             RequestAnswer::Unknown { octets }
         }
@@ -288,7 +291,14 @@ fn keep_top_up(alloc: Global, receipts: &mut Vec<Receipt>, sub: Sub, act: Act, a
 }
 
 /// The receipt of what is no request.
-fn plain(alloc: Global, sub: Sub, act: Act, place: u64, answer: Told, fresh: bool) -> Receipt
+pub(crate) fn plain(
+    alloc: Global,
+    sub: Sub,
+    act: Act,
+    place: u64,
+    answer: Told,
+    fresh: bool,
+) -> Receipt
     ensures { result ≡ plain_receipt sub act place answer fresh }
 {
     Receipt {

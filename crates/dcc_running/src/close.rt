@@ -8,7 +8,7 @@ use crate::books::Books;
 use crate::seat::Seat;
 use crate::shards::Shards;
 use dcc_receipts::CloseFault;
-use dcc_records::Records;
+use dcc_store::Records;
 use std::alloc::Global;
 
 /// What `close` hands back where receipts and books disagree, or memory was short.

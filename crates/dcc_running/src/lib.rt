@@ -1,7 +1,7 @@
 //! Shards that work in many threads, each under a lock, and what they did compared with what callers were told.
 //!
 //! Stands on `dcc_shard` for one subscriber's step, and on `dcc_receipts` for the tests of receipts. Each call takes one shard's lock and
-//! makes one step of `dcc_shard` under it. The contract that it gives: a call adds to its caller's seat the receipt of what it was told,
+//! makes one step of `dcc_shard` under it, or, of several subscribers of the shard at once, one batch. The contract that it gives: a call adds to its caller's seat the receipt of what it was told,
 //! and no other; once all threads are done, `close` takes the shards out of their locks and compares all receipts with them. Where it
 //! answers Ok, the acts of each subscriber begin with those at opening, each receipt stands in them with what its act came to, each act
 //! since opening has just one fresh receipt, each seat's receipts are in order, and the acts are those that they themselves make. Else it
@@ -13,7 +13,9 @@
 //! (`dcc_serving_tests`).
 #![tactic(auto)]
 
+mod apart;
 mod audit;
+mod batches;
 mod books;
 mod calls;
 mod close;

@@ -1,11 +1,12 @@
 //! A shard's lock.
 
 ghost use Rattle.std.specs.Prelude.{◌≡◌};
+ghost use Rattle.dcc_running.specs.inner.Batches.{AreKeptAt};
 ghost use Rattle.dcc_shard.specs.Routes.{shard_of};
 
 use dcc_act::Sub;
-use dcc_records::Records;
-use dcc_shard::Shard;
+use dcc_shard::{Call, Shard};
+use dcc_store::Records;
 use std::sync::{Mutex, MutexGuard, Wait};
 
 /// The place at this index, of so many.
@@ -38,6 +39,18 @@ impl<R: Records> Lock<R> {
         requires { self.now.place.index ≡ shard_of sub.now self.now.place.count }
     {
         let _sub = sub;
+        self.shard.lock(rt)
+    }
+
+    /// Waits for the lock, for these calls. The condition: the shard keeps the subscriber of each.
+    pub(crate) fn lock_for_all<'a, W: Wait>(
+        &'a self,
+        rt: &W,
+        calls: &[Call],
+    ) -> MutexGuard<'a, Shard<R>>
+        requires { AreKeptAt self.now.place calls.now }
+    {
+        let _calls = calls;
         self.shard.lock(rt)
     }
 

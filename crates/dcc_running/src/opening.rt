@@ -9,8 +9,8 @@ ghost use Rattle.dcc_shard.specs.Shards.{held};
 ghost use Rattle.dcc_shard.specs.Stored.{StoredView};
 
 use dcc_act::{Act, Journal, Looks, Sub, same_subscribers_are_equal};
-use dcc_records::Records;
 use dcc_shard::Shard;
+use dcc_store::Records;
 use std::alloc::{AllocError, Global};
 use std::collections::HashMap;
 use std::hash::RandomState;

@@ -9,8 +9,8 @@ ghost use Rattle.dcc_shard.specs.Shards.{held};
 use crate::books::Books;
 use dcc_act::same_subscribers_are_equal;
 use dcc_message::Identity;
-use dcc_records::Records;
 use dcc_shard::{Shard, shard_of};
+use dcc_store::Records;
 use dcc_tariff::Terms;
 use std::alloc::{AllocError, Global};
 

@@ -2,6 +2,7 @@
 
 ghost use Rattle.std.specs.Prelude.{◌≡◌, ◌++◌, ◌∷◌, ◌<◌, ◌≤◌, ◌+◌, [], IfOk, OnOk, OnErr};
 
+use crate::room::Spare;
 use dcc_receipts::Receipt;
 use std::alloc::{AllocError, Global};
 use std::marker::Model;
@@ -10,19 +11,17 @@ use std::marker::Model;
 #[derive(Debug, Drop)]
 pub struct Seat {
     pub(crate) receipts: Vec<Receipt>,
-    /// Room for a copy of one answer more, where memory for it is refused: none before the first call, nor once it was used up.
-    pub(crate) spare: Vec<u8>,
+    /// Rooms for copies of answers, where memory for them is refused: none before the first call, and one fewer for each that was used up.
+    pub(crate) spares: Vec<Spare>,
 }
 
 impl Model for Seat {
-    ghost use Rattle.std.specs.Prelude.{◌≡◌, List, []};
+    ghost use Rattle.std.specs.Prelude.{List};
     ghost use Rattle.dcc_receipts.specs.declared.receipt.Receipt.{Receipt};
 
     ghost Value = { List Receipt };
 
     ghost view = { λ s. s.receipts.items };
-
-    ghost invariant = { λ s. s.spare.items ≡ [] };
 }
 
 /// For how many receipts there is room at first.
@@ -35,7 +34,7 @@ impl Seat {
     {
         Ok(Seat {
             receipts: Vec::with_capacity(alloc, ROOM)?,
-            spare: Vec::new(alloc),
+            spares: Vec::new(alloc),
         })
     }
 

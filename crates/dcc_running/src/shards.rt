@@ -3,9 +3,10 @@
 ghost use Rattle.std.specs.Prelude.{◌≡◌, ◌≢◌, ℕ, ◌<◌, ◌≤◌, [], length, slice_index_or, IfOk, IfErr, vec_len, vec_capacity};
 ghost use Rattle.std.specs.List.Sorted.{IsStrictlySortedBy};
 ghost use Rattle.dcc_act.specs.declared.sub.Sub.{Sub};
-ghost use Rattle.dcc_records.specs.Books.{sub_order};
+ghost use Rattle.dcc_store.specs.Books.{sub_order};
 ghost use Rattle.dcc_running.specs.Books.{at_opening, book};
 ghost use Rattle.dcc_running.specs.Calls.{AreSubs, IsResolved, IsToldStopped};
+ghost use Rattle.dcc_running.specs.inner.Batches.{AreKeptAt};
 ghost use Rattle.dcc_running.specs.inner.Locks.{AreOf};
 ghost use Rattle.dcc_shard.specs.Routes.{shard_of};
 ghost use Rattle.dcc_shard.specs.Shards.{held};
@@ -17,8 +18,8 @@ use crate::seat::Seat;
 use dcc_act::{SessionId, Sub};
 use dcc_message::Identity;
 use dcc_octets::Host;
-use dcc_records::Records;
-use dcc_shard::{Found, Shard, shard_of};
+use dcc_shard::{Call, Found, Shard, shard_of};
+use dcc_store::Records;
 use dcc_tariff::Terms;
 use std::alloc::{AllocError, Global};
 use std::hash::RandomState;
@@ -124,6 +125,28 @@ impl<R: Records> Shards<R> {
         ensures { IsToldStopped R.is_stopped result }
     {
         self.locks[shard].lock_as(rt, shard).records().is_stopped()
+    }
+
+    /// The index of the shard that keeps a subscriber.
+    pub fn index_of(&self, sub: &Sub) -> usize
+        ensures value { result ≡ shard_of sub.now self.now.count }
+        ensures within { result < self.now.count }
+    {
+        shard_of(sub, self.locks.len())
+    }
+
+    /// Waits for the lock of the shard that keeps the subscribers of these calls. The conditions: it keeps this subscriber, and the subscriber
+    /// of each call.
+    pub(crate) fn lock_of_all<'a, W: Wait>(
+        &'a self,
+        rt: &W,
+        sub: &Sub,
+        calls: &[Call],
+    ) -> MutexGuard<'a, Shard<R>>
+        requires { AreKeptAt (record { index = shard_of sub.now self.now.count; count = self.now.count }) calls.now }
+    {
+        let at = shard_of(sub, self.locks.len());
+        self.locks[at].lock_for_all(rt, calls)
     }
 
     /// Waits for the lock of the shard that keeps a subscriber.
