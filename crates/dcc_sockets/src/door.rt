@@ -7,7 +7,7 @@ use crate::refusal::{Refusal, meaning_of};
 use crate::silence::Silence;
 use crate::trouble::{Trouble, tell};
 use dcc_octets::OctetString;
-use dcc_serve::{Connection, Listener, Tick};
+use dcc_rounds::{Connection, Listener, Tick};
 use std::alloc::Global;
 use std::io::{Eprint, ErrorKind};
 use std::net::{Net, SocketAddr, SocketAddrV4, TcpListener, TcpStream};

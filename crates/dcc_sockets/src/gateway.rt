@@ -9,7 +9,7 @@ use crate::options::keep_alive;
 use crate::silence::Silence;
 use crate::trouble::{Trouble, tell};
 use crate::waiting::{WRITE_SECONDS, Waiting};
-use dcc_serve::Shut;
+use dcc_rounds::Shut;
 use std::io;
 use std::io::{Eprint, ErrorKind, Read, Write};
 use std::net::{Shutdown, SocketAddr, TcpStream};

@@ -1,7 +1,7 @@
 //! The network, the clock and the standard error of the system, for a server: gateways that connect over TCP, moments, and lines that
 //! report what happened.
 //!
-//! Stands on std's sockets, and on `dcc_serve` and `dcc_connect` for what a listener, a connection and a clock are. What a socket gives and
+//! Stands on std's sockets, and on `dcc_rounds` and `dcc_connect` for what a listener, a connection and a clock are. What a socket gives and
 //! takes, and what a clock returns, are the system's. The contract here is only that a call ends, that a moment is within its limits, for
 //! how long a gateway is waited for ([`Silence`], [`Waiting`]), and what an error of accepting means ([`meaning_of`]). [`Door`] is a bound
 //! listener, [`Closing`] says whether a server that stays is to end, [`Input`] and [`Output`] are the halves of a connection,

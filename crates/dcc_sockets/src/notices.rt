@@ -2,7 +2,7 @@
 
 use dcc_connect::{ConnectFault, ConnectionEnd, WriteEnd};
 use dcc_octets::{FIRST_VISIBLE, LAST_VISIBLE};
-use dcc_serve::{Notice, Notices};
+use dcc_rounds::{Notice, Notices};
 use std::fmt;
 use std::io::Eprint;
 use std::sync::Wait;

@@ -1,0 +1,6 @@
+use Rattle.std.proofs.Common.{◌≡◌}
+use Rattle.dcc_rounds.specs.Timing.{TimesSweeps}
+use Rattle.dcc_rounds.proofs.timer.SweepTimer.sweep_on_time.Given as goal
+
+abbrev pub invariant-loop : goal.invariant-loop
+invariant-loop g l = TimesSweeps g.C.Clock.tells l.fn.self l.fn.clock l.self l.clock × (l.self.stays ≡ l.fn.self.stays)

@@ -1,0 +1,9 @@
+use Rattle.std.proofs.Common.{◌≡◌, ◌≤◌, take}
+use Rattle.dcc_rounds.specs.Counting.{acts_of}
+use Rattle.dcc_rounds.proofs.worker.Worker.acts.Given as goal
+
+abbrev pub invariant-loop-receipt : goal.invariant-loop-receipt
+invariant-loop-receipt l = record {
+  count : l.count ≡ acts_of (take l.receipt-index l.receipt-items);
+  few : l.count ≤ l.receipt-index;
+}

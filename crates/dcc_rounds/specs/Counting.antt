@@ -1,0 +1,52 @@
+-- The counts and the seats that the threads of a round leave.
+use Rattle.std.specs.Prelude.{ℕ, ◌+◌, ◌-◌, ◌^◌, min, List, Option, Some, None, sum_by, count_by}
+use Rattle.dcc_connect.specs.declared.writing.WriteEnd.{WriteEnd}
+use Rattle.dcc_receipts.specs.declared.receipt.Receipt.{Receipt}
+use Rattle.dcc_rounds.specs.declared.line.Counts.{Counts}
+use Rattle.dcc_rounds.specs.declared.tasks.Task.{Task}
+use Rattle.dcc_rounds.specs.declared.tasks.Task.TheVariants.{Work, Time, Place}
+
+-- the number of acts of these receipts: each act has one fresh receipt
+abbrev pub acts_of : List Receipt → ℕ
+acts_of receipts = count_by (λ (receipt : Receipt). receipt.fresh) receipts
+
+-- a count that stops at the most that is reported
+abbrev pub at_most : ℕ → ℕ
+at_most count = min count (2 ^ 64 - 1)
+
+-- the number of answers that went out whole, with those of one more gateway
+abbrev pub with_answers : ℕ → WriteEnd → ℕ
+with_answers count written = at_most (count + written.answers)
+
+module _ {I O : Type 0} where
+  -- the number of requests that a thread handed to shards
+  abbrev pub requests_in : Task I O → ℕ
+  requests_in (Work worker) = 0
+  requests_in (Time timer) = 0
+  requests_in (Place place) = place.reader.requests
+
+  -- the number of answers that a thread wrote whole
+  abbrev pub answers_in : Task I O → ℕ
+  answers_in (Work worker) = 0
+  answers_in (Time timer) = 0
+  answers_in (Place place) = place.answers
+
+  -- the number of acts that a thread made
+  abbrev pub acts_in : Task I O → ℕ
+  acts_in (Work worker) = acts_of worker.seat
+  acts_in (Time timer) = 0
+  acts_in (Place place) = 0
+
+  -- the seat of a thread, if it is a worker
+  abbrev pub seat_in : Task I O → Option (List Receipt)
+  seat_in (Work worker) = Some worker.seat
+  seat_in (Time timer) = None
+  seat_in (Place place) = None
+
+  -- the counts of a round: the sums over its threads
+  abbrev pub counts_in : List (Task I O) → Counts
+  counts_in tasks = record {
+    requests = at_most (sum_by requests_in tasks);
+    answers = at_most (sum_by answers_in tasks);
+    acts = at_most (sum_by acts_in tasks);
+  }

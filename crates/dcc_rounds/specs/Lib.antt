@@ -1,0 +1,15 @@
+pub mod Rounds
+pub mod Lines
+pub mod Lanes
+pub mod Working
+pub mod Handing
+pub mod Writing
+pub mod Counting
+pub mod Visiting
+pub mod Timing
+pub mod Tasks
+pub mod Gathering
+pub mod Finishing
+pub mod Answering
+pub mod Served
+pub mod inner

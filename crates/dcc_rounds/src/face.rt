@@ -1,0 +1,85 @@
+//! What the server is given from outside: the source of its connections, and the receiver of its notices.
+
+ghost use Rattle.std.specs.Prelude.{◌≡◌, IfNone};
+ghost use Rattle.dcc_rounds.specs.declared.face.Tick.TheVariants as end;
+
+use dcc_connect::{ConnectionEnd, WriteEnd};
+use dcc_octets::OctetString;
+use std::io::{self, Write};
+use std::sync::Wait;
+
+/// A gateway's connection, in two halves, each for a thread of its own.
+#[derive(Drop)]
+pub struct Connection<I, O> {
+    /// What the gateway sends is read here.
+    pub input: I,
+    /// What it is sent is written here.
+    pub output: O,
+    /// Where it came from, as text.
+    pub name: OctetString,
+}
+
+/// What is due once a while has passed.
+#[derive(Clone, Copy, Debug, PartialEq, Eq)]
+pub enum Tick {
+    /// Nothing is.
+    Nothing,
+    /// A sweep of all shards.
+    Sweep,
+    /// The end: no more connections are taken in.
+    End,
+}
+
+/// Who takes connections in.
+pub trait Listener<I, O> {
+    /// That no more connections are taken in for places.
+    ghost is_closed: { Type 0 };
+
+    /// The next connection of a round. It may wait for it.
+    fn accept(&mut self) -> io::Result<Connection<I, O>>;
+
+    /// The next connection for a place that is free, at the call of one thread of several. None once no more are taken in. It may wait.
+    fn enter<W: Wait>(&self, rt: &W) -> Option<Connection<I, O>>
+        ensures { IfNone result is_closed };
+
+    /// Waits for a while, and returns what is due behind it.
+    fn tick<W: Wait>(&self, rt: &W) -> Tick
+        ensures { result ≡ end.End → is_closed };
+
+    /// Whether no more connections are taken in for places because the listener failed.
+    fn has_failed(&self) -> bool;
+}
+
+/// The half of a connection that is written to, which can end both.
+pub trait Shut: Write {
+    ghost use Rattle.std.specs.Io.KnownBytes.{Keeps};
+
+    /// That both halves were ended.
+    ghost is_shut: { Self → Type 0 };
+
+    /// Ends both halves at once: a reader of the other half finds its end. What was written stays.
+    fn shut(&mut self)
+        ensures kept { Keeps (Self.contents self.old) (Self.contents self.new) }
+        ensures shut { is_shut self.new };
+}
+
+/// What happened to a gateway or a shard. Gateways are counted from 1 in each round, shards from 0.
+#[derive(Clone, Copy, Debug)]
+pub enum Notice<'a> {
+    /// A gateway came from here.
+    Came { gate: usize, name: &'a [u8] },
+    /// Its host has this name.
+    Host { gate: usize, host: &'a [u8] },
+    /// Nothing more is read of it.
+    Read { gate: usize, end: ConnectionEnd },
+    /// Nothing more is written to it.
+    Written { gate: usize, end: WriteEnd },
+    /// The records of a shard failed, and it answers busy from then on.
+    Stopped { shard: usize },
+}
+
+/// The receiver of notices of what happened, from several threads at once.
+pub trait Notices {
+    /// Takes a notice. It may wait.
+    fn tell<W: Wait>(&self, rt: &W, notice: Notice<'_>);
+}

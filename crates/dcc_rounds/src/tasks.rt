@@ -1,0 +1,98 @@
+//! What the threads of a round do.
+
+ghost use Rattle.std.specs.Prelude.{◌≡◌};
+ghost use Rattle.dcc_rounds.specs.Tasks.{Runs};
+ghost use Rattle.dcc_rounds.specs.Counting.{requests_in, answers_in, acts_in};
+
+use crate::face::{Listener, Notices, Shut};
+use crate::place::Place;
+use crate::timer::SweepTimer;
+use crate::worker::Worker;
+use dcc_connect::Clock;
+use dcc_message::Identity;
+use dcc_running::Shards;
+use dcc_store::Records;
+use dcc_tariff::Plan;
+use std::alloc::Global;
+use std::io::Read;
+use std::sync::Wait;
+use std::thread::Threads;
+
+/// What one thread of a round does, and what came of it.
+#[derive(Drop)]
+pub(crate) enum Task<I, O> {
+    Work(Worker),
+    Time(SweepTimer),
+    Place(Place<I, O>),
+}
+
+/// What all threads of a round share.
+#[derive(Drop)]
+pub(crate) struct Shared<'a, R: Records, L, C, N> {
+    pub alloc: Global,
+    pub plan: &'a Plan,
+    pub identity: &'a Identity,
+    pub clock: &'a C,
+    pub notices: &'a N,
+    pub listener: &'a L,
+    pub shards: &'a Shards<R>,
+    /// So many shards there are.
+    pub count: usize,
+    ghost counted: { count ≡ shards.now.count },
+}
+
+impl<I: Read + Send + Drop, O: Shut + Send + Drop> Task<I, O> {
+    /// Does what there is to do.
+    pub fn run<
+        W: Threads + Wait + Sync,
+        R: Records + Send + Sync + Drop,
+        L: Listener<I, O> + Sync,
+        C: Clock + Copy + Sync,
+        N: Notices + Sync,
+    >(&mut self, rt: &W, shared: &Shared<'_, R, L, C, N>)
+        ensures { Runs I.remaining O.contents C.tells L.is_closed shared.now.clock.now (record { plan = shared.now.plan.now; identity = shared.now.identity.now })
+            shared.now.count self.old self.new }
+    {
+        match self {
+            Task::Work(worker) => {
+                if worker.shard < shared.count {
+                    worker.run(rt, shared.alloc, shared.shards);
+                }
+            }
+            Task::Time(timer) => timer.run::<W, R, I, O, L, C, N>(rt, shared),
+            Task::Place(place) => place.run(rt, shared),
+        }
+    }
+}
+
+impl<I, O> Task<I, O> {
+    /// How many requests it handed to shards.
+    pub fn requests(&self) -> u64
+        ensures { result ≡ requests_in self.now }
+    {
+        match self {
+            Task::Place(place) => place.reader.requests,
+            Task::Work(_) | Task::Time(_) => 0,
+        }
+    }
+
+    /// How many answers it wrote whole.
+    pub fn answers(&self) -> u64
+        ensures { result ≡ answers_in self.now }
+    {
+        match self {
+            Task::Place(place) => place.answers,
+            Task::Work(_) | Task::Time(_) => 0,
+        }
+    }
+
+    /// How many acts it made.
+    pub fn acts(&self) -> u64
+        ensures { result ≡ acts_in self.now }
+    {
+        match self {
+            Task::Work(worker) => worker.acts(),
+            Task::Place(_) | Task::Time(_) => 0,
+        }
+    }
+}

@@ -1,0 +1,428 @@
+//! The worker of a shard.
+
+ghost use Rattle.std.specs.Prelude.{◌≡◌, ◌<◌, ◌≤◌, ◌+◌, ◌∷◌, [], Some, count_by, drop, if◌then◌else◌, length, MatchOption, take};
+ghost use Rattle.dcc_lane.specs.Ends.{IsSameReceiver, TakesOne, senders_of, taken_of};
+ghost use Rattle.dcc_rounds.specs.Counting.{acts_of};
+ghost use Rattle.dcc_rounds.specs.Handing.{one_more};
+ghost use Rattle.dcc_rounds.specs.Lanes.{all_put, lanes_of};
+ghost use Rattle.dcc_rounds.specs.Working.{Answers, AreListed, CountsFor, Does, ExpiresEach, Goes, HasDone, IsCounted, doing_of, is_over, left_of, octets_in};
+ghost use Rattle.dcc_rounds.specs.inner.Batches.{AnswersTaken};
+
+use crate::batch::{BATCH, answer_batch, gather, leave_answer};
+use crate::counter::SweepCounter;
+use crate::lanes::{put_into, ring_all};
+use crate::rest::Rest;
+use crate::work::{Request, Work};
+use dcc_act::{Moment, Sub};
+use dcc_connect::Item;
+use dcc_lane::{Receiver, Sender};
+use dcc_octets::OctetString;
+use dcc_running::{Seat, Shards};
+use dcc_shard::RequestAnswer;
+use dcc_store::Records;
+use std::alloc::Global;
+use std::sync::Wait;
+
+/// A worker that took so many items without a wait has more to do than it can: from then on it wakes writers once for so many items, in which
+/// their threads don't take the processor from it.
+const BUSY: u32 = 32;
+
+/// The most subscribers that are asked of a sweep before the lane is looked at again.
+const PIECE: usize = 64;
+
+/// A worker's ends of lanes, and its seat.
+#[derive(Drop)]
+pub(crate) struct Worker {
+    /// The index of its shard.
+    pub shard: usize,
+    pub seat: Seat,
+    /// Counts the calls of its sweeps, from none on in each run.
+    pub counter: SweepCounter,
+    pub from: Receiver<Work>,
+    /// One for each place's writer, by its index.
+    pub writers: Vec<Sender<Item>>,
+}
+
+impl Worker {
+    /// Does what its lane asks for, and goes on with its sweep in between, until none of its senders puts anything more and no subscriber is left
+    /// to be asked.
+    pub fn run<W: Wait, R: Records>(&mut self, rt: &W, alloc: Global, shards: &Shards<R>)
+        requires { self.old.shard < shards.now.count }
+        ensures { HasDone self.old self.new (senders_of self.old.from) }
+    {
+        self.counter = SweepCounter::new(self.shard);
+        let mut rest = Rest::new(alloc);
+        let mut batch = Vec::new(alloc);
+        let senders = self.from.senders();
+        let mut ended = 0usize;
+        let mut since = 0u32;
+        for _ in rt.forever() {
+            wake(self.writers.as_slice(), since);
+            if ended < senders {
+                if self.take_some(rt, alloc, shards, &mut rest, &mut batch, &mut since) {
+                    ended += 1;
+                }
+            } else if rest.count() == 0 {
+                // By a call: requests that are let go in place are proved part by part.
+                drop(batch);
+                return;
+            }
+            self.ask_piece(rt, alloc, shards, &mut rest);
+        }
+        unreachable!()
+    }
+
+    /// Takes requests and answers them, and then does the item behind them, if it took one. If a subscriber is left to be asked, it waits for no item.
+    /// It returns whether it took an item whose sender puts nothing more.
+    fn take_some<W: Wait, R: Records>(
+        &mut self,
+        rt: &W,
+        alloc: Global,
+        shards: &Shards<R>,
+        rest: &mut Rest,
+        batch: &mut Vec<Request>,
+        since: &mut u32,
+    ) -> bool
+        requires shard { self.old.shard < shards.now.count }
+        requires counted { IsCounted self.old.counter rest.old }
+        requires empty { batch.old.items ≡ [] }
+        ensures goes { Goes self.old self.new rest.old rest.new (if result then 1 else 0) }
+        ensures counted { IsCounted self.new.counter rest.new }
+        ensures empty { batch.new.items ≡ [] }
+    {
+        let waits = rest.count() == 0;
+        match self.take_requests(rt, alloc, shards, batch, since, waits) {
+            Some(work) => self.do_one(rt, alloc, shards, rest, work),
+            None => false,
+        }
+    }
+
+    /// Takes the requests that its lane has without a wait, up to [`BATCH`] of different subscribers, and answers them together. If no item is there, it
+    /// takes none, or waits for one if `waits` is set. It returns the item behind these requests, if it took one: this item isn't done yet. Behind several
+    /// requests, and before such an item, it wakes all that sleep.
+    fn take_requests<W: Wait, R: Records>(
+        &mut self,
+        rt: &W,
+        alloc: Global,
+        shards: &Shards<R>,
+        batch: &mut Vec<Request>,
+        since: &mut u32,
+        waits: bool,
+    ) -> Option<Work>
+        requires { batch.old.items ≡ [] }
+        ensures taken { AnswersTaken self.old self.new result }
+        ensures empty { batch.new.items ≡ [] }
+    {
+        let work = next(rt, &mut self.from, self.writers.as_slice(), since, waits)?;
+        let request = match work {
+            Work::Request(request) => request,
+            other => return Some(other),
+        };
+        let Ok(()) = batch.reserve(BATCH) else {
+            let (seat, writers) = (&mut self.seat, &mut self.writers);
+            answer(rt, alloc, shards, seat, writers, request);
+            return None;
+        };
+        batch.push_reserved(request);
+        let behind = gather(rt, &mut self.from, shards, batch, since);
+        let is_long = batch.len() > 1 || behind.is_some();
+        let (seat, writers) = (&mut self.seat, &mut self.writers);
+        answer_batch(rt, alloc, shards, seat, writers, batch);
+        if is_long {
+            self.from.ring();
+            ring_all(self.writers.as_slice());
+        }
+        behind
+    }
+
+    /// Does an item that it took. It returns whether the item's sender puts nothing more.
+    fn do_one<W: Wait, R: Records>(
+        &mut self,
+        rt: &W,
+        alloc: Global,
+        shards: &Shards<R>,
+        rest: &mut Rest,
+        work: Work,
+    ) -> bool
+        requires shard { self.old.shard < shards.now.count }
+        requires counted { IsCounted self.old.counter rest.old }
+        ensures does { Does (doing_of self.old rest.old) (Some work) (doing_of self.new rest.new) }
+        ensures calls { CountsFor self.old.shard self.old.counter (Some work) self.new.counter }
+        ensures counted { IsCounted self.new.counter rest.new }
+        ensures over { count_by is_over (work ∷ []) ≡ (if result then 1 else 0) }
+        ensures from { self.new.from ≡ self.old.from }
+        ensures lanes { lanes_of self.new.writers.items ≡ lanes_of self.old.writers.items }
+        ensures shard { self.new.shard ≡ self.old.shard }
+    {
+        match work {
+            Work::Request(request) => {
+                let (seat, writers) = (&mut self.seat, &mut self.writers);
+                answer(rt, alloc, shards, seat, writers, request);
+                false
+            }
+            Work::Sweep(moment) => {
+                let (seat, counter) = (&mut self.seat, &mut self.counter);
+                sweep(rt, alloc, shards, self.shard, seat, counter, rest, moment);
+                false
+            }
+            Work::End(gate) => {
+                put_into(rt, &mut self.writers, gate, Item::End);
+                false
+            }
+            Work::Over => true,
+        }
+    }
+
+    /// Asks the next piece of its sweep, if a subscriber is left. Before a piece it wakes all threads that sleep, since a piece takes long.
+    fn ask_piece<W: Wait, R: Records>(
+        &mut self,
+        rt: &W,
+        alloc: Global,
+        shards: &Shards<R>,
+        rest: &mut Rest,
+    )
+        requires { IsCounted self.old.counter rest.old }
+        ensures goes { Goes self.old self.new rest.old rest.new 0 }
+        ensures counted { IsCounted self.new.counter rest.new }
+    {
+        let count = rest.count().min(PIECE);
+        if count == 0 {
+            return;
+        }
+        self.from.ring();
+        ring_all(self.writers.as_slice());
+        ask_next(
+            rt,
+            alloc,
+            shards,
+            &mut self.seat,
+            &mut self.counter,
+            rest,
+            count,
+        );
+    }
+
+    /// How many acts its receipts are of: each act has one receipt that is fresh.
+    pub fn acts(&self) -> u64
+        ensures { result ≡ acts_of self.now.seat }
+    {
+        let mut count = 0usize;
+        for receipt in self.seat.receipts() {
+            if receipt.fresh {
+                count += 1;
+            }
+        }
+        count as u64
+    }
+}
+
+/// Takes the next item, and counts the items that were there without a wait. If no item is there, it returns none, or waits if `waits` is set.
+/// Before it waits, it wakes the writers that were let sleep. Before an item that is no request, it wakes all that sleep, since a sweep takes
+/// long, and an end may have to wait for room.
+fn next<W: Wait>(
+    rt: &W,
+    from: &mut Receiver<Work>,
+    writers: &[Sender<Item>],
+    since: &mut u32,
+    waits: bool,
+) -> Option<Work>
+    ensures same { IsSameReceiver from.old from.new }
+    ensures taken { MatchOption result (taken_of from.new ≡ taken_of from.old) (λ work. TakesOne from.old work from.new) }
+{
+    let work = match more(rt, from, since) {
+        Some(work) => work,
+        None => {
+            *since = 0;
+            if !waits {
+                return None;
+            }
+            ring_all(writers);
+            from.take(rt)
+        }
+    };
+    if !matches!(work, Work::Request(_)) {
+        from.ring();
+        ring_all(writers);
+    }
+    Some(work)
+}
+
+/// Takes an item that is there without a wait, and counts it.
+pub(crate) fn more<W: Wait>(rt: &W, from: &mut Receiver<Work>, since: &mut u32) -> Option<Work>
+    ensures same { IsSameReceiver from.old from.new }
+    ensures taken { MatchOption result (taken_of from.new ≡ taken_of from.old) (λ work. TakesOne from.old work from.new) }
+{
+    let work = from.try_take(rt)?;
+    *since = since.wrapping_add(1);
+    Some(work)
+}
+
+/// Wakes the writers for which answers were left, by how many items were there without a wait.
+fn wake(writers: &[Sender<Item>], since: u32) {
+    if since < BUSY || since % BUSY == 0 {
+        ring_all(writers);
+    }
+}
+
+/// Makes a request and puts its answer into its gateway's lane, whose writer isn't woken yet. If there is no answer, it puts nothing.
+pub(crate) fn answer<W: Wait, R: Records>(
+    rt: &W,
+    alloc: Global,
+    shards: &Shards<R>,
+    seat: &mut Seat,
+    writers: &mut Vec<Sender<Item>>,
+    request: Request,
+)
+    ensures answered { Answers request seat.old (all_put writers.old.items) seat.new (all_put writers.new.items) }
+    ensures lanes { lanes_of writers.new.items ≡ lanes_of writers.old.items }
+{
+    let Request { gate, job } = request;
+    let answer = shards.submit(rt, alloc, seat, job);
+    leave_answer(rt, writers, gate, answer);
+}
+
+/// Asks all subscribers that an earlier sweep has left, and then lists the subscribers of the shard. If memory is short for the list, no
+/// subscriber is left to be asked.
+fn sweep<W: Wait, R: Records>(
+    rt: &W,
+    alloc: Global,
+    shards: &Shards<R>,
+    shard: usize,
+    seat: &mut Seat,
+    counter: &mut SweepCounter,
+    rest: &mut Rest,
+    moment: Moment,
+)
+    requires shard { shard < shards.now.count }
+    requires counted { IsCounted counter.old rest.old }
+    ensures asked { ExpiresEach rest.old.moment (left_of rest.old) seat.old seat.new }
+    ensures listed { AreListed (left_of rest.new) }
+    ensures moment { rest.new.moment ≡ moment }
+    ensures calls { (counter.new.lists ≡ one_more counter.old.lists) × (counter.new.shard ≡ shard) }
+    ensures counted { IsCounted counter.new rest.new }
+{
+    let left = rest.count();
+    ask_next(rt, alloc, shards, seat, counter, rest, left);
+    let subs = match counter.list(rt, alloc, shards, shard) {
+        Some(subs) => subs,
+        None => Vec::new(alloc),
+    };
+    *rest = Rest {
+        moment,
+        subs,
+        asked: 0,
+    };
+}
+
+/// Asks the expiries of the next `count` subscribers of a sweep. The condition: so many are left.
+fn ask_next<W: Wait, R: Records>(
+    rt: &W,
+    alloc: Global,
+    shards: &Shards<R>,
+    seat: &mut Seat,
+    counter: &mut SweepCounter,
+    rest: &mut Rest,
+    count: usize,
+)
+    requires few { rest.old.asked + count ≤ length rest.old.subs.items }
+    requires counted { IsCounted counter.old rest.old }
+    ensures expired { ExpiresEach rest.old.moment (take count (left_of rest.old)) seat.old seat.new }
+    ensures left { left_of rest.new ≡ drop count (left_of rest.old) }
+    ensures fewer { counter.new.left + count ≡ counter.old.left }
+    ensures moment { rest.new.moment ≡ rest.old.moment }
+    ensures calls { (counter.new.lists ≡ counter.old.lists) × (counter.new.shard ≡ counter.old.shard) }
+    ensures counted { IsCounted counter.new rest.new }
+{
+    let end = rest.asked + count;
+    expire_pieces(
+        rt,
+        alloc,
+        shards,
+        seat,
+        counter,
+        &rest.subs[rest.asked..end],
+        rest.moment,
+    );
+    rest.pass(alloc, count);
+}
+
+/// Ends the due sessions of each of these subscribers, in order, in pieces of at most [`PIECE`].
+fn expire_pieces<W: Wait, R: Records>(
+    rt: &W,
+    alloc: Global,
+    shards: &Shards<R>,
+    seat: &mut Seat,
+    counter: &mut SweepCounter,
+    subs: &[Sub],
+    moment: Moment,
+)
+    requires { length subs.now ≤ counter.old.left }
+    ensures expired { ExpiresEach moment subs.now seat.old seat.new }
+    ensures asked { counter.new.left + length subs.now ≡ counter.old.left }
+    ensures calls { (counter.new.lists ≡ counter.old.lists) × (counter.new.shard ≡ counter.old.shard) }
+{
+    let mut left = subs;
+    while !left.is_empty() {
+        let (piece, others) = left.split_at(left.len().min(PIECE));
+        expire_piece(rt, alloc, shards, seat, counter, piece, moment);
+        left = others;
+    }
+}
+
+/// Ends the due sessions of each of these subscribers, in order: together, if they may be asked together.
+fn expire_piece<W: Wait, R: Records>(
+    rt: &W,
+    alloc: Global,
+    shards: &Shards<R>,
+    seat: &mut Seat,
+    counter: &mut SweepCounter,
+    subs: &[Sub],
+    moment: Moment,
+)
+    requires { length subs.now ≤ counter.old.left }
+    ensures expired { ExpiresEach moment subs.now seat.old seat.new }
+    ensures asked { counter.new.left + length subs.now ≡ counter.old.left }
+    ensures calls { (counter.new.lists ≡ counter.old.lists) × (counter.new.shard ≡ counter.old.shard) }
+{
+    if shards.is_one_batch(subs) {
+        counter.ask_all(rt, alloc, shards, seat, subs, moment);
+    } else {
+        expire_each(rt, alloc, shards, seat, counter, subs, moment);
+    }
+}
+
+/// Ends the due sessions of each of these subscribers, one after another. A refused expiry leaves the other expiries.
+fn expire_each<W: Wait, R: Records>(
+    rt: &W,
+    alloc: Global,
+    shards: &Shards<R>,
+    seat: &mut Seat,
+    counter: &mut SweepCounter,
+    subs: &[Sub],
+    moment: Moment,
+)
+    requires { length subs.now ≤ counter.old.left }
+    ensures expired { ExpiresEach moment subs.now seat.old seat.new }
+    ensures asked { counter.new.left + length subs.now ≡ counter.old.left }
+    ensures calls { (counter.new.lists ≡ counter.old.lists) × (counter.new.shard ≡ counter.old.shard) }
+{
+    for sub in subs {
+        let _answer = counter.ask(rt, alloc, shards, seat, *sub, moment);
+    }
+}
+
+/// The octets of an answer, if it has any.
+pub(crate) fn octets_of(answer: RequestAnswer) -> Option<OctetString>
+    ensures { result ≡ octets_in answer }
+{
+    match answer {
+        RequestAnswer::Done {
+            octets,
+            place: _,
+            fresh: _,
+        } => Some(octets),
+        RequestAnswer::Unknown { octets } => Some(octets),
+        RequestAnswer::Busy { octets } => Some(octets),
+        RequestAnswer::Silent => None,
+    }
+}

@@ -1,9 +1,0 @@
-use Rattle.std.proofs.Common.{◌≡◌, ◌≤◌, take}
-use Rattle.dcc_serve.specs.Counting.{acts_of}
-use Rattle.dcc_serve.proofs.worker.Worker.acts.Given as goal
-
-abbrev pub invariant-loop-receipt : goal.invariant-loop-receipt
-invariant-loop-receipt l = record {
-  count : l.count ≡ acts_of (take l.receipt-index l.receipt-items);
-  few : l.count ≤ l.receipt-index;
-}
