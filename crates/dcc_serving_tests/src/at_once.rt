@@ -2,9 +2,9 @@
 
 use dcc_act::Sub;
 use dcc_callers::{Caller, DEBITS, in_memory, locked_alone, one};
-use dcc_records::{MemoryRecords, Records};
 use dcc_running::{Books, Seat, Shards};
 use dcc_shard::{Shard, TopUpAnswer};
+use dcc_store::{MemoryRecords, Records};
 use std::alloc::Global;
 use std::process::Abort;
 use std::random::RandomSource;

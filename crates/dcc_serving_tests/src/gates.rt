@@ -1,10 +1,10 @@
 //! One shard answers while another's append is held at its gate.
 
 use dcc_callers::{Caller, TERMS, two};
-use dcc_gate_records::{Gate, GateRecords};
-use dcc_records::{MemoryRecords, Records};
 use dcc_running::Shards;
 use dcc_shard::{ExpiryAnswer, TopUpAnswer};
+use dcc_store::{MemoryRecords, Records};
+use dcc_test_stores::{Gate, GateRecords};
 use std::alloc::Global;
 use std::hash::RandomState;
 use std::hint::spin_loop;

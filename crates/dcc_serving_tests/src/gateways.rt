@@ -1,10 +1,10 @@
 //! Gateways in memory: each sends in two steps, and looks that the octets that are written to it are those that it waits for.
 
 use crate::messages::decoded;
-use dcc_gate_records::Gate;
 use dcc_octets::OctetString;
+use dcc_rounds::{Connection, Listener, Notice, Notices, Shut, Tick};
 use dcc_samples::{CAPABILITIES, CAPABILITIES_ANSWER};
-use dcc_serve::{Connection, Listener, Notice, Notices, Shut, Tick};
+use dcc_test_stores::Gate;
 use std::alloc::Global;
 use std::hint::spin_loop;
 use std::io::{self, Error, ErrorKind, Read, Write};

@@ -6,6 +6,8 @@
 #[cfg(test)]
 mod at_once;
 #[cfg(test)]
+mod batches;
+#[cfg(test)]
 mod closing;
 #[cfg(test)]
 mod connection;

@@ -5,10 +5,10 @@ use crate::server::{Server, topped_up};
 use dcc_act::Moment;
 use dcc_callers::{are_shards, pair};
 use dcc_connect::Clock;
-use dcc_gate_records::{Gate, GateRecords};
-use dcc_records::Records;
-use dcc_serve::{Rounds, ServeFault, Service, serve_run};
+use dcc_rounds::{Rounds, ServeFault, Service, serve_run};
 use dcc_shard::Shard;
+use dcc_store::Records;
+use dcc_test_stores::{Gate, GateRecords};
 use std::alloc::Global;
 use std::process::Abort;
 use std::random::RandomSource;
@@ -76,13 +76,13 @@ fn serve<W: Threads + Wait + Sync, R: Records + Send + Sync + Drop>(
     Some(served)
 }
 
-/// The subscriber of the first shard.
-const FIRST: &[&[u8]] = &[b"491700000001"];
+/// The subscribers of the first shard.
+const FIRST: &[&[u8]] = &[b"491700000001", b"491700000003"];
 
 /// The subscriber of the second.
 const SECOND: &[&[u8]] = &[b"491700000002"];
 
-/// Shards of one subscriber each, the first one's appends behind a gate that may be shut.
+/// Shards of these subscribers, the first one's appends behind a gate that may be shut.
 fn gated<'a, S: RandomSource + AllocGlobal>(
     rt: &S,
     first: &'a Gate,

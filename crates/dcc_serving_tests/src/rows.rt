@@ -3,7 +3,7 @@
 
 use crate::connection::{self, Talking};
 use crate::server::Server;
-use crate::{sweeps, workers};
+use crate::{batches, sweeps, workers};
 use dcc_callers::identity;
 use dcc_samples::PLAN;
 use dcc_tariff::Plan;
@@ -21,6 +21,7 @@ pub(crate) enum Row {
     Connection(Talking),
     Workers,
     Sweep,
+    Batches,
 }
 
 /// The plan of this text. Read of a literal, in its place, it takes the prover long.
@@ -67,5 +68,6 @@ fn run_by<S: Threads + Wait + Sync + Abort + RandomSource + AllocGlobal>(
         Row::Connection(talking) => connection::run(rt, server, talking),
         Row::Workers => workers::run(rt, server),
         Row::Sweep => sweeps::run(rt, server),
+        Row::Batches => batches::run(rt, server),
     }
 }

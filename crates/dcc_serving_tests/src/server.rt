@@ -3,8 +3,8 @@
 use dcc_act::{Moment, Sub};
 use dcc_callers::{in_memory, shard_over};
 use dcc_message::Identity;
-use dcc_records::{MemoryRecords, Records};
 use dcc_shard::{Shard, TopUpAnswer};
+use dcc_store::{MemoryRecords, Records};
 use dcc_tariff::Plan;
 use std::alloc::Global;
 use std::hash::RandomState;

@@ -5,9 +5,9 @@ use crate::messages::{Change, SESSION, debit, debited, decoded, opened, opening}
 use crate::rounds::{Watch, check};
 use crate::rows::{self, Row};
 use crate::server::{Server, after};
-use dcc_gate_records::Gate;
+use dcc_rounds::Rounds;
 use dcc_samples::{WATCHDOG, WATCHDOG_ANSWER};
-use dcc_serve::Rounds;
+use dcc_test_stores::Gate;
 use std::alloc::Global;
 use std::process::Abort;
 use std::random::RandomSource;

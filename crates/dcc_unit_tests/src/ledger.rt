@@ -1,7 +1,7 @@
 //! Ledgers octet for octet.
 
 use dcc_act::{Entry, EntryKind, EntryName, Moment, SessionId, Sub};
-use dcc_report::{account_line, ledger_text};
+use dcc_ledger::{account_line, ledger_text};
 use std::alloc::Global;
 use std::process::Abort;
 use std::test::Fail;

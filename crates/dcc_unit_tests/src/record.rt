@@ -1,7 +1,7 @@
 //! The record of an act, version 1, which the program reads and never writes.
 
 use crate::acts::{Ask, act};
-use dcc_record::write_act_1;
+use dcc_act_codec::write_act_1;
 use std::alloc::Global;
 use std::test::Fail;
 
