@@ -5,13 +5,13 @@ use Rattle.sqlite.specs.Held.{Held, state}
 use Rattle.sqlite.specs.State.{HasCleanDisk}
 use Rattle.sqlite_trees.specs.declared.store.Store.{Ghosts}
 use Rattle.dcc_tariff.specs.Plans.{PlanView}
-use Rattle.dcc_sqlrec.specs.Faults.{open_number, create_number}
-use Rattle.dcc_sqlrec.specs.Tables.{no_schema, layout}
-use Rattle.dcc_sqlrec.specs.declared.setting.Setting.{Setting}
-use Rattle.dcc_sqlrec.specs.declared.fault.OpenFault.{OpenFault}
-use Rattle.dcc_sqlrec.specs.declared.fault.OpenFault.TheVariants as f
-use Rattle.dcc_sqlrec.specs.declared.fault.CreateFault.{CreateFault}
-use Rattle.dcc_sqlrec.specs.declared.fault.CreateFault.TheVariants as create
+use Rattle.dcc_sqlite_store.specs.Faults.{open_number, create_number}
+use Rattle.dcc_sqlite_store.specs.Tables.{no_schema, layout}
+use Rattle.dcc_sqlite_store.specs.declared.setting.Setting.{Setting}
+use Rattle.dcc_sqlite_store.specs.declared.fault.OpenFault.{OpenFault}
+use Rattle.dcc_sqlite_store.specs.declared.fault.OpenFault.TheVariants as f
+use Rattle.dcc_sqlite_store.specs.declared.fault.CreateFault.{CreateFault}
+use Rattle.dcc_sqlite_store.specs.declared.fault.CreateFault.TheVariants as create
 use Rattle.dcc_files.specs.Stores.{IsSettingOf, HasNoSetting, HasNeitherSetting, HasDamage, HasNoBook, IsOpenFault}
 
 pub handed_on : {A E : Type 0} (P : E → Type 0) (result : Result A E) (error : E) → IsErrAnd result (λ other. other ≡ error) → P error → IfErr result P

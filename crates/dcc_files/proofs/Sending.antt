@@ -16,7 +16,7 @@ use Rattle.sqlite_store.specs.contracts.store.FileStoreStore.TheImpl as store
 use Rattle.std.proofs.fs.File.TheSendSync as FileSent
 use Rattle.sqlite_disk.proofs.modelled.Modelled.TheSendSync as ModelledSent
 use Rattle.sqlite_store.proofs.store.FileStore.TheSendSync as StoreSent
-use Rattle.dcc_sqlrec.proofs.sql_records.SqlRecords.TheSendSync as RecordsSent
+use Rattle.dcc_sqlite_store.proofs.sql_records.SqlRecords.TheSendSync as RecordsSent
 use Rattle.dcc_files.specs.contracts.file_records.FileRecords
 
 record_send : Send.IsSend Record.the_field.row

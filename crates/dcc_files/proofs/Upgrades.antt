@@ -10,13 +10,13 @@ use Rattle.sqlite.specs.Tree.{Trees}
 use Rattle.sqlite_trees.specs.declared.store.Store.{Ghosts}
 use Rattle.dcc_tariff.specs.Plans.{PlanView}
 use Rattle.dcc_tariff.specs.Terms.{TermsView}
-use Rattle.dcc_sqlrec.specs.Content.{leaves}
-use Rattle.dcc_sqlrec.specs.Opening.{FindsBook}
-use Rattle.dcc_sqlrec.specs.Trees.{IsUndone, act_rows}
-use Rattle.dcc_sqlrec.specs.Upgrade.{IsUpgraded}
-use Rattle.dcc_sqlrec.specs.declared.setting.Setting.{Setting}
-use Rattle.dcc_sqlrec.specs.declared.fault.OpenFault.{OpenFault}
-use Rattle.dcc_sqlrec.specs.declared.fault.OpenFault.TheVariants as f
+use Rattle.dcc_sqlite_store.specs.Content.{leaves}
+use Rattle.dcc_sqlite_store.specs.Opening.{FindsBook}
+use Rattle.dcc_sqlite_store.specs.Trees.{IsUndone, act_rows}
+use Rattle.dcc_sqlite_store.specs.Upgrade.{IsUpgraded}
+use Rattle.dcc_sqlite_store.specs.declared.setting.Setting.{Setting}
+use Rattle.dcc_sqlite_store.specs.declared.fault.OpenFault.{OpenFault}
+use Rattle.dcc_sqlite_store.specs.declared.fault.OpenFault.TheVariants as f
 use Rattle.dcc_files.specs.Stores.{IsSettingOf, UpgradesShard, SeesCommitted, StandsUpgraded}
 
 module _ {S : Type 0} (g : Ghosts S) (conn back : Held S) (left : Survives (state g conn) (state g back) (λ _. ⊥)) where

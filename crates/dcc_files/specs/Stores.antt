@@ -8,12 +8,12 @@ use Rattle.sqlite.specs.declared.error.Error.{Error}
 use Rattle.sqlite.specs.declared.error.Error.TheVariants.{SqliteFailure}
 use Rattle.sqlite.specs.declared.error.ErrorCode.TheVariants.{OutOfMemory}
 use Rattle.dcc_tariff.specs.Plans.{PlanView}
-use Rattle.dcc_sqlrec.specs.declared.setting.Setting.{Setting}
-use Rattle.dcc_sqlrec.specs.Setting.{setting_row}
-use Rattle.dcc_sqlrec.specs.Tables.{no_schema, layout}
-use Rattle.dcc_sqlrec.specs.Trees.{setting_rows, act_rows}
-use Rattle.dcc_sqlrec.specs.Opening.{HasOtherSetting, IsDamagedIn, DisagreeIn}
-use Rattle.dcc_sqlrec.specs.Upgrade.{HasOldSetting, IsUpgraded, IsOldDamagedIn, OldDisagreeIn}
+use Rattle.dcc_sqlite_store.specs.declared.setting.Setting.{Setting}
+use Rattle.dcc_sqlite_store.specs.Setting.{setting_row}
+use Rattle.dcc_sqlite_store.specs.Tables.{no_schema, layout}
+use Rattle.dcc_sqlite_store.specs.Trees.{setting_rows, act_rows}
+use Rattle.dcc_sqlite_store.specs.Opening.{HasOtherSetting, IsDamagedIn, DisagreeIn}
+use Rattle.dcc_sqlite_store.specs.Upgrade.{HasOldSetting, IsUpgraded, IsOldDamagedIn, OldDisagreeIn}
 
 -- the setting of the store of a shard, by its index, under a plan
 pub record IsSettingOf (plan : PlanView) (shard : ℕ) (setting : Setting) : Type 0 where

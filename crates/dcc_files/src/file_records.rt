@@ -2,9 +2,8 @@
 
 ghost use Rattle.std.specs.Prelude.{◌≡◌};
 
-use dcc_act::{Act, Entry, Sub};
-use dcc_records::{Book, Records, StoreFault};
-use dcc_sqlrec::SqlRecords;
+use dcc_sqlite_store::SqlRecords;
+use dcc_store::{Addition, Book, Records, StoreFault};
 use dcc_tariff::Terms;
 use sqlite::FileStore;
 use sqlite_std_file::File;
@@ -38,8 +37,8 @@ impl Records for FileRecords {
         self.records.is_stopped()
     }
 
-    fn append(&mut self, sub: Sub, act: &Act, entries: &[Entry]) -> Result<(), StoreFault> {
-        self.records.append(sub, act, entries)
+    fn append_all(&mut self, batch: &[Addition<'_>]) -> Result<(), StoreFault> {
+        self.records.append_all(batch)
     }
 
     fn load(&mut self) -> Result<Book, StoreFault> {

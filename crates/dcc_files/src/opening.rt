@@ -4,13 +4,13 @@ ghost use Rattle.std.specs.Prelude.{◌≡◌, ◌≢◌, ◌⊎◌, false, None
 ghost use Rattle.sqlite.specs.Held.{state};
 ghost use Rattle.sqlite.specs.State.{HasCleanDisk, Survives};
 ghost use Rattle.dcc_files.specs.Stores.{SeesCommitted, HasSetting, HasNeitherSetting, HasDamage, HasNoBook, StandsUpgraded};
-ghost use Rattle.dcc_sqlrec.specs.Content.{leaves};
-ghost use Rattle.dcc_sqlrec.specs.Opening.{FindsBook};
-ghost use Rattle.dcc_sqlrec.specs.Tables.{no_schema, layout};
-ghost use Rattle.dcc_sqlrec.specs.Trees.{IsUndone, act_rows};
-ghost use Rattle.dcc_sqlrec.specs.Upgrade.{HasOldSetting, IsUpgraded, IsOldDamagedIn, OldDisagreeIn};
+ghost use Rattle.dcc_sqlite_store.specs.Content.{leaves};
+ghost use Rattle.dcc_sqlite_store.specs.Opening.{FindsBook};
+ghost use Rattle.dcc_sqlite_store.specs.Tables.{no_schema, layout};
+ghost use Rattle.dcc_sqlite_store.specs.Trees.{IsUndone, act_rows};
+ghost use Rattle.dcc_sqlite_store.specs.Upgrade.{HasOldSetting, IsUpgraded, IsOldDamagedIn, OldDisagreeIn};
 
-use dcc_sqlrec::{OpenFault, Setting, SqlRecords, upgrade};
+use dcc_sqlite_store::{OpenFault, Setting, SqlRecords, upgrade};
 use sqlite::{Alter, Connection};
 use std::alloc::Global;
 use std::hash::RandomState;

@@ -3,7 +3,7 @@
 use crate::rows::{blob, number};
 use crate::settings::layout_of;
 use crate::subs::{shown, sub_of};
-use dcc_record::{RecordFault, read_act, read_act_1};
+use dcc_act_codec::{RecordFault, read_act, read_act_1};
 use sqlite::{Alter, Connection, Row, params};
 use std::alloc::{AllocError, Global};
 

@@ -1,14 +1,14 @@
 //! The judgement of a database as a shard's store.
 
 ghost use Rattle.std.specs.Prelude.{◌≡◌, Some, None, IfOk};
-ghost use Rattle.dcc_sqlrec.specs.Faults.{open_number};
+ghost use Rattle.dcc_sqlite_store.specs.Faults.{open_number};
 
 use crate::damage::{damage_words, disagreement_words};
 use crate::settings::setting_words;
 use crate::subs::stray_words;
 use dcc_explain::StoreNote;
 use dcc_files::{open_or_upgrade, setting_of};
-use dcc_sqlrec::OpenFault;
+use dcc_sqlite_store::OpenFault;
 use dcc_tariff::Plan;
 use sqlite::{Alter, Connection};
 use std::alloc::{AllocError, Global};

@@ -4,8 +4,8 @@ use Rattle.sqlite.specs.Effect.{Database}
 use Rattle.sqlite.specs.Held.{Held, state}
 use Rattle.sqlite.specs.State.{HasCleanDisk}
 use Rattle.sqlite.specs.Tree.{Trees}
-use Rattle.dcc_sqlrec.specs.Trees.{act_rows}
-use Rattle.dcc_sqlrec.specs.Upgrade.{HasOldSetting, IsUpgraded, IsOldDamagedIn, OldDisagreeIn}
+use Rattle.dcc_sqlite_store.specs.Trees.{act_rows}
+use Rattle.dcc_sqlite_store.specs.Upgrade.{HasOldSetting, IsUpgraded, IsOldDamagedIn, OldDisagreeIn}
 use Rattle.dcc_files.proofs.Upgrades.{shows_same, along, no_failure, no_failure_of_memory, still_alone, still_before, found_there, undone_then, stands_along}
 use Rattle.dcc_files.proofs.opening.open_or_upgrade.Goals as goal
 
