@@ -8,8 +8,8 @@ use crate::reasons::{Seen, lines_of};
 use crate::top_up::{nothing_added, with_moment};
 use crate::watched::{WatchedInput, WatchedOutput};
 use dcc_explain::{Looks, help_of};
-use dcc_operator::Stores;
 use dcc_program::{Failure, HELP, end, given_words};
+use dcc_startup::Stores;
 use dcc_streams::write_all;
 use std::io::{self, Eprint, Write};
 use std::net::{Net, TcpListener, TcpStream};
@@ -35,7 +35,7 @@ pub fn execute<
         + Clock
         + Sync
         + AllocGlobal,
-    S: Stores,
+    S: Stores + Sync,
     L: Looks,
     W: Write,
 >(rt: &R, stores: &S, looks: &L, errors: &mut W) -> ExitCode {
@@ -77,7 +77,7 @@ fn explained<
         + Clock
         + Sync
         + AllocGlobal,
-    S: Stores,
+    S: Stores + Sync,
     L: Looks,
     W: Write,
 >(rt: &R, words: &[String], stores: &S, looks: &L, errors: &mut W) -> u8 {

@@ -4,8 +4,10 @@ ghost use Rattle.std.specs.Prelude.{◌≡◌, Some, IfOk, IfSome};
 ghost use Rattle.dcc_tariff.specs.Faults.{fault_number};
 
 use crate::task_words::{address, folder_path, plan_path};
-use dcc_explain::{Looks, PlanNote, explain_line, explain_plan, explain_words, usage_line};
-use dcc_program::{Failure, HELP, plan_of};
+use dcc_explain::{
+    Looks, PlanNote, explain_ask, explain_line, explain_plan, explain_words, usage_line,
+};
+use dcc_program::{Failure, HELP, TopUpsAsk, plan_of, top_ups_of};
 use dcc_sockets::{Door, Silence};
 use dcc_tariff::Plan;
 use dcc_words::parts;
@@ -34,7 +36,10 @@ pub(crate) fn lines_of<
     match failure {
         Failure::Usage => usage_lines(alloc, words),
         Failure::Plan(number) => plan_lines(rt, words, number),
-        Failure::Script(line) => script_lines(alloc, seen.script.as_slice(), line),
+        Failure::Script(line) => match top_ups_of(alloc, words)? {
+            Some(ask) => ask_lines(rt, ask, seen.script.as_slice(), line),
+            None => script_lines(alloc, seen.script.as_slice(), line),
+        },
         Failure::Io => io_lines(rt, words, seen),
         Failure::Store(number) => store_lines(rt, words, looks, number),
         Failure::Close(number) => line(alloc, close_words(number)),
@@ -115,14 +120,48 @@ fn plan_note(alloc: Global, octets: &[u8], number: u8) -> Result<Option<PlanNote
     }
 }
 
-/// The explanation of a script's line.
-fn script_lines(alloc: Global, script: &[u8], number: u64) -> Result<String, Failure> {
-    let lines = parts(alloc, script, b'\n')?;
+/// The explanation of a line of top-ups, of a file or of the input that was read.
+fn ask_lines<R: Files + AllocGlobal>(
+    rt: &R,
+    ask: TopUpsAsk<'_>,
+    input: &[u8],
+    number: u64,
+) -> Result<String, Failure> {
+    let alloc = rt.alloc();
+    if ask.from == "-" {
+        return ask_line(alloc, "standard input", input, number);
+    }
+    let text = fs::read(rt, ask.from)?;
+    ask_line(alloc, ask.from, text.as_slice(), number)
+}
+
+/// The explanation of a line of top-ups in a text.
+fn ask_line(alloc: Global, name: &str, text: &[u8], number: u64) -> Result<String, Failure> {
+    let lines = parts(alloc, text, b'\n')?;
+    let Some(line) = line_at(lines.as_slice(), number) else {
+        return Ok(String::new(alloc));
+    };
+    let note = explain_ask(alloc, line)?;
+    let words = note.words.as_str();
+    Ok(format!(in alloc; "dcc: {name} line {number}: {words}\n")?)
+}
+
+/// The line with this number, from 1.
+fn line_at<'a>(lines: &[&'a [u8]], number: u64) -> Option<&'a [u8]> {
     let at = match usize::try_from(number) {
         Ok(number) => number.saturating_sub(1),
         Err(_) => usize::MAX,
     };
-    let Some(text) = lines.get(at) else {
+    match lines.get(at) {
+        Some(line) => Some(*line),
+        None => None,
+    }
+}
+
+/// The explanation of a script's line.
+fn script_lines(alloc: Global, script: &[u8], number: u64) -> Result<String, Failure> {
+    let lines = parts(alloc, script, b'\n')?;
+    let Some(text) = line_at(lines.as_slice(), number) else {
         return Ok(String::new(alloc));
     };
     let note = explain_line(alloc, text)?;

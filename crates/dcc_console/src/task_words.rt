@@ -1,7 +1,7 @@
 //! What the words of a command line name: a plan, an address, a command.
 
 use dcc_explain::help_of;
-use dcc_program::{Failure, HELP, Task, serve_of, task_of};
+use dcc_program::{Failure, HELP, Task, serve_of, task_of, top_ups_of};
 use std::alloc::Global;
 use std::net::SocketAddrV4;
 
@@ -11,6 +11,9 @@ pub(crate) fn plan_path<'a>(
     words: &'a [String],
 ) -> Result<Option<&'a str>, Failure> {
     if let Some(ask) = serve_of(alloc, words)? {
+        return Ok(Some(ask.place.plan));
+    }
+    if let Some(ask) = top_ups_of(alloc, words)? {
         return Ok(Some(ask.place.plan));
     }
     match task_of(alloc, words) {
@@ -28,6 +31,9 @@ pub(crate) fn folder_path<'a>(
     words: &'a [String],
 ) -> Result<Option<&'a str>, Failure> {
     if let Some(ask) = serve_of(alloc, words)? {
+        return Ok(Some(ask.place.folder));
+    }
+    if let Some(ask) = top_ups_of(alloc, words)? {
         return Ok(Some(ask.place.folder));
     }
     match task_of(alloc, words) {

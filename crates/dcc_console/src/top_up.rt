@@ -1,8 +1,9 @@
 //! A top-up's words: the moment that is left out, an amount outside its limits, and a ticket that was used before.
 
 use dcc_act::MAX_AMOUNT;
-use dcc_operator::{Stores, TopUpAsk};
+use dcc_operator::TopUpAsk;
 use dcc_program::{Failure, Place, Task, ledger, task_of};
+use dcc_startup::Stores;
 use dcc_tariff::LAST_SECOND;
 use dcc_words::parts;
 use std::alloc::Global;

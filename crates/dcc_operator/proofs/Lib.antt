@@ -1,3 +1,5 @@
-pub mod Served
 pub mod Begun
 pub mod Opened
+mod Batches
+mod LineLemmas
+mod LineTexts

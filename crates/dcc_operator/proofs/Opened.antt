@@ -1,11 +1,7 @@
 -- The shard that a command opens for its subscriber.
-use Rattle.std.proofs.Common.{◌≡◌, ◌≢◌, ◌∙◌, ◌⊎◌, inl, inr, ℕ, Bool, true, false, [], Option, Some, refl, sym, subst}
-use Rattle.std.proofs.lemmas.Bool.{cases_Bool}
-use Rattle.dcc_records.specs.Contents.{Content}
-use Rattle.dcc_records.specs.Faults.{fault_number}
-use Rattle.dcc_records.specs.declared.fault.StoreFault.{StoreFault}
-use Rattle.dcc_records.specs.declared.fault.StoreFault.TheVariants.{Memory, Device, Stopped}
-use Rattle.dcc_operator.specs.Openings.{IsFaultOver}
+use Rattle.std.proofs.Common.{◌≡◌, ◌≢◌, ◌∙◌, ◌⊎◌, inl, inr, ℕ, Bool, [], Option, Some, sym, subst}
+use Rattle.dcc_store.specs.Contents.{Content}
+use Rattle.dcc_startup.specs.Openings.{IsFaultOver}
 use Rattle.std.specs.Prelude.{IfSome}
 use Rattle.dcc_tariff.specs.Plans.{PlanView}
 use Rattle.dcc_message.specs.declared.identity.Identity.{Identity}
@@ -28,17 +24,6 @@ opened_for plan identity sub shard count index terms named own counted at placed
   own = own;
   placed = λ other some. subst (λ (shards : ℕ). shard_of other shards ≡ shard_of sub shards) counted (placed other some ∙ at);
 }
-
--- the number of what records told when a shard was to stand on them
-pub fault_over : {R : Type 0} (may_leave : R → Content → Type 0) (is_stopped : R → Bool) (records : R) (index count number : ℕ) (fault : StoreFault) → number ≡ fault_number fault
-    → (fault ≡ Device → is_stopped records ≡ false) → (fault ≡ Stopped → is_stopped records ≡ true) → (is_stopped records ≡ true → fault ≡ Stopped)
-    → IsFaultOver may_leave is_stopped records index count number
-fault_over may_leave is_stopped records index count number Memory is device stopped told = elim (cases_Bool (is_stopped records)) [
-  | inl was ↦ absurd (let e = told was in cc)
-  | inr going ↦ inl (is, going)
-]
-fault_over may_leave is_stopped records index count number Device is device stopped told = inr (inl (is, device refl))
-fault_over may_leave is_stopped records index count number Stopped is device stopped told = inr (inr (inl (is, stopped refl)))
 
 pub moved : {R : Type 0} (may_leave : R → Content → Type 0) (is_stopped : R → Bool) (records : R) {a b c d m n : ℕ} → a ≡ b → c ≡ d → m ≡ n
     → IsFaultOver may_leave is_stopped records a c m → IsFaultOver may_leave is_stopped records b d n

@@ -9,10 +9,10 @@ use Rattle.dcc_shard.specs.Answers.{IsTold, is_judged_top_up, top_up_act}
 use Rattle.dcc_shard.specs.Routes.{shard_of}
 use Rattle.dcc_shard.specs.Shards.{ShardView, held, AreOwn, IsStep}
 use Rattle.dcc_operator.specs.declared.commands.TopUpAsk.{TopUpAsk}
-use Rattle.dcc_records.specs.Contents.{Content}
+use Rattle.dcc_store.specs.Contents.{Content}
 use Rattle.dcc_operator.specs.declared.fault.OperatorFault.{OperatorFault}
 use Rattle.dcc_operator.specs.declared.fault.OperatorFault.TheVariants.{Store}
-use Rattle.dcc_operator.specs.Openings.{IsFaultOver}
+use Rattle.dcc_startup.specs.Openings.{IsFaultOver}
 use Rattle.dcc_operator.specs.Ledgers.{page_of, unknown_line}
 use Rattle.dcc_operator.specs.Texts.{IsBegun}
 use Rattle.dcc_operator.specs.TopUps.{line_of}

@@ -7,7 +7,7 @@ use Rattle.dcc_act.specs.Subs.{SubView}
 use Rattle.dcc_model.specs.Outcomes.{overrun}
 use Rattle.dcc_model.specs.Entries.{entries}
 use Rattle.dcc_account.specs.Accounts.{reserved}
-use Rattle.dcc_report.specs.Ledger.{ledger_text}
+use Rattle.dcc_ledger.specs.Ledger.{ledger_text}
 
 -- the line of a subscriber without acts
 abbrev pub unknown_line : SubView → List ℕ

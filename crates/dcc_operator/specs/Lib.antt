@@ -2,4 +2,6 @@ pub mod Texts
 pub mod Ledgers
 pub mod TopUps
 pub mod Commands
-pub mod Openings
+pub mod Many
+pub mod inner
+pub mod Lines

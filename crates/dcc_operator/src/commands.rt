@@ -2,22 +2,22 @@
 
 ghost use Rattle.std.specs.Prelude.{◌≡◌, ◌≢◌, ℕ, Bool, false, IfOk, IfErr, IfSome, IfNone, IsSomeAnd, option_map};
 ghost use Rattle.std.specs.Io.KnownBytes.{Keeps};
-ghost use Rattle.dcc_records.specs.Stops.{LeavesOnly};
+ghost use Rattle.dcc_store.specs.Stops.{LeavesOnly};
 ghost use Rattle.dcc_shard.specs.Answers.{top_up_act};
 ghost use Rattle.dcc_shard.specs.Routes.{shard_of};
 ghost use Rattle.dcc_shard.specs.Shards.{ShardView, held, IsStep};
 ghost use Rattle.dcc_shard.specs.Stored.{StoredView};
 ghost use Rattle.dcc_operator.specs.Commands.{IsToppedUp, IsToppedUpBegun, IsRefused, IsShown, IsShownBegun};
-ghost use Rattle.dcc_operator.specs.Openings.{IsOpenedOver, IsUnusable};
+ghost use Rattle.dcc_startup.specs.Openings.{IsOpenedOver, IsUnusable};
 ghost use Rattle.dcc_operator.specs.declared.fault.OperatorFault.TheVariants.{Output, Store};
 
 use crate::fault::OperatorFault;
 use crate::ledger::{ledger_run, unknown_run};
-use crate::stores::{Stores, shard_or_back, shard_over};
 use crate::top_up::top_up_run;
 use dcc_act::{Moment, Sub};
 use dcc_message::Identity;
 use dcc_shard::{Shard, shard_of};
+use dcc_startup::{Stores, shard_or_back, shard_over};
 use dcc_tariff::Plan;
 use std::alloc::Global;
 use std::hash::RandomState;

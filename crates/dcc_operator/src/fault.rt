@@ -3,7 +3,7 @@
 ghost use Rattle.std.specs.Prelude.{◌≡◌};
 ghost use Rattle.dcc_operator.specs.declared.fault.OperatorFault.TheVariants as fault;
 
-use crate::stores::StoreRefusal;
+use dcc_startup::StoreRefusal;
 use dcc_streams::WriteFault;
 use std::alloc::{AllocError, AllocFailed};
 use thiserror::Error;

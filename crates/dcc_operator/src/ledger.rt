@@ -9,9 +9,9 @@ ghost use Rattle.dcc_operator.specs.declared.fault.OperatorFault.TheVariants.{Me
 
 use crate::fault::OperatorFault;
 use dcc_act::Sub;
-use dcc_records::Records;
-use dcc_report::ledger_text;
+use dcc_ledger::ledger_text;
 use dcc_shard::Shard;
+use dcc_store::Records;
 use dcc_streams::write_all;
 use std::alloc::{AllocError, Global};
 use std::io::Write;

@@ -4,13 +4,13 @@ ghost use Rattle.std.specs.Prelude.{◌≡◌, true, false, OnOk, IfErr};
 ghost use Rattle.std.specs.Io.KnownBytes.{Appends};
 ghost use Rattle.dcc_shard.specs.Answers.{IsTold, is_judged_top_up, top_up_act};
 ghost use Rattle.dcc_shard.specs.Shards.{held, AreOwn, IsStep};
-ghost use Rattle.dcc_records.specs.Stops.{LeavesOnly};
+ghost use Rattle.dcc_store.specs.Stops.{LeavesOnly};
 ghost use Rattle.dcc_operator.specs.TopUps.{line_of};
 ghost use Rattle.dcc_operator.specs.Texts.{IsBegun};
 
 use dcc_act::{Moment, Sub};
-use dcc_records::Records;
 use dcc_shard::{Shard, TopUpAnswer};
+use dcc_store::Records;
 use dcc_streams::{WriteFault, write_all};
 use std::alloc::Global;
 use std::io::Write;

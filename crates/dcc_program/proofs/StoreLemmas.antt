@@ -4,7 +4,7 @@ use Rattle.std.specs.Prelude.{IsSomeAnd}
 use Rattle.std.specs.Io.KnownBytes.{Keeps}
 use Rattle.dcc_tariff.specs.Plans.{PlanView}
 use Rattle.dcc_act.specs.declared.sub.Sub.{Sub}
-use Rattle.dcc_records.specs.Contents.{Content}
+use Rattle.dcc_store.specs.Contents.{Content}
 use Rattle.dcc_shard.specs.Shards.{ShardView}
 use Rattle.dcc_operator.specs.declared.commands.TopUpAsk.{TopUpAsk}
 use Rattle.dcc_operator.specs.declared.fault.OperatorFault.{OperatorFault}

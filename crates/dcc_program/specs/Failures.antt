@@ -9,8 +9,10 @@ use Rattle.dcc_streams.specs.declared.reading.ReadFault.{ReadFault}
 use Rattle.dcc_streams.specs.declared.reading.ReadFault.TheVariants as read
 use Rattle.dcc_operator.specs.declared.fault.OperatorFault.{OperatorFault}
 use Rattle.dcc_operator.specs.declared.fault.OperatorFault.TheVariants as operator
-use Rattle.dcc_serve.specs.declared.fault.ServeFault.{ServeFault}
-use Rattle.dcc_serve.specs.declared.fault.ServeFault.TheVariants as serve
+use Rattle.dcc_operator.specs.declared.lines.LineFault.{LineFault}
+use Rattle.dcc_operator.specs.declared.lines.LineFault.TheVariants as lines
+use Rattle.dcc_rounds.specs.declared.fault.ServeFault.{ServeFault}
+use Rattle.dcc_rounds.specs.declared.fault.ServeFault.TheVariants as serve
 use Rattle.dcc_replay.specs.declared.fault.ReplayFault.{ReplayFault}
 use Rattle.dcc_replay.specs.declared.fault.ReplayFault.TheVariants as replay
 use Rattle.dcc_decode.specs.declared.fault.DecodeFault.{DecodeFault}
@@ -64,6 +66,10 @@ of_plan fault = numbered_fault (fault_number fault)
 abbrev pub of_read : ReadFault → Failure
 of_read read.Memory = Memory
 of_read read.Io = Io
+
+abbrev pub of_line : LineFault → Failure
+of_line lines.Memory = Memory
+of_line (lines.Line line) = Script line
 
 abbrev pub of_operator : OperatorFault → Failure
 of_operator operator.Memory = Memory

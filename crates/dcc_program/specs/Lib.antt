@@ -5,3 +5,4 @@ pub mod Replays
 pub mod Stores
 pub mod Servings
 pub mod Runs
+pub mod TopUps

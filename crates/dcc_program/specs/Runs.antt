@@ -3,7 +3,7 @@ use Rattle.std.specs.Prelude.{⊤, ◌≡◌, ℕ, List, Option, None, Err, IfSo
 use Rattle.std.specs.Io.KnownBytes.{Appends, Keeps}
 use Rattle.clap.specs.Words.{Text}
 use Rattle.dcc_tariff.specs.Plans.{PlanView}
-use Rattle.dcc_records.specs.Contents.{Content}
+use Rattle.dcc_store.specs.Contents.{Content}
 use Rattle.dcc_replay.specs.Scripts.{script_of}
 use Rattle.dcc_replay.specs.Replays as replay
 use Rattle.dcc_decode.specs.Decodings as decode

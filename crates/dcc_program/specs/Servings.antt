@@ -3,15 +3,15 @@ use Rattle.std.specs.Prelude.{⊤, ◌≡◌, ◌<◌, ◌⊎◌, ℕ, Bool, Lis
 use Rattle.std.specs.Io.KnownBytes.{Appends, Keeps}
 use Rattle.std.specs.Net.Text.{socket_text}
 use Rattle.std.specs.declared.net.SocketAddr.{SocketAddr}
-use Rattle.dcc_records.specs.Contents.{Content}
+use Rattle.dcc_store.specs.Contents.{Content}
 use Rattle.dcc_tariff.specs.Plans.{PlanView}
 use Rattle.dcc_shard.specs.Stored.{StoredView}
-use Rattle.dcc_operator.specs.Openings.{IsOpenedOver}
+use Rattle.dcc_startup.specs.Openings.{IsOpenedOver}
 use Rattle.dcc_replay.specs.Names.{identity_of}
-use Rattle.dcc_serve.specs.Lines.{AreTold, EndsWith}
-use Rattle.dcc_serve.specs.Rounds.{RoundsView}
-use Rattle.dcc_serve.specs.Served.{AreServed, EndsServing, IsGoodRound}
-use Rattle.dcc_serve.specs.declared.fault.ServeFault.{ServeFault}
+use Rattle.dcc_rounds.specs.Lines.{AreTold, EndsWith}
+use Rattle.dcc_rounds.specs.Rounds.{RoundsView}
+use Rattle.dcc_rounds.specs.Served.{AreServed, EndsServing, IsGoodRound}
+use Rattle.dcc_rounds.specs.declared.fault.ServeFault.{ServeFault}
 use Rattle.dcc_program.specs.declared.failure.Failure.{Failure}
 use Rattle.dcc_program.specs.declared.failure.Failure.TheVariants.{Usage, Memory, Io, Plan, Store, Script, Close}
 use Rattle.dcc_program.specs.Failures.{of_serve}

@@ -2,14 +2,14 @@
 use Rattle.std.specs.Prelude.{⊤, ℕ, Bool, List, Option, IfSome, option_map}
 use Rattle.dcc_tariff.specs.Plans.{PlanView}
 use Rattle.dcc_act.specs.declared.sub.Sub.{Sub}
-use Rattle.dcc_records.specs.Contents.{Content}
+use Rattle.dcc_store.specs.Contents.{Content}
 use Rattle.dcc_shard.specs.Answers.{top_up_act}
 use Rattle.dcc_shard.specs.Routes.{shard_of}
 use Rattle.dcc_shard.specs.Shards.{ShardView, IsStep}
 use Rattle.dcc_shard.specs.Stored.{StoredView}
 use Rattle.dcc_operator.specs.declared.commands.TopUpAsk.{TopUpAsk}
 use Rattle.dcc_operator.specs.Commands.{IsToppedUp, IsToppedUpBegun, IsShown, IsShownBegun}
-use Rattle.dcc_operator.specs.Openings.{IsOpenedOver}
+use Rattle.dcc_startup.specs.Openings.{IsOpenedOver}
 use Rattle.dcc_replay.specs.Names.{identity_of}
 use Rattle.dcc_program.specs.declared.failure.Failure.{Failure}
 use Rattle.dcc_program.specs.declared.failure.Failure.TheVariants.{Usage, Memory, Io, Plan, Store, Script, Close}

@@ -12,7 +12,7 @@ use clap::error::ErrorKind;
 use clap::{Arg, ArgAction, ArgMatches, Command};
 use dcc_act::{Moment, Sub};
 use dcc_operator::TopUpAsk;
-use dcc_serve::Rounds;
+use dcc_rounds::Rounds;
 use dcc_sockets::Silence;
 use dcc_words::{any_u64, moment};
 use std::alloc::{AllocError, Global};
@@ -42,6 +42,14 @@ pub enum Task<'a> {
     Help,
     /// To print the version.
     Version,
+}
+
+/// The top-ups of a file that are asked for.
+#[derive(Clone, Copy, Debug, PartialEq, Eq)]
+pub struct TopUpsAsk<'a> {
+    pub place: Place<'a>,
+    /// The path of the file, or `-` for the standard input.
+    pub from: &'a str,
 }
 
 /// The server that is asked for.
@@ -120,6 +128,50 @@ pub fn serve_of<'a>(alloc: Global, words: &'a [String]) -> Result<Option<ServeAs
     // By a call: words that are let go in place are proved part by part.
     drop(matches);
     ask
+}
+
+/// The file of top-ups that the words of a command line name. None if they ask for something else, which [`task_of`] judges.
+pub fn top_ups_of<'a>(
+    alloc: Global,
+    words: &'a [String],
+) -> Result<Option<TopUpsAsk<'a>>, Failure> {
+    let matches = match from_command(alloc)?.try_get_matches_from(words) {
+        Ok(matches) => matches,
+        Err(error) => {
+            return match error.kind() {
+                ErrorKind::OutOfMemory => Err(Failure::Memory),
+                _ => Ok(None),
+            };
+        }
+    };
+    let ask = top_ups_in(&matches);
+    // By a call: words that are let go in place are proved part by part.
+    drop(matches);
+    Ok(ask)
+}
+
+/// The file of top-ups that the words name, as they were read.
+fn top_ups_in<'a>(matches: &ArgMatches<'a>) -> Option<TopUpsAsk<'a>> {
+    let (_name, found) = matches.subcommand()?;
+    Some(TopUpsAsk {
+        place: place_of(found)?,
+        from: text_of(found, "from")?,
+    })
+}
+
+/// The program with the one command that names a file of top-ups.
+fn from_command<'a>(alloc: Global) -> Result<Command<'a>, AllocError> {
+    let program = Command::new(alloc, "dcc")
+        .subcommand_required(true)
+        .disable_help_subcommand(true);
+    with_command(program, top_ups_command(alloc))
+}
+
+/// The command of a file of top-ups.
+fn top_ups_command<'a>(alloc: Global) -> Result<Command<'a>, AllocError> {
+    let with_plan = with_argument(alloc, Command::new(alloc, "topup"), "PLAN")?;
+    let with_folder = with_argument(alloc, with_plan, "DIR")?;
+    with_option(alloc, with_folder, "from")
 }
 
 /// The server that the words ask for, as they were read.

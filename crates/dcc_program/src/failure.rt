@@ -2,13 +2,13 @@
 
 ghost use Rattle.std.specs.Prelude.{◌≡◌, Some};
 ghost use Rattle.std.specs.IoError.{error_kind};
-ghost use Rattle.dcc_program.specs.Failures.{status_of, line_of, of_plan, of_read, of_operator, of_serve, of_replay, of_decode, of_io_kind};
+ghost use Rattle.dcc_program.specs.Failures.{status_of, line_of, of_plan, of_read, of_line, of_operator, of_serve, of_replay, of_decode, of_io_kind};
 ghost use Rattle.dcc_program.specs.declared.failure.Failure.TheVariants as failure;
 
 use dcc_decode::DecodeFault;
-use dcc_operator::OperatorFault;
+use dcc_operator::{LineFault, OperatorFault};
 use dcc_replay::ReplayFault;
-use dcc_serve::ServeFault;
+use dcc_rounds::ServeFault;
 use dcc_streams::{ReadFault, WriteFault};
 use dcc_tariff::PlanFault;
 use std::alloc::{AllocError, AllocFailed};
@@ -93,6 +93,17 @@ impl From<io::Error> for Failure {
         match error.kind() {
             io::ErrorKind::OutOfMemory => Failure::Memory,
             _ => Failure::Io,
+        }
+    }
+}
+
+impl From<LineFault> for Failure {
+    ghost from_gives = { λ fault given. given ≡ of_line fault };
+
+    fn from(fault: LineFault) -> Failure {
+        match fault {
+            LineFault::Memory => Failure::Memory,
+            LineFault::Line(line) => Failure::Script(line),
         }
     }
 }

@@ -6,6 +6,7 @@ dcc is a Diameter credit-control server (RFC 8506) on prepaid balances.
 
 usage: dcc replay PLAN
        dcc topup PLAN DIR SUB TICKET AMOUNT [MOMENT]
+       dcc topup PLAN DIR --from FILE
        dcc ledger PLAN DIR SUB
        dcc serve PLAN DIR [--listen ADDR] [--gates N] [--rounds N | --stay [--sweep S]] [--every N] [--silent S]
        dcc check PLAN [DIR]
@@ -17,7 +18,9 @@ dcc replay PLAN   reads a script of events from standard input, and prints what 
 dcc topup         makes one top-up under the plan of the file PLAN, in the store of the subscriber's shard in the
                   folder DIR, and prints done, ceiling, refused or bad. A store that is missing is made, a folder isn't.
                   SUB is a type and data, as 0:491700000001; TICKET is the top-up's number, and a second one with it is a
-                  repeat; AMOUNT is in minor units; MOMENT is in seconds since 1970, the clock's if it is missing
+                  repeat; AMOUNT is in minor units; MOMENT is in seconds since 1970, the clock's if it is missing. With --from
+                  it makes the top-ups of FILE, or of standard input if FILE is -: a line for each, SUB TICKET AMOUNT
+                  [MOMENT]. It opens each store once, and prints SUB, TICKET and the word of each top-up
 dcc ledger        prints the ledger of the subscriber SUB from the store of its shard in the folder DIR. Without such a
                   store or folder the account is unknown, and nothing is made
 dcc serve         serves gateways over TCP from the stores in the folder DIR, and prints its address, and a line for each

@@ -1,6 +1,6 @@
 //! The program `dcc`: its command line, its plan file, how it ends, and its work over any files, reader and writers.
 //!
-//! Stands on `dcc_replay` for scripts, `dcc_operator` for an operator's commands over stores, `dcc_serve` and `dcc_sockets` for a server,
+//! Stands on `dcc_replay` for scripts, `dcc_operator` for an operator's commands over stores, `dcc_startup` for a server's shards, `dcc_rounds` and `dcc_sockets` for a server,
 //! `dcc_decode` for messages as a person reads them, and `dcc_tariff` for plans. The contract that it gives: [`replay`] is `dcc replay`
 //! over readers of plan and script and a writer. [`top_up`] and [`ledger`] are `dcc topup` and `dcc ledger` over the plan's reader, a
 //! folder's stores and a writer. [`decode`] is `dcc decode`. [`task_of`] is the task that words ask for. [`run`] judges the words, and does
@@ -13,17 +13,22 @@ mod decoding;
 mod ending;
 mod failure;
 mod help;
+mod many;
+mod opening;
 mod plan_file;
 mod program;
 mod replaying;
 mod serving;
 mod storing;
 
-pub use command_line::{Place, ServeAsk, Task, given_words, serve_of, task_of};
+pub use command_line::{
+    Place, ServeAsk, Task, TopUpsAsk, given_words, serve_of, task_of, top_ups_of,
+};
 pub use decoding::decode;
 pub use ending::{Ending, end};
 pub use failure::Failure;
 pub use help::{HELP, VERSION};
+pub use many::{top_ups, top_ups_at};
 pub use plan_file::{plan_from, plan_of};
 pub use program::run;
 pub use replaying::replay;

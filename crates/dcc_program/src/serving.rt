@@ -10,11 +10,13 @@ ghost use Rattle.dcc_sockets.specs.declared.gateway.Output.{Output};
 
 use crate::command_line::ServeAsk;
 use crate::failure::Failure;
+use crate::opening::open_shards;
 use crate::plan_file::plan_from;
-use dcc_operator::{OperatorFault, Stores, shards_over};
+use dcc_operator::OperatorFault;
 use dcc_replay::identity_of;
-use dcc_serve::{Service, serve_run};
+use dcc_rounds::{Service, serve_run};
 use dcc_sockets::{Closing, Door, Input, NoticeLines, Output, Staying, SystemClock, remove_stop};
+use dcc_startup::Stores;
 use dcc_streams::write_all;
 use dcc_tariff::Plan;
 use std::alloc::{AllocError, Global};
@@ -41,7 +43,7 @@ pub fn serve<
         + Eprint
         + Sync
         + AllocGlobal,
-    S: Stores,
+    S: Stores + Sync,
     W: Write,
 >(rt: &R, stores: &S, ask: &ServeAsk<'_>, output: &mut W) -> Result<(), Failure>
     ensures served { OnOk result (IsServedOver (λ (input : Input R). None) (λ (output : Output R). None) (λ (before : SystemClock R) moment after. Unit {0}) (Unit {0})
@@ -69,7 +71,7 @@ fn serve_under<
         + Eprint
         + Sync
         + AllocGlobal,
-    S: Stores,
+    S: Stores + Sync,
     W: Write,
 >(
     rt: &R,
@@ -88,7 +90,7 @@ fn serve_under<
     let alloc = rt.alloc();
     let stop = stop_path(alloc, ask)?;
     let identity = identity_of(alloc, plan)?;
-    let opened = shards_over(alloc, stores, ask.place.folder, plan, &identity, hasher);
+    let opened = open_shards(rt, alloc, stores, ask.place.folder, plan, &identity, hasher);
     let shards = match opened {
         Ok(shards) => shards,
         Err(refusal) => return Err(Failure::from(OperatorFault::from(refusal))),

@@ -13,7 +13,7 @@ returns-clause-served g c =
       last = rounds.0;
       address = door.0;
       told = g.W.Write.contents c.open_door.new.output;
-      opened = (c.in-Ok.ensures.count, c.in-Ok.ensures.opened);
+      opened = (c.in-Ok.ensures.started.count_is, λ i none less. (c.in-Ok.ensures.started.each i none less).opened);
       listening = door.1;
       served = rw (← c.in_ok-identity.ensures) rounds.1;
     }
@@ -30,7 +30,7 @@ returns-in_err-served-clause-part g c =
       address = door.0;
       told = g.W.Write.contents c.open_door.new.output;
       fault = c.in_err-served.field-0.0;
-      opened = (c.in-Ok.ensures.count, c.in-Ok.ensures.opened);
+      opened = (c.in-Ok.ensures.started.count_is, λ i none less. (c.in-Ok.ensures.started.each i none less).opened);
       listening = door.1;
       failed = p.2;
       lines = c.in_err-served.ensures.part;

@@ -1,5 +1,5 @@
 use Rattle.std.proofs.Common.{◌≡◌, ◌∙◌, inr, false, sym}
-use Rattle.dcc_records.specs.Stops.{LeavesOnly}
+use Rattle.dcc_store.specs.Stops.{LeavesOnly}
 use Rattle.dcc_shard.specs.Shards.{held}
 use Rattle.dcc_operator.specs.Commands.{IsToppedUpBegun}
 use Rattle.dcc_program.proofs.StoreLemmas.{of_output, stood}
