@@ -52,6 +52,15 @@ impl Proxies {
         Ok(Proxies { octets })
     }
 
+    /// Equal proxies. The only error is want of memory.
+    pub fn copy(&self) -> Result<Self, AllocError>
+        ensures { IfOk result (λ copy. copy ≡ self.now) }
+    {
+        Ok(Proxies {
+            octets: self.octets.clone()?,
+        })
+    }
+
     /// Their octets.
     pub fn as_slice(&self) -> &[u8]
         ensures value { result.now ≡ self.now }

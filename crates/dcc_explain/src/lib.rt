@@ -26,7 +26,7 @@ mod usage;
 pub use help_text::{help_of, usage_line};
 pub use key::Key;
 pub use kind::Kind;
-pub use line_note::{LineNote, Misfit, explain_line};
+pub use line_note::{LineNote, Misfit, explain_ask, explain_line};
 pub use looks::{Looks, StoreNote};
 pub use place::Place;
 pub use plan_note::{PlanNote, explain_plan};

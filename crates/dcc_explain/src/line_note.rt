@@ -25,7 +25,7 @@ pub struct LineNote {
     pub words: String,
 }
 
-/// The forms of a script's lines.
+/// The forms of a script's lines, and those of a line of top-ups, which have no verb.
 #[derive(Clone, Copy)]
 enum Form {
     Connect,
@@ -34,6 +34,8 @@ enum Form {
     Message,
     TopUp,
     Sweep,
+    Ask,
+    AskAt,
 }
 
 impl Form {
@@ -60,8 +62,8 @@ impl Form {
     fn count(self) -> usize {
         match self {
             Form::Connect | Form::Disconnect | Form::Sweep => 2,
-            Form::Open => 3,
-            Form::Message => 4,
+            Form::Open | Form::Ask => 3,
+            Form::Message | Form::AskAt => 4,
             Form::TopUp => 5,
         }
     }
@@ -81,6 +83,9 @@ impl Form {
             (Form::TopUp, 3) => Some(Kind::Number),
             (Form::TopUp, 4) => Some(Kind::Number),
             (Form::Sweep, 1) => Some(Kind::Moment),
+            (Form::Ask | Form::AskAt, 0) => Some(Kind::Sub),
+            (Form::Ask | Form::AskAt, 1 | 2) => Some(Kind::Number),
+            (Form::AskAt, 3) => Some(Kind::Moment),
             _ => None,
         }
     }
@@ -94,6 +99,7 @@ impl Form {
             Form::Message => "message P MOMENT HEX",
             Form::TopUp => "topup MOMENT SUB TICKET AMOUNT",
             Form::Sweep => "sweep MOMENT",
+            Form::Ask | Form::AskAt => "SUB TICKET AMOUNT [MOMENT]",
         }
     }
 }
@@ -103,26 +109,55 @@ pub fn explain_line(alloc: Global, line: &[u8]) -> Result<LineNote, AllocError>
     ensures { IfOk result (λ note. IfSome note.misfit (IsMisfit line.now)) }
 {
     let words = parts(alloc, line, b' ')?;
+    note_of_verb(alloc, line, words.as_slice())
+}
+
+/// The explanation of a line that is no top-up.
+pub fn explain_ask(alloc: Global, line: &[u8]) -> Result<LineNote, AllocError>
+    ensures { IfOk result (λ note. IfSome note.misfit (IsMisfit line.now)) }
+{
+    let words = parts(alloc, line, b' ')?;
+    let form = if words.len() == Form::AskAt.count() {
+        Form::AskAt
+    } else {
+        Form::Ask
+    };
+    note_of(alloc, form, words.as_slice())
+}
+
+/// The explanation of the words of a line that has none of the forms with a verb.
+fn note_of_verb(alloc: Global, line: &[u8], words: &[&[u8]]) -> Result<LineNote, AllocError>
+    ensures { IfOk result (λ note. IfSome note.misfit (λ m. IfSome (slice_get words.now m.at) (λ word. is_read m.kind word.now ≡ false))) }
+{
     let verb = match words.first() {
         Some(verb) => *verb,
         None => line,
     };
-    let Some(form) = Form::of(verb) else {
-        let words = words_of_verb(alloc, verb)?;
-        return Ok(LineNote {
-            misfit: None,
-            words,
-        });
-    };
+    match Form::of(verb) {
+        Some(form) => note_of(alloc, form, words),
+        None => {
+            let words = words_of_verb(alloc, verb)?;
+            Ok(LineNote {
+                misfit: None,
+                words,
+            })
+        }
+    }
+}
+
+/// The explanation of words that do not have this form.
+fn note_of(alloc: Global, form: Form, words: &[&[u8]]) -> Result<LineNote, AllocError>
+    ensures { IfOk result (λ note. IfSome note.misfit (λ m. IfSome (slice_get words.now m.at) (λ word. is_read m.kind word.now ≡ false))) }
+{
     if words.len() != form.count() {
-        let words = words_of_count(alloc, form, words.as_slice())?;
+        let words = words_of_count(alloc, form, words)?;
         return Ok(LineNote {
             misfit: None,
             words,
         });
     }
-    let misfit = misfit_in(alloc, form, words.as_slice())?;
-    let words = words_of_misfit(alloc, form, words.as_slice(), misfit)?;
+    let misfit = misfit_in(alloc, form, words)?;
+    let words = words_of_misfit(alloc, form, words, misfit)?;
     Ok(LineNote { misfit, words })
 }
 
