@@ -5,6 +5,8 @@
 //     load idle PORT GATEWAYS SECONDS PID              exchanges capabilities, sends nothing, and prints the server's clock ticks meanwhile
 //     load disk FOLDER SECONDS FILES OCTETS            prints how many times a second so many files take so many octets more each with fdatasync
 //
+// The debits are of 64 subscribers, or of as many as the variable LOAD_SUBSCRIBERS says; the gateways begin as far from one another as they can.
+//
 // Each answer's length, identifier and Result-Code are looked at. The sum that is printed is one of all answers' octets, in whatever order they
 // came.
 
@@ -17,7 +19,11 @@ use std::sync::Barrier;
 use std::thread;
 use std::time::{Duration, Instant};
 
-const SUBSCRIBERS: u32 = 64;
+/// The number of subscribers.
+fn subscribers() -> u32 {
+    std::env::var("LOAD_SUBSCRIBERS").ok().and_then(|word| word.parse().ok()).unwrap_or(64)
+}
+
 const OCTETS: u64 = 1001;
 
 #[repr(C)]
@@ -94,7 +100,7 @@ fn disconnection(gateway: u32) -> Vec<u8> {
 }
 
 /// A direct debit. A gateway's debits are of all subscribers in turn, each under a number of its own.
-fn debit(gateway: u32, number: u32) -> Vec<u8> {
+fn debit(gateway: u32, number: u32, subscribers: u32) -> Vec<u8> {
     request(0xc0, 272, 4, number, |out| {
         must(out, 263, format!("gw{gateway}.example;1;1").as_bytes());
         origin(out, gateway);
@@ -106,7 +112,7 @@ fn debit(gateway: u32, number: u32) -> Vec<u8> {
         must(out, 436, &[0; 4]);
         let mut inner = Vec::new();
         must(&mut inner, 450, &[0; 4]);
-        must(&mut inner, 444, format!("4917{:08}", (number + gateway) % SUBSCRIBERS).as_bytes());
+        must(&mut inner, 444, format!("4917{:08}", (number + gateway * (subscribers / 64).max(1)) % subscribers).as_bytes());
         must(out, 443, &inner);
         inner.clear();
         must(&mut inner, 421, &OCTETS.to_be_bytes());
@@ -175,11 +181,11 @@ impl Gateway {
     fn charge(&mut self, window: u32, requests: u32) -> io::Result<u64> {
         let mut sum = 0u64;
         let (mut sent, mut taken) = (0, 0);
-        let mut due = HashSet::new();
+        let (mut due, subscribers) = (HashSet::new(), subscribers());
         while taken < requests {
             let mut piece = Vec::new();
             while sent < requests && sent - taken < window {
-                piece.extend_from_slice(&debit(self.number, sent));
+                piece.extend_from_slice(&debit(self.number, sent, subscribers));
                 due.insert(sent);
                 sent += 1;
             }
