@@ -20,6 +20,7 @@ HERE = os.path.dirname(os.path.abspath(__file__))
 TOP = os.path.dirname(HERE)
 sys.path.insert(0, f"{HERE}/rows")
 import words  # noqa: E402
+from words import behind_opening  # noqa: E402
 
 NAMED = [it for it in sys.argv[1:] if it != "--all"]
 PROGRAM = os.path.abspath(NAMED[0]) if NAMED else f"{TOP}/crates/dcc_server/out/dcc_server"
@@ -112,9 +113,13 @@ class Server:
         line = self.process.stdout.readline()
         self.port = int(line.rsplit(":", 1)[1]) if line.startswith("listening 127.0.0.1:") else None
 
-    def said(self):
+    def all_said(self):
         """What it has said until now."""
         return os.pread(self.lines.fileno(), os.fstat(self.lines.fileno()).st_size, 0).decode()
+
+    def said(self):
+        """What it has said until now, but for the lines of its opening."""
+        return behind_opening(self.all_said())
 
     def kill(self):
         """Ends it, if it hasn't ended."""

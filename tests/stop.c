@@ -2,7 +2,8 @@
  * write does half of its work first. Where there were fewer calls it says so on standard error, so that a sweep over all of them knows its
  * end. With FAIL set, each such call fails on a file whose path has the text of FAIL in it, from when on there is a file at WHEN, or from the
  * one whose number among these is AFTER. With HOLD and WHEN set, each such call on a file whose path has the text of HOLD in it waits while
- * there is a file at WHEN. Standard output, standard error and sockets are no files here. The calls of all threads are counted together. */
+ * there is a file at WHEN. With SLOW set, each such call takes so many microseconds more. Standard output, standard error and sockets are no
+ * files here. The calls of all threads are counted together. */
 #include <errno.h>
 #include <stddef.h>
 #include <stdio.h>
@@ -21,6 +22,7 @@ static const char *held;
 static const char *since;
 static unsigned long after;
 static unsigned long tried;
+static unsigned slow;
 
 __attribute__((constructor)) static void begin(void) {
     const char *word = getenv("STOP");
@@ -31,6 +33,8 @@ __attribute__((constructor)) static void begin(void) {
     since = getenv("WHEN");
     word = getenv("AFTER");
     after = word ? strtoul(word, NULL, 10) : 0;
+    word = getenv("SLOW");
+    slow = word ? (unsigned)strtoul(word, NULL, 10) : 0;
     made = 0;
 }
 
@@ -68,8 +72,11 @@ static int is_of(int file, const char *text) {
     return strstr(path, text) != NULL;
 }
 
-/* Whether a call on this file fails; one that is held waits before. */
+/* Whether a call on this file fails; a call that is slow or held waits before. */
 static int fails(int file) {
+    if (slow) {
+        usleep(slow);
+    }
     while (held && since && access(since, F_OK) == 0 && is_of(file, held)) {
         usleep(1000);
     }

@@ -25,6 +25,9 @@ has other flags, and Session-Id:7='x' another length than its own. N*WORD is N t
 
 import re
 
+# What a server says of its opening on standard error.
+OPENING = r"^dcc: (shard \d+: subscribers \d+, acts \d+|the stores (are open after \d+\.\d{3}|have been opening for \d+) seconds)\n"
+
 U32, U64, I32, I64, TEXT, GROUP, ADDRESS, TIME = "u32", "u64", "i32", "i64", "text", "group", "address", "time"
 
 # Code and format of each AVP that the server knows (RFC 6733, section 4.5; RFC 8506, section 8).
@@ -207,3 +210,8 @@ def spelled(word):
 def numbered(kind, number):
     """The type and the number of a request."""
     return f"CC-Request-Type={kind}+CC-Request-Number={number}"
+
+
+def behind_opening(said):
+    """What a server says, but for the lines of its opening, which `opening` of tests/gateways judges."""
+    return re.sub(OPENING, "", said, flags=re.M)
