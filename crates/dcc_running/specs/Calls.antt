@@ -14,6 +14,7 @@ use Rattle.dcc_openers.specs.declared.found.Found.{Found}
 use Rattle.dcc_openers.specs.declared.found.Found.TheVariants as found
 use Rattle.dcc_shard.specs.Openers.{IsFound, opened}
 use Rattle.dcc_shard.specs.Shards.{ShardView, held, is_among}
+use Rattle.dcc_shard.specs.Stored.{StoredView}
 use Rattle.dcc_shard.specs.declared.answers.RequestAnswer.{RequestAnswer}
 use Rattle.dcc_shard.specs.declared.answers.RequestAnswer.TheVariants as answers
 use Rattle.dcc_shard.specs.declared.answers.ExpiryAnswer.{ExpiryAnswer}
@@ -52,6 +53,10 @@ IsResolved count host sid who =
 -- whether some shard's records have failed
 abbrev pub IsToldStopped : {R : Type 0} → (R → Bool) → Bool → Type 0
 IsToldStopped {R} is_stopped told = (records : R) × (told ≡ is_stopped records)
+
+-- what a reader finds in some shard
+abbrev pub IsReadOf : {R T : Type 0} → (StoredView R → T → Type 0) → T → Type 0
+IsReadOf {R} finds found = (shard : StoredView R) × finds shard found
 
 -- the receipt of a job, with its answer and a place, which is 0 for an unknown subscriber
 abbrev pub receipt : Job → List ℕ → ℕ → Bool → Receipt

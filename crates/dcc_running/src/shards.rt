@@ -5,7 +5,7 @@ ghost use Rattle.std.specs.List.Sorted.{IsStrictlySortedBy};
 ghost use Rattle.dcc_act.specs.declared.sub.Sub.{Sub};
 ghost use Rattle.dcc_store.specs.Books.{sub_order};
 ghost use Rattle.dcc_running.specs.Books.{at_opening, book};
-ghost use Rattle.dcc_running.specs.Calls.{AreSubs, IsResolved, IsToldStopped};
+ghost use Rattle.dcc_running.specs.Calls.{AreSubs, IsReadOf, IsResolved, IsToldStopped};
 ghost use Rattle.dcc_running.specs.inner.Batches.{AreKeptAt};
 ghost use Rattle.dcc_running.specs.inner.Locks.{AreOf};
 ghost use Rattle.dcc_shard.specs.Routes.{shard_of};
@@ -13,6 +13,7 @@ ghost use Rattle.dcc_shard.specs.Shards.{held};
 ghost use Rattle.dcc_shard.specs.Stored.{StoredView};
 
 use crate::lock::{Lock, Place};
+use crate::look::Look;
 use crate::opening::{Opening, copied};
 use crate::seat::Seat;
 use dcc_act::{SessionId, Sub};
@@ -125,6 +126,22 @@ impl<R: Records> Shards<R> {
         ensures { IsToldStopped R.is_stopped result }
     {
         self.locks[shard].lock_as(rt, shard).records().is_stopped()
+    }
+
+    /// What a reader finds in the shard of this index, as the shard is when its lock is taken. It waits for the shard's lock, and holds it until
+    /// the reader returns. No act is made in the shard meanwhile. The condition is that there is such a shard.
+    pub fn read<W: Wait, L: Look<R>>(&self, rt: &W, shard: usize, look: L) -> L::Found
+        requires { shard < self.now.count }
+        ensures { IsReadOf (L.finds look) result }
+    {
+        look.look(&self.locks[shard].lock_as(rt, shard))
+    }
+
+    /// The number of shards.
+    pub fn count(&self) -> usize
+        ensures { result ≡ self.now.count }
+    {
+        self.locks.len()
     }
 
     /// The index of the shard that keeps a subscriber.
