@@ -1,13 +1,14 @@
 -- How the threads of a round are gathered.
-use Rattle.std.proofs.Common.{◌≡◌, ℕ, ◌+◌, Bool, List, [], ◌∷◌, ◌++◌, Option, sym, ap, ◌∙◌, append_assoc}
+use Rattle.std.proofs.Common.{◌≡◌, ℕ, zero, suc, ◌+◌, Bool, List, [], ◌∷◌, ◌++◌, Option, refl, sym, ap, ◌∙◌, append_assoc, arith}
 use Rattle.std.specs.Global.{Vec}
 use Rattle.std.specs.List.{AllByRecursion}
 use Rattle.dcc_connect.specs.declared.writing.Item.{Item}
 use Rattle.dcc_lane.specs.declared.receiver.Receiver.{Receiver}
 use Rattle.dcc_lane.specs.declared.sender.Sender.{Sender}
-use Rattle.dcc_rounds.specs.Gathering.{place_of, places_from}
+use Rattle.dcc_rounds.specs.Gathering.{attendants_of, place_of, places_from}
 use Rattle.dcc_rounds.specs.declared.face.Connection.{Connection}
 use Rattle.dcc_rounds.specs.declared.tasks.Task.{Task}
+use Rattle.dcc_rounds.specs.declared.tasks.Task.TheVariants as task
 use Rattle.dcc_rounds.specs.declared.work.Work.{Work}
 
 -- one place more
@@ -24,6 +25,19 @@ places_next {I = I} {O = O} done next all stays every gate first later receivers
     ∙ ap (λ (ss : List (Vec (Sender Work))). done ++ places_from stays every gate (first ∷ later) (from ∷ left) ss replies) two
     ∙ ap (λ (rs : List (Sender Item)). done ++ places_from stays every gate (first ∷ later) (from ∷ left) (workers ∷ rest) rs) three)
     ∙ told
+
+attendants_push : (I O : Type 0) (count : ℕ) → attendants_of {I = I} {O = O} count ++ task.Attend (record { seat = [] }) ∷ [] ≡ attendants_of (suc count)
+attendants_push I O zero = refl
+attendants_push I O (suc count) = ap (λ (ts : List (Task I O)). task.Attend (record { seat = [] }) ∷ ts) (attendants_push I O count)
+
+-- one attendant more
+pub attendants_next : {I O : Type 0} (before done next : List (Task I O)) (count : ℕ) (attendant : Task I O) → done ≡ before ++ attendants_of count
+    → attendant ≡ task.Attend (record { seat = [] }) → next ≡ done ++ attendant ∷ [] → next ≡ before ++ attendants_of (count + 1)
+attendants_next {I = I} {O = O} before done next count attendant was is more =
+    let one_more : suc count ≡ count + 1 = omega arith in
+    more ∙ ap (λ (ts : List (Task I O)). ts ++ attendant ∷ []) was ∙ append_assoc before (attendants_of count) (attendant ∷ [])
+    ∙ ap (λ (t : Task I O). before ++ (attendants_of count ++ t ∷ [])) is ∙ ap (λ (ts : List (Task I O)). before ++ ts) (attendants_push I O count)
+    ∙ ap (λ (n : ℕ). before ++ attendants_of {I = I} {O = O} n) one_more
 
 -- what is said of each item is said with one more
 pub all_more : {X : Type 0} (P : X → Type 0) (xs : List X) (x : X) → AllByRecursion P xs → P x → AllByRecursion P (xs ++ x ∷ [])

@@ -1,5 +1,5 @@
 -- What goes out of a round comes of what came in.
-use Rattle.std.proofs.Common.{◌≡◌, ℕ, suc, ◌+◌, ◌<◌, ◌≤◌, ◌⊎◌, inl, inr, Bool, List, [], ◌∷◌, ◌++◌, length, drop, Option, Some, None, refl, sym, ap, ◌∙◌, subst, append-nil, append_assoc, arith, take-append-drop}
+use Rattle.std.proofs.Common.{◌≡◌, ℕ, zero, suc, ◌+◌, ◌<◌, ◌≤◌, ◌⊎◌, inl, inr, Bool, List, [], ◌∷◌, ◌++◌, length, drop, Option, Some, None, refl, sym, ap, ◌∙◌, subst, append-nil, append_assoc, arith, take-append-drop}
 use Rattle.std.specs.Global.{Vec}
 use Rattle.std.specs.List.{AllByRecursion, FoldsTo, concat, cons_option, filter_map}
 use Rattle.std.proofs.lemmas.Fn.{chained_keeps}
@@ -18,10 +18,11 @@ use Rattle.dcc_lane.specs.declared.receiver.Receiver.{Receiver}
 use Rattle.dcc_lane.specs.declared.rule.Tagged.{Tagged}
 use Rattle.dcc_lane.specs.declared.sender.Sender.{Sender}
 use Rattle.dcc_message.specs.Streams.{messages}
+use Rattle.dcc_receipts.specs.declared.receipt.Receipt.{Receipt}
 use Rattle.dcc_running.specs.Calls.{IsAnswerTo}
 use Rattle.dcc_rounds.specs.Answering.{AllAnswer, AmongVisits, AnswersAll, CameIn, CameTo, HasRead, IsAnswerOf, WritesAnswers}
 use Rattle.dcc_rounds.specs.Finishing.{AreFinished, answers_of, asks_of, items_in, reply_of, work_in}
-use Rattle.dcc_rounds.specs.Gathering.{AreGathered, places_from, timer_of, workers_from}
+use Rattle.dcc_rounds.specs.Gathering.{AreGathered, attendants_of, places_from, timer_of, workers_from}
 use Rattle.dcc_rounds.specs.Lanes.{AreAllHeard, AreDealt, IsHeard, IsNewReceiver, IsNewSender, all_put, firsts, lists_of, rests}
 use Rattle.dcc_rounds.specs.Handing.{Reading, job_of, reading_of}
 use Rattle.dcc_rounds.specs.Rounds.{RoundsView}
@@ -33,7 +34,7 @@ use Rattle.dcc_rounds.specs.Working as working
 use Rattle.dcc_rounds.specs.declared.face.Connection.{Connection}
 use Rattle.dcc_rounds.specs.declared.place.Place as places
 use Rattle.dcc_rounds.specs.declared.tasks.Task.{Task}
-use Rattle.dcc_rounds.specs.declared.tasks.Task.TheVariants.{Work, Time, Place}
+use Rattle.dcc_rounds.specs.declared.tasks.Task.TheVariants.{Work, Time, Place, Attend}
 use Rattle.dcc_rounds.specs.declared.timer.SweepTimer.{SweepTimer}
 use Rattle.dcc_rounds.specs.declared.work.Request.{Request}
 use Rattle.dcc_rounds.specs.declared.work.Work as work
@@ -99,6 +100,7 @@ module _ {I O : Type 0} where
   Fresh count (Work worker) = (taken_of worker.from ≡ []) × AllByRecursion IsNewSender worker.writers.items × (worker.shard < count)
   Fresh count (Time timer) = AllByRecursion IsNewSender timer.workers.items
   Fresh count (Place place) = AllByRecursion IsNewSender place.reader.workers.items × (put_of place.reader.writer ≡ []) × (taken_of place.from ≡ [])
+  Fresh count (Attend attendant) = Unit {0}
 
   both_fresh : (count : ℕ) (a b : List (Task I O)) → AllByRecursion (Fresh count) a → AllByRecursion (Fresh count) b → AllByRecursion (Fresh count) (a ++ b)
   both_fresh count [] b h k = k
@@ -116,6 +118,11 @@ timer_fresh : (I O : Type 0) (count : ℕ) (stays : Bool) (timers : Vec (Sender 
     → AllByRecursion (Fresh count) (timer_of {I = I} {O = O} stays timers ∷ [])
 unfolding Fresh
 timer_fresh I O count stays timers new = (new, tt)
+
+attendants_fresh : (I O : Type 0) (count n : ℕ) → AllByRecursion (Fresh count) (attendants_of {I = I} {O = O} n)
+unfolding Fresh
+attendants_fresh I O count zero = tt
+attendants_fresh I O count (suc n) = (tt, attendants_fresh I O count n)
 
 module _ {I O : Type 0} where
   places_fresh : (count : ℕ) (stays : Bool) (every gate senders : ℕ) (firsts : List (Option (Connection I O))) (rs : List (Receiver Item)) (ss : List (Vec (Sender work.Work)))
@@ -136,13 +143,15 @@ module _ {I O : Type 0} where
       let asked : AllByRecursion (AreDealt g.work.receivers.items) (lists_of (g.timers ∷ g.asks)) =
       subst (λ (ls : List (Vec (Sender work.Work))). AllByRecursion (AreDealt g.work.receivers.items) (lists_of ls)) g.asked g.work_are.dealt in
       let workers = workers_from {I = I} {O = O} 0 g.work.receivers.items g.answers in
-      subst (AllByRecursion (Fresh count)) (sym g.tasks_are.3)
+      let placed : AllByRecursion (Fresh count) g.placed =
+      subst (AllByRecursion (Fresh count)) (sym g.placed_are.3)
       (both_fresh count (workers ++ timer_of rounds.stays g.timers ∷ [])
-      (places_from rounds.stays rounds.every 0 g.tasks_are.0 g.items.receivers.items g.asks g.replies.items)
+      (places_from rounds.stays rounds.every 0 g.placed_are.0 g.items.receivers.items g.asks g.replies.items)
       (both_fresh count workers (timer_of rounds.stays g.timers ∷ [])
       (workers_fresh I O count 0 (rounds.gates + 1) g.work.receivers.items g.answers g.items.receivers.items g.work_are.new all.1 (omega (arith, g.work_are.receivers)))
       (timer_fresh I O count rounds.stays g.timers asked.0.1))
-      (places_fresh count rounds.stays rounds.every 0 (count + 1) g.tasks_are.0 g.items.receivers.items g.asks g.replies.items g.work.receivers.items g.items_are.new asked.1 all.0.1))
+      (places_fresh count rounds.stays rounds.every 0 (count + 1) g.placed_are.0 g.items.receivers.items g.asks g.replies.items g.work.receivers.items g.items_are.new asked.1 all.0.1)) in
+      subst (AllByRecursion (Fresh count)) (sym g.tasks_are) (both_fresh count g.placed (attendants_of rounds.attendants) placed (attendants_fresh I O count rounds.attendants))
 
 -- a beginning of items' octets
 goes_begun : (f : Option ConnectFault) (items : List Item) (out : List ℕ) → GoesOut f items out → IsPrefix out (all_octets items)
@@ -154,15 +163,15 @@ goes_begun (Some fault.Read) items out h = absurd h
 goes_begun (Some (fault.Header f)) items out h = absurd h
 goes_begun (Some fault.Memory) items out h = absurd h
 
-module _ {I O C : Type 0} (remaining : I → Option (List ℕ)) (contents : O → Option (List ℕ)) (tells : C → ℕ → C → Type 0) (closed : Type 0) (clock : C) (setting : Setting)
-    (count : ℕ) where
+module _ {I O C : Type 0} (remaining : I → Option (List ℕ)) (contents : O → Option (List ℕ)) (tells : C → ℕ → C → Type 0) (closed : Type 0)
+    (attends : List Receipt → List Receipt → Type 0) (clock : C) (setting : Setting) (count : ℕ) where
   -- threads ran, one by one
   abbrev AllTwo : List (Task I O) → List (Task I O) → Type 0
   AllTwo [] news = news ≡ []
   AllTwo (t ∷ ts) [] = ⊥
-  AllTwo (t ∷ ts) (u ∷ us) = Runs remaining contents tells closed clock setting count t u × AllTwo ts us
+  AllTwo (t ∷ ts) (u ∷ us) = Runs remaining contents tells closed attends clock setting count t u × AllTwo ts us
 
-  all_two : (olds news : List (Task I O)) → AllRun remaining contents tells closed clock setting count olds news → length news ≡ length olds → AllTwo olds news
+  all_two : (olds news : List (Task I O)) → AllRun remaining contents tells closed attends clock setting count olds news → length news ≡ length olds → AllTwo olds news
   all_two [] [] ran same = refl
   all_two [] (u ∷ us) ran same = absurd (omega arith)
   all_two (t ∷ ts) [] ran same = absurd (omega arith)
@@ -263,7 +272,7 @@ module _ {I O C : Type 0} (remaining : I → Option (List ℕ)) (contents : O �
       × ((octets : List ℕ) → IsAmong (Octets octets) (all_put (filter_map reply_of (u ∷ []))) → AnsweredBy (CameOf t u) octets)
 
   -- a thread put what comes of the messages that were read of its gateways
-  task_came : (t u : Task I O) → Fresh count t → Runs remaining contents tells closed clock setting count t u → PutBy t u
+  task_came : (t u : Task I O) → Fresh count t → Runs remaining contents tells closed attends clock setting count t u → PutBy t u
   unfolding Fresh
   task_came (Work worker) u fresh h = subst (PutBy (Work worker)) (sym h.1) (λ request n. absurd n, λ octets n. absurd n)
   task_came (Time timer) u fresh h =
@@ -279,6 +288,7 @@ module _ {I O C : Type 0} (remaining : I → Option (List ℕ)) (contents : O �
         λ request i. elim i [ inl j ↦ (let t = put.asked request j in (t.0, (visits, h.2.1, t.1), t.2)) | inr n ↦ absurd n ],
         λ octets i. elim i [ inl j ↦ (let t = put.replied octets j in (t.0, (visits, h.2.1, t.1), t.2)) | inr n ↦ absurd n ],
       )
+  task_came (Attend attendant) u fresh h = subst (PutBy (Attend attendant)) (sym h.1) (λ request n. absurd n, λ octets n. absurd n)
 
   put_split : {T : Type 0} (x : T) (o : Option (Vec (Sender T))) (vs : List (Vec (Sender T))) → SomePut x (lists_of (cons_option o vs))
       → SomePut x (lists_of (cons_option o [])) ⊎ SomePut x (lists_of vs)
@@ -328,12 +338,14 @@ module _ {I O C : Type 0} (remaining : I → Option (List ℕ)) (contents : O �
   later_work from None rs i = i
   later_work from (Some r) rs i = inr i
 
-  worker_took : (t u : Task I O) (us : List (Task I O)) (octets : List ℕ) → Fresh count t → Runs remaining contents tells closed clock setting count t u
+  worker_took : (t u : Task I O) (us : List (Task I O)) (octets : List ℕ) → Fresh count t → Runs remaining contents tells closed attends clock setting count t u
       → SomePut (Octets octets) (lists_of (cons_option (answers_of u) [])) → Taken (u ∷ us) octets
   unfolding Fresh Answered
   worker_took (Time timer) u us octets fresh h i =
       absurd (subst (λ (v : Task I O). SomePut (Octets octets) (lists_of (cons_option (answers_of v) []))) h.1 i)
   worker_took (Place place) u us octets fresh h i =
+      absurd (subst (λ (v : Task I O). SomePut (Octets octets) (lists_of (cons_option (answers_of v) []))) h.1 i)
+  worker_took (Attend attendant) u us octets fresh h i =
       absurd (subst (λ (v : Task I O). SomePut (Octets octets) (lists_of (cons_option (answers_of v) []))) h.1 i)
   worker_took (Work worker) u us octets fresh h i =
       let done = h.0 in
@@ -443,10 +455,11 @@ module _ {I O C : Type 0} (remaining : I → Option (List ℕ)) (contents : O �
   TakenAnswers came u = (r : Receiver Item) → IsIn r (filter_map items_in (u ∷ [])) → (octets : List ℕ) → IsIn (Octets octets) (items_of (taken_of r)) → AnsweredBy came octets
 
   -- so it is of a thread
-  task_answers : (came : List ℕ → Type 0) (t u : Task I O) → Runs remaining contents tells closed clock setting count t u → TakenAnswers came u
+  task_answers : (came : List ℕ → Type 0) (t u : Task I O) → Runs remaining contents tells closed attends clock setting count t u → TakenAnswers came u
       → AnswersAll remaining contents tells closed clock setting count came t u
   task_answers came (Work worker) u h all = tt
   task_answers came (Time timer) u h all = tt
+  task_answers came (Attend attendant) u h all = tt
   task_answers came (Place old) u h all =
       let left = h.0 in
       let serves = h.2.1 in
@@ -461,6 +474,7 @@ module _ {I O C : Type 0} (remaining : I → Option (List ℕ)) (contents : O �
   later_of : (r : Receiver Item) (u : Task I O) (us : List (Task I O)) → IsIn r (filter_map items_in (u ∷ [])) → IsIn r (filter_map items_in (u ∷ us))
   later_of r (Work worker) us n = absurd n
   later_of r (Time timer) us n = absurd n
+  later_of r (Attend attendant) us n = absurd n
   later_of r (Place place) us (inl e) = inl e
   later_of r (Place place) us (inr n) = absurd n
 
@@ -475,7 +489,7 @@ module _ {I O C : Type 0} (remaining : I → Option (List ℕ)) (contents : O �
   )
 
   -- what goes out of a round answers what came in
-  pub round_answers : (rounds : RoundsView) (olds news : List (Task I O)) → AreGathered count rounds olds → AllRun remaining contents tells closed clock setting count olds news
+  pub round_answers : (rounds : RoundsView) (olds news : List (Task I O)) → AreGathered count rounds olds → AllRun remaining contents tells closed attends clock setting count olds news
       → length news ≡ length olds → AreFinished news
       → AllAnswer remaining contents tells closed clock setting count (CameIn remaining contents tells closed clock setting count olds news) olds news
   round_answers rounds olds news gathered ran same finished =

@@ -1,5 +1,5 @@
 -- How the lanes of a round are ended.
-use Rattle.std.proofs.Common.{◌≡◌, ℕ, suc, ◌+◌, Bool, List, [], ◌∷◌, ◌++◌, map, length, Option, Some, None, refl, sym, ap, ap₂, ◌∙◌, subst, append_assoc, append-nil, arith, inl, inr}
+use Rattle.std.proofs.Common.{◌≡◌, ℕ, zero, suc, ◌+◌, Bool, List, [], ◌∷◌, ◌++◌, map, length, Option, Some, None, refl, sym, ap, ap₂, ◌∙◌, subst, append_assoc, append-nil, arith, inl, inr}
 use Rattle.std.proofs.lemmas.Bool.{cases_lt}
 use Rattle.std.proofs.lemmas.List.{map-append}
 use Rattle.std.proofs.lemmas.List.Elements.{All-nil, All-cons, filter_map-append}
@@ -13,9 +13,10 @@ use Rattle.dcc_dispatch.specs.Settings.{Setting}
 use Rattle.dcc_lane.specs.Ends.{IsOfLane, lane_of, lane_of_sender}
 use Rattle.dcc_lane.specs.declared.receiver.Receiver.{Receiver}
 use Rattle.dcc_lane.specs.declared.sender.Sender.{Sender}
+use Rattle.dcc_receipts.specs.declared.receipt.Receipt.{Receipt}
 use Rattle.dcc_rounds.specs.Counting.{seat_in}
 use Rattle.dcc_rounds.specs.Finishing.{AddsTask, AreFinished, ArePartsOf, AreTied, Ends, answers_of, asks_of, ends_in, items_in, reply_of, with, work_in}
-use Rattle.dcc_rounds.specs.Gathering.{AreGathered, places_from, timer_of, workers_from}
+use Rattle.dcc_rounds.specs.Gathering.{AreGathered, attendants_of, places_from, timer_of, workers_from}
 use Rattle.dcc_rounds.specs.Handing.{IsSameReader}
 use Rattle.dcc_rounds.specs.Lanes.{AreAllHeard, AreDealt, AreOfLanes, firsts, lanes_of, lists_of, rests}
 use Rattle.dcc_rounds.specs.Rounds.{RoundsView}
@@ -25,7 +26,7 @@ use Rattle.dcc_rounds.specs.declared.face.Connection.{Connection}
 use Rattle.dcc_rounds.specs.declared.finishing.Parts.{Parts}
 use Rattle.dcc_rounds.specs.declared.place.Place as places
 use Rattle.dcc_rounds.specs.declared.tasks.Task.{Task}
-use Rattle.dcc_rounds.specs.declared.tasks.Task.TheVariants.{Work, Time, Place}
+use Rattle.dcc_rounds.specs.declared.tasks.Task.TheVariants.{Work, Time, Place, Attend}
 use Rattle.dcc_rounds.specs.declared.work.Work as work
 use Rattle.dcc_rounds.proofs.Dealing.{lists_push}
 use Rattle.dcc_rounds.proofs.Handings.{same_as, same_on}
@@ -141,6 +142,12 @@ of_workers I O shard (r ∷ rs) (s ∷ ss) same =
     let t = of_workers I O (shard + 1) rs ss (omega arith) in
     record { work = ap (λ l. lane_of r ∷ l) t.work; asks = t.asks; items = t.items; reply = t.reply; answers = ap (λ l. lanes_of s.items ∷ l) t.answers }
 
+of_attendants : (I O : Type 0) (count : ℕ) → Told (map ends_in (attendants_of {I = I} {O = O} count)) [] [] [] [] []
+of_attendants I O zero = record { work = refl; asks = refl; items = refl; reply = refl; answers = refl }
+of_attendants I O (suc count) =
+    let t = of_attendants I O count in
+    record { work = t.work; asks = t.asks; items = t.items; reply = t.reply; answers = t.answers }
+
 of_places : {I O : Type 0} (stays : Bool) (every gate : ℕ) (firsts : List (Option (Connection I O))) (receivers : List (Receiver Item)) (senders : List (Vec (Sender work.Work)))
     (replies : List (Sender Item)) → length receivers ≡ length firsts → length senders ≡ length firsts → length replies ≡ length firsts
     → Told (map ends_in (places_from stays every gate firsts receivers senders replies)) [] (map lane_of receivers) (lanes_of replies) (lanes_in senders) []
@@ -170,7 +177,7 @@ module _ {I O : Type 0} where
   -- what a round begins with is tied
   pub gathered_tied : (shards : ℕ) (rounds : RoundsView) (tasks : List (Task I O)) → AreGathered shards rounds tasks → AreTied (map ends_in tasks)
   gathered_tied shards rounds tasks g =
-      let firsts = g.tasks_are.0 in
+      let firsts = g.placed_are.0 in
       let workers = workers_from {I = I} {O = O} 0 g.work.receivers.items g.answers in
       let timer : List (Task I O) = timer_of rounds.stays g.timers ∷ [] in
       let others = places_from rounds.stays rounds.every 0 firsts g.items.receivers.items g.asks g.replies.items in
@@ -183,28 +190,34 @@ module _ {I O : Type 0} where
       let replies : length g.replies.items ≡ length g.items.receivers.items =
       sym (length-map g.replies.items lane_of_sender) ∙ ap length all.0.0 ∙ length-map g.items.receivers.items lane_of in
       let w = of_workers I O 0 g.work.receivers.items g.answers (omega (arith, lists, g.work_are.receivers)) in
-      let o = of_places rounds.stays rounds.every 0 firsts g.items.receivers.items g.asks g.replies.items (omega (arith, g.items_are.receivers, g.tasks_are.1))
-      (omega (arith, askers, g.tasks_are.1)) (omega (arith, replies, g.items_are.receivers, g.tasks_are.1)) in
+      let o = of_places rounds.stays rounds.every 0 firsts g.items.receivers.items g.asks g.replies.items (omega (arith, g.items_are.receivers, g.placed_are.1))
+      (omega (arith, askers, g.placed_are.1)) (omega (arith, replies, g.items_are.receivers, g.placed_are.1)) in
+      let p = of_attendants I O rounds.attendants in
       let a = map ends_in workers in
       let t = map ends_in timer in
       let b = map ends_in others in
-      let ends : map ends_in tasks ≡ a ++ (t ++ b) =
-      ap (map ends_in) g.tasks_are.3 ∙ map-append ends_in (workers ++ timer) others ∙ ap (λ l. l ++ b) (map-append ends_in workers timer) ∙ append_assoc a t b in
-      let late : (X : Type 0) (f : Ends → Option X) (x y z : List X) → filter_map f a ≡ x → filter_map f t ≡ y → filter_map f b ≡ z → filter_map f (a ++ (t ++ b)) ≡ x ++ (y ++ z) =
-      λ X f x y z p q r. both_kept f a (t ++ b) x (y ++ z) p (both_kept f t b y z q r) in
+      let d = map ends_in (attendants_of {I = I} {O = O} rounds.attendants) in
+      let front : map ends_in g.placed ≡ a ++ (t ++ b) =
+      ap (map ends_in) g.placed_are.3 ∙ map-append ends_in (workers ++ timer) others ∙ ap (λ l. l ++ b) (map-append ends_in workers timer) ∙ append_assoc a t b in
+      let ends : map ends_in tasks ≡ (a ++ (t ++ b)) ++ d =
+      ap (map ends_in) g.tasks_are ∙ map-append ends_in g.placed (attendants_of rounds.attendants) ∙ ap (λ l. l ++ d) front in
+      let late : (X : Type 0) (f : Ends → Option X) (x y z : List X) → filter_map f a ≡ x → filter_map f t ≡ y → filter_map f b ≡ z → filter_map f d ≡ []
+      → filter_map f ((a ++ (t ++ b)) ++ d) ≡ x ++ (y ++ z) =
+      λ X f x y z p q r none.
+      both_kept f (a ++ (t ++ b)) d (x ++ (y ++ z)) [] (both_kept f a (t ++ b) x (y ++ z) p (both_kept f t b y z q r)) none ∙ append-nil (x ++ (y ++ z)) in
       subst AreTied (sym ends)
-      (tied_by (a ++ (t ++ b)) (map lane_of g.work.receivers.items ++ ([] ++ [])) ([] ++ ([] ++ map lane_of g.items.receivers.items)) ([] ++ ([] ++ lanes_of g.replies.items))
+      (tied_by ((a ++ (t ++ b)) ++ d) (map lane_of g.work.receivers.items ++ ([] ++ [])) ([] ++ ([] ++ map lane_of g.items.receivers.items)) ([] ++ ([] ++ lanes_of g.replies.items))
       ([] ++ ((lanes_of g.timers.items ∷ []) ++ lanes_in g.asks)) (lanes_in g.answers ++ ([] ++ []))
-      (late TableId (λ (e : Ends). e.work) _ _ _ w.work refl o.work) (late (List TableId) (λ (e : Ends). e.asks) _ _ _ w.asks refl o.asks)
-      (late TableId (λ (e : Ends). e.items) _ _ _ w.items refl o.items) (late TableId (λ (e : Ends). e.reply) _ _ _ w.reply refl o.reply)
-      (late (List TableId) (λ (e : Ends). e.answers) _ _ _ w.answers refl o.answers)
+      (late TableId (λ (e : Ends). e.work) _ _ _ w.work refl o.work p.work) (late (List TableId) (λ (e : Ends). e.asks) _ _ _ w.asks refl o.asks p.asks)
+      (late TableId (λ (e : Ends). e.items) _ _ _ w.items refl o.items p.items) (late TableId (λ (e : Ends). e.reply) _ _ _ w.reply refl o.reply p.reply)
+      (late (List TableId) (λ (e : Ends). e.answers) _ _ _ w.answers refl o.answers p.answers)
       (subst (λ l. AreOfLanes l (lanes_of g.timers.items ∷ lanes_in g.asks)) (sym (append-nil (map lane_of g.work.receivers.items)))
       (dealt_lanes g.work.receivers.items (g.timers ∷ g.asks) asked))
       (subst (λ l. AreOfLanes (map lane_of g.items.receivers.items) (lanes_of g.replies.items ∷ l)) (sym (append-nil (lanes_in g.answers)))
       (dealt_lanes g.items.receivers.items (g.replies ∷ g.answers) all)))
 
-module _ {I O C : Type 0} (remaining : I → Option (List ℕ)) (contents : O → Option (List ℕ)) (tells : C → ℕ → C → Type 0) (closed : Type 0) (clock : C) (setting : Setting)
-    (count : ℕ) where
+module _ {I O C : Type 0} (remaining : I → Option (List ℕ)) (contents : O → Option (List ℕ)) (tells : C → ℕ → C → Type 0) (closed : Type 0)
+    (attends : List Receipt → List Receipt → Type 0) (clock : C) (setting : Setting) (count : ℕ) where
   -- the ends of lanes that a place has
   abbrev AtPlace : places.Place I O → places.Place I O → Type 0
   AtPlace old new = IsSameReader old.reader new.reader × (lane_of new.from ≡ lane_of old.from)
@@ -219,7 +232,7 @@ module _ {I O C : Type 0} (remaining : I → Option (List ℕ)) (contents : O �
       (same_on old.reader mid.reader last.reader here more.0, more.1 ∙ h.1.writes.1.0)
 
   -- a thread keeps its lanes
-  ends_same : (t u : Task I O) → Runs remaining contents tells closed clock setting count t u → ends_in u ≡ ends_in t
+  ends_same : (t u : Task I O) → Runs remaining contents tells closed attends clock setting count t u → ends_in u ≡ ends_in t
   ends_same (Work worker) u h = elim (cases_lt worker.shard count) [
     | inl there ↦ (let d = h.2 there in ap ends_in h.1 ∙ (λ i. record { work = Some (d.goes.same.0 i); asks = None; items = None; reply = None; answers = Some (d.goes.lanes i) }))
     | inr past ↦ ap ends_in h.1 ∙ ap (λ w. ends_in {I = I} {O = O} (Work w)) (h.3 past)
@@ -231,8 +244,9 @@ module _ {I O C : Type 0} (remaining : I → Option (List ℕ)) (contents : O �
       let reader = same_on old.reader s.last.reader h.0.reader v.0 s.left.1 in
       let from : lane_of h.0.from ≡ lane_of old.from = ap lane_of s.from ∙ v.1 in
       ap ends_in h.1 ∙ (λ i. record { work = None; asks = Some (reader.workers i); items = Some (from i); reply = Some (reader.writer i); answers = None })
+  ends_same (Attend attendant) u h = ap ends_in h.1
 
-  all_same : (old new : List (Task I O)) → AllRun remaining contents tells closed clock setting count old new → length new ≡ length old → map ends_in new ≡ map ends_in old
+  all_same : (old new : List (Task I O)) → AllRun remaining contents tells closed attends clock setting count old new → length new ≡ length old → map ends_in new ≡ map ends_in old
   all_same [] [] ran same = refl
   all_same [] (u ∷ us) ran same = absurd (omega arith)
   all_same (t ∷ ts) [] ran same = absurd (omega arith)
@@ -240,7 +254,7 @@ module _ {I O C : Type 0} (remaining : I → Option (List ℕ)) (contents : O �
       ap₂ (λ e es. e ∷ es) (ends_same t u (ran 0 t (omega arith))) (all_same ts us (λ i none l. ran (suc i) none (omega arith)) (omega arith))
 
   -- so its threads are tied when they have ended
-  pub ended_tied : (rounds : RoundsView) (begun ended : List (Task I O)) → AreGathered count rounds begun → AllRun remaining contents tells closed clock setting count begun ended
+  pub ended_tied : (rounds : RoundsView) (begun ended : List (Task I O)) → AreGathered count rounds begun → AllRun remaining contents tells closed attends clock setting count begun ended
       → length ended ≡ length begun → AreTied (map ends_in ended)
   ended_tied rounds begun ended g ran same = subst AreTied (sym (all_same begun ended ran same)) (gathered_tied count rounds begun g)
 
@@ -250,26 +264,31 @@ module _ {I O : Type 0} where
   work_lane (Work worker) = refl
   work_lane (Time timer) = refl
   work_lane (Place place) = refl
+  work_lane (Attend attendant) = refl
 
   asks_lanes : (t : Task I O) → (ends_in t).asks ≡ option_map (λ (v : Vec (Sender work.Work)). lanes_of v.items) (asks_of t)
   asks_lanes (Work worker) = refl
   asks_lanes (Time timer) = refl
   asks_lanes (Place place) = refl
+  asks_lanes (Attend attendant) = refl
 
   items_lane : (t : Task I O) → (ends_in t).items ≡ option_map lane_of (items_in t)
   items_lane (Work worker) = refl
   items_lane (Time timer) = refl
   items_lane (Place place) = refl
+  items_lane (Attend attendant) = refl
 
   reply_lane : (t : Task I O) → (ends_in t).reply ≡ option_map lane_of_sender (reply_of t)
   reply_lane (Work worker) = refl
   reply_lane (Time timer) = refl
   reply_lane (Place place) = refl
+  reply_lane (Attend attendant) = refl
 
   answers_lanes : (t : Task I O) → (ends_in t).answers ≡ option_map (λ (v : Vec (Sender Item)). lanes_of v.items) (answers_of t)
   answers_lanes (Work worker) = refl
   answers_lanes (Time timer) = refl
   answers_lanes (Place place) = refl
+  answers_lanes (Attend attendant) = refl
 
   seen_as : {Y Z : Type 0} (g : Y → Z) (f : Task I O → Option Y) (h : Ends → Option Z) → ((t : Task I O) → h (ends_in t) ≡ option_map g (f t)) → (ts : List (Task I O)) (ys : List Y)
       → ys ≡ filter_map f ts → filter_map h (map ends_in ts) ≡ map g ys

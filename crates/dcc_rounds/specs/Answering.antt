@@ -20,7 +20,7 @@ use Rattle.dcc_rounds.specs.Handing.{IsDispatched, IsSettledBy, job_of}
 use Rattle.dcc_rounds.specs.Visiting.{ServesEach, Visit}
 use Rattle.dcc_rounds.specs.Working as working
 use Rattle.dcc_rounds.specs.declared.tasks.Task.{Task}
-use Rattle.dcc_rounds.specs.declared.tasks.Task.TheVariants.{Work, Time, Place}
+use Rattle.dcc_rounds.specs.declared.tasks.Task.TheVariants.{Work, Time, Place, Attend}
 use Rattle.dcc_shard.specs.declared.answers.RequestAnswer.{RequestAnswer}
 
 -- the octets of a reply, or of an answer of some shard to the job that a message asks for
@@ -52,8 +52,10 @@ module _ {I O C : Type 0} (remaining : I → Option (List ℕ)) (contents : O �
   abbrev pub CameTo : Task I O → Task I O → List ℕ → Type 0
   CameTo (Work worker) new message = ⊥
   CameTo (Time timer) new message = ⊥
+  CameTo (Attend attendant) new message = ⊥
   CameTo (Place old) (Work worker) message = ⊥
   CameTo (Place old) (Time timer) message = ⊥
+  CameTo (Place old) (Attend attendant) message = ⊥
   CameTo (Place old) (Place new) message =
       (visits : List (Visit I O)) × ServesEach remaining contents tells closed clock setting count visits old new × AmongVisits visits message
 
@@ -73,8 +75,10 @@ module _ {I O C : Type 0} (remaining : I → Option (List ℕ)) (contents : O �
   abbrev pub AnswersAll : (List ℕ → Type 0) → Task I O → Task I O → Type 0
   AnswersAll came (Work worker) new = Unit {0}
   AnswersAll came (Time timer) new = Unit {0}
+  AnswersAll came (Attend attendant) new = Unit {0}
   AnswersAll came (Place old) (Work worker) = ⊥
   AnswersAll came (Place old) (Time timer) = ⊥
+  AnswersAll came (Place old) (Attend attendant) = ⊥
   AnswersAll came (Place old) (Place new) =
       (visits : List (Visit I O)) × ServesEach remaining contents tells closed clock setting count visits old new × AllByRecursion (WritesAnswers came) visits
 

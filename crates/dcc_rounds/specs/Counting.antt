@@ -4,7 +4,7 @@ use Rattle.dcc_connect.specs.declared.writing.WriteEnd.{WriteEnd}
 use Rattle.dcc_receipts.specs.declared.receipt.Receipt.{Receipt}
 use Rattle.dcc_rounds.specs.declared.line.Counts.{Counts}
 use Rattle.dcc_rounds.specs.declared.tasks.Task.{Task}
-use Rattle.dcc_rounds.specs.declared.tasks.Task.TheVariants.{Work, Time, Place}
+use Rattle.dcc_rounds.specs.declared.tasks.Task.TheVariants.{Work, Time, Place, Attend}
 
 -- the number of acts of these receipts: each act has one fresh receipt
 abbrev pub acts_of : List Receipt → ℕ
@@ -24,24 +24,28 @@ module _ {I O : Type 0} where
   requests_in (Work worker) = 0
   requests_in (Time timer) = 0
   requests_in (Place place) = place.reader.requests
+  requests_in (Attend attendant) = 0
 
   -- the number of answers that a thread wrote whole
   abbrev pub answers_in : Task I O → ℕ
   answers_in (Work worker) = 0
   answers_in (Time timer) = 0
   answers_in (Place place) = place.answers
+  answers_in (Attend attendant) = 0
 
   -- the number of acts that a thread made
   abbrev pub acts_in : Task I O → ℕ
   acts_in (Work worker) = acts_of worker.seat
   acts_in (Time timer) = 0
   acts_in (Place place) = 0
+  acts_in (Attend attendant) = acts_of attendant.seat
 
-  -- the seat of a thread, if it is a worker
+  -- the seat of a thread, if it is a worker or an attendant
   abbrev pub seat_in : Task I O → Option (List Receipt)
   seat_in (Work worker) = Some worker.seat
   seat_in (Time timer) = None
   seat_in (Place place) = None
+  seat_in (Attend attendant) = Some attendant.seat
 
   -- the counts of a round: the sums over its threads
   abbrev pub counts_in : List (Task I O) → Counts

@@ -38,28 +38,33 @@ module _ {I O : Type 0} where
   work_in (task.Work worker) = Some worker.from
   work_in (task.Time timer) = None
   work_in (task.Place place) = None
+  work_in (task.Attend attendant) = None
 
   abbrev pub answers_of : Task I O → Option (Vec (Sender Item))
   answers_of (task.Work worker) = Some worker.writers
   answers_of (task.Time timer) = None
   answers_of (task.Place place) = None
+  answers_of (task.Attend attendant) = None
 
   -- the senders of the timer and of a place's reader to the workers, and the sender of the reader to its writer
   abbrev pub asks_of : Task I O → Option (Vec (Sender Work))
   asks_of (task.Work worker) = None
   asks_of (task.Time timer) = Some timer.workers
   asks_of (task.Place place) = Some place.reader.workers
+  asks_of (task.Attend attendant) = None
 
   abbrev pub reply_of : Task I O → Option (Sender Item)
   reply_of (task.Work worker) = None
   reply_of (task.Time timer) = None
   reply_of (task.Place place) = Some place.reader.writer
+  reply_of (task.Attend attendant) = None
 
   -- the lane from which a place's writer takes
   abbrev pub items_in : Task I O → Option (Receiver Item)
   items_in (task.Work worker) = None
   items_in (task.Time timer) = None
   items_in (task.Place place) = Some place.from
+  items_in (task.Attend attendant) = None
 
   abbrev pub ends_in : Task I O → Ends
   ends_in (task.Work worker) =
@@ -72,6 +77,7 @@ module _ {I O : Type 0} where
     reply = Some (lane_of_sender place.reader.writer);
     answers = None;
   }
+  ends_in (task.Attend attendant) = record { work = None; asks = None; items = None; reply = None; answers = None }
 
   -- the ends and the seat of a thread are added behind those of the threads before, each to its own kind
   pub record AddsTask (one : Task I O) (old new : Parts) : Type 0 where

@@ -1,5 +1,5 @@
 -- The threads of a round at its beginning.
-use Rattle.std.specs.Prelude.{◌≡◌, ℕ, ◌+◌, Bool, not, List, [], ◌∷◌, ◌++◌, length, Option, is_some}
+use Rattle.std.specs.Prelude.{◌≡◌, ℕ, zero, suc, ◌+◌, Bool, not, List, [], ◌∷◌, ◌++◌, length, Option, is_some}
 use Rattle.std.specs.Global.{Vec}
 use Rattle.std.specs.List.{AllByRecursion}
 use Rattle.dcc_base.specs.declared.peer.Peer.TheVariants.{Wait}
@@ -55,8 +55,13 @@ module _ {I O : Type 0} where
   abbrev pub timer_of : Bool → Vec (Sender Work) → Task I O
   timer_of stays workers = task.Time (record { stays = stays; workers = workers })
 
+  -- so many attendants, each with a seat of its own without receipts
+  abbrev pub attendants_of : ℕ → List (Task I O)
+  attendants_of zero = []
+  attendants_of (suc count) = task.Attend (record { seat = [] }) ∷ attendants_of count
+
   -- A lane is made to each shard's worker, with a sender for each place and one for the timer. A lane is made to each place's writer, with a sender
-  -- for its reader and one for each shard. The threads are the worker of each shard, the timer, and the places.
+  -- for its reader and one for each shard. The threads are the worker of each shard, the timer, the places, and the attendants.
   pub record AreGathered (shards : ℕ) (rounds : RoundsView) (tasks : List (Task I O)) : Type 0 where
     pub work : Lanes Work
     pub items : Lanes Item
@@ -64,9 +69,11 @@ module _ {I O : Type 0} where
     pub asks : List (Vec (Sender Work))
     pub replies : Vec (Sender Item)
     pub answers : List (Vec (Sender Item))
+    pub placed : List (Task I O)
     pub work_are : AreLanes shards (rounds.gates + 1) work
     pub items_are : AreLanes rounds.gates (shards + 1) items
     pub asked : work.senders.items ≡ timers ∷ asks
     pub dealt : items.senders.items ≡ replies ∷ answers
-    pub tasks_are : AddsPlaces rounds items.receivers.items asks replies.items
-        (workers_from 0 work.receivers.items answers ++ timer_of rounds.stays timers ∷ []) tasks
+    pub placed_are : AddsPlaces rounds items.receivers.items asks replies.items
+        (workers_from 0 work.receivers.items answers ++ timer_of rounds.stays timers ∷ []) placed
+    pub tasks_are : tasks ≡ placed ++ attendants_of rounds.attendants

@@ -7,6 +7,7 @@ pub mod Writing
 pub mod Counting
 pub mod Visiting
 pub mod Timing
+pub mod Attending
 pub mod Tasks
 pub mod Gathering
 pub mod Finishing

@@ -7,6 +7,7 @@ use Rattle.dcc_dispatch.specs.Settings.{Setting}
 use Rattle.dcc_store.specs.Contents.{Content}
 use Rattle.dcc_receipts.specs.Faults.{fault_number}
 use Rattle.dcc_receipts.specs.declared.fault.CloseFault.{CloseFault}
+use Rattle.dcc_receipts.specs.declared.receipt.Receipt.{Receipt}
 use Rattle.dcc_running.specs.Audited.{AreCovered, AreOrdered, AreOwn, AreTrue, IsFault}
 use Rattle.dcc_running.specs.Books.{AreKept, AreLeft, BooksView, at_opening, book}
 use Rattle.dcc_rounds.specs.Counting.{counts_in, seat_in}
@@ -43,17 +44,17 @@ EndsRounds {S} good round ends stopped (Store number) rounds first before after 
 abbrev pub is_any_stopped : {R : Type 0} → (R → Bool) → List (StoredView R) → Bool
 is_any_stopped {R} is_stopped shards = list_any (λ (part : StoredView R). is_stopped part.records) shards
 
-module _ {I O C : Type 0} (remaining : I → Option (List ℕ)) (contents : O → Option (List ℕ)) (tells : C → ℕ → C → Type 0) (closed : Type 0) (clock : C)
-    (setting : Setting) where
+module _ {I O C : Type 0} (remaining : I → Option (List ℕ)) (contents : O → Option (List ℕ)) (tells : C → ℕ → C → Type 0) (closed : Type 0)
+    (attends : List Receipt → List Receipt → Type 0) (clock : C) (setting : Setting) where
   -- A round. Its threads were gathered and ran, its lanes were ended with all their senders, and its counts are sums over its threads. The books of
   -- its shards begin with the acts that the shards held when the round began. They are exactly the acts that their own lists make, and agree with
-  -- the receipts of all workers of the round. Each content that a stop leaves of a shard has them.
+  -- the receipts of all workers and attendants of the round. Each content that a stop leaves of a shard has them.
   pub record IsRound {R : Type 0} (is_stopped : R → Bool) (may_leave : R → Content → Type 0) (rounds : RoundsView) (old : List (StoredView R)) (counts : Counts) (new : List (StoredView R)) : Type 0 where
     pub begun : List (Task I O)
     pub ended : List (Task I O)
     pub books : BooksView R
     pub gathered : AreGathered (length old) rounds begun
-    pub ran : AllRun remaining contents tells closed clock setting (length old) begun ended
+    pub ran : AllRun remaining contents tells closed attends clock setting (length old) begun ended
     pub all : length ended ≡ length begun
     pub finished : AreFinished ended
     pub counted : counts ≡ counts_in ended
@@ -76,7 +77,7 @@ module _ {I O C : Type 0} (remaining : I → Option (List ℕ)) (contents : O �
     pub books : BooksView R
     pub fault : CloseFault
     pub gathered : AreGathered (length old) rounds begun
-    pub ran : AllRun remaining contents tells closed clock setting (length old) begun ended
+    pub ran : AllRun remaining contents tells closed attends clock setting (length old) begun ended
     pub all : length ended ≡ length begun
     pub finished : AreFinished ended
     pub opened : (sub : Sub) → at_opening books.opening sub ≡ book old sub

@@ -1,10 +1,14 @@
 //! What the server is given from outside: the source of its connections, and the receiver of its notices.
 
-ghost use Rattle.std.specs.Prelude.{◌≡◌, IfNone};
+ghost use Rattle.std.specs.Prelude.{◌≡◌, List, IfNone};
+ghost use Rattle.dcc_receipts.specs.declared.receipt.Receipt.{Receipt};
 ghost use Rattle.dcc_rounds.specs.declared.face.Tick.TheVariants as end;
 
-use dcc_connect::{ConnectionEnd, WriteEnd};
+use dcc_connect::{Clock, ConnectionEnd, WriteEnd};
 use dcc_octets::OctetString;
+use dcc_running::{Seat, Shards};
+use dcc_store::Records;
+use std::alloc::Global;
 use std::io::{self, Write};
 use std::sync::Wait;
 
@@ -30,10 +34,13 @@ pub enum Tick {
     End,
 }
 
-/// Who takes connections in.
+/// Who takes connections in, of gateways and of operators.
 pub trait Listener<I, O> {
     /// That no more connections are taken in for places.
     ghost is_closed: { Type 0 };
+
+    /// The relation between the receipts of an attendant's seat before and after [`Listener::attend`].
+    ghost attends: { List Receipt → List Receipt → Type 0 };
 
     /// The next connection of a round. It may wait for it.
     fn accept(&mut self) -> io::Result<Connection<I, O>>;
@@ -45,6 +52,19 @@ pub trait Listener<I, O> {
     /// Waits for a while, and returns what is due behind it.
     fn tick<W: Wait>(&self, rt: &W) -> Tick
         ensures { result ≡ end.End → is_closed };
+
+    /// Serves operators until no more connections are taken in for places, at the call of one thread of several. Each thread has a seat of its own:
+    /// the receipts of all calls on the shards go to this seat, and are compared with the books once the round has ended. It may wait.
+    fn attend<W: Wait, R: Records, C: Clock + Copy>(
+        &self,
+        rt: &W,
+        alloc: Global,
+        shards: &Shards<R>,
+        clock: C,
+        seat: &mut Seat,
+    )
+        ensures attended { attends seat.old seat.new }
+        ensures closed { is_closed };
 
     /// Whether no more connections are taken in for places because the listener failed.
     fn has_failed(&self) -> bool;

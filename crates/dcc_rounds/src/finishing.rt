@@ -8,6 +8,7 @@ ghost use Rattle.dcc_rounds.specs.Finishing.{AddsTask, AreFinished, ArePartsOf, 
 ghost use Rattle.dcc_rounds.specs.Lanes.{AreAllHeard, AreOfLanes, IsHeard, firsts, lanes_of, lists_of, rests};
 ghost use Rattle.dcc_rounds.specs.Lines.{is_of_lanes};
 
+use crate::attendant::Attendant;
 use crate::fault::{ServeFault, of_lane};
 use crate::lanes::first_of;
 use crate::place::Place;
@@ -21,7 +22,7 @@ use dcc_lane::{Receiver, Sender};
 use dcc_running::Seat;
 use std::alloc::{AllocError, Global};
 
-/// What the threads of a round leave: the seats of its workers, and all ends of its lanes, each with those of its kind.
+/// What the threads of a round leave: the seats of its workers and attendants, and all ends of its lanes, each with those of its kind.
 #[derive(Drop)]
 pub(crate) struct Parts {
     pub seats: Vec<Seat>,
@@ -36,8 +37,8 @@ pub(crate) struct Parts {
     pub items: Vec<Receiver<Item>>,
 }
 
-/// Ends each lane of a round with all its senders, and gives the seats of the workers, in order. The condition: the timer, each reader and
-/// each worker have a sender of every lane that they put into.
+/// Ends each lane of a round with all its senders, and gives the seats of the workers and attendants, in order. The condition: the timer, each
+/// reader and each worker have a sender of every lane that they put into.
 ///
 /// Errors: memory was short, or a sender is missing.
 pub(crate) fn finished<I: Drop, O: Drop>(
@@ -185,6 +186,10 @@ fn add_task<I: Drop, O: Drop>(parts: &mut Parts, task: Task<I, O>) -> Result<(),
             parts.replies.push_reserved(writer);
             parts.items.push_reserved(from);
             drop((first, peer));
+        }
+        Task::Attend(attendant) => {
+            let Attendant { seat } = attendant;
+            parts.seats.push_reserved(seat);
         }
     }
     Ok(())

@@ -23,7 +23,7 @@ pub fn numbers_are_given()
 /// in of a gateway of that round.
 pub fn answers_are_to_what_came<R: Records, I: Read, O: Shut, L: Listener<I, O>, C: Clock>()
     ensures { (clock : C) (setting : Setting) (rounds : RoundsView) (old new : List (StoredView R)) (counts : Counts)
-        (round : IsRound I.remaining O.contents C.tells L.is_closed clock setting R.is_stopped R.may_leave rounds old counts new)
+        (round : IsRound I.remaining O.contents C.tells L.is_closed L.attends clock setting R.is_stopped R.may_leave rounds old counts new)
         → AllAnswer I.remaining O.contents C.tells L.is_closed clock setting (length old)
         (CameIn I.remaining O.contents C.tells L.is_closed clock setting (length old) round.begun round.ended) round.begun round.ended }
 {}

@@ -4,12 +4,13 @@ ghost use Rattle.std.specs.Prelude.{◌≡◌, ◌≢◌, ◌<◌, ◌≤◌, �
 ghost use Rattle.dcc_act.specs.declared.sub.Sub.{Sub};
 ghost use Rattle.dcc_running.specs.Books.{AreShards};
 ghost use Rattle.dcc_rounds.specs.Counting.{counts_in};
-ghost use Rattle.dcc_rounds.specs.Gathering.{AddsPlaces, AreGathered, HasCome, place_of, workers_from};
+ghost use Rattle.dcc_rounds.specs.Gathering.{AddsPlaces, AreGathered, HasCome, attendants_of, place_of, workers_from};
 ghost use Rattle.dcc_rounds.specs.Lanes.{AreLanes};
 ghost use Rattle.dcc_rounds.specs.Lines.{is_numbered};
 ghost use Rattle.dcc_rounds.specs.Served.{EndsRound, IsRound};
 ghost use Rattle.dcc_rounds.specs.Tasks.{AllRun};
 
+use crate::attendant::Attendant;
 use crate::counter::SweepCounter;
 use crate::face::{Connection, Listener, Notices, Shut};
 use crate::fault::{ServeFault, of_close};
@@ -55,12 +56,12 @@ pub(crate) fn serve_round<
     requires shards { AreShards service.now.plan.now.terms service.now.identity.now shards.items }
     requires some { 1 ≤ length shards.items }
     requires most { length shards.items ≤ 8 }
-    ensures round { IfOk result (λ r. IsRound I.remaining O.contents C.tells L.is_closed service.now.clock.now
+    ensures round { IfOk result (λ r. IsRound I.remaining O.contents C.tells L.is_closed L.attends service.now.clock.now
         (record { plan = service.now.plan.now; identity = service.now.identity.now }) R.is_stopped R.may_leave rounds.now shards.items r.0 r.1.items) }
     ensures shards { IfOk result (λ r. AreShards service.now.plan.now.terms service.now.identity.now r.1.items) }
     ensures some { IfOk result (λ r. 1 ≤ length r.1.items) }
     ensures most { IfOk result (λ r. length r.1.items ≤ 8) }
-    ensures ends { IfErr result (EndsRound I.remaining O.contents C.tells L.is_closed service.now.clock.now
+    ensures ends { IfErr result (EndsRound I.remaining O.contents C.tells L.is_closed L.attends service.now.clock.now
         (record { plan = service.now.plan.now; identity = service.now.identity.now }) rounds.now shards.items) }
 {
     let count = shards.len();
@@ -160,7 +161,7 @@ fn gather<W: Wait, R: Records, I: Read + Drop, O: Shut + Drop, L: Listener<I, O>
     }
 }
 
-/// Adds the worker of each shard, the timer and the places, with their ends of the lanes to workers and to writers.
+/// Adds the worker of each shard, the timer and the places, with their ends of the lanes to workers and to writers, and the attendants.
 fn add_tasks<W: Wait, R: Records, I: Read + Drop, O: Shut + Drop, L: Listener<I, O>, N: Notices>(
     rt: &W,
     alloc: Global,
@@ -216,6 +217,7 @@ fn add_tasks<W: Wait, R: Records, I: Read + Drop, O: Shut + Drop, L: Listener<I,
     ) {
         Ok(()) => {
             drop(replies);
+            add_attendants::<R, I, O>(alloc, locked, rounds.attendants, gathered)?;
             Ok(())
         }
         Err(fault) => {
@@ -254,6 +256,23 @@ fn add_workers<R: Records, I: Drop, O: Drop>(
             from,
             writers,
         }));
+    }
+    Ok(())
+}
+
+/// Adds so many attendants, each with a seat of its own. The only error is want of memory.
+fn add_attendants<R: Records, I: Drop, O: Drop>(
+    alloc: Global,
+    locked: &Shards<R>,
+    count: usize,
+    tasks: &mut Vec<Task<I, O>>,
+) -> Result<(), AllocError>
+    ensures { OnOk result (tasks.new.items ≡ tasks.old.items ++ attendants_of count) }
+{
+    for _added in 0..count {
+        tasks.reserve(1)?;
+        let seat = locked.seat(alloc)?;
+        tasks.push_reserved(Task::Attend(Attendant { seat }));
     }
     Ok(())
 }
@@ -368,7 +387,7 @@ fn serve_all<
     tasks: &mut [Task<I, O>],
 )
     requires { count ≡ locked.now.count }
-    ensures { AllRun I.remaining O.contents C.tells L.is_closed service.now.clock.now (record { plan = service.now.plan.now; identity = service.now.identity.now })
+    ensures { AllRun I.remaining O.contents C.tells L.is_closed L.attends service.now.clock.now (record { plan = service.now.plan.now; identity = service.now.identity.now })
         count tasks.old tasks.new }
 {
     let shared = Shared {

@@ -13,6 +13,8 @@ pub struct Rounds {
     pub(crate) every: u32,
     /// Whether a place is taken again once its gateway has gone. Else a round begins when its last gateway has come.
     pub(crate) stays: bool,
+    /// The number of a round's attendants.
+    pub(crate) attendants: usize,
 }
 
 impl Model for Rounds {
@@ -21,16 +23,17 @@ impl Model for Rounds {
 
     ghost Value = { RoundsView };
 
-    ghost view = { λ r. record { gates = r.gates; rounds = r.rounds; every = r.every; stays = r.stays } };
+    ghost view = { λ r. record { gates = r.gates; rounds = r.rounds; every = r.every; stays = r.stays; attendants = r.attendants } };
 
     ghost invariant = { λ r. (1 ≤ r.gates) × (r.gates ≤ 256) };
 }
 
 impl Rounds {
     /// So many rounds, 1 to 1,000,000, of so many gateways at once, 1 to 16. Each gateway asks for a sweep after each `every` of its
-    /// messages, 0 to 1,000,000; with 0 no gateway asks. None outside these limits.
+    /// messages, 0 to 1,000,000; with 0 no gateway asks. A round has no attendants. None outside these limits.
     pub fn new(gates: usize, rounds: u32, every: u32) -> Option<Rounds>
-        ensures { result ≡ (if are_rounds gates rounds every then Some (record { gates = gates; rounds = rounds; every = every; stays = false }) else None) }
+        ensures { result ≡ (if are_rounds gates rounds every then Some (record { gates = gates; rounds = rounds; every = every; stays = false; attendants = 0 })
+            else None) }
     {
         if !are_rounds(gates, rounds, every) {
             return None;
@@ -40,16 +43,19 @@ impl Rounds {
             rounds,
             every,
             stays: false,
+            attendants: 0,
         })
     }
 
     /// One round with so many places, 1 to 256, each of which is taken again once its gateway has gone. It ends when the listener takes no
     /// more connections in. The listener itself reports when a sweep is due. Each gateway asks for a sweep after each `every` of its
-    /// messages too, 0 to 1,000,000; with 0 no gateway asks. None outside these limits.
-    pub fn staying(places: usize, every: u32) -> Option<Rounds>
-        ensures { result ≡ (if are_places places every then Some (record { gates = places; rounds = 1; every = every; stays = true }) else None) }
+    /// messages too, 0 to 1,000,000; with 0 no gateway asks. So many attendants serve operators beside the gateways, 0 to 8. None
+    /// outside these limits.
+    pub fn staying(places: usize, every: u32, attendants: usize) -> Option<Rounds>
+        ensures { result ≡ (if are_places places every attendants
+            then Some (record { gates = places; rounds = 1; every = every; stays = true; attendants = attendants }) else None) }
     {
-        if !are_places(places, every) {
+        if !are_places(places, every, attendants) {
             return None;
         }
         Some(Rounds {
@@ -57,6 +63,7 @@ impl Rounds {
             rounds: 1,
             every,
             stays: true,
+            attendants,
         })
     }
 }
@@ -69,8 +76,8 @@ fn are_rounds(gates: usize, rounds: u32, every: u32) -> bool
 }
 
 /// Whether these are within the limits of places that are taken again.
-fn are_places(places: usize, every: u32) -> bool
-    ensures { result ≡ are_places places every }
+fn are_places(places: usize, every: u32, attendants: usize) -> bool
+    ensures { result ≡ are_places places every attendants }
 {
-    1 <= places && places <= 256 && every <= 1_000_000
+    1 <= places && places <= 256 && every <= 1_000_000 && attendants <= 8
 }

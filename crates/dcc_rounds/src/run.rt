@@ -39,9 +39,10 @@ pub struct Service<'a, C, N> {
 /// that [`dcc_shard::shard_of`] gives it.
 ///
 /// A round accepts its gateways, serves them until all have ended, and compares the receipts of their answers with the books of the shards.
-/// If its places are taken again ([`Rounds::staying`]), it begins without gateways, and ends when the listener takes no more connections in
-/// and all gateways have gone. A fault of a connection ends that connection alone. A shard whose records fail answers busy from then on,
-/// and the others go on. `serve_run` waits for gateways, and for threads of its own.
+/// If its places are taken again ([`Rounds::staying`]), it begins without gateways. It ends when the listener takes no more connections in, all
+/// gateways have gone, and all attendants have returned ([`Listener::attend`]); the receipts of the attendants are compared too. A fault of a
+/// connection ends that connection alone. A shard whose records fail answers busy from then on, and the others go on. `serve_run` waits for
+/// gateways, and for threads of its own.
 ///
 /// Faults: [`ServeFault::Memory`], memory was short for a round; [`ServeFault::Io`], the output or the listener failed, behind the line of
 /// the round if its places are taken again and the listener failed; [`ServeFault::Close`], receipts and books disagree, and no line is
@@ -67,12 +68,12 @@ pub fn serve_run<
     requires shards { AreShards service.now.plan.now.terms service.now.identity.now shards.items }
     requires some { 1 ≤ length shards.items }
     requires most { length shards.items ≤ 8 }
-    ensures served { OnOk result ((last : List (StoredView R)) × AreServed (IsGoodRound I.remaining O.contents C.tells L.is_closed service.now.clock.now
+    ensures served { OnOk result ((last : List (StoredView R)) × AreServed (IsGoodRound I.remaining O.contents C.tells L.is_closed L.attends service.now.clock.now
         (record { plan = service.now.plan.now; identity = service.now.identity.now }) R.is_stopped R.may_leave rounds.now)
         rounds.now.rounds shards.items last (P.contents output.old) (P.contents output.new)) }
     ensures whole { OnOk result (AreTold rounds.now.rounds (P.contents output.old) (P.contents output.new)) }
     ensures part { IfErr result (λ fault. EndsWith fault rounds.now.rounds (P.contents output.old) (P.contents output.new)) }
-    ensures cause { IfErr result (λ fault. EndsServing I.remaining O.contents C.tells L.is_closed service.now.clock.now
+    ensures cause { IfErr result (λ fault. EndsServing I.remaining O.contents C.tells L.is_closed L.attends service.now.clock.now
         (record { plan = service.now.plan.now; identity = service.now.identity.now }) R.is_stopped R.may_leave rounds.now fault shards.items
         (P.contents output.old) (P.contents output.new)) }
 {

@@ -2,15 +2,16 @@
 
 ghost use Rattle.std.specs.Prelude.{◌≡◌};
 ghost use Rattle.dcc_rounds.specs.Tasks.{Runs};
-ghost use Rattle.dcc_rounds.specs.Counting.{requests_in, answers_in, acts_in};
+ghost use Rattle.dcc_rounds.specs.Counting.{requests_in, answers_in, acts_in, acts_of};
 
+use crate::attendant::Attendant;
 use crate::face::{Listener, Notices, Shut};
 use crate::place::Place;
 use crate::timer::SweepTimer;
 use crate::worker::Worker;
 use dcc_connect::Clock;
 use dcc_message::Identity;
-use dcc_running::Shards;
+use dcc_running::{Seat, Shards};
 use dcc_store::Records;
 use dcc_tariff::Plan;
 use std::alloc::Global;
@@ -24,6 +25,7 @@ pub(crate) enum Task<I, O> {
     Work(Worker),
     Time(SweepTimer),
     Place(Place<I, O>),
+    Attend(Attendant),
 }
 
 /// What all threads of a round share.
@@ -50,7 +52,7 @@ impl<I: Read + Send + Drop, O: Shut + Send + Drop> Task<I, O> {
         C: Clock + Copy + Sync,
         N: Notices + Sync,
     >(&mut self, rt: &W, shared: &Shared<'_, R, L, C, N>)
-        ensures { Runs I.remaining O.contents C.tells L.is_closed shared.now.clock.now (record { plan = shared.now.plan.now; identity = shared.now.identity.now })
+        ensures { Runs I.remaining O.contents C.tells L.is_closed L.attends shared.now.clock.now (record { plan = shared.now.plan.now; identity = shared.now.identity.now })
             shared.now.count self.old self.new }
     {
         match self {
@@ -61,6 +63,7 @@ impl<I: Read + Send + Drop, O: Shut + Send + Drop> Task<I, O> {
             }
             Task::Time(timer) => timer.run::<W, R, I, O, L, C, N>(rt, shared),
             Task::Place(place) => place.run(rt, shared),
+            Task::Attend(attendant) => attendant.run::<W, R, I, O, L, C, N>(rt, shared),
         }
     }
 }
@@ -72,7 +75,7 @@ impl<I, O> Task<I, O> {
     {
         match self {
             Task::Place(place) => place.reader.requests,
-            Task::Work(_) | Task::Time(_) => 0,
+            Task::Work(_) | Task::Time(_) | Task::Attend(_) => 0,
         }
     }
 
@@ -82,7 +85,7 @@ impl<I, O> Task<I, O> {
     {
         match self {
             Task::Place(place) => place.answers,
-            Task::Work(_) | Task::Time(_) => 0,
+            Task::Work(_) | Task::Time(_) | Task::Attend(_) => 0,
         }
     }
 
@@ -91,8 +94,22 @@ impl<I, O> Task<I, O> {
         ensures { result ≡ acts_in self.now }
     {
         match self {
-            Task::Work(worker) => worker.acts(),
+            Task::Work(worker) => acts_of(&worker.seat),
+            Task::Attend(attendant) => acts_of(&attendant.seat),
             Task::Place(_) | Task::Time(_) => 0,
         }
     }
+}
+
+/// How many acts the receipts of a seat are of: each act has one receipt that is fresh.
+fn acts_of(seat: &Seat) -> u64
+    ensures { result ≡ acts_of seat.now }
+{
+    let mut count = 0usize;
+    for receipt in seat.receipts() {
+        if receipt.fresh {
+            count += 1;
+        }
+    }
+    count as u64
 }

@@ -2,7 +2,6 @@
 
 ghost use Rattle.std.specs.Prelude.{◌≡◌, ◌<◌, ◌≤◌, ◌+◌, ◌∷◌, [], Some, count_by, drop, if◌then◌else◌, length, MatchOption, take};
 ghost use Rattle.dcc_lane.specs.Ends.{IsSameReceiver, TakesOne, senders_of, taken_of};
-ghost use Rattle.dcc_rounds.specs.Counting.{acts_of};
 ghost use Rattle.dcc_rounds.specs.Handing.{one_more};
 ghost use Rattle.dcc_rounds.specs.Lanes.{all_put, lanes_of};
 ghost use Rattle.dcc_rounds.specs.Working.{Answers, AreListed, CountsFor, Does, ExpiresEach, Goes, HasDone, IsCounted, doing_of, is_over, left_of, octets_in};
@@ -200,19 +199,6 @@ impl Worker {
             rest,
             count,
         );
-    }
-
-    /// How many acts its receipts are of: each act has one receipt that is fresh.
-    pub fn acts(&self) -> u64
-        ensures { result ≡ acts_of self.now.seat }
-    {
-        let mut count = 0usize;
-        for receipt in self.seat.receipts() {
-            if receipt.fresh {
-                count += 1;
-            }
-        }
-        count as u64
     }
 }
 

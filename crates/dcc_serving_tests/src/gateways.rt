@@ -1,9 +1,12 @@
 //! Gateways in memory: each sends in two steps, and looks that the octets that are written to it are those that it waits for.
 
 use crate::messages::decoded;
+use dcc_connect::Clock;
 use dcc_octets::OctetString;
 use dcc_rounds::{Connection, Listener, Notice, Notices, Shut, Tick};
+use dcc_running::{Seat, Shards};
 use dcc_samples::{CAPABILITIES, CAPABILITIES_ANSWER};
+use dcc_store::Records;
 use dcc_test_stores::Gate;
 use std::alloc::Global;
 use std::hint::spin_loop;
@@ -191,6 +194,8 @@ pub(crate) struct Gateways<'a> {
 impl<'a> Listener<Input<'a>, Output<'a>> for Gateways<'a> {
     ghost is_closed = { Unit {0} };
 
+    ghost attends = { λ _ _. Unit {0} };
+
     fn accept(&mut self) -> io::Result<Connection<Input<'a>, Output<'a>>> {
         let stage = self.stage;
         let talk = match self.came {
@@ -219,6 +224,16 @@ impl<'a> Listener<Input<'a>, Output<'a>> for Gateways<'a> {
     fn tick<W: Wait>(&self, _rt: &W) -> Tick {
         Tick::End
     }
+
+    // No round has attendants.
+    fn attend<W: Wait, R: Records, C: Clock + Copy>(
+        &self,
+        _rt: &W,
+        _alloc: Global,
+        _shards: &Shards<R>,
+        _clock: C,
+        _seat: &mut Seat,
+    ) {}
 
     fn has_failed(&self) -> bool {
         false

@@ -1,11 +1,11 @@
-use Rattle.std.proofs.Common.{◌≡◌, Bool, List, [], ◌∷◌, ◌++◌, ◌∙◌, ap, subst}
-use Rattle.dcc_rounds.specs.Gathering.{AddsPlaces, timer_of, workers_from}
+use Rattle.std.proofs.Common.{◌≡◌, ℕ, Bool, List, [], ◌∷◌, ◌++◌, ◌∙◌, ap, subst}
+use Rattle.dcc_rounds.specs.Gathering.{AddsPlaces, attendants_of, timer_of, workers_from}
 use Rattle.dcc_rounds.specs.Rounds.{RoundsView}
 use Rattle.dcc_rounds.specs.declared.tasks.Task.{Task}
 use Rattle.dcc_rounds.proofs.round.add_tasks.Goals as goal
 
-pub returns-in-Ok-add_places-clause-tasks : goal.returns-in-Ok-add_places-clause-tasks
-returns-in-Ok-add_places-clause-tasks g c = λ shards work_are items_are none.
+pub returns-in_ok-add_attendants-in-Ok-add_places-clause-tasks : goal.returns-in_ok-add_attendants-in-Ok-add_places-clause-tasks
+returns-in_ok-add_attendants-in-Ok-add_places-clause-tasks g c = λ shards work_are items_are none.
     let rounds = c.args.rounds.now in
     let work = c.args.work.now in
     let items = c.args.items.now in
@@ -14,6 +14,7 @@ returns-in-Ok-add_places-clause-tasks g c = λ shards work_are items_are none.
     let asks = c.first_of.new.list.items in
     let answers = c.first_of-2.new.list.items in
     let stays : c.rounds.inside.stays ≡ rounds.stays = ap (λ (r : RoundsView). r.stays) c.rounds.view_is in
+    let attendants : c.rounds.inside.attendants ≡ rounds.attendants = ap (λ (r : RoundsView). r.attendants) c.rounds.view_is in
     let workers : List (Task g.row.I.Denot g.row.O.Denot) = workers_from 0 work.receivers.items answers in
     let first : c.add_workers.new.tasks.items ≡ workers = c.in-Ok.ensures ∙ ap (λ (ts : List (Task g.row.I.Denot g.row.O.Denot)). ts ++ workers) none in
     let all : c.push.new.self.items ≡ workers ++ timer_of rounds.stays timers ∷ [] =
@@ -30,6 +31,8 @@ returns-in-Ok-add_places-clause-tasks g c = λ shards work_are items_are none.
       items_are = items_are;
       asked = c.in-Some.ensures;
       dealt = c.in-Some-first_of.ensures;
-      tasks_are = subst (λ (ts : List (Task g.row.I.Denot g.row.O.Denot)). AddsPlaces rounds items.receivers.items asks replies.items ts c.add_places.new.tasks.items) all
+      placed = c.add_places.new.tasks.items;
+      placed_are = subst (λ (ts : List (Task g.row.I.Denot g.row.O.Denot)). AddsPlaces rounds items.receivers.items asks replies.items ts c.add_places.new.tasks.items) all
           c.in-Ok-add_places.ensures.places;
+      tasks_are = c.in_ok-add_attendants-in-Ok-add_places.ensures ∙ ap (λ (n : ℕ). c.add_places.new.tasks.items ++ attendants_of n) attendants;
     }

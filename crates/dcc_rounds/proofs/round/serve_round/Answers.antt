@@ -41,7 +41,7 @@ returns-in-Ok-close-clause-round g c =
       ended = ended;
       books = books;
       gathered = subst (λ (n : ℕ). AreGathered n rounds begun) count c.in-Ok-gather.ensures.tasks;
-      ran = said_of (AllRun g.I.Read.remaining g.O.Write.contents g.C.Clock.tells g.L.Listener.is_closed c.args.service.now.clock.now
+      ran = said_of (AllRun g.I.Read.remaining g.O.Write.contents g.C.Clock.tells g.L.Listener.is_closed g.L.Listener.attends c.args.service.now.clock.now
           (record { plan = c.args.service.now.plan.now; identity = c.args.service.now.identity.now })) c.len-count.result (length c.args.shards.items)
           c.as_mut_slice.result.now begun c.serve_all.new.tasks ended count first last c.serve_all.ensures;
       all = sym (ap length last) ∙ same;
@@ -66,16 +66,16 @@ finished-requires g c =
     let last : c.serve_all.new.tasks ≡ ended = sym (c.as_slice.ensures.value ∙ front_is c.in-Ok-gather.tasks.len c.serve_all.new.tasks _ long) in
     let setting : Setting = record { plan = c.args.service.now.plan.now; identity = c.args.service.now.identity.now } in
     subst (λ (ts : List (Task g.row.I.Denot g.row.O.Denot)). AreTied (map ends_in ts)) c.as_slice.ensures.value
-    (ended_tied g.I.Read.remaining g.O.Write.contents g.C.Clock.tells g.L.Listener.is_closed c.args.service.now.clock.now setting c.len-count.result c.args.rounds.now begun ended
+    (ended_tied g.I.Read.remaining g.O.Write.contents g.C.Clock.tells g.L.Listener.is_closed g.L.Listener.attends c.args.service.now.clock.now setting c.len-count.result c.args.rounds.now begun ended
     c.in-Ok-gather.ensures.tasks
-    (said_of (AllRun g.I.Read.remaining g.O.Write.contents g.C.Clock.tells g.L.Listener.is_closed c.args.service.now.clock.now setting) c.len-count.result c.len-count.result c.as_mut_slice.result.now begun
+    (said_of (AllRun g.I.Read.remaining g.O.Write.contents g.C.Clock.tells g.L.Listener.is_closed g.L.Listener.attends c.args.service.now.clock.now setting) c.len-count.result c.len-count.result c.as_mut_slice.result.now begun
     c.serve_all.new.tasks ended refl first last c.serve_all.ensures)
     (sym (ap length last) ∙ same))
 
 pub returns-in-Err-finished-clause-ends : goal.returns-in-Err-finished-clause-ends
 returns-in-Err-finished-clause-ends g c =
     let setting : Setting = record { plan = c.args.service.now.plan.now; identity = c.args.service.now.identity.now } in
-    of_lanes (EndsRound g.I.Read.remaining g.O.Write.contents g.C.Clock.tells g.L.Listener.is_closed c.args.service.now.clock.now setting c.args.rounds.now c.args.shards.items)
+    of_lanes (EndsRound g.I.Read.remaining g.O.Write.contents g.C.Clock.tells g.L.Listener.is_closed g.L.Listener.attends c.args.service.now.clock.now setting c.args.rounds.now c.args.shards.items)
     tt (inr refl) c.in-Err-finished.fault c.in-Err-finished.ensures.fault
 
 pub returns-in-Err-close-clause-ends : goal.returns-in-Err-close-clause-ends
@@ -92,14 +92,14 @@ returns-in-Err-close-clause-ends g c =
     let seats : c.in-Ok-finished.seats.items ≡ filter_map seat_in ended =
     c.in-Ok-finished.ensures.seats ∙ ap (λ (ts : List (Task g.row.I.Denot g.row.O.Denot)). filter_map seat_in ts) (sym c.as_slice.ensures.value) in
     rw c.of_close-fault.ensures.value
-    (of_compared (EndsRound g.I.Read.remaining g.O.Write.contents g.C.Clock.tells g.L.Listener.is_closed c.args.service.now.clock.now setting rounds c.args.shards.items) tt
+    (of_compared (EndsRound g.I.Read.remaining g.O.Write.contents g.C.Clock.tells g.L.Listener.is_closed g.L.Listener.attends c.args.service.now.clock.now setting rounds c.args.shards.items) tt
     (fault_number c.in-Err-close.unclosed.fault) (λ number told. inl (record {
       begun = begun;
       ended = ended;
       books = c.in-Err-close.unclosed.books;
       fault = c.in-Err-close.unclosed.fault;
       gathered = subst (λ (n : ℕ). AreGathered n rounds begun) count c.in-Ok-gather.ensures.tasks;
-      ran = said_of (AllRun g.I.Read.remaining g.O.Write.contents g.C.Clock.tells g.L.Listener.is_closed c.args.service.now.clock.now setting) c.len-count.result (length c.args.shards.items)
+      ran = said_of (AllRun g.I.Read.remaining g.O.Write.contents g.C.Clock.tells g.L.Listener.is_closed g.L.Listener.attends c.args.service.now.clock.now setting) c.len-count.result (length c.args.shards.items)
           c.as_mut_slice.result.now begun c.serve_all.new.tasks ended count first last c.serve_all.ensures;
       all = sym (ap length last) ∙ same;
       finished = subst (λ (ts : List (Task g.row.I.Denot g.row.O.Denot)). AreFinished ts) (sym c.as_slice.ensures.value) c.in-Ok-finished.ensures.finished;

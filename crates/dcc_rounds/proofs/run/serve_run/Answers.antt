@@ -12,7 +12,7 @@ returns-in_err-counts-clause-part g c =
     let few : c.loop-round.round < c.args.rounds.now.rounds = search rules in
     let p = err_from_is_err_and c.from_residual.result c.from_residual.ensures.1 in
     rw (p.1, p.2)
-    (ends_before (EndsRound g.I.Read.remaining g.O.Write.contents g.C.Clock.tells g.L.Listener.is_closed c.args.service.now.clock.now (record { plan = c.args.service.now.plan.now; identity = c.args.service.now.identity.now })
+    (ends_before (EndsRound g.I.Read.remaining g.O.Write.contents g.C.Clock.tells g.L.Listener.is_closed g.L.Listener.attends c.args.service.now.clock.now (record { plan = c.args.service.now.plan.now; identity = c.args.service.now.identity.now })
     c.args.rounds.now c.loop-round.shards.items) (λ number it. it) c.in_err-counts.field-0.0 _ _ c.loop-round.round c.args.rounds.now.rounds c.in_err-counts.ensures.ends few
     (told_of _ _ _ _ _ _ (last_of c.loop-round.invariant)))
 
@@ -52,9 +52,9 @@ returns-in_err-counts-clause-cause g c =
     let setting : Setting = record { plan = c.args.service.now.plan.now; identity = c.args.service.now.identity.now } in
     let clock = c.args.service.now.clock.now in
     let rounds = c.args.rounds.now in
-    let good = IsGoodRound g.I.Read.remaining g.O.Write.contents g.C.Clock.tells g.L.Listener.is_closed clock setting g.R.Records.is_stopped g.R.Records.may_leave rounds in
-    let round = IsRound {I = g.row.I.Denot} {O = g.row.O.Denot} g.I.Read.remaining g.O.Write.contents g.C.Clock.tells g.L.Listener.is_closed clock setting g.R.Records.is_stopped g.R.Records.may_leave rounds in
-    let ends = EndsRound g.I.Read.remaining g.O.Write.contents g.C.Clock.tells g.L.Listener.is_closed clock setting {R = g.row.R.Denot} rounds in
+    let good = IsGoodRound g.I.Read.remaining g.O.Write.contents g.C.Clock.tells g.L.Listener.is_closed g.L.Listener.attends clock setting g.R.Records.is_stopped g.R.Records.may_leave rounds in
+    let round = IsRound {I = g.row.I.Denot} {O = g.row.O.Denot} g.I.Read.remaining g.O.Write.contents g.C.Clock.tells g.L.Listener.is_closed g.L.Listener.attends clock setting g.R.Records.is_stopped g.R.Records.may_leave rounds in
+    let ends = EndsRound g.I.Read.remaining g.O.Write.contents g.C.Clock.tells g.L.Listener.is_closed g.L.Listener.attends clock setting {R = g.row.R.Denot} rounds in
     let few : c.loop-round.round < c.args.rounds.now.rounds = search rules in
     let p = err_from_is_err_and c.from_residual.result c.from_residual.ensures.1 in
     rw (p.1, p.2)
@@ -67,9 +67,9 @@ returns-in-Err-clause-cause g c =
     let setting : Setting = record { plan = c.args.service.now.plan.now; identity = c.args.service.now.identity.now } in
     let clock = c.args.service.now.clock.now in
     let rounds = c.args.rounds.now in
-    let good = IsGoodRound g.I.Read.remaining g.O.Write.contents g.C.Clock.tells g.L.Listener.is_closed clock setting g.R.Records.is_stopped g.R.Records.may_leave rounds in
-    let round = IsRound {I = g.row.I.Denot} {O = g.row.O.Denot} g.I.Read.remaining g.O.Write.contents g.C.Clock.tells g.L.Listener.is_closed clock setting g.R.Records.is_stopped g.R.Records.may_leave rounds in
-    let ends = EndsRound g.I.Read.remaining g.O.Write.contents g.C.Clock.tells g.L.Listener.is_closed clock setting {R = g.row.R.Denot} rounds in
+    let good = IsGoodRound g.I.Read.remaining g.O.Write.contents g.C.Clock.tells g.L.Listener.is_closed g.L.Listener.attends clock setting g.R.Records.is_stopped g.R.Records.may_leave rounds in
+    let round = IsRound {I = g.row.I.Denot} {O = g.row.O.Denot} g.I.Read.remaining g.O.Write.contents g.C.Clock.tells g.L.Listener.is_closed g.L.Listener.attends clock setting g.R.Records.is_stopped g.R.Records.may_leave rounds in
+    let ends = EndsRound g.I.Read.remaining g.O.Write.contents g.C.Clock.tells g.L.Listener.is_closed g.L.Listener.attends clock setting {R = g.row.R.Denot} rounds in
     of_unnumbered (λ (fault : ServeFault). EndsRounds good round ends (is_any_stopped g.R.Records.is_stopped) fault c.args.rounds.now.rounds c.args.shards.items
     (g.P.Write.contents c.args.output.now) (g.P.Write.contents c.write_line.new.output)) tt tt c.in-Err.fault c.in-Err.ensures.fault
 
@@ -78,9 +78,9 @@ returns-then-tell_stopped-clause-cause g c =
     let setting : Setting = record { plan = c.args.service.now.plan.now; identity = c.args.service.now.identity.now } in
     let clock = c.args.service.now.clock.now in
     let rounds = c.args.rounds.now in
-    let good = IsGoodRound g.I.Read.remaining g.O.Write.contents g.C.Clock.tells g.L.Listener.is_closed clock setting g.R.Records.is_stopped g.R.Records.may_leave rounds in
-    let round = IsRound {I = g.row.I.Denot} {O = g.row.O.Denot} g.I.Read.remaining g.O.Write.contents g.C.Clock.tells g.L.Listener.is_closed clock setting g.R.Records.is_stopped g.R.Records.may_leave rounds in
-    let ends = EndsRound g.I.Read.remaining g.O.Write.contents g.C.Clock.tells g.L.Listener.is_closed clock setting {R = g.row.R.Denot} rounds in
+    let good = IsGoodRound g.I.Read.remaining g.O.Write.contents g.C.Clock.tells g.L.Listener.is_closed g.L.Listener.attends clock setting g.R.Records.is_stopped g.R.Records.may_leave rounds in
+    let round = IsRound {I = g.row.I.Denot} {O = g.row.O.Denot} g.I.Read.remaining g.O.Write.contents g.C.Clock.tells g.L.Listener.is_closed g.L.Listener.attends clock setting g.R.Records.is_stopped g.R.Records.may_leave rounds in
+    let ends = EndsRound g.I.Read.remaining g.O.Write.contents g.C.Clock.tells g.L.Listener.is_closed g.L.Listener.attends clock setting {R = g.row.R.Denot} rounds in
     let few : c.loop-round.round < c.args.rounds.now.rounds = search rules in
     let next : c.saturating_add.result ≡ c.loop-round.round + 1 = search rules in
     ends_stopped good round ends (is_any_stopped g.R.Records.is_stopped) c.loop-round.round c.args.rounds.now.rounds c.saturating_add.result c.args.shards.items

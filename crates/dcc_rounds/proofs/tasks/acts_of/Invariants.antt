@@ -1,6 +1,6 @@
 use Rattle.std.proofs.Common.{◌≡◌, ◌≤◌, take}
 use Rattle.dcc_rounds.specs.Counting.{acts_of}
-use Rattle.dcc_rounds.proofs.worker.Worker.acts.Given as goal
+use Rattle.dcc_rounds.proofs.tasks.acts_of.Given as goal
 
 abbrev pub invariant-loop-receipt : goal.invariant-loop-receipt
 invariant-loop-receipt l = record {
