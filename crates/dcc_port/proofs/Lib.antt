@@ -1,0 +1,4 @@
+mod Ascii
+mod Listing
+mod Results
+mod Chains

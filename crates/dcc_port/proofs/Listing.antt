@@ -1,0 +1,30 @@
+-- Steps along the shards whose indexes are listed.
+use Rattle.std.proofs.Common.{◌≡◌, ℕ, ◌+◌, ◌<◌, ◌≤◌, Bool, false, List, [], ◌∷◌, length, drop, get_or, cond, ap, add-one, drop-cons, refl, sym, ◌∙◌}
+use Rattle.std.proofs.lemmas.List.{drop_all}
+use Rattle.dcc_port.specs.Sheets.{listed, with_index}
+
+one_more : (i : ℕ) (b : Bool) (rest : List Bool) (text : List ℕ) → listed i (b ∷ rest) text ≡ listed (i + 1) rest (cond b (with_index text i) text)
+unfolding listed
+one_more i b rest text = refl
+
+none_left : (i : ℕ) (text : List ℕ) → listed i [] text ≡ text
+unfolding listed
+none_left i text = refl
+
+from_here : (told : List Bool) (i : ℕ) → i < length told → drop i told ≡ get_or told i false ∷ drop (i + 1) told
+from_here told i h = rw (add-one, drop-cons told i false)
+
+-- one shard further
+pub listed_next : (told : List Bool) (i : ℕ) (text new : List ℕ) (b : Bool) → i < length told → get_or told i false ≡ b
+    → new ≡ cond b (with_index text i) text → listed 0 told [] ≡ listed i (drop i told) text
+    → listed 0 told [] ≡ listed (i + 1) (drop (i + 1) told) new
+listed_next told i text new b h is e before =
+    before ∙ ap (λ rest. listed i rest text) (from_here told i h)
+    ∙ one_more i (get_or told i false) (drop (i + 1) told) text
+    ∙ ap (λ b. listed (i + 1) (drop (i + 1) told) (cond b (with_index text i) text)) is
+    ∙ ap (λ t. listed (i + 1) (drop (i + 1) told) t) (sym e)
+
+-- behind the last shard
+pub listed_end : (told : List Bool) (i : ℕ) (text : List ℕ) → length told ≤ i → listed 0 told [] ≡ listed i (drop i told) text
+    → text ≡ listed 0 told []
+listed_end told i text h before = sym (before ∙ ap (λ rest. listed i rest text) (drop_all i told h) ∙ none_left i text)

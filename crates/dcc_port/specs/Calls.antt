@@ -1,0 +1,85 @@
+-- The calls of an operator.
+use Rattle.std.specs.Prelude.{ℕ, Bool, ◌&&◌, nat_lt, ◌==◌, if◌then◌else◌, List, [], ◌∷◌, length, bytes_eq, codes}
+use Rattle.std.specs.Prelude.{Option, Some, None, option_and_then}
+use Rattle.std.specs.List.{list_all, slice_split}
+use Rattle.percent_encoding.specs.Percent.{percent_decode}
+use Rattle.serde_json.specs.Data.{Data}
+use Rattle.serde_json.specs.Find.{get, as_number, as_u64}
+use Rattle.serde_json.specs.Read.{read}
+use Rattle.dcc_act.specs.declared.sub.Sub.{Sub}
+use Rattle.dcc_words.specs.Words.{◌>>=◌, sub}
+use Rattle.dcc_port.specs.declared.call.Call.{Call}
+use Rattle.dcc_port.specs.declared.call.Call.TheVariants as calls
+use Rattle.dcc_port.specs.declared.call.Flaw.TheVariants as flaws
+use Rattle.dcc_port.specs.declared.call.Verb.{Verb}
+use Rattle.dcc_port.specs.declared.call.Verb.TheVariants.{Get, Post}
+
+-- the name of a method
+abbrev pub name_of : Verb → List ℕ
+name_of Get = codes "GET"
+name_of Post = codes "POST"
+
+-- a call by its path's only method
+abbrev pub by : Verb → List ℕ → Call → Call
+by verb method call = if bytes_eq method (name_of verb) then call else calls.Flawed (flaws.Method verb)
+
+-- a number of an object in JSON, by its name
+abbrev pub number_in : List ℕ → Data → Option ℕ
+number_in name found = option_and_then as_u64 (option_and_then as_number (get name found))
+
+-- the ticket and the amount of an object in JSON
+abbrev pub ask_in : Data → Option (ℕ × ℕ)
+ask_in found = do
+  ticket ← number_in (codes "ticket") found
+  amount ← number_in (codes "amount") found
+  Some (ticket, amount)
+
+-- the ticket and the amount of a body: ASCII text in JSON
+unfoldable pub ask_of : List ℕ → Option (ℕ × ℕ)
+ask_of body = if list_all (λ octet. nat_lt octet 128) body then read body >>= ask_in else None
+
+-- the call of a subscriber
+abbrev pub of_sub : (Sub → Call) → Option Sub → Call
+of_sub call None = calls.Flawed flaws.Subscriber
+of_sub call (Some sub) = call sub
+
+-- a top-up of a subscriber
+abbrev pub top_up_of : Option (ℕ × ℕ) → Sub → Call
+top_up_of None sub = calls.Flawed flaws.Body
+top_up_of (Some ask) sub = calls.TopUp sub ask.0 ask.1
+
+-- the subscriber that a part of a path names
+abbrev pub named : List ℕ → Option Sub
+named part = sub (percent_decode part)
+
+-- the call of a path with one part
+unfoldable pub page_call : (method page : List ℕ) → Call
+page_call method page =
+    if bytes_eq page (codes "health") then by Get method calls.Health
+    else (if bytes_eq page (codes "sweep") then by Post method calls.Sweep
+    else (if bytes_eq page (codes "stop") then by Post method calls.Stop
+    else calls.Flawed flaws.Path))
+
+-- the call of a subscriber's page
+unfoldable pub sub_call : (method who page body : List ℕ) → Call
+sub_call method who page body =
+    if bytes_eq page (codes "ledger") then by Get method (of_sub calls.Ledger (named who))
+    else (if bytes_eq page (codes "topups") then by Post method (of_sub (top_up_of (ask_of body)) (named who))
+    else calls.Flawed flaws.Path)
+
+-- whether a path begins in this way: with an empty part, and with the part of subscribers
+abbrev pub is_of_subs : (root subs : List ℕ) → Bool
+is_of_subs root subs = (length root == 0) && bytes_eq subs (codes "subscribers")
+
+-- the call of a path in parts, the first of which is in front of the path's first slash
+unfoldable pub parts_call : (method : List ℕ) → List (List ℕ) → (body : List ℕ) → Call
+parts_call method (root ∷ page ∷ []) body = if length root == 0 then page_call method page else calls.Flawed flaws.Path
+parts_call method (root ∷ subs ∷ who ∷ []) body =
+    if is_of_subs root subs then by Get method (of_sub calls.Account (named who)) else calls.Flawed flaws.Path
+parts_call method (root ∷ subs ∷ who ∷ page ∷ []) body =
+    if is_of_subs root subs then sub_call method who page body else calls.Flawed flaws.Path
+parts_call method _ body = calls.Flawed flaws.Path
+
+-- the call of a request
+unfoldable pub call_of : (method path body : List ℕ) → Call
+call_of method path body = parts_call method (slice_split (λ octet. octet == 47) path) body

@@ -1,0 +1,29 @@
+//! The operator's port of a server that runs: calls over HTTP/1.1, which work on the shards under their locks.
+//!
+//! Stands on `dcc_running` for the shards and the seat, on `dcc_shard`, `dcc_account` and `dcc_ledger` for what a shard holds of a subscriber, on
+//! `dcc_words` for subscribers in paths, and on `dcc_connect` for the clock. The kit's `http_server` reads the requests and writes the responses,
+//! `serde_json` reads a top-up's body, and `percent_encoding` a path. The contract that it gives: [`serve_calls`] answers the calls of one
+//! connection over any reader and writer. `specs/Calls.antt` says which call a request is, and `specs/Answers.antt` what a call does and what it is
+//! answered. A top-up is answered by what the shards told of exactly this top-up, and its receipt is added to the seat; the money and the ledger of
+//! a subscriber are those of the acts that some shard held at one moment; the server is well only if each shard said that it has not stopped. No
+//! other call changes the seat.
+//!
+//! Nothing is known of a shard under a lock but its type: no clause says that a look was at the subscriber's own shard.
+#![tactic(auto)]
+
+mod asking;
+mod call;
+mod foreign;
+mod looks;
+mod operator;
+mod port;
+mod reading;
+mod serving;
+mod sheet;
+mod sweeping;
+mod texts;
+mod top_up;
+
+pub use call::{Call, Flaw, Verb};
+pub use port::Ender;
+pub use serving::serve_calls;

@@ -1,0 +1,100 @@
+//! Looks at a shard under its lock.
+
+ghost use Rattle.std.specs.Prelude.{◌≡◌, ◌≢◌, [], Some, IfOk, option_map};
+ghost use Rattle.dcc_port.specs.Found.{money_of, page_of};
+ghost use Rattle.dcc_shard.specs.Shards.{held};
+
+use crate::texts::Money;
+use dcc_account::Account;
+use dcc_act::Sub;
+use dcc_ledger::ledger_text;
+use dcc_running::Look;
+use dcc_shard::Shard;
+use dcc_store::Records;
+use std::alloc::{AllocError, Global};
+
+/// A look at the money of a subscriber.
+#[derive(Drop)]
+pub(crate) struct MoneyLook {
+    pub sub: Sub,
+}
+
+impl<R: Records> Look<R> for MoneyLook {
+    type Found = Option<Money>;
+
+    ghost finds = { λ look shard found. found ≡ money_of shard.shard.terms (held shard.shard look.sub) };
+
+    fn look(self, shard: &Shard<R>) -> Option<Money> {
+        money_of(shard, self.sub)
+    }
+}
+
+/// A look at the ledger of a subscriber.
+#[derive(Drop)]
+pub(crate) struct PageLook {
+    pub alloc: Global,
+    pub sub: Sub,
+}
+
+impl<R: Records> Look<R> for PageLook {
+    type Found = Result<Option<Vec<u8>>, AllocError>;
+
+    ghost finds = { λ look shard found. IfOk found
+        (λ page. option_map (λ text. text.items) page ≡ page_of shard.shard.terms look.sub (held shard.shard look.sub)) };
+
+    fn look(self, shard: &Shard<R>) -> Result<Option<Vec<u8>>, AllocError> {
+        page_of(self.alloc, shard, self.sub)
+    }
+}
+
+/// The money of a subscriber, if acts are held for it.
+fn money_of<R: Records>(shard: &Shard<R>, sub: Sub) -> Option<Money>
+    ensures { result ≡ money_of shard.now.shard.terms (held shard.now.shard sub) }
+{
+    match shard.account(sub) {
+        Some(account) => Some(money_in(account)),
+        None => None,
+    }
+}
+
+/// The money of an account.
+fn money_in(account: &Account) -> Money
+    requires { account.now.acts ≢ [] }
+    ensures { Some result ≡ money_of account.now.terms account.now.acts }
+{
+    Money {
+        funds: account.funds(),
+        reserved: i128::from(account.reserved()),
+        free: account.free(),
+        overrun: account.overrun(),
+        acts: account.acts().len() as u64,
+    }
+}
+
+/// The ledger of a subscriber, if acts are held for it. The only error is want of memory.
+fn page_of<R: Records>(
+    alloc: Global,
+    shard: &Shard<R>,
+    sub: Sub,
+) -> Result<Option<Vec<u8>>, AllocError>
+    ensures { IfOk result (λ page. option_map (λ text. text.items) page ≡ page_of shard.now.shard.terms sub (held shard.now.shard sub)) }
+{
+    match shard.account(sub) {
+        Some(account) => Ok(Some(page_in(alloc, account, sub)?)),
+        None => Ok(None),
+    }
+}
+
+/// The ledger of an account. The only error is want of memory.
+fn page_in(alloc: Global, account: &Account, sub: Sub) -> Result<Vec<u8>, AllocError>
+    requires { account.now.acts ≢ [] }
+    ensures { IfOk result (λ page. Some page.items ≡ page_of account.now.terms sub account.now.acts) }
+{
+    ledger_text(
+        alloc,
+        &sub,
+        account.entries(),
+        i128::from(account.reserved()),
+        account.overrun(),
+    )
+}

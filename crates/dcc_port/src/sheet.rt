@@ -1,0 +1,136 @@
+//! Responses.
+
+ghost use Rattle.std.specs.Prelude.{◌≡◌, ◌∷◌, ◌++◌, [], ◌≤◌, ◌+◌, length, vec_len, vec_capacity, OnOk, OnErr};
+ghost use Rattle.http_server.specs.Response.{IsBlank, IsResponse, fields_of};
+ghost use Rattle.dcc_port.specs.Calls.{name_of};
+ghost use Rattle.dcc_port.specs.Sheets.{IsSheet, IsShort, flaw_sheet, flaw_status, flaw_text, type_of, type_field};
+
+use crate::call::{Flaw, Verb};
+use bytes::BufMut;
+use http::{HeaderName, HeaderValue, StatusCode};
+use http_server::Response;
+use std::alloc::AllocError;
+
+/// The media types of texts.
+#[derive(Clone, Copy)]
+pub(crate) enum Kind {
+    Json,
+    Plain,
+}
+
+/// Room for one field, and for a text of so many octets.
+pub(crate) fn make_room(response: &mut Response, len: usize) -> Result<(), AllocError>
+    requires { IsBlank response.old }
+    ensures blank { IsBlank response.new }
+    ensures field { OnOk result (vec_len response.new.headers + 1 ≤ vec_capacity response.new.headers) }
+    ensures text { OnOk result (len ≤ response.new.body.spare) }
+{
+    response.headers.reserve(1)?;
+    response.body.reserve(len)
+}
+
+/// Writes a response. The condition: there is room for its field and its text.
+pub(crate) fn put_reserved(response: &mut Response, status: StatusCode, kind: Kind, text: &[u8])
+    requires blank { IsBlank response.old }
+    requires field { vec_len response.old.headers + 1 ≤ vec_capacity response.old.headers }
+    requires text { length text.now ≤ response.old.body.spare }
+    ensures { IsResponse status (type_field kind ∷ []) text.now response.new }
+{
+    let name = HeaderName::from_static("content-type");
+    response.headers.push_reserved((name, content_type(kind)));
+    let Ok(()) = response.body.put_slice(text) else {
+        unreachable!()
+    };
+    response.status = status;
+}
+
+/// Writes a response. The only error is want of memory.
+pub(crate) fn put(
+    response: &mut Response,
+    status: StatusCode,
+    kind: Kind,
+    text: &[u8],
+) -> Result<(), AllocError>
+    requires { IsBlank response.old }
+    ensures { OnOk result (IsResponse status (type_field kind ∷ []) text.now response.new) }
+{
+    make_room(response, text.len())?;
+    put_reserved(response, status, kind, text);
+    Ok(())
+}
+
+/// Writes that memory was short. It takes no memory.
+pub(crate) fn put_short(response: &mut Response)
+    ensures { IsShort response.new }
+{
+    response.clear();
+    response.status = StatusCode::INTERNAL_SERVER_ERROR;
+}
+
+/// Writes the refusal of a request. The only error is want of memory.
+pub(crate) fn put_flaw(response: &mut Response, flaw: Flaw) -> Result<(), AllocError>
+    requires { IsBlank response.old }
+    ensures { OnOk result (IsSheet (flaw_sheet flaw) response.new) }
+{
+    put(response, flaw_status(flaw), Kind::Json, flaw_text(flaw))?;
+    if let Flaw::Method(verb) = flaw {
+        response.add_header(HeaderName::from_static("allow"), allowed(verb))?;
+    }
+    Ok(())
+}
+
+fn flaw_status(flaw: Flaw) -> StatusCode
+    ensures { result ≡ flaw_status flaw }
+{
+    match flaw {
+        Flaw::Path => StatusCode::NOT_FOUND,
+        Flaw::Method(_) => StatusCode::METHOD_NOT_ALLOWED,
+        Flaw::Subscriber | Flaw::Body => StatusCode::BAD_REQUEST,
+        Flaw::Foreign => StatusCode::FORBIDDEN,
+    }
+}
+
+fn flaw_text(flaw: Flaw) -> &'static [u8]
+    ensures { result.now ≡ flaw_text flaw }
+{
+    match flaw {
+        Flaw::Path => PATH_TEXT,
+        Flaw::Method(_) => METHOD_TEXT,
+        Flaw::Subscriber => SUBSCRIBER_TEXT,
+        Flaw::Body => BODY_TEXT,
+        Flaw::Foreign => FOREIGN_TEXT,
+    }
+}
+
+const PATH_TEXT: &[u8] =
+    b"{\"error\":\"unknown path\",\"in\":\"path\",\"expected\":\"/health, /subscribers/SUB, its /ledger or /topups, /sweep or /stop\"}";
+
+const METHOD_TEXT: &[u8] =
+    b"{\"error\":\"other method\",\"in\":\"method\",\"expected\":\"the method of the field allow\"}";
+
+const SUBSCRIBER_TEXT: &[u8] =
+    b"{\"error\":\"unreadable subscriber\",\"in\":\"path\",\"expected\":\"TYPE:DATA, percent-encoded\"}";
+
+const BODY_TEXT: &[u8] =
+    b"{\"error\":\"unreadable top-up\",\"in\":\"body\",\"expected\":\"{\\\"ticket\\\":N,\\\"amount\\\":N} in ASCII\"}";
+
+const FOREIGN_TEXT: &[u8] =
+    b"{\"error\":\"page of a browser\",\"in\":\"fields\",\"expected\":\"no origin, and a host in numbers, as 127.0.0.1\"}";
+
+fn allowed(verb: Verb) -> HeaderValue
+    ensures { result.bytes ≡ name_of verb }
+{
+    match verb {
+        Verb::Get => HeaderValue::from_static("GET"),
+        Verb::Post => HeaderValue::from_static("POST"),
+    }
+}
+
+fn content_type(kind: Kind) -> HeaderValue
+    ensures { result.bytes ≡ type_of kind }
+{
+    match kind {
+        Kind::Json => HeaderValue::from_static("application/json"),
+        Kind::Plain => HeaderValue::from_static("text/plain; charset=utf-8"),
+    }
+}
