@@ -43,9 +43,11 @@ flag name = record (new_rule name) { long = Some name; action = Some SetTrue }
 abbrev pub listening_command : App
 listening_command = with_rule (with_rule (with_rule (new_app (codes "serve")) (argument (codes "PLAN"))) (argument (codes "DIR"))) (option (codes "listen"))
 
+abbrev pub rounds_command : App
+rounds_command = with_rule (with_rule (with_rule (with_rule listening_command (option (codes "gates"))) (option (codes "rounds"))) (option (codes "every"))) (option (codes "silent"))
+
 abbrev pub serve_command : App
-serve_command = with_rule (with_rule (with_rule (with_rule (with_rule (with_rule listening_command (option (codes "gates"))) (option (codes "rounds"))) (option (codes "every")))
-    (option (codes "silent"))) (flag (codes "stay"))) (option (codes "sweep"))
+serve_command = with_rule (with_rule (with_rule rounds_command (flag (codes "stay"))) (option (codes "sweep"))) (option (codes "operator"))
 
 abbrev pub decode_command : App
 decode_command = new_app (codes "decode")

@@ -34,7 +34,7 @@ status_of (Close number) = 6
 abbrev pub line_of : Failure → List ℕ
 line_of Memory = codes "dcc: memory"
 line_of Io = codes "dcc: io"
-line_of Usage = codes "dcc: usage: dcc replay PLAN, dcc topup PLAN DIR SUB TICKET AMOUNT MOMENT, dcc ledger PLAN DIR SUB, dcc serve PLAN DIR, or dcc decode"
+line_of Usage = codes "dcc: usage: dcc replay PLAN, dcc topup PLAN DIR SUB TICKET AMOUNT [MOMENT], dcc topup PLAN DIR --from FILE, dcc ledger PLAN DIR SUB, dcc serve PLAN DIR, dcc check PLAN [DIR], dcc decode, or dcc help"
 line_of (Plan number) = codes "dcc: plan fault " ++ decimal number
 line_of (Store number) = codes "dcc: store fault " ++ decimal number
 line_of (Script line) = codes "dcc: script line " ++ decimal line

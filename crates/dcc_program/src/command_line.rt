@@ -2,7 +2,7 @@
 
 ghost use Rattle.std.specs.Prelude.{◌≡◌, ◌⊎◌, codes, None, Some, true, IfErr, IfOk, IfSome, map, option_map, string_bytes, List};
 ghost use Rattle.clap.specs.Words.{App, Row, app_of, first_of, found_of, rows_of, subcommand_rows_of, with_rule, with_subcommand};
-ghost use Rattle.dcc_program.specs.CommandLines.{dcc_command, replay_command, topup_command, store_command, listening_command, serve_command, argument, flag, option, name_of, wish_of, Asks, AsksWith, IsTaskOf, IsTaskFailure};
+ghost use Rattle.dcc_program.specs.CommandLines.{dcc_command, replay_command, topup_command, store_command, listening_command, rounds_command, serve_command, argument, flag, option, name_of, wish_of, Asks, AsksWith, IsTaskOf, IsTaskFailure};
 ghost use Rattle.dcc_program.specs.CommandLines.{IsPlace, IsAsk, sub_in, number_in, moment_in};
 ghost use Rattle.dcc_program.specs.declared.failure.Failure.TheVariants.{Memory, Usage};
 
@@ -63,6 +63,8 @@ pub struct ServeAsk<'a> {
     pub silence: Silence,
     /// The seconds that pass between two sweeps of a server that stays. The number 0 asks for no sweep.
     pub sweep: Option<u64>,
+    /// Where operators call a server that stays: an address of this machine alone.
+    pub operator: Option<SocketAddrV4>,
 }
 
 /// A server that stays drops a gateway that is silent for so many seconds, if the words say nothing else.
@@ -70,6 +72,9 @@ const SILENT_SECONDS: u64 = 60;
 
 /// A server that stays sweeps after so many seconds, if the words say nothing else.
 const SWEEP_SECONDS: u64 = 60;
+
+/// So many operators are served at once.
+const OPERATORS: usize = 4;
 
 /// So many seconds at most pass between two sweeps: a day.
 const MOST_SWEEP_SECONDS: u64 = 86_400;
@@ -195,7 +200,8 @@ fn serve_ask_of<'a>(found: &ArgMatches<'a>) -> Option<ServeAsk<'a>> {
         rounds_of(found)?
     };
     let sweep = if stays { Some(sweep_of(found)?) } else { None };
-    if !stays && text_of(found, "sweep").is_some() {
+    let operator = operator_of(found)?;
+    if !stays && (text_of(found, "sweep").is_some() || operator.is_some()) {
         return None;
     }
     Some(ServeAsk {
@@ -204,6 +210,7 @@ fn serve_ask_of<'a>(found: &ArgMatches<'a>) -> Option<ServeAsk<'a>> {
         rounds,
         silence: Silence::new(silent)?,
         sweep,
+        operator,
     })
 }
 
@@ -222,7 +229,12 @@ fn places_of(found: &ArgMatches<'_>) -> Option<Rounds> {
     }
     let gates = usize::try_from(option_of(found, "gates", 1)?).ok()?;
     let every = u32::try_from(option_of(found, "every", 0)?).ok()?;
-    Rounds::staying(gates, every)
+    let operators = if text_of(found, "operator").is_some() {
+        OPERATORS
+    } else {
+        0
+    };
+    Rounds::staying(gates, every, operators)
 }
 
 /// The seconds between two sweeps of a server that stays.
@@ -248,6 +260,18 @@ fn address_of(found: &ArgMatches<'_>) -> Option<SocketAddrV4> {
         Some(text) => SocketAddrV4::parse_ascii(text.as_bytes()).ok(),
         None => Some(SocketAddrV4::new(Ipv4Addr::LOCALHOST, 3868)),
     }
+}
+
+/// The address at which operators call the server, if the words name one. None if they name no address that is this machine's alone.
+fn operator_of(found: &ArgMatches<'_>) -> Option<Option<SocketAddrV4>> {
+    let Some(text) = text_of(found, "operator") else {
+        return Some(None);
+    };
+    let address = SocketAddrV4::parse_ascii(text.as_bytes()).ok()?;
+    if !address.ip().is_loopback() {
+        return None;
+    }
+    Some(Some(address))
 }
 
 /// The task that a command asks for with the arguments that were found.
@@ -394,12 +418,19 @@ fn replay_command<'a>(alloc: Global) -> Result<Command<'a>, AllocError>
 fn serve_command<'a>(alloc: Global) -> Result<Command<'a>, AllocError>
     ensures { IfOk result (λ command. app_of command ≡ serve_command) }
 {
+    let with_stay = with_flag(alloc, rounds_command(alloc)?, "stay")?;
+    let with_sweep = with_option(alloc, with_stay, "sweep")?;
+    with_option(alloc, with_sweep, "operator")
+}
+
+/// The command of a server, with the options of its rounds.
+fn rounds_command<'a>(alloc: Global) -> Result<Command<'a>, AllocError>
+    ensures { IfOk result (λ command. app_of command ≡ rounds_command) }
+{
     let with_gates = with_option(alloc, listening_command(alloc)?, "gates")?;
     let with_rounds = with_option(alloc, with_gates, "rounds")?;
     let with_every = with_option(alloc, with_rounds, "every")?;
-    let with_silent = with_option(alloc, with_every, "silent")?;
-    let with_stay = with_flag(alloc, with_silent, "stay")?;
-    with_option(alloc, with_stay, "sweep")
+    with_option(alloc, with_every, "silent")
 }
 
 /// The command of a server: where its plan and its stores are, and where it listens.

@@ -58,7 +58,7 @@ impl fmt::Display for Failure {
         match self {
             Failure::Usage => write!(
                 f,
-                "dcc: usage: dcc replay PLAN, dcc topup PLAN DIR SUB TICKET AMOUNT MOMENT, dcc ledger PLAN DIR SUB, dcc serve PLAN DIR, or dcc decode"
+                "dcc: usage: dcc replay PLAN, dcc topup PLAN DIR SUB TICKET AMOUNT [MOMENT], dcc topup PLAN DIR --from FILE, dcc ledger PLAN DIR SUB, dcc serve PLAN DIR, dcc check PLAN [DIR], dcc decode, or dcc help"
             ),
             Failure::Memory => write!(f, "dcc: memory"),
             Failure::Io => write!(f, "dcc: io"),

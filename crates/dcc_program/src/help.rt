@@ -8,7 +8,7 @@ usage: dcc replay PLAN
        dcc topup PLAN DIR SUB TICKET AMOUNT [MOMENT]
        dcc topup PLAN DIR --from FILE
        dcc ledger PLAN DIR SUB
-       dcc serve PLAN DIR [--listen ADDR] [--gates N] [--rounds N | --stay [--sweep S]] [--every N] [--silent S]
+       dcc serve PLAN DIR [--listen ADDR] [--gates N] [--rounds N | --stay [--sweep S] [--operator ADDR]] [--every N] [--silent S]
        dcc check PLAN [DIR]
        dcc decode
        dcc help
@@ -16,25 +16,38 @@ usage: dcc replay PLAN
 dcc replay PLAN   reads a script of events from standard input, and prints what each event is answered under the
                   plan of the file PLAN. A path that begins with a hyphen stands behind --
 dcc topup         makes one top-up under the plan of the file PLAN, in the store of the subscriber's shard in the
-                  folder DIR, and prints done, ceiling, refused or bad. A store that is missing is made, a folder isn't.
-                  SUB is a type and data, as 0:491700000001; TICKET is the top-up's number, and a second one with it is a
-                  repeat; AMOUNT is in minor units; MOMENT is in seconds since 1970, the clock's if it is missing. With --from
-                  it makes the top-ups of FILE, or of standard input if FILE is -: a line for each, SUB TICKET AMOUNT
+                  folder DIR, and prints done, ceiling, refused or bad, each with status 0. A store that is missing is
+                  made, a folder isn't.
+                  SUB is a type and data, as 0:491700000001: type 0 a telephone number, 1 an IMSI, 2 a SIP URI, 3 an NAI,
+                  4 a private name
+                  TICKET is the top-up's number, 0 to 2^64 - 1; a second top-up with it is a repeat, and adds nothing
+                  AMOUNT is in minor units, 1 to 10^18, without a point; any other number is bad
+                  MOMENT is in seconds since 1970, the clock's if it is missing
+                  --from makes the top-ups of FILE, or of standard input if FILE is -: a line for each, SUB TICKET AMOUNT
                   [MOMENT]. It opens each store once, and prints SUB, TICKET and the word of each top-up
 dcc ledger        prints the ledger of the subscriber SUB from the store of its shard in the folder DIR. Without such a
-                  store or folder the account is unknown, and nothing is made
+                  store or folder the account is unknown, and nothing is made.
+                  SUB is a type and data, as 0:491700000001: type 0 a telephone number, 1 an IMSI, 2 a SIP URI, 3 an NAI,
+                  4 a private name
 dcc serve         serves gateways over TCP from the stores in the folder DIR, and prints its address, and a line for each
-                  round. ADDR is an IPv4 address and a port, 127.0.0.1:3868 if it is missing; a round
-                  has --gates gateways, 1 to 16; --rounds are 1 to 1000000; after each --every messages of a
-                  gateway, 0 to 1000000, sessions whose time is over are ended, with 0 never. Missing, they are 1, 1, 0.
-                  A gateway that sends nothing for --silent seconds, 1 to 86400, is dropped, with 0 never. Missing, it is 0.
-                  With --stay gateways come and go in one round that stays: --gates of them at once, 1 to 256. Each
-                  --sweep seconds, 1 to 86400, sessions whose time is over are ended, with 0 never. With --stay, --sweep
-                  and --silent are 60 if they are missing. A file DIR/stop ends the server once it has answered what it
-                  has read
+                  round. Without --stay it ends after its rounds, and serves one if --rounds is missing; a round ends
+                  once each of its gateways has left
+                  --listen ADDR    an IPv4 address and a port; missing, 127.0.0.1:3868
+                  --gates N        the gateways of a round, 1 to 16; with --stay those at once, 1 to 256; missing, 1
+                  --rounds N       the rounds, 1 to 1000000, one after another; not with --stay; missing, 1
+                  --every N        after so many messages of a gateway, 0 to 1000000, sessions whose time is over are
+                                   ended; 0 is never; missing, 0
+                  --silent S       a gateway that sends nothing for so many seconds, 0 to 86400, is dropped; 0 is never;
+                                   missing, 0, and with --stay 60
+                  --stay           gateways come and go in one round that stays. A file DIR/stop ends the server once it
+                                   has answered what it has read
+                  --sweep S        each so many seconds, 0 to 86400, sessions whose time is over are ended; 0 is never;
+                                   with --stay alone; missing, 60
+                  --operator ADDR  operators call the server by HTTP at ADDR, an address of 127.0.0.0/8 and a port: for
+                                   top-ups, balances, ledgers, sweeps, its state and its end; with --stay alone
 dcc check         judges the plan of the file PLAN and the store of each of its shards in the folder DIR, and prints
-                  what is good. It changes and makes nothing, explains each failure, and ends as dcc serve would before
-                  it listens
+                  what is good. It changes and makes nothing, explains each failure, warns of each key of the plan that
+                  no rule reads, and ends as dcc serve would before it listens
 dcc decode        reads what a replay printed, a script, or messages in hex from standard input, and prints each
                   message as a tree of names and values, and each line without one as it is
 dcc help          prints this text, as dcc --help and dcc -h do; dcc COMMAND --help prints the part of one command
@@ -44,8 +57,8 @@ Each command takes --explain, before a -- if there is one: behind the line of a 
 error say what is wrong and where.
 
 exit status: 0; 1 if memory, input or output failed; 2 at another command line; 3 at a faulty plan; 4 at a faulty
-store; 5 at a faulty script; 6 if a server's answers and accounts disagree, or a part of it ended without the others.
-A failure has one line on standard error, and the lines of --explain.
+store; 5 at a faulty script or file of top-ups; 6 if a server's answers and accounts disagree, or a part of it ended
+without the others. A failure has one line on standard error, and the lines of --explain.
 ";
 
 /// What `dcc --version` prints.

@@ -15,20 +15,22 @@ use crate::plan_file::plan_from;
 use dcc_operator::OperatorFault;
 use dcc_replay::identity_of;
 use dcc_rounds::{Service, serve_run};
-use dcc_sockets::{Closing, Door, Input, NoticeLines, Output, Staying, SystemClock, remove_stop};
+use dcc_sockets::{
+    Calls, Closing, Door, Input, NoticeLines, Output, Staying, SystemClock, remove_stop,
+};
 use dcc_startup::Stores;
 use dcc_streams::write_all;
 use dcc_tariff::Plan;
 use std::alloc::{AllocError, Global};
-use std::fs;
 use std::hash::RandomState;
 use std::io::{Eprint, Write};
-use std::net::{Net, SocketAddr, TcpListener, TcpStream};
+use std::net::{Net, SocketAddr, SocketAddrV4, TcpListener, TcpStream};
 use std::random::RandomSource;
 use std::rt::Files;
 use std::sync::Wait;
 use std::thread::Threads;
 use std::time::Clock;
+use std::{fs, io};
 
 /// Serves under the plan that the file gives, over the stores of the folder, at an address. Writes the address at which it
 /// listens, and then the line of each round. The plan is judged first, then the stores, which are made if they are missing, then the
@@ -46,10 +48,10 @@ pub fn serve<
     S: Stores + Sync,
     W: Write,
 >(rt: &R, stores: &S, ask: &ServeAsk<'_>, output: &mut W) -> Result<(), Failure>
-    ensures served { OnOk result (IsServedOver (λ (input : Input R). None) (λ (output : Output R). None) (λ (before : SystemClock R) moment after. Unit {0}) (Unit {0})
+    ensures served { OnOk result (IsServedOver (λ (input : Input R). None) (λ (output : Output R). None) (λ (before : SystemClock R) moment after. Unit {0}) (Unit {0}) (λ before after. Unit {0})
         (S.opens stores.now ask.now.place.folder.now) S.Records.is_stopped S.Records.may_leave ask.now.rounds (W.contents output.old) (W.contents output.new)) }
     ensures whole { OnOk result (IsServed ask.now.rounds.rounds (W.contents output.old) (W.contents output.new)) }
-    ensures part { IfErr result (IsServedBegun (λ (input : Input R). None) (λ (output : Output R). None) (λ (before : SystemClock R) moment after. Unit {0}) (Unit {0})
+    ensures part { IfErr result (IsServedBegun (λ (input : Input R). None) (λ (output : Output R). None) (λ (before : SystemClock R) moment after. Unit {0}) (Unit {0}) (λ before after. Unit {0})
         (S.opens stores.now ask.now.place.folder.now) S.Records.is_stopped S.Records.may_leave ask.now.rounds (W.contents output.old) (W.contents output.new)) }
 {
     let alloc = rt.alloc();
@@ -81,10 +83,10 @@ fn serve_under<
     ask: &ServeAsk<'_>,
     output: &mut W,
 ) -> Result<(), Failure>
-    ensures served { OnOk result (IsServedOver (λ (input : Input R). None) (λ (output : Output R). None) (λ (before : SystemClock R) moment after. Unit {0}) (Unit {0})
+    ensures served { OnOk result (IsServedOver (λ (input : Input R). None) (λ (output : Output R). None) (λ (before : SystemClock R) moment after. Unit {0}) (Unit {0}) (λ before after. Unit {0})
         (S.opens stores.now ask.now.place.folder.now) S.Records.is_stopped S.Records.may_leave ask.now.rounds (W.contents output.old) (W.contents output.new)) }
     ensures whole { OnOk result (IsServed ask.now.rounds.rounds (W.contents output.old) (W.contents output.new)) }
-    ensures part { IfErr result (IsServedBegun (λ (input : Input R). None) (λ (output : Output R). None) (λ (before : SystemClock R) moment after. Unit {0}) (Unit {0})
+    ensures part { IfErr result (IsServedBegun (λ (input : Input R). None) (λ (output : Output R). None) (λ (before : SystemClock R) moment after. Unit {0}) (Unit {0}) (λ before after. Unit {0})
         (S.opens stores.now ask.now.place.folder.now) S.Records.is_stopped S.Records.may_leave ask.now.rounds (W.contents output.old) (W.contents output.new)) }
 {
     let alloc = rt.alloc();
@@ -102,7 +104,7 @@ fn serve_under<
         sweep,
     });
     forget_stop(ask, stop.as_str());
-    let mut door = match open_door(rt, alloc, ask, staying, output) {
+    let mut door = match open_door(rt, alloc, ask, staying, hasher, output) {
         Ok(door) => door,
         Err(failure) => {
             // By a call: shards that are let go in place are proved part by part.
@@ -146,18 +148,23 @@ fn forget_stop(ask: &ServeAsk<'_>, stop: &str) {
 }
 
 /// Listens at an address, and writes the address at which the server listens.
-fn open_door<'r, N: Net<Listener = TcpListener, Stream = TcpStream>, W: Write>(
+fn open_door<'r, N: Net<Listener = TcpListener, Stream = TcpStream> + Eprint, W: Write>(
     rt: &'r N,
     alloc: Global,
     ask: &ServeAsk<'_>,
     staying: Option<Staying<'r>>,
+    hasher: RandomState,
     output: &mut W,
 ) -> Result<Door<'r, N>, Failure>
     ensures whole { OnOk result ((address : SocketAddr) × Appends (W.contents output.old) (W.contents output.new) (listening_line address)) }
     ensures part { IfErr result (IsTellingBegun (W.contents output.old) (W.contents output.new)) }
 {
+    let calls = match ask.operator {
+        Some(address) => Some(open_calls(rt, address, hasher)?),
+        None => None,
+    };
     // No `?`: it is not proved if a value holds a reference beside a struct with a model.
-    let door = match Door::bind(rt, alloc, ask.address, ask.silence, staying) {
+    let door = match Door::bind(rt, alloc, ask.address, ask.silence, staying, calls) {
         Ok(door) => door,
         Err(error) => return Err(Failure::from(error)),
     };
@@ -169,6 +176,18 @@ fn open_door<'r, N: Net<Listener = TcpListener, Stream = TcpStream>, W: Write>(
             Err(failure)
         }
     }
+}
+
+/// Listens for operators at an address, and reports it on standard error. A line that cannot be written is left out.
+fn open_calls<N: Net<Listener = TcpListener, Stream = TcpStream> + Eprint>(
+    rt: &N,
+    address: SocketAddrV4,
+    hasher: RandomState,
+) -> io::Result<Calls> {
+    let calls = Calls::bind(rt, address, hasher)?;
+    let found = calls.address()?;
+    let _lost = rt.eprintln(format_args!("dcc: operators at {found}"));
+    Ok(calls)
 }
 
 /// Writes the address at which a door listens.

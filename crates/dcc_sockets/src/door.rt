@@ -1,5 +1,6 @@
 //! Where gateways connect.
 
+use crate::calls::{Calls, answer_calls};
 use crate::closing::{Staying, remove_stop};
 use crate::gateway::{Input, Output, halves};
 use crate::options::wait_for_connections;
@@ -8,6 +9,8 @@ use crate::silence::Silence;
 use crate::trouble::{Trouble, tell};
 use dcc_octets::OctetString;
 use dcc_rounds::{Connection, Listener, Tick};
+use dcc_running::{Seat, Shards};
+use dcc_store::Records;
 use std::alloc::Global;
 use std::io::{Eprint, ErrorKind};
 use std::net::{Net, SocketAddr, SocketAddrV4, TcpListener, TcpStream};
@@ -27,6 +30,8 @@ pub struct Door<'r, R> {
     rt: &'r R,
     alloc: Global,
     listener: TcpListener,
+    /// Where operators call a server that stays.
+    calls: Option<Calls>,
     silence: Silence,
     /// Of a server that stays: when it ends, and how often it sweeps.
     staying: Option<Staying<'r>>,
@@ -39,16 +44,17 @@ pub struct Door<'r, R> {
 }
 
 impl<'r, R: Net<Listener = TcpListener, Stream = TcpStream>> Door<'r, R> {
-    /// Listens at an address, for gateways that may be silent so long, and for places that are taken again if the server stays. Port 0
-    /// takes a port that is free.
+    /// Listens at an address, for gateways that may be silent so long, and for places that are taken again if the server stays. A server that stays
+    /// may also take calls of operators. Port 0 takes a port that is free.
     ///
-    /// Error: the system refuses it, for instance if the address is taken or isn't one of this machine.
+    /// Error: the system refuses the address, for instance if it is taken or isn't one of this machine.
     pub fn bind(
         rt: &'r R,
         alloc: Global,
         address: SocketAddrV4,
         silence: Silence,
         staying: Option<Staying<'r>>,
+        calls: Option<Calls>,
     ) -> io::Result<Door<'r, R>> {
         let listener = rt.bind(SocketAddr::V4(address))?;
         if staying.is_some() {
@@ -58,6 +64,7 @@ impl<'r, R: Net<Listener = TcpListener, Stream = TcpStream>> Door<'r, R> {
             rt,
             alloc,
             listener,
+            calls,
             silence,
             staying,
             is_short: false,
@@ -148,6 +155,8 @@ impl<'r, R: Clock + Eprint> Listener<Input<'r, R>, Output<'r, R>> for Door<'r, R
     // No clause says what a listener of the system does.
     ghost is_closed = { Unit {0} };
 
+    ghost attends = { λ _ _. Unit {0} };
+
     /// A connection that can't be taken in costs that connection alone: it is closed, and a line reports it. If descriptors or memory are
     /// short, the next try is a second later.
     ///
@@ -208,6 +217,51 @@ impl<'r, R: Clock + Eprint> Listener<Input<'r, R>, Output<'r, R>> for Door<'r, R
             return Tick::Sweep;
         }
         Tick::Nothing
+    }
+
+    /// Serves one connection of an operator after another, and ends with the server. A fault of a connection ends that connection alone. If the listener takes
+    /// none any more, a line reports this, and the server goes on without operators.
+    fn attend<W: Wait, S: Records, C: dcc_connect::Clock + Copy>(
+        &self,
+        rt: &W,
+        alloc: Global,
+        shards: &Shards<S>,
+        clock: C,
+        seat: &mut Seat,
+    ) {
+        let (Some(staying), Some(calls)) = (self.staying, &self.calls) else {
+            return;
+        };
+        let mut is_short = false;
+        for _ in rt.forever() {
+            if staying.closing.is_told() {
+                return;
+            }
+            match calls.listener.accept() {
+                Ok((stream, _from)) => {
+                    is_short = false;
+                    let _fault = answer_calls(
+                        self.rt,
+                        rt,
+                        alloc,
+                        shards,
+                        clock,
+                        seat,
+                        calls.keys,
+                        stream,
+                        staying.closing,
+                    );
+                }
+                Err(error) => match self.bear(&mut is_short, error) {
+                    Ok(()) => {}
+                    Err(error) => {
+                        tell(self.rt, Trouble::Unheard { error });
+                        return;
+                    }
+                },
+            }
+        }
+        unreachable!()
     }
 
     fn has_failed(&self) -> bool {

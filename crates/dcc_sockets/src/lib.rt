@@ -8,6 +8,7 @@
 //! [`SystemClock`] is the clock, and [`NoticeLines`] are the lines.
 #![tactic(auto)]
 
+mod calls;
 mod clock;
 mod closing;
 mod door;
@@ -20,6 +21,7 @@ mod silence;
 mod trouble;
 mod waiting;
 
+pub use calls::{CALL_SECONDS, Calls};
 pub use clock::SystemClock;
 pub use closing::{Closing, Staying, remove_stop};
 pub use door::{Door, SHORT_SECONDS, TURN_SECONDS};

@@ -22,6 +22,8 @@ pub(crate) enum Trouble {
     Short { error: io::Error },
     /// The listener of a server that stays takes none any more.
     Over { error: io::Error },
+    /// The listener for operators takes none any more.
+    Unheard { error: io::Error },
 }
 
 impl fmt::Display for Trouble {
@@ -48,6 +50,9 @@ impl fmt::Display for Trouble {
             }
             Trouble::Over { error } => {
                 write!(f, "dcc: no connection can be taken in any more: {error}")
+            }
+            Trouble::Unheard { error } => {
+                write!(f, "dcc: no operator can be served any more: {error}")
             }
         }
     }
