@@ -1,11 +1,11 @@
 //! `dcc check`: a plan and the stores of a folder are judged, and nothing is changed.
 
-use crate::reasons::plan_words;
-use dcc_explain::{Looks, StoreNote};
+use crate::reasons::{plan_words, push_line};
+use dcc_explain::{Looks, StoreNote, unread_keys};
 use dcc_program::{Failure, plan_of};
 use dcc_streams::write_all;
 use dcc_tariff::Plan;
-use std::alloc::Global;
+use std::alloc::{AllocError, Global};
 use std::fs;
 use std::hash::RandomState;
 use std::io::Write;
@@ -17,6 +17,15 @@ use std::rt::Files;
 pub(crate) struct CheckAsk<'a> {
     pub plan: &'a str,
     pub folder: Option<&'a str>,
+}
+
+/// What a check writes to standard error, in lines.
+#[derive(Drop)]
+pub(crate) struct Said {
+    /// What is wrong: with the plan, or with each store.
+    pub faults: String,
+    /// The keys and tables of the plan that no rule reads. They change no status.
+    pub warnings: String,
 }
 
 /// Whether the words are those of a check.
@@ -73,17 +82,17 @@ fn argument<'a>(before: &'a [String], behind: &'a [String], at: usize) -> Option
     Some(word.as_str())
 }
 
-/// Judges the plan, and then the store of each of its shards; writes what is good, and adds to the lines what isn't. The failure is the one that `serve`
+/// Judges the plan, and then the store of each of its shards; writes what is good, and says what isn't. The failure is the one that `serve`
 /// would end with: the plan's, or that of the first store with a fault.
 pub(crate) fn check<R: Files + RandomSource + AllocGlobal, L: Looks, W: Write>(
     rt: &R,
     looks: &L,
     ask: CheckAsk<'_>,
     output: &mut W,
-    lines: &mut String,
+    said: &mut Said,
 ) -> Result<(), Failure> {
-    let plan = plan_at(rt, ask.plan, lines)?;
-    let done = check_under(rt, looks, ask, &plan, output, lines);
+    let plan = plan_at(rt, ask.plan, said)?;
+    let done = check_under(rt, looks, ask, &plan, output, &mut said.faults);
     // By a call: a plan that is let go in place is proved part by part.
     drop(plan);
     done
@@ -122,28 +131,34 @@ fn check_under<R: RandomSource + AllocGlobal, L: Looks, W: Write>(
     }
 }
 
-/// The plan of a file; what is wrong with it is added to the lines.
-fn plan_at<R: Files + AllocGlobal>(
-    rt: &R,
-    path: &str,
-    lines: &mut String,
-) -> Result<Plan, Failure> {
+/// The plan of a file. What is wrong with it is said, and so is each key that no rule reads.
+fn plan_at<R: Files + AllocGlobal>(rt: &R, path: &str, said: &mut Said) -> Result<Plan, Failure> {
     let alloc = rt.alloc();
     let octets = match fs::read(rt, path) {
         Ok(octets) => octets,
         Err(error) => {
-            write!(lines, "dcc: {path}: {error}\n")?;
+            write!(said.faults, "dcc: {path}: {error}\n")?;
             return Err(Failure::from(error));
         }
     };
+    push_warnings(alloc, &mut said.warnings, octets.as_slice())?;
     match plan_of(alloc, octets.as_slice()) {
         Ok(plan) => Ok(plan),
         Err(Failure::Plan(number)) => {
-            plan_words(alloc, octets.as_slice(), number, lines)?;
+            plan_words(alloc, octets.as_slice(), number, &mut said.faults)?;
             Err(Failure::Plan(number))
         }
         Err(failure) => Err(failure),
     }
+}
+
+/// Adds a line for each key and table of a plan's octets that no rule reads.
+fn push_warnings(alloc: Global, lines: &mut String, octets: &[u8]) -> Result<(), AllocError> {
+    let unread = unread_keys(alloc, octets)?;
+    for words in &unread {
+        write!(lines, "dcc: warning: {words}\n")?;
+    }
+    Ok(())
 }
 
 /// What was found of a store: a good one is written, a bad one added to the lines.
@@ -155,7 +170,7 @@ fn report<W: Write>(
 ) -> Result<(), Failure> {
     let StoreNote { fault, words } = note;
     if fault.is_some() {
-        write!(lines, "dcc: {words}\n")?;
+        push_line(alloc, lines, words.as_str())?;
         return Ok(());
     }
     let line = format!(in alloc; "{words}\n")?;

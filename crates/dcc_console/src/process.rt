@@ -1,6 +1,6 @@
 //! The program, for `main`.
 
-use crate::checking::{check, check_ask, is_check, is_check_help};
+use crate::checking::{Said, check, check_ask, is_check, is_check_help};
 use crate::doing::done;
 use crate::ending::end_with;
 use crate::explain_word::without_explain;
@@ -126,27 +126,36 @@ fn checked<
 >(rt: &R, words: &[String], looks: &L, errors: &mut W) -> u8 {
     let alloc = rt.alloc();
     let mut output = WatchedOutput::new(io::writer(rt));
-    let mut lines = String::new(alloc);
+    let mut said = Said {
+        faults: String::new(alloc),
+        warnings: String::new(alloc),
+    };
     let ended = match check_ask(words) {
-        Some(ask) => check(rt, looks, ask, &mut output, &mut lines),
+        Some(ask) => check(rt, looks, ask, &mut output, &mut said),
         None if is_check_help(words) => check_help(rt, &mut output),
         None => Err(Failure::Usage),
     };
-    if let Err(failure) = ended {
-        if lines.is_empty() {
+    let Said { faults, warnings } = said;
+    let lines = match ended {
+        Err(failure) if faults.is_empty() => {
+            drop(faults);
             let seen = Seen {
                 input: None,
                 output: output.failed,
                 script: Vec::new(alloc),
             };
-            return told(
-                ended,
-                lines_of(rt, words, looks, failure, &seen).ok(),
-                errors,
-            );
+            lines_of(rt, words, looks, failure, &seen).ok()
         }
-    }
-    end_with(ended, lines.as_str(), errors).status
+        _ => Some(faults),
+    };
+    told(ended, with_warnings(lines, warnings.as_str()), errors)
+}
+
+/// The lines, if there are some, and behind them the warnings of a check; without the warnings if memory is short.
+fn with_warnings(lines: Option<String>, warnings: &str) -> Option<String> {
+    let mut lines = lines?;
+    let _pushed = lines.push_str(warnings);
+    Some(lines)
 }
 
 /// The help of `dcc check`.

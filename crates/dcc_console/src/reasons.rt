@@ -3,17 +3,18 @@
 ghost use Rattle.std.specs.Prelude.{◌≡◌, Some, IfOk, IfSome};
 ghost use Rattle.dcc_tariff.specs.Faults.{fault_number};
 
-use crate::task_words::{address, folder_path, plan_path};
+use crate::task_words::{addresses, folder_path, from_path, only_shard, plan_path};
 use dcc_explain::{
-    Looks, PlanNote, explain_ask, explain_line, explain_plan, explain_words, usage_line,
+    Looks, PlanNote, explain_ask, explain_line, explain_plan, explain_words, usage_lines,
 };
 use dcc_program::{Failure, HELP, TopUpsAsk, plan_of, top_ups_of};
-use dcc_sockets::{Door, Silence};
 use dcc_tariff::Plan;
 use dcc_words::parts;
 use std::alloc::{AllocError, Global};
 use std::hash::RandomState;
-use std::net::{Net, TcpListener, TcpStream};
+use std::net::{Net, SocketAddr, SocketAddrV4, TcpListener, TcpStream};
+use std::ops::Range;
+use std::os::unix::fs::MetadataExt;
 use std::random::RandomSource;
 use std::rt::Files;
 use std::{fs, io};
@@ -34,7 +35,7 @@ pub(crate) fn lines_of<
 >(rt: &R, words: &[String], looks: &L, failure: Failure, seen: &Seen) -> Result<String, Failure> {
     let alloc = rt.alloc();
     match failure {
-        Failure::Usage => usage_lines(alloc, words),
+        Failure::Usage => lines_of_usage(alloc, words),
         Failure::Plan(number) => plan_lines(rt, words, number),
         Failure::Script(line) => match top_ups_of(alloc, words)? {
             Some(ask) => ask_lines(rt, ask, seen.script.as_slice(), line),
@@ -52,17 +53,20 @@ fn line(alloc: Global, words: &str) -> Result<String, Failure> {
     Ok(format!(in alloc; "dcc: {words}\n")?)
 }
 
-/// The word that doesn't fit, and the command's own line.
-fn usage_lines(alloc: Global, words: &[String]) -> Result<String, Failure> {
+/// The word that doesn't fit, and the command's own lines.
+fn lines_of_usage(alloc: Global, words: &[String]) -> Result<String, Failure> {
     let slip = explain_words(alloc, words)?;
     let mut lines = line(alloc, slip.as_str())?;
     let name = match words.get(1) {
         Some(name) => name.as_str(),
         None => "",
     };
-    match usage_line(HELP, name) {
-        Some(usage) => write!(lines, "dcc: usage: {usage}\n")?,
-        None => lines.push_str("dcc: dcc help prints the commands\n")?,
+    let usages = usage_lines(alloc, HELP, name)?;
+    if usages.is_empty() {
+        lines.push_str("dcc: dcc help prints the commands\n")?;
+    }
+    for usage in &usages {
+        write!(lines, "dcc: usage: {usage}\n")?;
     }
     Ok(lines)
 }
@@ -187,12 +191,30 @@ fn io_lines<R: Files + Net<Listener = TcpListener, Stream = TcpStream> + AllocGl
             return Ok(format!(in alloc; "dcc: {path}: {error}\n")?);
         }
     }
-    if let (Some(address), Some(silence)) = (address(alloc, words)?, Silence::new(0)) {
-        if let Err(error) = Door::bind(rt, alloc, address, silence, None) {
-            return Ok(format!(in alloc; "dcc: {address}: {error}\n")?);
+    if let Some(path) = from_path(alloc, words)? {
+        if let Some(error) = read_error(rt, path) {
+            return Ok(format!(in alloc; "dcc: {path}: {error}\n")?);
+        }
+    }
+    for address in addresses(alloc, words)? {
+        if let Some(address) = address {
+            if let Some(error) = listen_error(rt, address) {
+                return Ok(format!(in alloc; "dcc: {address}: {error}\n")?);
+            }
         }
     }
     line(alloc, "a second try found nothing that fails")
+}
+
+/// Why an address can't be listened at.
+fn listen_error<R: Net<Listener = TcpListener, Stream = TcpStream>>(
+    rt: &R,
+    address: SocketAddrV4,
+) -> Option<io::Error> {
+    match rt.bind(SocketAddr::V4(address)) {
+        Ok(_) => None,
+        Err(error) => Some(error),
+    }
 }
 
 /// Why a file can't be read.
@@ -203,7 +225,7 @@ fn read_error<R: Files + AllocGlobal>(rt: &R, path: &str) -> Option<io::Error> {
     }
 }
 
-/// What is wrong with the stores of the folder that the words name: each that has the fault with this number.
+/// What is wrong with the stores of the folder that the words name: each that has the fault with this number, among those that the words ask for.
 fn store_lines<R: Files + RandomSource + AllocGlobal, L: Looks>(
     rt: &R,
     words: &[String],
@@ -219,7 +241,10 @@ fn store_lines<R: Files + RandomSource + AllocGlobal, L: Looks>(
     };
     let octets = fs::read(rt, path)?;
     let plan = plan_of(alloc, octets.as_slice())?;
-    let found = lines_under(rt, looks, folder, &plan, number);
+    let found = match shards_of(alloc, words, &plan) {
+        Ok(shards) => lines_under(rt, looks, folder, &plan, shards, number),
+        Err(failure) => Err(failure),
+    };
     // By a call: a plan that is let go in place is proved part by part.
     drop(plan);
     let lines = found?;
@@ -229,23 +254,67 @@ fn store_lines<R: Files + RandomSource + AllocGlobal, L: Looks>(
     Ok(lines)
 }
 
-/// A line for each store of a folder under a plan that has the fault with this number.
-fn lines_under<R: RandomSource + AllocGlobal, L: Looks>(
+/// The shards whose stores the words ask for: that of one subscriber, or all.
+fn shards_of(alloc: Global, words: &[String], plan: &Plan) -> Result<Range<usize>, Failure> {
+    let count = usize::from(plan.shards());
+    match only_shard(alloc, words, count)? {
+        Some(shard) => Ok(shard..shard.saturating_add(1)),
+        None => Ok(0..count),
+    }
+}
+
+/// A line for each store of these shards under a plan that has the fault with this number, and one line where several have the same. If a store could
+/// not be used and none has a fault by now, a line for each says what it is, and another its folder's mode and owner.
+fn lines_under<R: Files + RandomSource + AllocGlobal, L: Looks>(
     rt: &R,
     looks: &L,
     folder: &str,
     plan: &Plan,
+    shards: Range<usize>,
     number: u8,
 ) -> Result<String, Failure> {
-    let mut lines = String::new(rt.alloc());
-    for shard in 0..usize::from(plan.shards()) {
+    let alloc = rt.alloc();
+    let mut faulty = String::new(alloc);
+    let mut others = String::new(alloc);
+    for shard in shards {
         let note = looks.look(folder, plan, shard, RandomState::new(rt)?)?;
         if note.fault == Some(number) {
-            let words = note.words.as_str();
-            write!(lines, "dcc: {words}\n")?;
+            push_line(alloc, &mut faulty, note.words.as_str())?;
+        } else {
+            push_line(alloc, &mut others, note.words.as_str())?;
         }
     }
-    Ok(lines)
+    if !faulty.is_empty() || number != UNUSED {
+        return Ok(faulty);
+    }
+    push_folder(rt, &mut others, folder)?;
+    Ok(others)
+}
+
+/// The number of the fault of a store that can't be used.
+const UNUSED: u8 = 51;
+
+/// Adds a line with the program's name in front, if it is not the last one.
+pub(crate) fn push_line(alloc: Global, lines: &mut String, words: &str) -> Result<(), AllocError> {
+    let line = format!(in alloc; "dcc: {words}\n")?;
+    if lines.ends_with(line.as_str()) {
+        return Ok(());
+    }
+    lines.push_str(line.as_str())
+}
+
+/// Adds what is known of a folder in which a store could not be used: its mode and its owner, since a missing store and each log are made in it.
+fn push_folder<R: Files>(rt: &R, lines: &mut String, folder: &str) -> Result<(), AllocError> {
+    match fs::metadata(rt, folder) {
+        Ok(found) => {
+            let (mode, owner) = (found.mode() & 0o7777, found.uid());
+            write!(
+                lines,
+                "dcc: {folder}: a store could not be opened, made or written here; the folder has mode {mode:03o} and belongs to user {owner}\n"
+            )
+        }
+        Err(error) => write!(lines, "dcc: {folder}: {error}\n"),
+    }
 }
 
 /// What the number of a store's fault means.

@@ -1,7 +1,12 @@
 //! What the words of a command line name: a plan, an address, a command.
 
+ghost use Rattle.std.specs.Prelude.{◌<◌};
+
+use dcc_act::Sub;
 use dcc_explain::help_of;
+use dcc_operator::TopUpAsk;
 use dcc_program::{Failure, HELP, Task, serve_of, task_of, top_ups_of};
+use dcc_shard::shard_of;
 use std::alloc::Global;
 use std::net::SocketAddrV4;
 
@@ -25,6 +30,52 @@ pub(crate) fn plan_path<'a>(
     }
 }
 
+/// The path of the file of top-ups that the words name, if it is no standard input.
+pub(crate) fn from_path<'a>(
+    alloc: Global,
+    words: &'a [String],
+) -> Result<Option<&'a str>, Failure> {
+    match top_ups_of(alloc, words)? {
+        Some(ask) if ask.from != "-" => Ok(Some(ask.from)),
+        _ => Ok(None),
+    }
+}
+
+/// The shard, of so many, whose store is the only one that the words ask for: that of the subscriber whom they name.
+pub(crate) fn only_shard(
+    alloc: Global,
+    words: &[String],
+    count: usize,
+) -> Result<Option<usize>, Failure> {
+    if count == 0 {
+        return Ok(None);
+    }
+    let task = match task_of(alloc, words) {
+        Ok(task) => task,
+        Err(Failure::Memory) => return Err(Failure::Memory),
+        Err(_) => return Ok(None),
+    };
+    match task {
+        Task::TopUp(_place, ask) => Ok(Some(shard_of_ask(ask, count))),
+        Task::Ledger(_place, sub) => Ok(Some(shard_of_sub(sub, count))),
+        _ => Ok(None),
+    }
+}
+
+/// The shard of a top-up's subscriber.
+fn shard_of_ask(ask: TopUpAsk, count: usize) -> usize
+    requires { 0 < count }
+{
+    shard_of(&ask.sub, count)
+}
+
+/// The shard of a subscriber.
+fn shard_of_sub(sub: Sub, count: usize) -> usize
+    requires { 0 < count }
+{
+    shard_of(&sub, count)
+}
+
 /// The folder of stores that the words name.
 pub(crate) fn folder_path<'a>(
     alloc: Global,
@@ -44,11 +95,14 @@ pub(crate) fn folder_path<'a>(
     }
 }
 
-/// The address at which the words ask a server to listen.
-pub(crate) fn address(alloc: Global, words: &[String]) -> Result<Option<SocketAddrV4>, Failure> {
+/// The addresses at which the words ask a server to listen: for gateways, and for operators.
+pub(crate) fn addresses(
+    alloc: Global,
+    words: &[String],
+) -> Result<[Option<SocketAddrV4>; 2], Failure> {
     match serve_of(alloc, words)? {
-        Some(ask) => Ok(Some(ask.address)),
-        None => Ok(None),
+        Some(ask) => Ok([Some(ask.address), ask.operator]),
+        None => Ok([None, None]),
     }
 }
 

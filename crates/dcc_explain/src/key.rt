@@ -87,7 +87,7 @@ impl Key {
             Key::Validity | Key::Hold => "1 to 1000000",
             Key::Currency => "0 to 999",
             Key::Exponent => "-9 to 9",
-            Key::Tariffs => "1 to 1000 tables",
+            Key::Tariffs => "1 to 1000 tables, each under a header [[tariff]]",
             Key::Counted => "\"octets\", \"time\" or \"units\"",
             Key::Begin => {
                 "a moment such as \"2025-06-01T00:00:00Z\", from 1970-01-01T00:00:00Z to 2099-12-31T23:59:59Z"

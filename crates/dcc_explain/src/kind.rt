@@ -13,8 +13,10 @@ pub enum Kind {
     Host,
     Moment,
     Sub,
-    /// A ticket or an amount.
+    /// A ticket.
     Number,
+    /// An amount, inside its limits or not.
+    Amount,
     /// The octets of a message.
     Message,
 }
@@ -29,7 +31,7 @@ impl Kind {
             Kind::Host => Ok(host(alloc, word)?.is_some()),
             Kind::Moment => Ok(moment(word).is_some()),
             Kind::Sub => Ok(sub(word).is_some()),
-            Kind::Number => Ok(any_u64(word).is_some()),
+            Kind::Number | Kind::Amount => Ok(any_u64(word).is_some()),
             Kind::Message => Ok(hex_octets(alloc, word)?.is_some()),
         }
     }
@@ -44,6 +46,9 @@ impl Kind {
                 "a type from 0 to 4 and 1 to 64 visible characters of ASCII with a colon between, such as 0:491700000001"
             }
             Kind::Number => "a number from 0 to 18446744073709551615",
+            Kind::Amount => {
+                "a whole number of minor units, of which 1 to 1000000000000000000 are amounts"
+            }
             Kind::Message => "1 to 65536 octets in hex digits",
         }
     }

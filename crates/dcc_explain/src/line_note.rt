@@ -25,6 +25,9 @@ pub struct LineNote {
     pub words: String,
 }
 
+/// A line whose first word is empty.
+const LEADING_SPACE: &str = "the line begins with a space";
+
 /// The forms of a script's lines, and those of a line of top-ups, which have no verb.
 #[derive(Clone, Copy)]
 enum Form {
@@ -81,10 +84,11 @@ impl Form {
             (Form::TopUp, 1) => Some(Kind::Moment),
             (Form::TopUp, 2) => Some(Kind::Sub),
             (Form::TopUp, 3) => Some(Kind::Number),
-            (Form::TopUp, 4) => Some(Kind::Number),
+            (Form::TopUp, 4) => Some(Kind::Amount),
             (Form::Sweep, 1) => Some(Kind::Moment),
             (Form::Ask | Form::AskAt, 0) => Some(Kind::Sub),
-            (Form::Ask | Form::AskAt, 1 | 2) => Some(Kind::Number),
+            (Form::Ask | Form::AskAt, 1) => Some(Kind::Number),
+            (Form::Ask | Form::AskAt, 2) => Some(Kind::Amount),
             (Form::AskAt, 3) => Some(Kind::Moment),
             _ => None,
         }
@@ -177,9 +181,14 @@ fn misfit_in(alloc: Global, form: Form, words: &[&[u8]]) -> Result<Option<Misfit
 
 /// A word that begins no form.
 fn words_of_verb(alloc: Global, verb: &[u8]) -> Result<String, AllocError> {
-    let verb = quoted(alloc, verb)?;
+    let fault = if verb.is_empty() {
+        String::from_str(alloc, LEADING_SPACE)?
+    } else {
+        let verb = quoted(alloc, verb)?;
+        format!(in alloc; "{verb} begins no form")?
+    };
     format!(in alloc;
-        "{verb} begins no form; the forms are: connect P, open P HOST, disconnect P, message P MOMENT HEX, topup MOMENT SUB TICKET AMOUNT, sweep MOMENT"
+        "{fault}; the forms are: connect P, open P HOST, disconnect P, message P MOMENT HEX, topup MOMENT SUB TICKET AMOUNT, sweep MOMENT"
     )
 }
 
@@ -191,6 +200,9 @@ fn words_of_count(alloc: Global, form: Form, words: &[&[u8]]) -> Result<String, 
             "it has {count} words, with one space between them, in place of {wanted}; its form is: {text}"
         );
     };
+    if at == 0 {
+        return format!(in alloc; "{LEADING_SPACE}; its form is: {text}");
+    }
     let number = at.saturating_add(1);
     format!(in alloc;
         "word {number} is empty: one space stands between two words, and none at the end; its form is: {text}"
@@ -209,9 +221,37 @@ fn words_of_misfit(
         return format!(in alloc; "its form is: {text}");
     };
     let word = match words.get(misfit.at) {
-        Some(word) => quoted(alloc, word)?,
-        None => String::new(alloc),
+        Some(word) => *word,
+        None => b"".as_slice(),
     };
-    let wanted = misfit.kind.wanted();
-    format!(in alloc; "{word} has to be {wanted}; its form is: {text}")
+    if word.is_empty() && misfit.at == 0 {
+        return format!(in alloc; "{LEADING_SPACE}; its form is: {text}");
+    }
+    let (shown, wanted) = (quoted(alloc, word)?, misfit.kind.wanted());
+    let mut words = format!(in alloc; "{shown} has to be {wanted}")?;
+    if misfit.kind == Kind::Message {
+        push_slip(alloc, &mut words, word)?;
+    }
+    write!(words, "; its form is: {text}")?;
+    Ok(words)
+}
+
+/// What is wrong with the hex digits of a message: their count if it is odd, else the first octet that is no digit and its place, from 1; else the
+/// count, which is that of too many octets.
+fn push_slip(alloc: Global, words: &mut String, word: &[u8]) -> Result<(), AllocError> {
+    let count = word.len();
+    if count == 0 {
+        return Ok(());
+    }
+    if count % 2 == 1 {
+        return write!(words, ": it has {count} digits, an odd number");
+    }
+    match word.iter().position(|octet| !octet.is_ascii_hexdigit()) {
+        Some(at) => {
+            let place = at.saturating_add(1);
+            let found = quoted(alloc, word.get(at..place).unwrap_or(&[]))?;
+            write!(words, ": {found} at place {place} is no hex digit")
+        }
+        None => write!(words, ": it has {count} digits"),
+    }
 }

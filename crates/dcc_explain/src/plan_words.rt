@@ -6,6 +6,7 @@ use crate::place::Place;
 use crate::tariffs::{Spot, tables_of};
 use crate::text::{quoted, shortened};
 use dcc_tariff::PlanFault;
+use dcc_words::parts;
 use std::alloc::{AllocError, Global};
 use toml::{Table, Value};
 
@@ -31,7 +32,44 @@ pub(crate) fn words_of_text(
     };
     let (line, column) = place_at(text, from);
     let reason = error.message();
-    format!(in alloc; "the plan is no TOML document: {reason} (line {line}, octet {column})")
+    let mut words = format!(in alloc; "the plan is no TOML document: {reason}")?;
+    match reason {
+        "number out of range" => words.push_str(
+            "; a number is from -9223372036854775808 to 9223372036854775807",
+        )?,
+        "duplicate key" => push_duplicate(alloc, &mut words, text, line)?,
+        _ => {}
+    }
+    write!(words, " (line {line}, octet {column})")?;
+    Ok(words)
+}
+
+/// What a line repeats, and a line in front of it that makes one table of what is a list: `[tariff]`.
+fn push_duplicate(
+    alloc: Global,
+    words: &mut String,
+    text: &[u8],
+    line: usize,
+) -> Result<(), AllocError> {
+    let lines = parts(alloc, text, b'\n')?;
+    if let Some(repeated) = lines.get(line.saturating_sub(1)) {
+        let shown = quoted(alloc, repeated.trim_ascii())?;
+        write!(words, " in {shown}")?;
+    }
+    let mut before = lines.iter().take(line.saturating_sub(1));
+    if let Some(at) = before.position(|line| is_single_header(line)) {
+        let number = at.saturating_add(1);
+        write!(
+            words,
+            "; line {number} is [tariff], and each tariff has a header [[tariff]]"
+        )?;
+    }
+    Ok(())
+}
+
+/// Whether a line is the header of one table in place of that of a list's element.
+fn is_single_header(line: &[u8]) -> bool {
+    line.trim_ascii().starts_with(b"[tariff]")
 }
 
 /// The line of an octet, and its number in that line, both from 1.

@@ -20,15 +20,17 @@ enum Command {
     TopUp,
 }
 
-/// The options of a server.
+/// The options that have a value: those of a server, and the file of top-ups.
 #[derive(Clone, Copy, PartialEq, Eq)]
 enum Switch {
+    From,
     Listen,
     Gates,
     Rounds,
     Every,
     Silent,
     Sweep,
+    Operator,
 }
 
 impl Command {
@@ -76,7 +78,7 @@ impl Command {
         match (self, at) {
             (Command::Ledger | Command::TopUp, 2) => Some(Kind::Sub),
             (Command::TopUp, 3) => Some(Kind::Number),
-            (Command::TopUp, 4) => Some(Kind::Number),
+            (Command::TopUp, 4) => Some(Kind::Amount),
             (Command::TopUp, 5) => Some(Kind::Moment),
             _ => None,
         }
@@ -86,24 +88,28 @@ impl Command {
 impl Switch {
     fn named(name: &str) -> Option<Switch> {
         match name {
+            "--from" => Some(Switch::From),
             "--listen" => Some(Switch::Listen),
             "--gates" => Some(Switch::Gates),
             "--rounds" => Some(Switch::Rounds),
             "--every" => Some(Switch::Every),
             "--silent" => Some(Switch::Silent),
             "--sweep" => Some(Switch::Sweep),
+            "--operator" => Some(Switch::Operator),
             _ => None,
         }
     }
 
     fn name(self) -> &'static str {
         match self {
+            Switch::From => "--from",
             Switch::Listen => "--listen",
             Switch::Gates => "--gates",
             Switch::Rounds => "--rounds",
             Switch::Every => "--every",
             Switch::Silent => "--silent",
             Switch::Sweep => "--sweep",
+            Switch::Operator => "--operator",
         }
     }
 
@@ -111,27 +117,31 @@ impl Switch {
     fn fits(self, value: &str, stays: bool) -> bool {
         let number = any_u64(value.as_bytes());
         match self {
+            Switch::From => true,
             Switch::Listen => SocketAddrV4::parse_ascii(value.as_bytes()).is_ok(),
             Switch::Gates => number.is_some_and(|n| 1 <= n && n <= most_gates(stays)),
             Switch::Rounds => number.is_some_and(|n| 1 <= n && n <= 1_000_000),
             Switch::Every => number.is_some_and(|n| n <= 1_000_000),
             Switch::Silent | Switch::Sweep => number.is_some_and(|n| n <= 86_400),
+            Switch::Operator => is_of_this_machine(value),
         }
     }
 
     fn wanted(self, stays: bool) -> &'static str {
         match self {
+            Switch::From => "a file of top-ups, or - for standard input",
             Switch::Listen => "an IPv4 address and a port, such as 127.0.0.1:3868",
             Switch::Gates => { if stays { "1 to 256" } else { "1 to 16" } }
             Switch::Rounds => "1 to 1000000",
             Switch::Every => "0 to 1000000",
             Switch::Silent | Switch::Sweep => "0 to 86400",
+            Switch::Operator => "an address of 127.0.0.0/8 and a port, such as 127.0.0.1:3869",
         }
     }
 
     /// Its place among all options.
     fn place(self) -> usize
-        ensures { result < 6 }
+        ensures { result < 8 }
     {
         match self {
             Switch::Listen => 0,
@@ -140,6 +150,16 @@ impl Switch {
             Switch::Every => 3,
             Switch::Silent => 4,
             Switch::Sweep => 5,
+            Switch::Operator => 6,
+            Switch::From => 7,
+        }
+    }
+
+    /// Whether it is an option of this command.
+    fn is_of(self, command: Command) -> bool {
+        match self {
+            Switch::From => command == Command::TopUp,
+            _ => command == Command::Serve,
         }
     }
 
@@ -148,13 +168,25 @@ impl Switch {
         match self {
             Switch::Rounds if stays => Some("--rounds does not go with --stay"),
             Switch::Sweep if !stays => Some("--sweep goes with --stay alone"),
+            Switch::Operator if !stays => Some("--operator goes with --stay alone"),
             _ => None,
         }
     }
 }
 
+/// So many arguments have to be there beside `--from`.
+const NEEDS_OF_MANY: usize = 2;
+
 /// The place of `--stay` among all options, behind those that have a value.
-const STAY: usize = 6;
+const STAY: usize = 8;
+
+/// Whether a text is an address that no other machine can reach, with a port.
+fn is_of_this_machine(text: &str) -> bool {
+    match SocketAddrV4::parse_ascii(text.as_bytes()) {
+        Ok(address) => address.ip().is_loopback(),
+        Err(_) => false,
+    }
+}
 
 /// So many gateways are served at once at most.
 fn most_gates(stays: bool) -> u64 {
@@ -173,8 +205,10 @@ struct Reading {
     awaited: Option<Switch>,
     /// Whether `--stay` is among the words.
     stays: bool,
+    /// Whether `--from` is among the words of a top-up, which then have PLAN and DIR alone.
+    is_many: bool,
     /// Whether each option was there, by its place.
-    seen: [bool; 7],
+    seen: [bool; 9],
 }
 
 /// What doesn't fit in the words of a command line, of which the first is the program's name: in one line the first word that is at fault or the
@@ -196,8 +230,9 @@ pub fn explain_words(alloc: Global, words: &[String]) -> Result<String, AllocErr
         count: 0,
         is_rest: false,
         awaited: None,
-        stays: command == Command::Serve && has_stay(words),
-        seen: [false; 7],
+        stays: command == Command::Serve && has_option(words, "--stay"),
+        is_many: command == Command::TopUp && has_option(words, "--from"),
+        seen: [false; 9],
     };
     for word in words.iter().skip(2) {
         if let Some(slip) = reading.slip(alloc, word.as_str())? {
@@ -211,6 +246,9 @@ impl Reading {
     /// What is wrong with the next word, if something is.
     fn slip(&mut self, alloc: Global, word: &str) -> Result<Option<String>, AllocError> {
         if let Some(switch) = self.awaited {
+            if switch == Switch::From && is_switch(word) {
+                return Ok(Some(path_slip(alloc, word)?));
+            }
             self.awaited = None;
             return value_slip(alloc, switch, word, self.stays);
         }
@@ -229,6 +267,11 @@ impl Reading {
         let at = self.count;
         self.count = at.saturating_add(1);
         let shown = quoted(alloc, word.as_bytes())?;
+        if self.is_many && at >= NEEDS_OF_MANY {
+            return Ok(Some(format!(in alloc;
+                "{shown} is one word too many: --from goes with PLAN and DIR alone"
+            )?));
+        }
         let Some(name) = self.command.argument(at) else {
             return Ok(Some(format!(in alloc; "{shown} is one word too many")?));
         };
@@ -255,7 +298,7 @@ impl Reading {
             };
         }
         match Switch::named(name) {
-            Some(switch) if self.command == Command::Serve => {
+            Some(switch) if switch.is_of(self.command) => {
                 if let Some(quarrel) = switch.quarrel(self.stays) {
                     return Ok(Some(format!(in alloc; "{quarrel}")?));
                 }
@@ -279,13 +322,22 @@ impl Reading {
 
     /// What is wrong with an option that was there before.
     fn repeat(&mut self, alloc: Global, at: usize, name: &str) -> Result<Option<String>, AllocError>
-        requires { at < 7 }
+        requires { at < 9 }
     {
         if self.seen[at] {
             return Ok(Some(format!(in alloc; "{name} stands twice")?));
         }
         self.seen[at] = true;
         Ok(None)
+    }
+
+    /// So many arguments have to be there.
+    fn needs(&self) -> usize {
+        if self.is_many {
+            NEEDS_OF_MANY
+        } else {
+            self.command.needs()
+        }
     }
 
     /// What is missing behind the last word, if something is.
@@ -295,12 +347,18 @@ impl Reading {
             return format!(in alloc; "{name} has no value; it has to be {wanted}");
         }
         match self.command.argument(self.count) {
-            Some(name) if self.count < self.command.needs() => format!(in alloc;
-                "{name} is missing"
-            ),
+            Some(name) if self.count < self.needs() => format!(in alloc; "{name} is missing"),
             _ => format!(in alloc; "a word stands in a place where the command has none"),
         }
     }
+}
+
+/// A word in the place of a file's path that is read as an option.
+fn path_slip(alloc: Global, word: &str) -> Result<String, AllocError> {
+    let (shown, wanted) = (quoted(alloc, word.as_bytes())?, Switch::From.wanted(false));
+    format!(in alloc;
+        "--from is {shown}; it has to be {wanted}; a path that begins with a hyphen stands behind --from="
+    )
 }
 
 /// The value of an option.
@@ -323,15 +381,23 @@ fn is_switch(word: &str) -> bool {
     word.len() > 1 && word.starts_with('-')
 }
 
-/// Whether `--stay` stands among the words, also with a value, before a `--`.
-fn has_stay(words: &[String]) -> bool {
+/// Whether an option stands among the words, also with a value, before a `--`.
+fn has_option(words: &[String], option: &str) -> bool {
     for word in words {
         if word.as_str() == "--" {
             return false;
         }
-        if word.as_str() == "--stay" || word.starts_with("--stay=") {
+        if is_option(word.as_str(), option) {
             return true;
         }
     }
     false
+}
+
+/// Whether a word is this option, alone or with a value.
+fn is_option(word: &str, option: &str) -> bool {
+    match word.strip_prefix(option) {
+        Some(rest) => rest.is_empty() || rest.starts_with('='),
+        None => false,
+    }
 }

@@ -33,7 +33,7 @@ pub(crate) fn copies_of(rt: &HostRuntime, folder: &str, path: &str) -> Result<Co
     }
     let log = format!(in alloc; "{path}-wal")?;
     if fs::symlink_metadata(rt, log.as_str()).is_ok() {
-        return both_of(rt, path);
+        return both_of(rt, path, log.as_str());
     }
     // A process that has a store open has made its log: so no process has this one open.
     match octets_of(rt, path) {
@@ -66,11 +66,11 @@ fn octets_of(rt: &HostRuntime, path: &str) -> io::Result<Vec<u8>> {
 }
 
 /// The octets of a file and its log, which no other process may open meanwhile.
-fn both_of(rt: &HostRuntime, path: &str) -> Result<Copies, AllocError> {
+fn both_of(rt: &HostRuntime, path: &str, log_path: &str) -> Result<Copies, AllocError> {
     let alloc = rt.alloc();
     let mut files = match sqlite_std_file::open(rt, path, Unknown) {
         Ok(files) => files,
-        Err(error) => return unopened(alloc, path, &error),
+        Err(error) => return unopened(rt, path, log_path, &error),
     };
     let log = read_whole(alloc, &mut files.log);
     let db = read_whole(alloc, &mut files.db);
@@ -79,18 +79,37 @@ fn both_of(rt: &HostRuntime, path: &str) -> Result<Copies, AllocError> {
     match (db, log) {
         (Ok(db), Ok(log)) => Ok(Copies::Octets { db, log }),
         (Err(error), _) => refused(alloc, path, &error),
-        (_, Err(error)) => refused(alloc, path, &error),
+        (_, Err(error)) => refused(alloc, log_path, &error),
     }
 }
 
-/// Why files aren't opened.
-fn unopened(alloc: Global, path: &str, error: &OpenError) -> Result<Copies, AllocError> {
+/// Why a file and its log aren't opened. A reason of the system has the path of the file that it belongs to.
+fn unopened(
+    rt: &HostRuntime,
+    path: &str,
+    log_path: &str,
+    error: &OpenError,
+) -> Result<Copies, AllocError> {
+    let alloc = rt.alloc();
     let reason = match error {
         OpenError::OutOfMemory => return Err(AllocError),
+        OpenError::Io(error) => {
+            let is_log = is_usable(rt, path) && !is_usable(rt, log_path);
+            return refused(alloc, if is_log { log_path } else { path }, error);
+        }
         OpenError::Busy => format!(in alloc; "{path}: another process has it open")?,
         other => format!(in alloc; "{path}: {other}")?,
     };
     Ok(Copies::Refused(reason))
+}
+
+/// Whether a file that is there may be read and written.
+fn is_usable(rt: &HostRuntime, path: &str) -> bool {
+    OpenOptions::new()
+        .read(true)
+        .write(true)
+        .open(rt, path)
+        .is_ok()
 }
 
 /// All octets of a disk.
