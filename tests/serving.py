@@ -295,6 +295,12 @@ def short_plan(room):
     return plan
 
 
+def granted(session, kind, number, octets):
+    """An answer that grants octets of group 10 for a second, as the short plan does."""
+    service = f"Granted-Service-Unit{{CC-Total-Octets={octets}}}+Rating-Group=10+Validity-Time=1+Result-Code=2001"
+    return f"cas/{session}/2001/{kind}/{number}/Multiple-Services-Credit-Control{{{service}}}"
+
+
 def shim(room, name):
     """A library that is preloaded, of a file in C."""
     made = f"{room}/{name}.so"
