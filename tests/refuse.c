@@ -1,6 +1,6 @@
 /* Refuses one allocation of a program, the one whose number is in REFUSE, counted from 1; it is preloaded (LD_PRELOAD). Where there were
  * fewer it says so on standard error, so that a sweep over all of them knows its end. The allocations of all threads are counted together; with WHEN
- * set, from when on there is a file at WHEN. Allocations of the C library for a new thread are not counted. If THREADS is set, each new thread has
+ * set, while there is a file at WHEN, or at COUNT if that is set too. Allocations of the C library for a new thread are not counted. If THREADS is set, each new thread has
  * a line on standard error. */
 #define _GNU_SOURCE
 #include <dlfcn.h>
@@ -25,7 +25,7 @@ static __thread int makes_thread;
 __attribute__((constructor)) static void begin(void) {
     const char *word = getenv("REFUSE");
     wanted = word ? strtoul(word, NULL, 10) : 0;
-    since = getenv("WHEN");
+    since = getenv("COUNT") ? getenv("COUNT") : getenv("WHEN");
     made = 0;
 }
 
