@@ -1,6 +1,7 @@
 //! Names of sessions.
 
 ghost use Rattle.std.specs.Prelude.{◌≡◌, ◌↔◌, true, IsSome, IfSome, IfOk, nat_eq, ◌∷◌, []};
+ghost use Rattle.std.specs.Arc.{arc_value};
 ghost use Rattle.std.specs.Cmp.{on_equiv, on_per, partial_equiv_from_equiv};
 ghost use Rattle.std.specs.Cmp.Lexicographic.{pointwise, nat_list_eq_equiv};
 ghost use Rattle.std.specs.Cmp.Rules.{hashing};
@@ -8,45 +9,41 @@ ghost use Rattle.std.proofs.Common.{rules};
 ghost use Rattle.dcc_octets.specs.Names.{is_short};
 
 use dcc_octets::is_short;
-use std::alloc::AllocError;
+use std::alloc::{AllocError, Global};
 use std::hash::{Hash, Hasher};
 use std::marker::Model;
+use std::sync::Arc;
 
-/// The name of a session: 1 to 255 octets of any value (Session-Id, RFC 6733, section 8.8).
+/// The name of a session: 1 to 255 octets of any value (Session-Id, RFC 6733, section 8.8). All copies share the octets, since an act, its outcome,
+/// its entries and its indexes each have the name.
 #[derive(Debug, Drop)]
 pub struct SessionId {
-    octets: Vec<u8>,
+    octets: Arc<Vec<u8>, Global>,
 }
 
 impl Model for SessionId {
     ghost use Rattle.std.specs.Prelude.{◌≡◌, true, List, ℕ};
+    ghost use Rattle.std.specs.Arc.{arc_value};
     ghost use Rattle.dcc_octets.specs.Names.{is_short};
 
     ghost Value = { List ℕ };
 
-    ghost view = { λ s. s.octets.items };
+    ghost view = { λ s. (arc_value s.octets).items };
 
-    ghost invariant = { λ s. is_short s.octets.items ≡ true };
+    ghost invariant = { λ s. is_short (arc_value s.octets).items ≡ true };
 }
 
 impl SessionId {
-    /// The name of these octets. None if they aren't 1 to 255.
-    pub fn from_vec(octets: Vec<u8>) -> Option<SessionId>
-        ensures limit { IsSome result ↔ (is_short octets.items ≡ true) }
-        ensures value { IfSome result (λ sid. sid ≡ octets.items) }
+    /// The name of these octets. None if they aren't 1 to 255. The only error is want of memory.
+    pub fn from_slice(alloc: Global, octets: &[u8]) -> Result<Option<SessionId>, AllocError>
+        ensures limit { IfOk result (λ sid. IsSome sid ↔ (is_short octets.now ≡ true)) }
+        ensures value { IfOk result (λ sid. IfSome sid (λ sid. sid ≡ octets.now)) }
     {
-        if !is_short(&octets) {
-            return None;
+        if !is_short(octets) {
+            return Ok(None);
         }
-        Some(SessionId { octets })
-    }
-
-    /// The octets, moved out.
-    pub fn into_vec(self) -> Vec<u8>
-        ensures value { result.items ≡ self }
-        ensures limit { is_short self ≡ true }
-    {
-        self.octets
+        let octets = Arc::new(alloc, Vec::from_slice(alloc, octets)?)?;
+        Ok(Some(SessionId { octets }))
     }
 
     /// The octets.
@@ -57,12 +54,12 @@ impl SessionId {
         &self.octets
     }
 
-    /// An equal name. The only error is want of memory.
+    /// An equal name, with the same octets in memory. The only error is that there are 2^63 copies.
     pub fn copy(&self) -> Result<SessionId, AllocError>
         ensures { IfOk result (λ copy. copy ≡ self.now) }
     {
         Ok(SessionId {
-            octets: self.octets.clone()?,
+            octets: Arc::try_clone(&self.octets)?,
         })
     }
 }

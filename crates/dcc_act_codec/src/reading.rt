@@ -209,7 +209,7 @@ fn first_session(alloc: Global, octets: &[u8]) -> Result<(SessionId, &[u8]), Rec
     ensures { Gives (λ x. (x.0, x.1.now)) result (session_in octets.now) }
 {
     let (text, rest) = first_string(octets)?;
-    match SessionId::from_vec(Vec::from_slice(alloc, text)?) {
+    match SessionId::from_slice(alloc, text)? {
         Some(sid) => Ok((sid, rest)),
         None => Err(RecordFault::BadRecord),
     }

@@ -22,7 +22,7 @@ pub(crate) fn debited(alloc: Global) -> Option<Outcome> {
 
 /// A session's name. A name that is made of a literal in its place takes the prover minutes.
 fn session(alloc: Global, octets: &[u8]) -> Option<SessionId> {
-    SessionId::from_vec(octets.to_vec(alloc).ok()?)
+    SessionId::from_slice(alloc, octets).ok()?
 }
 
 /// The service of a debit.

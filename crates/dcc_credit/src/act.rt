@@ -92,9 +92,9 @@ fn event_of(
 fn key_of(alloc: Global, request: &Request<'_>) -> Result<RequestKey, AllocError>
     ensures { IfOk result (λ key. key ≡ key_of request.now) }
 {
-    let octets = request.session().to_vec(alloc)?;
+    let sid = SessionId::from_slice(alloc, request.session())?;
     Ok(RequestKey {
-        sid: SessionId::from_vec(octets).unwrap(),
+        sid: sid.unwrap(),
         number: request.number(),
     })
 }

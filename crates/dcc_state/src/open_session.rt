@@ -32,8 +32,22 @@ impl Model for OpenSession {
 }
 
 impl OpenSession {
+    /// Its name.
+    pub fn sid(&self) -> &SessionId
+        ensures { result.now ≡ self.now.sid }
+    {
+        &self.sid
+    }
+
+    /// The moment until which it is held, in seconds.
+    pub fn deadline(&self) -> u64
+        ensures { result ≡ self.now.deadline }
+    {
+        self.session.deadline()
+    }
+
     /// Its live grants. Each is one look.
-    pub(crate) fn grants(&self, looks: &mut Looks) -> &[Held]
+    pub fn grants(&self, looks: &mut Looks) -> &[Held]
         requires { looks.old ≡ 0 }
         ensures value { result.now ≡ self.now.grants }
         ensures looks { looks.new ≡ length self.now.grants }
