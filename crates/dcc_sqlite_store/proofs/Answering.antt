@@ -1,9 +1,11 @@
 -- What SELECT shows of a table, and what it leaves.
-use Rattle.std.proofs.Common.{◌≡◌, inl, inr, false, List, [], ◌∷◌, map, flat_map, refl, sym, ap, subst, ◌∙◌, arith}
+use Rattle.std.proofs.Common.{◌≡◌, ◌⊎◌, inl, inr, false, List, [], ◌∷◌, map, flat_map, refl, sym, ap, subst, ◌∙◌, arith}
 use Rattle.std.specs.List.Sorted.{IsPermutation}
 use Rattle.std.proofs.lemmas.List.Sorted.{IsPermutation-map, IsPermutation-sym, length_permutation, Contains-permutation}
 use Rattle.sqlite.specs.declared.types.Value.TheVariants.{Null}
 use Rattle.sqlite.specs.declared.error.Error.{Error}
+use Rattle.sqlite.specs.declared.error.Error.TheVariants.{SqliteFailure}
+use Rattle.sqlite.specs.declared.error.ErrorCode.TheVariants.{OutOfMemory}
 use Rattle.sqlite.specs.Order.{Row}
 use Rattle.sqlite.specs.Query.{Query, output, Output}
 use Rattle.sqlite.specs.Tree.{Trees}
@@ -22,7 +24,7 @@ use Rattle.dcc_sqlite_store.proofs.Lists.{to_has, from_has}
 -- ---- a statement that shows rows and changes nothing
 
 module _ (text : List _) (plain : IsPlain (understood layout text)) where
-  plain_under : (old : State) → old.now.schema ≡ layout → IsPlain (understood old.now.schema text)
+  pub plain_under : (old : State) → old.now.schema ≡ layout → IsPlain (understood old.now.schema text)
   plain_under old has = subst (λ s. IsPlain (understood s text)) (sym has) plain
 
   pub shown_same : (old new : State) (rows : List Row) → old.now.schema ≡ layout → Shown text [] old new rows → IsUnchanged old new
@@ -31,11 +33,12 @@ module _ (text : List _) (plain : IsPlain (understood layout text)) where
       let none = (subst IsPlain h.1.is (plain_under old has)).0 in
       (rw none at h.2).3
 
-  pub failed_back : (old new : State) (e : Error) → old.now.schema ≡ layout → FailsToQuery text [] old new e → LeftOrUndone old new
+  pub failed_back : (old new : State) (e : Error) → old.now.schema ≡ layout → FailsToQuery text [] old new e ⊎ ((e ≡ SqliteFailure OutOfMemory) × IsUnchanged old new) → LeftOrUndone old new
   unfolding FailsToQuery IsNotRun
-  failed_back old new e has (inl (inl refused)) = inl refused.1
-  failed_back old new e has (inl (inr fails)) = inr fails.3.undone
-  failed_back old new e has (inr shows) =
+  failed_back old new e has (inl (inl (inl refused))) = inl refused.1
+  failed_back old new e has (inl (inl (inr fails))) = inr fails.3.undone
+  failed_back old new e has (inr short) = inl short.1
+  failed_back old new e has (inl (inr shows)) =
       let none = (subst IsPlain shows.1.is (plain_under old has)).0 in
       inl ((rw none at shows.2).3)
 

@@ -1,5 +1,6 @@
 pub mod Texts
 pub mod Answering
+pub mod Collected
 pub mod Apart
 pub mod Ordered
 pub mod Layouts

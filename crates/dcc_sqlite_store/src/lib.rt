@@ -24,6 +24,7 @@
 
 mod adding;
 mod appending;
+mod collecting;
 mod dropping;
 mod fault;
 mod files;

@@ -39,7 +39,7 @@ pub fn load_book<S: Alter>(
     ensures crash { Survives (state S.Store conn.old) (state S.Store conn.new) (HasOtherLayout (state S.Store conn.old)) }
 {
     pages_hold_their_rows();
-    let rows = rows_of(conn, Part::Acts)?;
+    let rows = rows_of(alloc, conn, Part::Acts)?;
     book_in(alloc, terms, hasher, &rows)
 }
 

@@ -35,6 +35,7 @@ use std::hash::RandomState;
 
 /// Whether the store is one of layout 1 of this setting. Want of memory leaves a store that may be used.
 pub fn is_old_store<S: Alter>(
+    alloc: Global,
     conn: &mut Connection<S>,
     setting: &Setting<'_>,
 ) -> Result<bool, StoreFault>
@@ -50,7 +51,7 @@ pub fn is_old_store<S: Alter>(
     ensures fault { OnErr result ((result ≡ Err StoreFault.Memory) ⊎ (result ≡ Err StoreFault.Device)) }
     ensures crash { Survives (state S.Store conn.old) (state S.Store conn.new) (HasOtherLayout (state S.Store conn.old)) }
 {
-    let rows = rows_of(conn, Part::Setting)?;
+    let rows = rows_of(alloc, conn, Part::Setting)?;
     Ok(is_setting_in(&rows, setting, 1))
 }
 
@@ -79,7 +80,7 @@ pub fn read_old_book<S: Alter>(
     ensures faults { (result ≢ Err OpenFault.Empty) × (result ≢ Err OpenFault.Layout) }
     ensures crash { Survives (state S.Store conn.old) (state S.Store conn.new) (HasOtherLayout (state S.Store conn.old)) }
 {
-    let found = match read_store(conn) {
+    let found = match read_store(alloc, conn) {
         Ok(found) => found,
         Err(fault) => return Err(open_fault(fault)),
     };

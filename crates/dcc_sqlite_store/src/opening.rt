@@ -72,7 +72,7 @@ pub fn open_store<S: Alter>(
     ensures crash { Survives (state S.Store conn.old) (state S.Store conn.new) (HasOtherLayout (state S.Store conn.old)) }
 {
     pages_hold_their_rows();
-    let found = match read_store(conn) {
+    let found = match read_store(alloc, conn) {
         Ok(found) => found,
         Err(fault) => return Err(open_fault(fault)),
     };
@@ -80,7 +80,7 @@ pub fn open_store<S: Alter>(
 }
 
 /// All that is read of a store. Want of memory leaves a store that may be used.
-pub fn read_store<S: Alter>(conn: &mut Connection<S>) -> Result<Found, StoreFault>
+pub fn read_store<S: Alter>(alloc: Global, conn: &mut Connection<S>) -> Result<Found, StoreFault>
     requires { conn.old.in_transaction ≡ false }
     ensures mode { conn.new.in_transaction ≡ false }
     ensures clean { doubt (state S.Store conn.old).is_clean ≤ doubt (state S.Store conn.new).is_clean }
@@ -93,9 +93,9 @@ pub fn read_store<S: Alter>(conn: &mut Connection<S>) -> Result<Found, StoreFaul
     ensures fault { OnErr result ((result ≡ Err StoreFault.Memory) ⊎ (result ≡ Err StoreFault.Device)) }
     ensures crash { Survives (state S.Store conn.old) (state S.Store conn.new) (HasOtherLayout (state S.Store conn.old)) }
 {
-    let labels = rows_of_two(conn, Part::Setting, Part::Rowids)?;
-    let books = rows_of_two(conn, Part::Acts, Part::Entries)?;
-    let accounts = rows_of(conn, Part::Accounts)?;
+    let labels = rows_of_two(alloc, conn, Part::Setting, Part::Rowids)?;
+    let books = rows_of_two(alloc, conn, Part::Acts, Part::Entries)?;
+    let accounts = rows_of(alloc, conn, Part::Accounts)?;
     let (setting, rowids) = labels;
     let (acts, entries) = books;
     Ok(Found {
@@ -109,6 +109,7 @@ pub fn read_store<S: Alter>(conn: &mut Connection<S>) -> Result<Found, StoreFaul
 
 /// The rows of two parts.
 fn rows_of_two<S: Alter>(
+    alloc: Global,
     conn: &mut Connection<S>,
     one: Part,
     other: Part,
@@ -125,8 +126,8 @@ fn rows_of_two<S: Alter>(
     ensures fault { OnErr result ((result ≡ Err StoreFault.Memory) ⊎ (result ≡ Err StoreFault.Device)) }
     ensures crash { Survives (state S.Store conn.old) (state S.Store conn.new) (HasOtherLayout (state S.Store conn.old)) }
 {
-    let first = rows_of(conn, one)?;
-    let second = rows_of(conn, other)?;
+    let first = rows_of(alloc, conn, one)?;
+    let second = rows_of(alloc, conn, other)?;
     Ok((first, second))
 }
 

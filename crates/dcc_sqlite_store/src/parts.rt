@@ -13,6 +13,7 @@ use crate::reading::{read_accounts, read_acts, read_entries, read_rowids, read_s
 use crate::telling::told;
 use dcc_store::StoreFault;
 use sqlite::{Alter, Connection, Error, Row};
+use std::alloc::Global;
 
 /// A part of a store.
 #[derive(Clone, Copy)]
@@ -25,7 +26,11 @@ pub enum Part {
 }
 
 /// The rows of a part, in the order of its key. Want of memory leaves a store that may be used.
-pub fn rows_of<S: Alter>(conn: &mut Connection<S>, part: Part) -> Result<Vec<Row>, StoreFault>
+pub fn rows_of<S: Alter>(
+    alloc: Global,
+    conn: &mut Connection<S>,
+    part: Part,
+) -> Result<Vec<Row>, StoreFault>
     requires { conn.old.in_transaction ≡ false }
     ensures mode { conn.new.in_transaction ≡ false }
     ensures clean { doubt (state S.Store conn.old).is_clean ≤ doubt (state S.Store conn.new).is_clean }
@@ -38,7 +43,7 @@ pub fn rows_of<S: Alter>(conn: &mut Connection<S>, part: Part) -> Result<Vec<Row
     ensures fault { OnErr result ((result ≡ Err StoreFault.Memory) ⊎ (result ≡ Err StoreFault.Device)) }
     ensures crash { Survives (state S.Store conn.old) (state S.Store conn.new) (HasOtherLayout (state S.Store conn.old)) }
 {
-    let error = match read_part(conn, part) {
+    let error = match read_part(alloc, conn, part) {
         Ok(rows) => return Ok(rows),
         Err(error) => error,
     };
@@ -47,7 +52,11 @@ pub fn rows_of<S: Alter>(conn: &mut Connection<S>, part: Part) -> Result<Vec<Row
 }
 
 /// The rows of a part.
-fn read_part<S: Alter>(conn: &mut Connection<S>, part: Part) -> Result<Vec<Row>, Error>
+fn read_part<S: Alter>(
+    alloc: Global,
+    conn: &mut Connection<S>,
+    part: Part,
+) -> Result<Vec<Row>, Error>
     requires { conn.old.in_transaction ≡ false }
     ensures mode { conn.new.in_transaction ≡ false }
     ensures clean { doubt (state S.Store conn.old).is_clean ≤ doubt (state S.Store conn.new).is_clean }
@@ -60,10 +69,10 @@ fn read_part<S: Alter>(conn: &mut Connection<S>, part: Part) -> Result<Vec<Row>,
     ensures crash { Survives (state S.Store conn.old) (state S.Store conn.new) (HasOtherLayout (state S.Store conn.old)) }
 {
     match part {
-        Part::Setting => read_setting(conn),
-        Part::Acts => read_acts(conn),
-        Part::Entries => read_entries(conn),
-        Part::Accounts => read_accounts(conn),
-        Part::Rowids => read_rowids(conn),
+        Part::Setting => read_setting(alloc, conn),
+        Part::Acts => read_acts(alloc, conn),
+        Part::Entries => read_entries(alloc, conn),
+        Part::Accounts => read_accounts(alloc, conn),
+        Part::Rowids => read_rowids(alloc, conn),
     }
 }

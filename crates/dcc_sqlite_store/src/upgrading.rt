@@ -104,7 +104,7 @@ fn upgrade_store<S: Alter>(
     ensures undone { HasCleanDisk (state S.Store conn.new) → IfErr result (λ fault. fault ≢ OpenFault.Device → IsUndone (state S.Store conn.old) (state S.Store conn.new)) }
     ensures crash { Survives (state S.Store conn.old) (state S.Store conn.new) (λ db. ∥ IsUpgraded setting.now (state S.Store conn.old).now.trees db ∥₁) }
 {
-    match is_old_store(conn, setting) {
+    match is_old_store(alloc, conn, setting) {
         Ok(true) => Ok(Some(upgrade_old(alloc, conn, setting, hasher)?)),
         Ok(false) => Ok(None),
         Err(fault) => Err(open_fault(fault)),
