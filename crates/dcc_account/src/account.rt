@@ -5,6 +5,7 @@ ghost use Rattle.std.specs.Option.{option_copied};
 ghost use Rattle.dcc_model.specs.Outcomes.{history, acts, standing, funds, overrun, free, kept};
 ghost use Rattle.dcc_model.specs.Entries.{entries};
 ghost use Rattle.dcc_state.specs.Looks.{most_looks, least_looks};
+ghost use Rattle.dcc_state.specs.OpenSessions.{AreOpen};
 ghost use Rattle.dcc_account.specs.Accounts.{outcomes, reserved};
 ghost use Rattle.dcc_model.specs.declared.decide.TheConstants.{CEILING};
 
@@ -155,6 +156,13 @@ impl Account {
         ensures { result ≡ pos (overrun self.now.terms self.now.acts) }
     {
         self.overrun
+    }
+
+    /// The open sessions, each once, in any order.
+    pub fn sessions(&self) -> &[OpenSession]
+        ensures { AreOpen self.now.terms (history self.now.terms (reverse self.now.acts)) result.now }
+    {
+        &self.sessions
     }
 
     /// The outcome of the first request of this key, if it was made.

@@ -4,10 +4,12 @@ use Rattle.std.proofs.lemmas.Bool.{and_parts, eqb-true}
 use Rattle.std.specs.List.{AllByRecursion, AllZip, FoldsTo, list_all}
 use Rattle.dcc_act.specs.declared.sub.Sub.{Sub}
 use Rattle.dcc_receipts.specs.declared.receipt.Receipt.{Receipt}
-use Rattle.dcc_running.specs.Batches.{AreAnswersOf, AreAnswersTo, Ends, EndsEach, all_receipts_of, are_of_one_shard, has_request, sub_of_job}
+use Rattle.dcc_running.specs.Batches.{AreAnswersOf, AreAnswersTo, Ends, EndsEach, EndsOne, all_receipts_of, are_of_one_shard, has_request, sub_of_job}
 use Rattle.dcc_running.specs.Calls.{receipts_of}
+use Rattle.dcc_running.specs.Tallies.{tally_with, tallied}
 use Rattle.dcc_running.specs.declared.job.Job.{Job}
 use Rattle.dcc_running.specs.declared.lock.Place.{Place}
+use Rattle.dcc_running.specs.declared.tally.Tally.{Tally}
 use Rattle.dcc_running.specs.inner.Batches.{AreAnswered, AreEnded, AreKeptAt, all_end_receipts, call_of, end_of, end_receipts, reply_of}
 use Rattle.dcc_shard.specs.Batches.{AreReplies, IsReplyBounded, IsReplyToldApart, has_request_act, sub_of}
 use Rattle.dcc_shard.specs.Routes.{shard_of}
@@ -122,6 +124,31 @@ ends_each shard moment (sub ∷ subs) (replies.Expiry answer ∷ rs) old are =
       (answer, (shard, are.0), refl),
       subst (λ end. EndsEach moment subs (old ++ here) end) (append_assoc old here (all_end_receipts moment subs rs)) (ends_each shard moment subs rs (old ++ here) are.1),
     )
+
+-- the same, and the replies are counted
+pub counts_each : (shard : ShardView) (moment : ℕ) (subs : List Sub) (rs : List Reply) (old : List Receipt) (tally : Tally)
+    → AreReplies shard (map (end_of moment) subs) rs
+    → FoldsTo (EndsOne moment) (old, tally) subs (old ++ all_end_receipts moment subs rs, tallied tally rs)
+counts_each shard moment [] [] old tally are = ap (λ receipts. (receipts, tally)) (sym (append-nil old))
+counts_each shard moment [] (r ∷ rs) old tally are = absurd are
+counts_each shard moment (sub ∷ subs) [] old tally are = absurd are
+counts_each shard moment (sub ∷ subs) (replies.Request answer ∷ rs) old tally are = absurd are.0
+counts_each shard moment (sub ∷ subs) (replies.TopUp answer ∷ rs) old tally are = absurd are.0
+counts_each shard moment (sub ∷ subs) (replies.Expiry answer ∷ rs) old tally are =
+    let here = end_receipts moment sub (replies.Expiry answer) in
+    let more = tally_with tally answer in (
+      (old ++ here, more),
+      (answer, (shard, are.0), refl, refl),
+      subst (λ end. FoldsTo (EndsOne moment) (old ++ here, more) subs (end, tallied more rs)) (append_assoc old here (all_end_receipts moment subs rs))
+          (counts_each shard moment subs rs (old ++ here) more are.1),
+    )
+
+-- if expiries are counted, they are made
+pub ends_of_counted : (moment : ℕ) (subs : List Sub) (old new : List Receipt × Tally) → FoldsTo (EndsOne moment) old subs new
+    → EndsEach moment subs old.0 new.0
+ends_of_counted moment [] old new same = ap (λ (state : List Receipt × Tally). state.0) same
+ends_of_counted moment (sub ∷ subs) old new folds =
+    let step = folds.1 in (folds.0.0, (step.0, step.1, step.2), ends_of_counted moment subs folds.0 new folds.2)
 
 -- one more job's receipts, whatever follows
 pub one_more_kept : (was now all : List Receipt) (job : Job) (jobs : List Job) (answer : RequestAnswer) (told : List RequestAnswer) (end : List RequestAnswer → List Receipt)

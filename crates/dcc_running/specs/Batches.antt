@@ -5,7 +5,9 @@ use Rattle.dcc_act.specs.declared.sub.Sub.{Sub}
 use Rattle.dcc_model.specs.Keys.{request_key}
 use Rattle.dcc_receipts.specs.declared.receipt.Receipt.{Receipt}
 use Rattle.dcc_running.specs.Calls.{IsAnswerTo, IsEndOf, receipts_of, expiry_receipts}
+use Rattle.dcc_running.specs.Tallies.{no_tally, tally_with}
 use Rattle.dcc_running.specs.declared.job.Job.{Job}
+use Rattle.dcc_running.specs.declared.tally.Tally.{Tally}
 use Rattle.dcc_shard.specs.Answers.{IsAnswer, IsToldApart}
 use Rattle.dcc_shard.specs.Routes.{shard_of}
 use Rattle.dcc_shard.specs.Shards.{ShardView}
@@ -46,3 +48,13 @@ Ends moment old sub new = (answer : ExpiryAnswer) × IsEndOf sub moment answer �
 -- the same for each of these subscribers, in order
 abbrev pub EndsEach : ℕ → List Sub → List Receipt → List Receipt → Type 0
 EndsEach moment subs old new = FoldsTo (Ends moment) old subs new
+
+-- the due sessions of a subscriber are ended, and counted
+abbrev pub EndsOne : ℕ → List Receipt × Tally → Sub → List Receipt × Tally → Type 0
+EndsOne moment old sub new =
+    (answer : ExpiryAnswer) × IsEndOf sub moment answer
+    × (new.0 ≡ old.0 ++ expiry_receipts sub moment answer) × (new.1 ≡ tally_with old.1 answer)
+
+-- the same for each of these subscribers, in order; the counts are of these alone
+abbrev pub CountsEach : ℕ → List Sub → List Receipt → List Receipt → Tally → Type 0
+CountsEach moment subs old new tally = FoldsTo (EndsOne moment) (old, no_tally) subs (new, tally)

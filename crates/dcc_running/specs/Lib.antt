@@ -2,4 +2,5 @@ pub mod Books
 pub mod Audited
 pub mod Calls
 pub mod Batches
+pub mod Tallies
 pub mod inner

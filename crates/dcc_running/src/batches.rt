@@ -4,7 +4,7 @@ ghost use Rattle.std.specs.Prelude.{◌≡◌, ◌≤◌, ◌<◌, ◌+◌, ◌+
 ghost use Rattle.std.specs.List.{list_all};
 ghost use Rattle.dcc_shard.specs.Batches.{AreReplies, IsBatch};
 ghost use Rattle.dcc_shard.specs.Shards.{are_apart};
-ghost use Rattle.dcc_running.specs.Batches.{AreAnswersOf, AreAnswersTo, EndsEach, all_receipts_of, are_of_one_shard, has_request, sub_of_job};
+ghost use Rattle.dcc_running.specs.Batches.{AreAnswersOf, AreAnswersTo, CountsEach, EndsEach, all_receipts_of, are_of_one_shard, has_request, sub_of_job};
 ghost use Rattle.dcc_running.specs.inner.Batches.{AreAnswered, AreEnded, all_end_receipts, call_of, end_of, end_receipts, reply_of};
 
 use crate::calls::{keep, plain};
@@ -12,6 +12,7 @@ use crate::job::Job;
 use crate::room::{Spare, add_spares};
 use crate::seat::Seat;
 use crate::shards::Shards;
+use crate::tally::{Tally, tallied};
 use dcc_act::{Act, Kind, Moment, Sub};
 use dcc_receipts::{Receipt, Told};
 use dcc_shard::{Call, ExpiryAnswer, Reply, RequestAnswer, Shard};
@@ -81,8 +82,8 @@ impl<R: Records> Shards<R> {
 
     /// Ends the sessions of these subscribers that are held until this moment or an earlier one, under one lock and by one append, each as
     /// [`Shards::expire`] does. The receipts go to the seat in the order of the subscribers. It waits for the shard's lock. All room is taken
-    /// first; if memory is short for it, each subscriber's sessions are ended by themselves. The conditions: the subscribers are different,
-    /// and all of one shard.
+    /// first; if memory is short for it, each subscriber's sessions are ended by themselves. Returns the counts of these expiries. The
+    /// conditions: the subscribers are different, and all of one shard.
     pub fn expire_all<W: Wait>(
         &self,
         rt: &W,
@@ -90,18 +91,18 @@ impl<R: Records> Shards<R> {
         seat: &mut Seat,
         subs: &[Sub],
         moment: Moment,
-    )
+    ) -> Tally
         requires apart { are_apart subs.now ≡ true }
         requires shard { are_of_one_shard self.now.count subs.now ≡ true }
-        ensures { EndsEach moment subs.now seat.old seat.new }
+        ensures ends { EndsEach moment subs.now seat.old seat.new }
+        ensures counted { CountsEach moment subs.now seat.old seat.new result }
     {
         let Some(first) = subs.first() else {
-            return;
+            return Tally::none();
         };
         let sub = *first;
         let Ok((calls, replies)) = room_for_ends(alloc, &mut seat.receipts, subs, moment) else {
-            self.expire_each(rt, alloc, seat, subs, moment);
-            return;
+            return self.expire_each(rt, alloc, seat, subs, moment);
         };
         let mut replies = replies;
         let mut shard = self.lock_of_all(rt, &sub, calls.as_slice());
@@ -115,22 +116,28 @@ impl<R: Records> Shards<R> {
             calls,
             &mut replies,
         );
+        tallied(Tally::none(), replies.as_slice())
     }
 
-    /// Ends the due sessions of each subscriber by themselves.
-    fn expire_each<W: Wait>(
+    /// Ends the sessions of each of these subscribers that are held until this moment or an earlier one, in order, each as
+    /// [`Shards::expire`] does, and returns the counts of these expiries. It waits for the lock of each subscriber's shard in turn.
+    pub fn expire_each<W: Wait>(
         &self,
         rt: &W,
         alloc: Global,
         seat: &mut Seat,
         subs: &[Sub],
         moment: Moment,
-    )
-        ensures { EndsEach moment subs.now seat.old seat.new }
+    ) -> Tally
+        ensures ends { EndsEach moment subs.now seat.old seat.new }
+        ensures counted { CountsEach moment subs.now seat.old seat.new result }
     {
+        let mut tally = Tally::none();
         for sub in subs {
-            let _answer = self.expire(rt, alloc, seat, *sub, moment);
+            let answer = self.expire(rt, alloc, seat, *sub, moment);
+            tally = tally.with(answer);
         }
+        tally
     }
 }
 

@@ -27,6 +27,7 @@ mod placed;
 mod room;
 mod seat;
 mod shards;
+mod tally;
 
 pub use books::Books;
 pub use close::Unclosed;
@@ -34,3 +35,4 @@ pub use job::Job;
 pub use look::Look;
 pub use seat::Seat;
 pub use shards::Shards;
+pub use tally::Tally;

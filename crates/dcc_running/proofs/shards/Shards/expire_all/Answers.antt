@@ -1,11 +1,13 @@
 use Rattle.std.proofs.Common.{◌≡◌, ◌++◌, List, get_or, sym, subst}
 use Rattle.dcc_act.specs.declared.sub.Sub.{Sub}
 use Rattle.dcc_receipts.specs.declared.receipt.Receipt.{Receipt}
-use Rattle.dcc_running.specs.Batches.{EndsEach}
+use Rattle.dcc_running.specs.Batches.{CountsEach, EndsEach}
+use Rattle.dcc_running.specs.Tallies.{no_tally, tallied}
+use Rattle.dcc_running.specs.declared.tally.Tally.{Tally}
 use Rattle.dcc_running.specs.inner.Batches.{AreKeptAt, all_end_receipts}
 use Rattle.dcc_shard.specs.Routes.{shard_of}
 use Rattle.dcc_shard.specs.declared.call.Call.{Call}
-use Rattle.dcc_running.proofs.Batching.{ends_each, kept_ends}
+use Rattle.dcc_running.proofs.Batching.{counts_each, ends_each, kept_ends}
 use Rattle.dcc_running.proofs.shards.Shards.expire_all.Goals as goal
 
 pub lock_of_all-shard-requires : goal.lock_of_all-shard-requires
@@ -16,10 +18,20 @@ lock_of_all-shard-requires g c =
     subst (λ (calls : List Call). AreKeptAt (record { index = shard_of one count; count = count }) calls) (sym c.as_slice.ensures.value)
     (kept_ends count c.args.moment one c.args.subs.now c.in-Ok.calls.items c.in-Ok.ensures.calls c.requires.shard first)
 
-pub returns : goal.returns
-returns g c =
+pub returns-clause-ends : goal.returns-clause-ends
+returns-clause-ends g c =
     let told = c.args.seat.now in
     let rs = c.end_all.new.replies.items in
     let is : c.end_all.new.receipts.items ≡ told ++ all_end_receipts c.args.moment c.args.subs.now rs = cc in
     subst (λ (end : List Receipt). EndsEach c.args.moment c.args.subs.now told end) (sym is)
     (ends_each c.deref_mut.result.now.shard c.args.moment c.args.subs.now rs told c.end_all.ensures.answers)
+
+pub returns-clause-counted : goal.returns-clause-counted
+returns-clause-counted g c =
+    let told = c.args.seat.now in
+    let rs = c.end_all.new.replies.items in
+    let is : c.end_all.new.receipts.items ≡ told ++ all_end_receipts c.args.moment c.args.subs.now rs = cc in
+    let counts : c.tallied.result ≡ tallied no_tally rs = cc in
+    subst (λ (tally : Tally). CountsEach c.args.moment c.args.subs.now told c.end_all.new.receipts.items tally) (sym counts)
+    (subst (λ (end : List Receipt). CountsEach c.args.moment c.args.subs.now told end (tallied no_tally rs)) (sym is)
+    (counts_each c.deref_mut.result.now.shard c.args.moment c.args.subs.now rs told no_tally c.end_all.ensures.answers))
