@@ -11,6 +11,8 @@ ghost use Rattle.dcc_rounds.specs.Lanes.{all_put, lanes_of};
 ghost use Rattle.dcc_rounds.specs.Working.{octets_in, put_answer, works_in};
 ghost use Rattle.dcc_rounds.specs.inner.Batches.{AnswersEach, AreAnswered, IsGathered, IsOneBatch, gate_of, job_of, may_join, put_answers, sub_of_request, works_of};
 
+use crate::events::{Events, ticks_of};
+use crate::face::Notices;
 use crate::lanes::{first_of, leave_in};
 use crate::work::{Request, Work};
 use crate::worker::{answer, more, octets_of};
@@ -95,10 +97,11 @@ fn is_among(sub: &Sub, batch: &[Request]) -> bool
 
 /// Makes the requests of a batch and puts their answers into their gateways' lanes, in order; their writers aren't woken yet. Several are
 /// submitted together; if memory is short for that, each by itself. It leaves the batch empty.
-pub(crate) fn answer_batch<W: Wait, R: Records>(
+pub(crate) fn answer_batch<W: Wait, R: Records, N: Notices>(
     rt: &W,
     alloc: Global,
     shards: &Shards<R>,
+    events: &Events<'_, N>,
     seat: &mut Seat,
     writers: &mut Vec<Sender<Item>>,
     batch: &mut Vec<Request>,
@@ -110,23 +113,27 @@ pub(crate) fn answer_batch<W: Wait, R: Records>(
 {
     let count = batch.len();
     if count < 2 {
-        answer_each(rt, alloc, shards, seat, writers, batch);
+        answer_each(rt, alloc, shards, events, seat, writers, batch);
         return;
     }
     match room_for(alloc, count) {
         Ok((gates, jobs, answers)) => {
+            let read = ticks_of(batch.as_slice());
             let (gates, jobs) = parted(batch, gates, jobs);
-            answer_all(rt, alloc, shards, seat, writers, gates, jobs, answers);
+            answer_all(
+                rt, alloc, shards, events, &read, seat, writers, gates, jobs, answers,
+            );
         }
-        Err(AllocError) => answer_each(rt, alloc, shards, seat, writers, batch),
+        Err(AllocError) => answer_each(rt, alloc, shards, events, seat, writers, batch),
     }
 }
 
 /// Makes these requests one by one, and leaves none.
-fn answer_each<W: Wait, R: Records>(
+fn answer_each<W: Wait, R: Records, N: Notices>(
     rt: &W,
     alloc: Global,
     shards: &Shards<R>,
+    events: &Events<'_, N>,
     seat: &mut Seat,
     writers: &mut Vec<Sender<Item>>,
     batch: &mut Vec<Request>,
@@ -136,7 +143,7 @@ fn answer_each<W: Wait, R: Records>(
     ensures lanes { lanes_of writers.new.items ≡ lanes_of writers.old.items }
 {
     while let Some(request) = first_of(batch) {
-        answer(rt, alloc, shards, seat, writers, request);
+        answer(rt, alloc, shards, events, seat, writers, request);
     }
 }
 
@@ -175,7 +182,11 @@ fn parted(batch: &mut Vec<Request>, gates: Vec<usize>, jobs: Vec<Job>) -> (Vec<u
     let mut gates = gates;
     let mut jobs = jobs;
     while let Some(request) = batch.pop() {
-        let Request { gate, job } = request;
+        let Request {
+            gate,
+            job,
+            ticks: _,
+        } = request;
         gates.push_reserved(gate);
         jobs.push_reserved(job);
     }
@@ -184,12 +195,15 @@ fn parted(batch: &mut Vec<Request>, gates: Vec<usize>, jobs: Vec<Job>) -> (Vec<u
     (gates, jobs)
 }
 
-/// Submits these jobs together, and puts their answers into the lanes of these gateways, in order. The conditions: there is a gateway for each job;
-/// the jobs are requests of different subscribers of one shard; the list of answers is empty and has room for them.
-fn answer_all<W: Wait, R: Records>(
+/// Submits these jobs together, and puts their answers into the lanes of these gateways, in order. Their requests were read at these ticks. The
+/// conditions: there is a gateway for each job; the jobs are requests of different subscribers of one shard; the list of answers is empty and has
+/// room for them.
+fn answer_all<W: Wait, R: Records, N: Notices>(
     rt: &W,
     alloc: Global,
     shards: &Shards<R>,
+    events: &Events<'_, N>,
+    read: &[u64; BATCH],
     seat: &mut Seat,
     writers: &mut Vec<Sender<Item>>,
     gates: Vec<usize>,
@@ -207,6 +221,7 @@ fn answer_all<W: Wait, R: Records>(
 {
     let mut answers = answers;
     shards.submit_all(rt, alloc, seat, jobs, &mut answers);
+    events.all_answered(answers.as_slice(), read);
     leave_answers(rt, writers, gates, answers);
 }
 

@@ -6,6 +6,7 @@ ghost use Rattle.dcc_rounds.specs.declared.face.Tick.TheVariants as end;
 
 use dcc_connect::{Clock, ConnectionEnd, WriteEnd};
 use dcc_octets::OctetString;
+use dcc_receipts::Receipt;
 use dcc_running::{Seat, Shards};
 use dcc_store::Records;
 use std::alloc::Global;
@@ -98,8 +99,47 @@ pub enum Notice<'a> {
     Stopped { shard: usize },
 }
 
-/// The receiver of notices of what happened, from several threads at once.
+/// What is counted while a server runs. Shards are counted from 0.
+#[derive(Clone, Copy, Debug)]
+pub enum Event<'a> {
+    /// A message of a gateway was read.
+    Read {
+        message: &'a [u8],
+    },
+    /// A message was answered with these octets, without a worker.
+    Replied {
+        octets: &'a [u8],
+    },
+    /// A shard's worker answered with these octets, so many microseconds after the request was read.
+    Answered {
+        shard: usize,
+        octets: &'a [u8],
+        micros: u64,
+    },
+    /// A shard's worker took so many items together.
+    Took {
+        shard: usize,
+        items: usize,
+    },
+    /// A shard's worker was asked for a sweep.
+    Swept {
+        shard: usize,
+    },
+    /// A call on a shard has this receipt.
+    Receipt {
+        shard: usize,
+        receipt: &'a Receipt,
+    },
+}
+
+/// The receiver of notices of what happened, and of events that are counted, from several threads at once.
 pub trait Notices {
     /// Takes a notice. It may wait.
     fn tell<W: Wait>(&self, rt: &W, notice: Notice<'_>);
+
+    /// The number of microseconds since a moment in the past. It takes no memory.
+    fn ticks(&self) -> u64;
+
+    /// Counts an event. It takes no memory.
+    fn count(&self, event: Event<'_>);
 }

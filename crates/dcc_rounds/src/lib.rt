@@ -20,6 +20,7 @@
 mod attendant;
 mod batch;
 mod counter;
+mod events;
 mod face;
 mod fault;
 mod finishing;
@@ -38,7 +39,8 @@ mod work;
 mod worker;
 mod writer;
 
-pub use face::{Connection, Listener, Notice, Notices, Shut, Tick};
+pub use events::count_receipts;
+pub use face::{Connection, Event, Listener, Notice, Notices, Shut, Tick};
 pub use fault::ServeFault;
 pub use laws::{answers_are_to_what_came, numbers_are_given};
 pub use rounds::Rounds;

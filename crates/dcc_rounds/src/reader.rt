@@ -14,7 +14,7 @@ ghost use Rattle.dcc_rounds.specs.Lanes.{all_put, put_into};
 ghost use Rattle.dcc_rounds.specs.declared.work.Work.TheVariants as work;
 ghost use Rattle.dcc_shard.specs.Routes.{shard_of};
 
-use crate::face::{Notice, Notices};
+use crate::face::{Event, Notice, Notices};
 use crate::lanes::{ask_all_to_sweep, end_all, put_into};
 use crate::work::{Request, Work};
 use dcc_act::Moment;
@@ -97,6 +97,8 @@ impl<'a, R: Records, N: Notices> Submitter for Judge<'a, R, N> {
         × (new.reader.ghost_name ≡ old.reader.ghost_name) };
 
     fn hand<W: Wait>(&mut self, rt: &W, moment: Moment, message: &[u8]) -> Handed {
+        let ticks = self.notices.ticks();
+        self.notices.count(Event::Read { message });
         let was_open = self.reader.peer.host().is_some();
         let dispatched = dispatch(
             self.alloc,
@@ -117,7 +119,7 @@ impl<'a, R: Records, N: Notices> Submitter for Judge<'a, R, N> {
             &self.reader.peer,
             dispatched,
         );
-        let handed = self.reader.pass_on(rt, settled);
+        let handed = self.reader.pass_on(rt, self.notices, settled, ticks);
         self.reader.sweep(rt, moment);
         handed
     }
@@ -166,15 +168,21 @@ fn settle<W: Wait, R: Records>(
 }
 
 impl Reader {
-    /// Passes on what a message comes to.
-    fn pass_on<W: Wait>(&mut self, rt: &W, word: Settled) -> Handed
+    /// Passes on what a message comes to that was read at this tick.
+    fn pass_on<W: Wait, N: Notices>(
+        &mut self,
+        rt: &W,
+        notices: &N,
+        word: Settled,
+        ticks: u64,
+    ) -> Handed
         requires { IfSettled word (λ asked. is_some (request_key asked.act.kind) ≡ true) }
         ensures passed { Passes self.old.gate word result (reading_of self.old) (reading_of self.new) }
         ensures peer { self.new.peer ≡ self.old.peer }
         ensures same { IsSameReader self.old self.new }
     {
         match word {
-            Settled::Replied(reply) => self.reply(rt, reply),
+            Settled::Replied(reply) => self.reply(rt, notices, reply),
             Settled::Asked(asked) => {
                 let Asked {
                     sub,
@@ -189,19 +197,20 @@ impl Reader {
                     proxies,
                 };
                 let gate = self.gate;
-                self.ask(rt, Request { gate, job });
+                self.ask(rt, Request { gate, job, ticks });
                 Handed::Stays
             }
         }
     }
 
     /// Puts what is replied at once into the writer's lane.
-    fn reply<W: Wait>(&mut self, rt: &W, reply: Reply) -> Handed
+    fn reply<W: Wait, N: Notices>(&mut self, rt: &W, notices: &N, reply: Reply) -> Handed
         ensures passed { Passes self.old.gate (Replied reply) result (reading_of self.old) (reading_of self.new) }
         ensures peer { self.new.peer ≡ self.old.peer }
         ensures same { IsSameReader self.old self.new }
     {
         let Reply { octets, close } = reply;
+        count_reply(notices, octets.as_slice());
         put_reply(rt, &mut self.writer, octets);
         if close { Handed::Closes } else { Handed::Stays }
     }
@@ -255,6 +264,13 @@ fn put_reply<W: Wait>(rt: &W, writer: &mut Sender<Item>, octets: OctetString)
         return;
     }
     writer.put(rt, Item::Octets(octets));
+}
+
+/// Counts a reply, if it has any octets.
+fn count_reply<N: Notices>(notices: &N, octets: &[u8]) {
+    if !octets.is_empty() {
+        notices.count(Event::Replied { octets });
+    }
 }
 
 /// Reads a gateway's messages and hands each on, until it ends, and says so.

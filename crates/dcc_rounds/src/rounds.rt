@@ -66,6 +66,13 @@ impl Rounds {
             attendants,
         })
     }
+
+    /// The number of places of a round.
+    pub fn gates(&self) -> usize
+        ensures { result ≡ self.now.gates }
+    {
+        self.gates
+    }
 }
 
 /// Whether these are within the limits.

@@ -58,7 +58,7 @@ impl<I: Read + Send + Drop, O: Shut + Send + Drop> Task<I, O> {
         match self {
             Task::Work(worker) => {
                 if worker.shard < shared.count {
-                    worker.run(rt, shared.alloc, shared.shards);
+                    worker.run(rt, shared.alloc, shared.shards, shared.notices);
                 }
             }
             Task::Time(timer) => timer.run::<W, R, I, O, L, C, N>(rt, shared),

@@ -11,6 +11,8 @@ use dcc_running::Job;
 pub(crate) struct Request {
     pub gate: usize,
     pub job: Job,
+    /// When its message was read ([`Notices::ticks`](crate::Notices::ticks)).
+    pub ticks: u64,
     ghost request: { is_some (request_key job.act.kind) ≡ true },
 }
 

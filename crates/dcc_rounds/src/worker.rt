@@ -9,6 +9,8 @@ ghost use Rattle.dcc_rounds.specs.inner.Batches.{AnswersTaken};
 
 use crate::batch::{BATCH, answer_batch, gather, leave_answer};
 use crate::counter::SweepCounter;
+use crate::events::Events;
+use crate::face::Notices;
 use crate::lanes::{put_into, ring_all};
 use crate::rest::Rest;
 use crate::work::{Request, Work};
@@ -45,11 +47,20 @@ pub(crate) struct Worker {
 impl Worker {
     /// Does what its lane asks for, and goes on with its sweep in between, until none of its senders puts anything more and no subscriber is left
     /// to be asked.
-    pub fn run<W: Wait, R: Records>(&mut self, rt: &W, alloc: Global, shards: &Shards<R>)
+    pub fn run<W: Wait, R: Records, N: Notices>(
+        &mut self,
+        rt: &W,
+        alloc: Global,
+        shards: &Shards<R>,
+        notices: &N,
+    )
         requires { self.old.shard < shards.now.count }
         ensures { HasDone self.old self.new (senders_of self.old.from) }
     {
         self.counter = SweepCounter::new(self.shard);
+        let shard = self.shard;
+        let events = Events { notices, shard };
+        let mut counted = self.seat.receipts().len();
         let mut rest = Rest::new(alloc);
         let mut batch = Vec::new(alloc);
         let senders = self.from.senders();
@@ -58,7 +69,9 @@ impl Worker {
         for _ in rt.forever() {
             wake(self.writers.as_slice(), since);
             if ended < senders {
-                if self.take_some(rt, alloc, shards, &mut rest, &mut batch, &mut since) {
+                if self.take_some(
+                    rt, alloc, shards, &events, &mut rest, &mut batch, &mut since,
+                ) {
                     ended += 1;
                 }
             } else if rest.count() == 0 {
@@ -67,17 +80,19 @@ impl Worker {
                 return;
             }
             self.ask_piece(rt, alloc, shards, &mut rest);
+            counted = events.told(&self.seat, counted);
         }
         unreachable!()
     }
 
     /// Takes requests and answers them, and then does the item behind them, if it took one. If a subscriber is left to be asked, it waits for no item.
     /// It returns whether it took an item whose sender puts nothing more.
-    fn take_some<W: Wait, R: Records>(
+    fn take_some<W: Wait, R: Records, N: Notices>(
         &mut self,
         rt: &W,
         alloc: Global,
         shards: &Shards<R>,
+        events: &Events<'_, N>,
         rest: &mut Rest,
         batch: &mut Vec<Request>,
         since: &mut u32,
@@ -90,8 +105,8 @@ impl Worker {
         ensures empty { batch.new.items ≡ [] }
     {
         let waits = rest.count() == 0;
-        match self.take_requests(rt, alloc, shards, batch, since, waits) {
-            Some(work) => self.do_one(rt, alloc, shards, rest, work),
+        match self.take_requests(rt, alloc, shards, events, batch, since, waits) {
+            Some(work) => self.do_one(rt, alloc, shards, events, rest, work),
             None => false,
         }
     }
@@ -99,11 +114,12 @@ impl Worker {
     /// Takes the requests that its lane has without a wait, up to [`BATCH`] of different subscribers, and answers them together. If no item is there, it
     /// takes none, or waits for one if `waits` is set. It returns the item behind these requests, if it took one: this item isn't done yet. Behind several
     /// requests, and before such an item, it wakes all that sleep.
-    fn take_requests<W: Wait, R: Records>(
+    fn take_requests<W: Wait, R: Records, N: Notices>(
         &mut self,
         rt: &W,
         alloc: Global,
         shards: &Shards<R>,
+        events: &Events<'_, N>,
         batch: &mut Vec<Request>,
         since: &mut u32,
         waits: bool,
@@ -119,14 +135,15 @@ impl Worker {
         };
         let Ok(()) = batch.reserve(BATCH) else {
             let (seat, writers) = (&mut self.seat, &mut self.writers);
-            answer(rt, alloc, shards, seat, writers, request);
+            answer(rt, alloc, shards, events, seat, writers, request);
             return None;
         };
         batch.push_reserved(request);
         let behind = gather(rt, &mut self.from, shards, batch, since);
+        events.took(batch.len());
         let is_long = batch.len() > 1 || behind.is_some();
         let (seat, writers) = (&mut self.seat, &mut self.writers);
-        answer_batch(rt, alloc, shards, seat, writers, batch);
+        answer_batch(rt, alloc, shards, events, seat, writers, batch);
         if is_long {
             self.from.ring();
             ring_all(self.writers.as_slice());
@@ -135,11 +152,12 @@ impl Worker {
     }
 
     /// Does an item that it took. It returns whether the item's sender puts nothing more.
-    fn do_one<W: Wait, R: Records>(
+    fn do_one<W: Wait, R: Records, N: Notices>(
         &mut self,
         rt: &W,
         alloc: Global,
         shards: &Shards<R>,
+        events: &Events<'_, N>,
         rest: &mut Rest,
         work: Work,
     ) -> bool
@@ -156,10 +174,11 @@ impl Worker {
         match work {
             Work::Request(request) => {
                 let (seat, writers) = (&mut self.seat, &mut self.writers);
-                answer(rt, alloc, shards, seat, writers, request);
+                answer(rt, alloc, shards, events, seat, writers, request);
                 false
             }
             Work::Sweep(moment) => {
+                events.swept();
                 let (seat, counter) = (&mut self.seat, &mut self.counter);
                 sweep(rt, alloc, shards, self.shard, seat, counter, rest, moment);
                 false
@@ -215,22 +234,35 @@ fn next<W: Wait>(
     ensures same { IsSameReceiver from.old from.new }
     ensures taken { MatchOption result (taken_of from.new ≡ taken_of from.old) (λ work. TakesOne from.old work from.new) }
 {
-    let work = match more(rt, from, since) {
-        Some(work) => work,
-        None => {
-            *since = 0;
-            if !waits {
-                return None;
-            }
-            ring_all(writers);
-            from.take(rt)
-        }
-    };
+    let work = more_or_wait(rt, from, writers, since, waits)?;
     if !matches!(work, Work::Request(_)) {
         from.ring();
         ring_all(writers);
     }
     Some(work)
+}
+
+/// Takes the next item, and counts the items that were there without a wait. If no item is there, it returns none, or waits if `waits` is set.
+/// Before it waits, it wakes the writers that were let sleep.
+fn more_or_wait<W: Wait>(
+    rt: &W,
+    from: &mut Receiver<Work>,
+    writers: &[Sender<Item>],
+    since: &mut u32,
+    waits: bool,
+) -> Option<Work>
+    ensures same { IsSameReceiver from.old from.new }
+    ensures taken { MatchOption result (taken_of from.new ≡ taken_of from.old) (λ work. TakesOne from.old work from.new) }
+{
+    if let Some(work) = more(rt, from, since) {
+        return Some(work);
+    }
+    *since = 0;
+    if !waits {
+        return None;
+    }
+    ring_all(writers);
+    Some(from.take(rt))
 }
 
 /// Takes an item that is there without a wait, and counts it.
@@ -251,10 +283,11 @@ fn wake(writers: &[Sender<Item>], since: u32) {
 }
 
 /// Makes a request and puts its answer into its gateway's lane, whose writer isn't woken yet. If there is no answer, it puts nothing.
-pub(crate) fn answer<W: Wait, R: Records>(
+pub(crate) fn answer<W: Wait, R: Records, N: Notices>(
     rt: &W,
     alloc: Global,
     shards: &Shards<R>,
+    events: &Events<'_, N>,
     seat: &mut Seat,
     writers: &mut Vec<Sender<Item>>,
     request: Request,
@@ -262,8 +295,9 @@ pub(crate) fn answer<W: Wait, R: Records>(
     ensures answered { Answers request seat.old (all_put writers.old.items) seat.new (all_put writers.new.items) }
     ensures lanes { lanes_of writers.new.items ≡ lanes_of writers.old.items }
 {
-    let Request { gate, job } = request;
+    let Request { gate, job, ticks } = request;
     let answer = shards.submit(rt, alloc, seat, job);
+    events.answered(&answer, ticks);
     leave_answer(rt, writers, gate, answer);
 }
 
