@@ -5,7 +5,7 @@ use Rattle.std.specs.Str.{IsUtf8}
 use Rattle.std.proofs.lemmas.Str.{IsUtf8-from_ascii}
 use Rattle.std.proofs.lemmas.Grind.{common_steps}
 use Rattle.serde_json.specs.Read.{read}
-use Rattle.dcc_port.specs.Calls.{ask_of}
+use Rattle.dcc_port.specs.Calls.{ask_of, folder_of}
 
 below : (bs : List ℕ) (i : ℕ) → list_all (λ octet. nat_lt octet 128) bs ≡ true → slice_index bs i < 128
 below [] i h = lit< tt
@@ -21,3 +21,8 @@ is_text bs h = IsUtf8-from_ascii bs (λ i. below bs i h)
 pub no_ask : (body : List ℕ) → true ≡ list_all (λ octet. nat_lt octet 128) body → read body ≡ None → None ≡ ask_of body
 unfolding ask_of
 no_ask body h n = rw (← h, n) refl
+
+-- nor has it a folder
+pub no_folder : (body : List ℕ) → true ≡ list_all (λ octet. nat_lt octet 128) body → read body ≡ None → None ≡ folder_of body
+unfolding folder_of
+no_folder body h n = rw (← h, n) refl

@@ -1,13 +1,15 @@
 -- The calls of an operator.
-use Rattle.std.specs.Prelude.{ℕ, Bool, ◌&&◌, nat_lt, ◌==◌, if◌then◌else◌, List, [], ◌∷◌, length, bytes_eq, codes}
-use Rattle.std.specs.Prelude.{Option, Some, None, option_and_then}
+use Rattle.std.specs.Prelude.{ℕ, Bool, false, ◌&&◌, nat_lt, nat_le, ◌==◌, if◌then◌else◌, List, [], ◌∷◌, length, bytes_eq, codes}
+use Rattle.std.specs.Prelude.{Option, Some, None, option_and_then, Result, Ok, Err}
 use Rattle.std.specs.List.{list_all, slice_split}
 use Rattle.percent_encoding.specs.Percent.{percent_decode}
 use Rattle.serde_json.specs.Data.{Data}
-use Rattle.serde_json.specs.Find.{get, as_number, as_u64}
+use Rattle.serde_json.specs.Find.{get, as_number, as_str, as_u64}
 use Rattle.serde_json.specs.Read.{read}
 use Rattle.dcc_act.specs.declared.sub.Sub.{Sub}
 use Rattle.dcc_words.specs.Words.{◌>>=◌, sub}
+use Rattle.dcc_port.specs.Lines.{asks_of}
+use Rattle.dcc_port.specs.declared.call.Ask.{Ask}
 use Rattle.dcc_port.specs.declared.call.Call.{Call}
 use Rattle.dcc_port.specs.declared.call.Call.TheVariants as calls
 use Rattle.dcc_port.specs.declared.call.Flaw.TheVariants as flaws
@@ -34,9 +36,37 @@ ask_in found = do
   amount ← number_in (codes "amount") found
   Some (ticket, amount)
 
+-- whether a text is ASCII
+abbrev pub is_ascii : List ℕ → Bool
+is_ascii text = list_all (λ octet. nat_lt octet 128) text
+
 -- the ticket and the amount of a body: ASCII text in JSON
 unfoldable pub ask_of : List ℕ → Option (ℕ × ℕ)
-ask_of body = if list_all (λ octet. nat_lt octet 128) body then read body >>= ask_in else None
+ask_of body = if is_ascii body then read body >>= ask_in else None
+
+-- a path from the root
+abbrev pub is_absolute : List ℕ → Bool
+is_absolute [] = false
+is_absolute (first ∷ path) = first == 47
+
+-- a character of ASCII that is no control character
+abbrev pub is_printed : ℕ → Bool
+is_printed octet = nat_le 32 octet && nat_le octet 126
+
+-- the path of a folder: from the root, and of 1 to 1,024 octets
+abbrev pub is_folder : List ℕ → Bool
+is_folder path = (is_absolute path && nat_le (length path) 1_024) && list_all is_printed path
+
+abbrev pub if_folder : List ℕ → Option (List ℕ)
+if_folder path = if is_folder path then Some path else None
+
+-- the folder of an object in JSON
+abbrev pub folder_in : Data → Option (List ℕ)
+folder_in found = option_and_then as_str (get (codes "folder") found) >>= if_folder
+
+-- the folder of a body: ASCII text in JSON
+unfoldable pub folder_of : List ℕ → Option (List ℕ)
+folder_of body = if is_ascii body then read body >>= folder_in else None
 
 -- the call of a subscriber
 abbrev pub of_sub : (Sub → Call) → Option Sub → Call
@@ -52,13 +82,31 @@ top_up_of (Some ask) sub = calls.TopUp sub ask.0 ask.1
 abbrev pub named : List ℕ → Option Sub
 named part = sub (percent_decode part)
 
+-- the top-ups of a text
+abbrev pub top_ups_of : Result (List Ask) ℕ → Call
+top_ups_of (Ok asks) = calls.TopUps asks
+top_ups_of (Err line) = calls.Flawed (flaws.Line line)
+
+-- a backup into a folder
+abbrev pub backup_of : Option (List ℕ) → Call
+backup_of None = calls.Flawed flaws.Folder
+backup_of (Some folder) = calls.Backup folder
+
+-- the call of a path with one part, to which a body is sent
+unfoldable pub sent_call : (method page body : List ℕ) → Call
+sent_call method page body =
+    if bytes_eq page (codes "topups") then by Post method (top_ups_of (asks_of body))
+    else (if bytes_eq page (codes "backup") then by Post method (backup_of (folder_of body))
+    else calls.Flawed flaws.Path)
+
 -- the call of a path with one part
-unfoldable pub page_call : (method page : List ℕ) → Call
-page_call method page =
+unfoldable pub page_call : (method page body : List ℕ) → Call
+page_call method page body =
     if bytes_eq page (codes "health") then by Get method calls.Health
+    else (if bytes_eq page (codes "metrics") then by Get method calls.Metrics
     else (if bytes_eq page (codes "sweep") then by Post method calls.Sweep
     else (if bytes_eq page (codes "stop") then by Post method calls.Stop
-    else calls.Flawed flaws.Path))
+    else sent_call method page body)))
 
 -- the call of a subscriber's page
 unfoldable pub sub_call : (method who page body : List ℕ) → Call
@@ -73,7 +121,7 @@ is_of_subs root subs = (length root == 0) && bytes_eq subs (codes "subscribers")
 
 -- the call of a path in parts, the first of which is in front of the path's first slash
 unfoldable pub parts_call : (method : List ℕ) → List (List ℕ) → (body : List ℕ) → Call
-parts_call method (root ∷ page ∷ []) body = if length root == 0 then page_call method page else calls.Flawed flaws.Path
+parts_call method (root ∷ page ∷ []) body = if length root == 0 then page_call method page body else calls.Flawed flaws.Path
 parts_call method (root ∷ subs ∷ who ∷ []) body =
     if is_of_subs root subs then by Get method (of_sub calls.Account (named who)) else calls.Flawed flaws.Path
 parts_call method (root ∷ subs ∷ who ∷ page ∷ []) body =

@@ -1,6 +1,9 @@
+pub mod Lines
 pub mod Calls
 pub mod Sheets
+pub mod Accounts
 pub mod Found
+pub mod Servers
 pub mod Answers
 pub mod Requests
 pub mod Serving

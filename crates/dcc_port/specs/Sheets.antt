@@ -1,15 +1,17 @@
 -- The answers to an operator.
-use Rattle.std.specs.Prelude.{ℕ, ◌+◌, ◌==◌, ◌||◌, Bool, if◌then◌else◌, List, [], ◌∷◌, ◌++◌, length, codes}
-use Rattle.std.specs.Fmt.{decimal, signed_decimal}
-use Rattle.std.specs.List.{list_any, flat_map}
+use Rattle.std.specs.Prelude.{ℕ, zero, suc, ◌+◌, ◌==◌, Bool, if◌then◌else◌, List, [], ◌∷◌, ◌++◌, length, codes}
+use Rattle.std.specs.Fmt.{decimal}
+use Rattle.std.specs.List.{flat_map, list_any}
 use Rattle.http_server.specs.declared.response.Response.{Response}
 use Rattle.http_server.specs.Response.{IsResponse}
-use Rattle.dcc_act.specs.Subs.{SubView}
+use Rattle.dcc_port.specs.Accounts.{escaped}
+use Rattle.dcc_port.specs.declared.backup.BackupEnd.{BackupEnd}
+use Rattle.dcc_port.specs.declared.backup.BackupEnd.TheVariants.{Done, There, NoFolder, Uncopied}
 use Rattle.dcc_port.specs.declared.call.Flaw.{Flaw}
-use Rattle.dcc_port.specs.declared.call.Flaw.TheVariants.{Path, Method, Subscriber, Body, Foreign}
+use Rattle.dcc_port.specs.declared.call.Flaw.TheVariants.{Path, Method, Subscriber, Body, Line, Folder, Foreign}
 use Rattle.dcc_port.specs.declared.sheet.Kind.{Kind}
-use Rattle.dcc_port.specs.declared.sheet.Kind.TheVariants.{Json, Plain}
-use Rattle.dcc_port.specs.declared.texts.Money.{Money}
+use Rattle.dcc_port.specs.declared.sheet.Kind.TheVariants.{Json, Plain, Metrics}
+use Rattle.dcc_port.specs.declared.sweeping.Swept.{Swept}
 use Rattle.dcc_port.specs.Calls.{name_of}
 
 -- what a response says: its status, its fields and its content
@@ -29,6 +31,7 @@ IsShort response = IsResponse 500 [] [] response
 abbrev pub type_of : Kind → List ℕ
 type_of Json = codes "application/json"
 type_of Plain = codes "text/plain; charset=utf-8"
+type_of Metrics = codes "text/plain; version=0.0.4"
 
 abbrev pub type_field : Kind → List ℕ × List ℕ
 type_field kind = (codes "content-type", type_of kind)
@@ -42,14 +45,19 @@ flaw_status Path = 404
 flaw_status (Method verb) = 405
 flaw_status Subscriber = 400
 flaw_status Body = 400
+flaw_status (Line line) = 400
+flaw_status Folder = 400
 flaw_status Foreign = 403
 
 abbrev pub flaw_text : Flaw → List ℕ
 flaw_text Path =
-    codes "{\"error\":\"unknown path\",\"in\":\"path\",\"expected\":\"/health, /subscribers/SUB, its /ledger or /topups, /sweep or /stop\"}"
+    codes "{\"error\":\"unknown path\",\"in\":\"path\",\"expected\":\"/health, /metrics, /subscribers/SUB, its /ledger or /topups, /topups, /sweep, /backup or /stop\"}"
 flaw_text (Method verb) = codes "{\"error\":\"other method\",\"in\":\"method\",\"expected\":\"the method of the field allow\"}"
 flaw_text Subscriber = codes "{\"error\":\"unreadable subscriber\",\"in\":\"path\",\"expected\":\"TYPE:DATA, percent-encoded\"}"
 flaw_text Body = codes "{\"error\":\"unreadable top-up\",\"in\":\"body\",\"expected\":\"{\\\"ticket\\\":N,\\\"amount\\\":N} in ASCII\"}"
+flaw_text (Line line) =
+    codes "{\"error\":\"unreadable top-up\",\"in\":\"line " ++ (decimal line ++ codes "\",\"expected\":\"SUB TICKET AMOUNT\"}")
+flaw_text Folder = codes "{\"error\":\"unreadable folder\",\"in\":\"body\",\"expected\":\"{\\\"folder\\\":\\\"/PATH\\\"} in ASCII, with at most 1024 octets\"}"
 flaw_text Foreign = codes "{\"error\":\"page of a browser\",\"in\":\"fields\",\"expected\":\"no origin, and a host in numbers, as 127.0.0.1\"}"
 
 abbrev pub allowed : Flaw → List (List ℕ × List ℕ)
@@ -79,29 +87,70 @@ health_sheet told =
     then sheet_of Json 503 (codes "{\"status\":\"stopped\",\"shards\":[" ++ listed 0 told [] ++ codes "]}")
     else sheet_of Json 200 (codes "{\"status\":\"ok\"}")
 
--- an octet of a text in JSON: a quote and a backslash have a backslash before them
-abbrev pub escaped : ℕ → List ℕ
-escaped octet = if (octet == 34) || (octet == 92) then 92 ∷ octet ∷ [] else octet ∷ []
+abbrev pub sweep_status : Bool → ℕ
+sweep_status whole = if whole then 200 else 503
 
--- a subscriber in JSON
-abbrev pub sub_text : SubView → List ℕ
-sub_text sub = codes "\"" ++ decimal sub.kind ++ codes ":" ++ flat_map escaped sub.name ++ codes "\""
+abbrev pub sweep_end : Bool → List ℕ
+sweep_end whole = if whole then codes "}" else codes ",\"told\":\"ended\"}"
 
--- the money of an account, in minor units, and the number of its acts
-unfoldable pub money_text : Money → List ℕ
-money_text money =
-    codes ",\"funds\":" ++ (signed_decimal money.funds ++ (codes ",\"reserved\":" ++ (signed_decimal money.reserved
-    ++ (codes ",\"free\":" ++ (signed_decimal money.free ++ (codes ",\"overrun\":" ++ (signed_decimal money.overrun
-    ++ (codes ",\"acts\":" ++ (decimal money.acts ++ codes "}")))))))))
+unfoldable pub sweep_text : (sessions refused : ℕ) → List ℕ → List ℕ
+sweep_text sessions refused end =
+    codes "{\"sessions\":" ++ (decimal sessions ++ (codes ",\"refused\":" ++ (decimal refused ++ end)))
 
-abbrev pub account_sheet : SubView → Money → Sheet
-account_sheet sub money = sheet_of Json 200 (codes "{\"subscriber\":" ++ sub_text sub ++ money_text money)
-
--- the sessions that a sweep ended, and the subscribers that it refused
-abbrev pub sweep_sheet : (sessions refused : ℕ) → Sheet
-sweep_sheet sessions refused =
-    sheet_of Json 200 (codes "{\"sessions\":" ++ (decimal sessions ++ (codes ",\"refused\":" ++ (decimal refused ++ codes "}"))))
+-- The sessions that a sweep ended, and the subscribers that it refused. If the server ends, the sweep may have left subscribers out.
+abbrev pub sweep_sheet : Swept → Sheet
+sweep_sheet swept = sheet_of Json (sweep_status swept.whole) (sweep_text swept.tally.sessions swept.tally.refused (sweep_end swept.whole))
 
 -- the server was told to end
 abbrev pub stop_sheet : Sheet
 stop_sheet = sheet_of Json 202 (codes "{\"told\":\"stop\"}")
+
+-- the gauge of the shards: 1 for a shard that has stopped
+abbrev pub gauge_head : List ℕ
+gauge_head =
+    codes "# HELP dcc_shard_stopped Whether the records of a shard have failed.\n# TYPE dcc_shard_stopped gauge\n"
+
+abbrev pub gauge_value : Bool → List ℕ
+gauge_value stopped = if stopped then codes "1" else codes "0"
+
+unfoldable pub gauge_text : ℕ → List ℕ → List ℕ
+gauge_text index value = codes "dcc_shard_stopped{shard=\"" ++ (decimal index ++ (codes "\"} " ++ (value ++ codes "\n")))
+
+-- a line for each shard, of which the first has this index
+unfoldable pub gauges : ℕ → List Bool → List ℕ
+gauges index [] = []
+gauges index (stopped ∷ told) = gauge_text index (gauge_value stopped) ++ gauges (index + 1) told
+
+-- the page of the server's counters, and whether each shard has stopped
+abbrev pub metrics_sheet : List ℕ → List Bool → Sheet
+metrics_sheet page told = sheet_of Metrics 200 (page ++ gauge_head ++ gauges 0 told)
+
+-- the file of a shard
+unfoldable pub file_text : ℕ → List ℕ
+file_text index = codes "\"shard-" ++ (decimal index ++ codes ".db\"")
+
+-- a file behind others, with a comma between them
+abbrev pub with_file : List ℕ → ℕ → List ℕ
+with_file text index = if length text == 0 then file_text index else text ++ codes "," ++ file_text index
+
+-- the files of so many shards
+abbrev pub files : ℕ → List ℕ
+files zero = []
+files (suc count) = with_file (files count) count
+
+-- the copies of so many shards in a folder
+unfoldable pub copies_text : List ℕ → ℕ → List ℕ
+copies_text folder count = codes "{\"folder\":\"" ++ flat_map escaped folder ++ codes "\",\"files\":[" ++ files count ++ codes "]}"
+
+unfoldable pub uncopied_text : ℕ → List ℕ
+uncopied_text index =
+    codes "{\"error\":\"copy failed\",\"in\":\"shard " ++ (decimal index ++ codes "\",\"expected\":\"a folder that can be written to\"}")
+
+-- a backup: its files, or the reason for which there are not all of them
+abbrev pub backup_sheet : List ℕ → ℕ → BackupEnd → Sheet
+backup_sheet folder count Done = sheet_of Json 200 (copies_text folder count)
+backup_sheet folder count There =
+    sheet_of Json 409 (codes "{\"error\":\"folder is there\",\"in\":\"folder\",\"expected\":\"the path of a new folder\"}")
+backup_sheet folder count NoFolder =
+    sheet_of Json 507 (codes "{\"error\":\"copy failed\",\"in\":\"folder\",\"expected\":\"a folder that can be made\"}")
+backup_sheet folder count (Uncopied index) = sheet_of Json 507 (uncopied_text index)

@@ -1,17 +1,17 @@
-//! Questions: health, accounts and ledgers.
+//! Questions: health, counters, accounts and ledgers.
 
 ghost use Rattle.std.specs.Prelude.{◌≡◌, OnOk, IfOk, length, option_map};
 ghost use Rattle.std.specs.List.{AllByRecursion};
 ghost use Rattle.http_server.specs.Response.{IsBlank};
 ghost use Rattle.dcc_running.specs.Calls.{IsToldStopped};
-ghost use Rattle.dcc_port.specs.Answers.{IsAccount, IsHealth, IsLedger};
+ghost use Rattle.dcc_port.specs.Answers.{IsAccount, IsHealth, IsLedger, IsMetrics};
 ghost use Rattle.dcc_port.specs.Found.{account_found, page_found};
 ghost use Rattle.dcc_port.specs.Sheets.{IsSheet, Sheet};
 
-use crate::looks::{MoneyLook, PageLook};
-use crate::port::Port;
+use crate::looks::{AccountLook, PageLook};
+use crate::port::{Port, Server};
 use crate::sheet::{Kind, put};
-use crate::texts::{Money, put_account, put_health, put_unknown};
+use crate::texts::{put_health, put_metrics, put_unknown};
 use dcc_act::Sub;
 use dcc_store::Records;
 use http::StatusCode;
@@ -33,6 +33,22 @@ pub(crate) fn health<W: Wait, R: Records>(
     put_health(alloc, response, told.as_slice())
 }
 
+/// Writes the server's counters, and whether each shard has stopped. It waits for each shard's lock in turn. The only error is want of memory.
+pub(crate) fn metrics<W: Wait, R: Records, S: Server>(
+    rt: &W,
+    alloc: Global,
+    port: &Port<'_, R>,
+    server: &S,
+    response: &mut Response,
+) -> Result<(), AllocError>
+    requires { IsBlank response.old }
+    ensures { OnOk result ((sheet : Sheet) × IsMetrics R.is_stopped S.rules port.now.count server.now sheet × IsSheet sheet response.new) }
+{
+    let told = stopped(rt, alloc, port)?;
+    let page = server.page(alloc)?;
+    put_metrics(alloc, response, page, told.as_slice())
+}
+
 /// Whether each shard has stopped. The only error is want of memory.
 fn stopped<W: Wait, R: Records>(
     rt: &W,
@@ -49,7 +65,7 @@ fn stopped<W: Wait, R: Records>(
     Ok(told)
 }
 
-/// Writes the money of a subscriber. It waits for the lock of the subscriber's shard. The only error is want of memory.
+/// Writes the account of a subscriber. It waits for the lock of the subscriber's shard. The only error is want of memory.
 pub(crate) fn account<W: Wait, R: Records>(
     rt: &W,
     alloc: Global,
@@ -58,25 +74,21 @@ pub(crate) fn account<W: Wait, R: Records>(
     response: &mut Response,
 ) -> Result<(), AllocError>
     requires { IsBlank response.old }
-    ensures { OnOk result ((sheet : Sheet) × IsAccount sub sheet × IsSheet sheet response.new) }
+    ensures { OnOk result ((sheet : Sheet) × IsAccount R sub sheet × IsSheet sheet response.new) }
 {
     let shard = port.shards.index_of(&sub);
-    let found = port.shards.read(rt, shard, MoneyLook { sub });
-    put_found(alloc, response, &sub, found)
+    let look = AccountLook { alloc, sub };
+    let text = port.shards.read(rt, shard, look)?;
+    put_account(response, text)
 }
 
-/// Writes the money of a subscriber, if there is any.
-fn put_found(
-    alloc: Global,
-    response: &mut Response,
-    sub: &Sub,
-    found: Option<Money>,
-) -> Result<(), AllocError>
+/// Writes the account of a subscriber, if there is any.
+fn put_account(response: &mut Response, text: Option<Vec<u8>>) -> Result<(), AllocError>
     requires { IsBlank response.old }
-    ensures { OnOk result (IsSheet (account_found sub.now found) response.new) }
+    ensures { OnOk result (IsSheet (account_found (option_map (λ text. text.items) text)) response.new) }
 {
-    match found {
-        Some(money) => put_account(alloc, response, sub, &money),
+    match text {
+        Some(text) => put(response, StatusCode::OK, Kind::Json, text.as_slice()),
         None => put_unknown(response),
     }
 }
@@ -90,7 +102,7 @@ pub(crate) fn ledger<W: Wait, R: Records>(
     response: &mut Response,
 ) -> Result<(), AllocError>
     requires { IsBlank response.old }
-    ensures { OnOk result ((sheet : Sheet) × IsLedger sub sheet × IsSheet sheet response.new) }
+    ensures { OnOk result ((sheet : Sheet) × IsLedger R sub sheet × IsSheet sheet response.new) }
 {
     let shard = port.shards.index_of(&sub);
     let look = PageLook { alloc, sub };

@@ -1,24 +1,84 @@
 //! The calls of an operator.
 
+ghost use Rattle.std.specs.Prelude.{◌≡◌, ◌++◌, ◌∷◌, [], OnOk};
+
 use dcc_act::Sub;
+use dcc_octets::OctetString;
+use std::alloc::{AllocError, Global};
+use std::marker::Model;
 
 /// A call of an operator, by its method, its path and its body; or the refusal of a request that is no call.
-#[derive(Clone, Copy, Debug)]
+#[derive(Debug, Drop)]
 pub enum Call {
     /// `GET /health`: whether no shard has stopped.
     Health,
-    /// `GET /subscribers/SUB`: the money of an account.
+    /// `GET /metrics`: the server's counters, and whether each shard has stopped.
+    Metrics,
+    /// `GET /subscribers/SUB`: the money and the open sessions of an account.
     Account(Sub),
     /// `GET /subscribers/SUB/ledger`: the ledger of an account.
     Ledger(Sub),
     /// `POST /subscribers/SUB/topups`: a top-up, once by its ticket, of an amount in minor units.
     TopUp { sub: Sub, ticket: u64, amount: u64 },
+    /// `POST /topups`: many top-ups.
+    TopUps(Asks),
     /// `POST /sweep`: the end of all sessions that are due.
     Sweep,
+    /// `POST /backup`: copies of the shards' stores in a new folder of this path.
+    Backup(OctetString),
     /// `POST /stop`: the end of the server.
     Stop,
     /// No call: the request is refused.
     Flawed(Flaw),
+}
+
+/// One of many top-ups, once by its ticket, of an amount in minor units.
+#[derive(Clone, Copy, Debug)]
+pub struct Ask {
+    pub sub: Sub,
+    pub ticket: u64,
+    pub amount: u64,
+}
+
+/// Top-ups, in order.
+#[derive(Debug, Drop)]
+pub struct Asks {
+    items: Vec<Ask>,
+}
+
+impl Model for Asks {
+    ghost use Rattle.std.specs.Prelude.{List};
+    ghost use Rattle.dcc_port.specs.declared.call.Ask.{Ask};
+
+    ghost Value = { List Ask };
+
+    ghost view = { λ a. a.items.items };
+}
+
+impl Asks {
+    /// No top-ups. It takes no memory.
+    pub(crate) fn new(alloc: Global) -> Asks
+        ensures { result ≡ [] }
+    {
+        Asks {
+            items: Vec::new(alloc),
+        }
+    }
+
+    /// Adds a top-up. The only error is want of memory.
+    pub(crate) fn push(&mut self, ask: Ask) -> Result<(), AllocError>
+        ensures { OnOk result (self.new ≡ self.old ++ ask ∷ []) }
+    {
+        self.items.push(ask)?;
+        Ok(())
+    }
+
+    /// The top-ups, in order.
+    pub fn as_slice(&self) -> &[Ask]
+        ensures { result.now ≡ self.now }
+    {
+        self.items.as_slice()
+    }
 }
 
 /// The methods of calls.
@@ -39,6 +99,10 @@ pub enum Flaw {
     Subscriber,
     /// The body of a top-up has no ticket or no amount.
     Body,
+    /// The line of this number, from 1, is no top-up.
+    Line(u64),
+    /// The body of a backup has no folder.
+    Folder,
     /// The request may come from a page of a browser.
     Foreign,
 }

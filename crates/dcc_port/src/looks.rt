@@ -1,10 +1,11 @@
 //! Looks at a shard under its lock.
 
 ghost use Rattle.std.specs.Prelude.{◌≡◌, ◌≢◌, [], Some, IfOk, option_map};
-ghost use Rattle.dcc_port.specs.Found.{money_of, page_of};
+ghost use Rattle.dcc_port.specs.Found.{IsFoundOf, money_of, page_of};
 ghost use Rattle.dcc_shard.specs.Shards.{held};
 
-use crate::texts::Money;
+use crate::account::{Money, account_text};
+use crate::port::{CopyFault, Server};
 use dcc_account::Account;
 use dcc_act::Sub;
 use dcc_ledger::ledger_text;
@@ -13,19 +14,21 @@ use dcc_shard::Shard;
 use dcc_store::Records;
 use std::alloc::{AllocError, Global};
 
-/// A look at the money of a subscriber.
+/// A look at the account of a subscriber.
 #[derive(Drop)]
-pub(crate) struct MoneyLook {
+pub(crate) struct AccountLook {
+    pub alloc: Global,
     pub sub: Sub,
 }
 
-impl<R: Records> Look<R> for MoneyLook {
-    type Found = Option<Money>;
+impl<R: Records> Look<R> for AccountLook {
+    type Found = Result<Option<Vec<u8>>, AllocError>;
 
-    ghost finds = { λ look shard found. found ≡ money_of shard.shard.terms (held shard.shard look.sub) };
+    ghost finds = { λ look shard found. IfOk found
+        (λ text. IsFoundOf shard.shard.terms look.sub (held shard.shard look.sub) (option_map (λ text. text.items) text)) };
 
-    fn look(self, shard: &Shard<R>) -> Option<Money> {
-        money_of(shard, self.sub)
+    fn look(self, shard: &Shard<R>) -> Result<Option<Vec<u8>>, AllocError> {
+        text_of(self.alloc, shard, self.sub)
     }
 }
 
@@ -47,20 +50,49 @@ impl<R: Records> Look<R> for PageLook {
     }
 }
 
-/// The money of a subscriber, if acts are held for it.
-fn money_of<R: Records>(shard: &Shard<R>, sub: Sub) -> Option<Money>
-    ensures { result ≡ money_of shard.now.shard.terms (held shard.now.shard sub) }
+/// A copy of a shard's store.
+#[derive(Drop)]
+pub(crate) struct CopyLook<'a, S> {
+    pub server: &'a S,
+    pub folder: &'a [u8],
+    pub index: usize,
+}
+
+impl<'a, R: Records, S: Server> Look<R> for CopyLook<'a, S> {
+    type Found = Result<(), CopyFault>;
+
+    ghost finds = { λ look shard found. S.rules.copies look.server.now look.folder.now look.index found };
+
+    fn look(self, shard: &Shard<R>) -> Result<(), CopyFault> {
+        self.server.copy(self.folder, self.index, shard)
+    }
+}
+
+/// The account of a subscriber as text, if acts are held for it. The only error is want of memory.
+fn text_of<R: Records>(
+    alloc: Global,
+    shard: &Shard<R>,
+    sub: Sub,
+) -> Result<Option<Vec<u8>>, AllocError>
+    ensures { IfOk result (λ text. IsFoundOf shard.now.shard.terms sub (held shard.now.shard sub) (option_map (λ text. text.items) text)) }
 {
     match shard.account(sub) {
-        Some(account) => Some(money_in(account)),
-        None => None,
+        Some(account) => Ok(Some(text_in(alloc, account, sub)?)),
+        None => Ok(None),
     }
+}
+
+/// An account as text. The only error is want of memory.
+fn text_in(alloc: Global, account: &Account, sub: Sub) -> Result<Vec<u8>, AllocError>
+    requires { account.now.acts ≢ [] }
+    ensures { IfOk result (λ text. IsFoundOf account.now.terms sub account.now.acts (Some text.items)) }
+{
+    account_text(alloc, &sub, &money_in(account), account.sessions())
 }
 
 /// The money of an account.
 fn money_in(account: &Account) -> Money
-    requires { account.now.acts ≢ [] }
-    ensures { Some result ≡ money_of account.now.terms account.now.acts }
+    ensures { result ≡ money_of account.now.terms account.now.acts }
 {
     Money {
         funds: account.funds(),

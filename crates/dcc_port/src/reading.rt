@@ -1,20 +1,26 @@
 //! The call of a request.
 
-ghost use Rattle.std.specs.Prelude.{◌≡◌, ◌==◌, ◌&&◌, nat_lt, length, bytes_eq, codes, map, if◌then◌else◌, IfOk};
+ghost use Rattle.std.specs.Prelude.{◌≡◌, ◌==◌, length, map, if◌then◌else◌, IfOk};
 ghost use Rattle.std.specs.List.{list_all};
 ghost use Rattle.serde_json.specs.View.{view};
 ghost use Rattle.dcc_port.specs.Requests.{call_for};
-ghost use Rattle.dcc_port.specs.Calls.{ask_in, ask_of, by, call_of, is_of_subs, name_of, named, of_sub, page_call, parts_call, sub_call, top_up_of};
+ghost use Rattle.dcc_port.specs.Lines.{asks_of};
+ghost use Rattle.dcc_port.specs.Calls.{ask_in, ask_of, backup_of, by, call_of, folder_in, folder_of, if_folder, is_absolute, is_ascii, is_folder, is_of_subs, is_printed, name_of, named, of_sub, page_call, parts_call, sent_call, sub_call, top_up_of, top_ups_of};
 
 use crate::call::{Call, Flaw, Verb};
 use crate::foreign::is_foreign;
+use crate::lines::read_asks;
 use bytes::Bytes;
 use dcc_act::Sub;
+use dcc_octets::OctetString;
 use dcc_words::{parts, sub};
 use http::Request;
 use percent_encoding::percent_decode;
 use serde_json::Value;
 use std::alloc::{AllocError, Global};
+
+/// The most octets of the path of a folder.
+const MOST_PATH: usize = 1_024;
 
 /// The call of a request. The only error is want of memory.
 pub(crate) fn call_for(alloc: Global, request: &Request<Bytes>) -> Result<Call, AllocError>
@@ -48,7 +54,7 @@ fn parts_call(
     ensures { IfOk result (λ call. call ≡ parts_call method.now (map (λ word. word.now) words.now) body.now) }
 {
     match words {
-        [root, page] => Ok(root_call(method, root, page)),
+        [root, page] => root_call(alloc, method, root, page, body),
         [root, subs, who] => account_call(alloc, method, is_of_subs(root, subs), who),
         [root, subs, who, page] => {
             if is_of_subs(root, subs) {
@@ -62,13 +68,20 @@ fn parts_call(
 }
 
 /// The call of a path of two parts.
-fn root_call(method: &[u8], root: &[u8], page: &[u8]) -> Call
-    ensures { result ≡ (if length root.now == 0 then page_call method.now page.now else Call.Flawed Flaw.Path) }
+fn root_call(
+    alloc: Global,
+    method: &[u8],
+    root: &[u8],
+    page: &[u8],
+    body: &[u8],
+) -> Result<Call, AllocError>
+    ensures { IfOk result (λ call. call
+        ≡ (if length root.now == 0 then page_call method.now page.now body.now else Call.Flawed Flaw.Path)) }
 {
     if root.is_empty() {
-        page_call(method, page)
+        page_call(alloc, method, page, body)
     } else {
-        Call::Flawed(Flaw::Path)
+        Ok(Call::Flawed(Flaw::Path))
     }
 }
 
@@ -141,19 +154,55 @@ fn top_up_call(alloc: Global, sub: Sub, body: &[u8]) -> Result<Call, AllocError>
     }
 }
 
-/// The call of a page.
+/// The call of a page. The only error is want of memory.
 #[tactic(auto, unfolding(crate::specs::Calls::page_call))]
-fn page_call(method: &[u8], page: &[u8]) -> Call
-    ensures { result ≡ page_call method.now page.now }
+fn page_call(alloc: Global, method: &[u8], page: &[u8], body: &[u8]) -> Result<Call, AllocError>
+    ensures { IfOk result (λ call. call ≡ page_call method.now page.now body.now) }
 {
     if page == b"health".as_slice() {
-        by(Verb::Get, method, Call::Health)
+        Ok(by(Verb::Get, method, Call::Health))
+    } else if page == b"metrics".as_slice() {
+        Ok(by(Verb::Get, method, Call::Metrics))
     } else if page == b"sweep".as_slice() {
-        by(Verb::Post, method, Call::Sweep)
+        Ok(by(Verb::Post, method, Call::Sweep))
     } else if page == b"stop".as_slice() {
-        by(Verb::Post, method, Call::Stop)
+        Ok(by(Verb::Post, method, Call::Stop))
     } else {
-        Call::Flawed(Flaw::Path)
+        sent_call(alloc, method, page, body)
+    }
+}
+
+/// The call of a page to which a body is sent. The only error is want of memory.
+#[tactic(auto, unfolding(crate::specs::Calls::sent_call))]
+fn sent_call(alloc: Global, method: &[u8], page: &[u8], body: &[u8]) -> Result<Call, AllocError>
+    ensures { IfOk result (λ call. call ≡ sent_call method.now page.now body.now) }
+{
+    if page == b"topups".as_slice() {
+        Ok(by(Verb::Post, method, top_ups_call(alloc, body)?))
+    } else if page == b"backup".as_slice() {
+        Ok(by(Verb::Post, method, backup_call(alloc, body)?))
+    } else {
+        Ok(Call::Flawed(Flaw::Path))
+    }
+}
+
+/// The call of many top-ups by its body. The only error is want of memory.
+fn top_ups_call(alloc: Global, body: &[u8]) -> Result<Call, AllocError>
+    ensures { IfOk result (λ call. call ≡ top_ups_of (asks_of body.now)) }
+{
+    match read_asks(alloc, body)? {
+        Ok(asks) => Ok(Call::TopUps(asks)),
+        Err(line) => Ok(Call::Flawed(Flaw::Line(line))),
+    }
+}
+
+/// The call of a backup by its body. The only error is want of memory.
+fn backup_call(alloc: Global, body: &[u8]) -> Result<Call, AllocError>
+    ensures { IfOk result (λ call. call ≡ backup_of (folder_of body.now)) }
+{
+    match folder_of(alloc, body)? {
+        Some(folder) => Ok(Call::Backup(folder)),
+        None => Ok(Call::Flawed(Flaw::Folder)),
     }
 }
 
@@ -164,6 +213,8 @@ fn by(verb: Verb, method: &[u8], call: Call) -> Call
     if method == name_of(verb) {
         call
     } else {
+        // By a call: a call that is let go in place is proved part by part.
+        drop(call);
         Call::Flawed(Flaw::Method(verb))
     }
 }
@@ -213,7 +264,7 @@ fn ask_of(alloc: Global, body: &[u8]) -> Result<Option<(u64, u64)>, AllocError>
 }
 
 fn is_ascii(body: &[u8]) -> bool
-    ensures { result ≡ list_all (λ octet. nat_lt octet 128) body.now }
+    ensures { result ≡ is_ascii body.now }
 {
     body.iter().all(|octet| *octet < 128)
 }
@@ -225,4 +276,79 @@ fn ask_in(value: &Value) -> Option<(u64, u64)>
     let ticket = value.get("ticket").and_then(Value::as_u64)?;
     let amount = value.get("amount").and_then(Value::as_u64)?;
     Some((ticket, amount))
+}
+
+/// The folder of a body. The only error is want of memory.
+#[tactic(auto, unfolding(crate::specs::Calls::folder_of))]
+fn folder_of(alloc: Global, body: &[u8]) -> Result<Option<OctetString>, AllocError>
+    ensures { IfOk result (λ folder. folder ≡ folder_of body.now) }
+{
+    if !is_ascii(body) {
+        return Ok(None);
+    }
+    match Value::from_slice(alloc, body) {
+        Ok(value) => {
+            let folder = folder_in(alloc, &value);
+            // By a call: a value that is let go in place is proved part by part.
+            drop(value);
+            folder
+        }
+        Err(error) => {
+            if error.is_memory() {
+                Err(AllocError)
+            } else {
+                Ok(None)
+            }
+        }
+    }
+}
+
+/// The folder of an object in JSON. The only error is want of memory.
+fn folder_in(alloc: Global, value: &Value) -> Result<Option<OctetString>, AllocError>
+    ensures { IfOk result (λ folder. folder ≡ folder_in (view value.now)) }
+{
+    match value.get("folder").and_then(Value::as_str) {
+        Some(path) => if_folder(alloc, path.as_bytes()),
+        None => Ok(None),
+    }
+}
+
+/// A copy of a path, if it is the path of a folder. The only error is want of memory.
+fn if_folder(alloc: Global, path: &[u8]) -> Result<Option<OctetString>, AllocError>
+    ensures { IfOk result (λ folder. folder ≡ if_folder path.now) }
+{
+    if !is_folder(path) {
+        return Ok(None);
+    }
+    let folder = Vec::from_slice(alloc, path)?;
+    Ok(Some(OctetString::from_vec(folder)))
+}
+
+/// Whether a path is that of a folder: from the root, and of 1 to 1,024 characters of ASCII.
+fn is_folder(path: &[u8]) -> bool
+    ensures { result ≡ is_folder path.now }
+{
+    is_absolute(path) && path.len() <= MOST_PATH && are_printed(path)
+}
+
+fn is_absolute(path: &[u8]) -> bool
+    ensures { result ≡ is_absolute path.now }
+{
+    match path {
+        [] => false,
+        [first, ..] => *first == b'/',
+    }
+}
+
+fn are_printed(path: &[u8]) -> bool
+    ensures { result ≡ list_all is_printed path.now }
+{
+    path.iter().all(|octet| is_printed(*octet))
+}
+
+/// Whether an octet is a character of ASCII and no control character.
+fn is_printed(octet: u8) -> bool
+    ensures { result ≡ is_printed octet }
+{
+    32 <= octet && octet <= 126
 }

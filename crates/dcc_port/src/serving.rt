@@ -5,7 +5,7 @@ ghost use Rattle.http_server.specs.History.{History, IsDone};
 ghost use Rattle.dcc_port.specs.Serving.{IsServing};
 
 use crate::operator::Operator;
-use crate::port::{Ender, Port};
+use crate::port::{Port, Server};
 use dcc_connect::Clock;
 use dcc_running::{Seat, Shards};
 use dcc_store::Records;
@@ -22,13 +22,13 @@ use std::sync::Wait;
 /// The condition: there are so many shards.
 ///
 /// Errors: those of the reader and the writer, and want of memory for what the reader sends. What was done before an error stands.
-pub fn serve_calls<W: Wait, R: Records, C: Clock, E: Ender, I: Read, O: Write>(
+pub fn serve_calls<W: Wait, R: Records, C: Clock, S: Server, I: Read, O: Write>(
     rt: &W,
     alloc: Global,
     shards: &Shards<R>,
     count: usize,
     clock: &mut C,
-    ender: &mut E,
+    server: &mut S,
     seat: &mut Seat,
     keys: RandomState,
     reader: &mut I,
@@ -36,9 +36,9 @@ pub fn serve_calls<W: Wait, R: Records, C: Clock, E: Ender, I: Read, O: Write>(
 ) -> io::Result<()>
     requires { count ≡ shards.now.count }
     ensures { (h : History) × OnOk result (IsDone h)
-        × IsServing R.is_stopped C.tells E.ends count (I.remaining reader.old) (I.remaining reader.new)
+        × IsServing R.is_stopped C.tells S.rules count (I.remaining reader.old) (I.remaining reader.new)
         (O.contents writer.old) (O.contents writer.new)
-        (record { clock = clock.old; seat = seat.old; ender = ender.old }) (record { clock = clock.new; seat = seat.new; ender = ender.new }) h }
+        (record { clock = clock.old; seat = seat.old; server = server.old }) (record { clock = clock.new; seat = seat.new; server = server.new }) h }
 {
     let port = Port { shards, count };
     // One answer at a time: so a call to stop is heard before the calls behind it.
@@ -52,7 +52,7 @@ pub fn serve_calls<W: Wait, R: Records, C: Clock, E: Ender, I: Read, O: Write>(
         alloc,
         port: &port,
         clock,
-        ender,
+        server,
         seat,
     };
     let served = serve(&mut connection, &mut operator, reader, writer);

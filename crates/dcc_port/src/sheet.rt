@@ -1,6 +1,6 @@
 //! Responses.
 
-ghost use Rattle.std.specs.Prelude.{◌≡◌, ◌∷◌, ◌++◌, [], ◌≤◌, ◌+◌, length, vec_len, vec_capacity, OnOk, OnErr};
+ghost use Rattle.std.specs.Prelude.{◌≡◌, ◌∷◌, ◌++◌, [], ◌≤◌, ◌+◌, length, vec_len, vec_capacity, IfOk, OnOk, OnErr};
 ghost use Rattle.http_server.specs.Response.{IsBlank, IsResponse, fields_of};
 ghost use Rattle.dcc_port.specs.Calls.{name_of};
 ghost use Rattle.dcc_port.specs.Sheets.{IsSheet, IsShort, flaw_sheet, flaw_status, flaw_text, type_of, type_field};
@@ -9,13 +9,15 @@ use crate::call::{Flaw, Verb};
 use bytes::BufMut;
 use http::{HeaderName, HeaderValue, StatusCode};
 use http_server::Response;
-use std::alloc::AllocError;
+use std::alloc::{AllocError, Global};
 
 /// The media types of texts.
 #[derive(Clone, Copy)]
 pub(crate) enum Kind {
     Json,
     Plain,
+    /// The counters of a server, in the format of Prometheus.
+    Metrics,
 }
 
 /// Room for one field, and for a text of so many octets.
@@ -68,11 +70,12 @@ pub(crate) fn put_short(response: &mut Response)
 }
 
 /// Writes the refusal of a request. The only error is want of memory.
-pub(crate) fn put_flaw(response: &mut Response, flaw: Flaw) -> Result<(), AllocError>
+pub(crate) fn put_flaw(alloc: Global, response: &mut Response, flaw: Flaw) -> Result<(), AllocError>
     requires { IsBlank response.old }
     ensures { OnOk result (IsSheet (flaw_sheet flaw) response.new) }
 {
-    put(response, flaw_status(flaw), Kind::Json, flaw_text(flaw))?;
+    let text = flaw_text(alloc, flaw)?;
+    put(response, flaw_status(flaw), Kind::Json, text.as_slice())?;
     if let Flaw::Method(verb) = flaw {
         response.add_header(HeaderName::from_static("allow"), allowed(verb))?;
     }
@@ -85,25 +88,38 @@ fn flaw_status(flaw: Flaw) -> StatusCode
     match flaw {
         Flaw::Path => StatusCode::NOT_FOUND,
         Flaw::Method(_) => StatusCode::METHOD_NOT_ALLOWED,
-        Flaw::Subscriber | Flaw::Body => StatusCode::BAD_REQUEST,
+        Flaw::Subscriber | Flaw::Body | Flaw::Line(_) | Flaw::Folder => StatusCode::BAD_REQUEST,
         Flaw::Foreign => StatusCode::FORBIDDEN,
     }
 }
 
-fn flaw_text(flaw: Flaw) -> &'static [u8]
-    ensures { result.now ≡ flaw_text flaw }
+/// The text of a refusal. The only error is want of memory.
+fn flaw_text(alloc: Global, flaw: Flaw) -> Result<Vec<u8>, AllocError>
+    ensures { IfOk result (λ text. text.items ≡ flaw_text flaw) }
 {
     match flaw {
-        Flaw::Path => PATH_TEXT,
-        Flaw::Method(_) => METHOD_TEXT,
-        Flaw::Subscriber => SUBSCRIBER_TEXT,
-        Flaw::Body => BODY_TEXT,
-        Flaw::Foreign => FOREIGN_TEXT,
+        Flaw::Path => Vec::from_slice(alloc, PATH_TEXT),
+        Flaw::Method(_) => Vec::from_slice(alloc, METHOD_TEXT),
+        Flaw::Subscriber => Vec::from_slice(alloc, SUBSCRIBER_TEXT),
+        Flaw::Body => Vec::from_slice(alloc, BODY_TEXT),
+        Flaw::Line(line) => line_text(alloc, line),
+        Flaw::Folder => Vec::from_slice(alloc, FOLDER_TEXT),
+        Flaw::Foreign => Vec::from_slice(alloc, FOREIGN_TEXT),
     }
 }
 
+/// The refusal of a line. The only error is want of memory.
+fn line_text(alloc: Global, line: u64) -> Result<Vec<u8>, AllocError>
+    ensures { IfOk result (λ text. text.items ≡ flaw_text (Flaw.Line line)) }
+{
+    let text = format!(in alloc;
+        "{{\"error\":\"unreadable top-up\",\"in\":\"line {line}\",\"expected\":\"SUB TICKET AMOUNT\"}}"
+    )?;
+    Vec::from_slice(alloc, text.as_bytes())
+}
+
 const PATH_TEXT: &[u8] =
-    b"{\"error\":\"unknown path\",\"in\":\"path\",\"expected\":\"/health, /subscribers/SUB, its /ledger or /topups, /sweep or /stop\"}";
+    b"{\"error\":\"unknown path\",\"in\":\"path\",\"expected\":\"/health, /metrics, /subscribers/SUB, its /ledger or /topups, /topups, /sweep, /backup or /stop\"}";
 
 const METHOD_TEXT: &[u8] =
     b"{\"error\":\"other method\",\"in\":\"method\",\"expected\":\"the method of the field allow\"}";
@@ -113,6 +129,9 @@ const SUBSCRIBER_TEXT: &[u8] =
 
 const BODY_TEXT: &[u8] =
     b"{\"error\":\"unreadable top-up\",\"in\":\"body\",\"expected\":\"{\\\"ticket\\\":N,\\\"amount\\\":N} in ASCII\"}";
+
+const FOLDER_TEXT: &[u8] =
+    b"{\"error\":\"unreadable folder\",\"in\":\"body\",\"expected\":\"{\\\"folder\\\":\\\"/PATH\\\"} in ASCII, with at most 1024 octets\"}";
 
 const FOREIGN_TEXT: &[u8] =
     b"{\"error\":\"page of a browser\",\"in\":\"fields\",\"expected\":\"no origin, and a host in numbers, as 127.0.0.1\"}";
@@ -132,5 +151,6 @@ fn content_type(kind: Kind) -> HeaderValue
     match kind {
         Kind::Json => HeaderValue::from_static("application/json"),
         Kind::Plain => HeaderValue::from_static("text/plain; charset=utf-8"),
+        Kind::Metrics => HeaderValue::from_static("text/plain; version=0.0.4"),
     }
 }

@@ -1,60 +1,45 @@
 //! Sweeps.
 
-ghost use Rattle.std.specs.Prelude.{◌≡◌, OnOk, OnErr, IfOk};
-ghost use Rattle.std.specs.List.{FoldsTo};
-ghost use Rattle.dcc_port.specs.Answers.{AreAllSubs, EndsOne, IsSwept, tally_with};
+ghost use Rattle.std.specs.Prelude.{◌≡◌, ◌≤◌, ◌<◌, OnErr, IfOk, length};
+ghost use Rattle.dcc_port.specs.Answers.{AreAllSubs, ArePiecesSwept, IsSwept};
+ghost use Rattle.dcc_running.specs.Batches.{CountsEach};
 
-use crate::port::Port;
+use crate::port::{Port, Server};
 use dcc_act::{Moment, Sub};
 use dcc_connect::Clock;
-use dcc_running::Seat;
-use dcc_shard::ExpiryAnswer;
+use dcc_running::{Seat, Tally};
 use dcc_store::Records;
 use std::alloc::{AllocError, Global};
 use std::sync::Wait;
 
-/// The sessions that a sweep ended, and the subscribers that it refused.
+/// Of at most so many subscribers of a shard the due sessions are ended together, under one lock and by one append.
+pub(crate) const MOST_AT_ONCE: usize = 64;
+
+/// What a sweep came to.
 #[derive(Clone, Copy, Debug)]
-pub(crate) struct Tally {
-    pub sessions: u64,
-    pub refused: u64,
+pub(crate) struct Swept {
+    pub tally: Tally,
+    /// Whether no subscriber was left out.
+    pub whole: bool,
 }
 
-impl Tally {
-    /// With one answer more.
-    fn with(self, answer: ExpiryAnswer) -> Tally
-        ensures { result ≡ tally_with self answer }
-    {
-        match answer {
-            ExpiryAnswer::Closed { sessions, .. } => Tally {
-                sessions: self.sessions.saturating_add(sessions),
-                refused: self.refused,
-            },
-            ExpiryAnswer::Nothing => self,
-            ExpiryAnswer::Refused => Tally {
-                sessions: self.sessions,
-                refused: self.refused.saturating_add(1),
-            },
-        }
-    }
-}
-
-/// Ends the due sessions of each subscriber of each shard, at the clock's moment. It waits for the shards' locks. The only error is want of memory:
-/// then nothing was done.
-pub(crate) fn sweep<W: Wait, R: Records, C: Clock>(
+/// Ends the due sessions of each subscriber of each shard, at the clock's moment, piece by piece. It ends early if the server is to end. It waits for the
+/// shards' locks. The only error is want of memory: then nothing was done.
+pub(crate) fn sweep<W: Wait, R: Records, C: Clock, S: Server>(
     rt: &W,
     alloc: Global,
     port: &Port<'_, R>,
     clock: &mut C,
+    server: &S,
     seat: &mut Seat,
-) -> Result<Tally, AllocError>
-    ensures swept { IfOk result (λ tally. IsSwept C.tells port.now.count (clock.old, seat.old) tally (clock.new, seat.new)) }
+) -> Result<Swept, AllocError>
+    ensures swept { IfOk result (λ swept. IsSwept C.tells S.rules port.now.count server.now (clock.old, seat.old) swept (clock.new, seat.new)) }
     ensures clock { OnErr result (clock.new ≡ clock.old) }
     ensures seat { OnErr result (seat.new ≡ seat.old) }
 {
     let subs = all_subs(rt, alloc, port)?;
     let moment = clock.moment();
-    Ok(end_each(rt, alloc, port, seat, subs.as_slice(), moment))
+    Ok(end_pieces(rt, alloc, port, server, seat, subs.as_slice(), moment))
 }
 
 /// The subscribers of each shard. The only error is want of memory.
@@ -73,8 +58,53 @@ fn all_subs<W: Wait, R: Records>(
     Ok(all)
 }
 
-/// Ends the due sessions of these subscribers.
-fn end_each<W: Wait, R: Records>(
+/// Ends the due sessions of these subscribers, piece by piece, until the server is to end.
+fn end_pieces<W: Wait, R: Records, S: Server>(
+    rt: &W,
+    alloc: Global,
+    port: &Port<'_, R>,
+    server: &S,
+    seat: &mut Seat,
+    subs: &[Sub],
+    moment: Moment,
+) -> Swept
+    ensures { ArePiecesSwept S.rules server.now moment subs.now seat.old result seat.new }
+{
+    let mut tally = Tally::none();
+    let mut at = 0;
+    while at < subs.len() {
+        if server.is_ended() {
+            return Swept {
+                tally,
+                whole: false,
+            };
+        }
+        let len = piece_len(port, &subs[at..]);
+        let piece = &subs[at..at + len];
+        let part = end_piece(rt, alloc, port, seat, piece, moment);
+        tally = tally.sum(part);
+        at += len;
+    }
+    Swept { tally, whole: true }
+}
+
+/// The number of the first subscribers that one shard keeps, up to [`MOST_AT_ONCE`].
+fn piece_len<R: Records>(port: &Port<'_, R>, subs: &[Sub]) -> usize
+    requires { 0 < length subs.now }
+    ensures some { 0 < result }
+    ensures few { result ≤ MOST_AT_ONCE }
+    ensures within { result ≤ length subs.now }
+{
+    let shard = port.shards.index_of(&subs[0]);
+    let mut len = 1;
+    while len < subs.len() && len < MOST_AT_ONCE && port.shards.index_of(&subs[len]) == shard {
+        len += 1;
+    }
+    len
+}
+
+/// Ends the due sessions of these subscribers, together if they are different and of one shard.
+fn end_piece<W: Wait, R: Records>(
     rt: &W,
     alloc: Global,
     port: &Port<'_, R>,
@@ -82,15 +112,11 @@ fn end_each<W: Wait, R: Records>(
     subs: &[Sub],
     moment: Moment,
 ) -> Tally
-    ensures { FoldsTo (EndsOne moment) (seat.old, record { sessions = 0; refused = 0 }) subs.now (seat.new, result) }
+    ensures { CountsEach moment subs.now seat.old seat.new result }
 {
-    let mut tally = Tally {
-        sessions: 0,
-        refused: 0,
-    };
-    for sub in subs {
-        let answer = port.shards.expire(rt, alloc, seat, *sub, moment);
-        tally = tally.with(answer);
+    if port.shards.is_one_batch(subs) {
+        port.shards.expire_all(rt, alloc, seat, subs, moment)
+    } else {
+        port.shards.expire_each(rt, alloc, seat, subs, moment)
     }
-    tally
 }

@@ -2,119 +2,115 @@
 
 ghost use Rattle.std.specs.Prelude.{◌≡◌, ◌++◌, [], IfOk, OnOk, string_bytes};
 ghost use Rattle.http_server.specs.Response.{IsBlank};
-ghost use Rattle.std.specs.List.{flat_map, list_any};
-ghost use Rattle.dcc_port.specs.Sheets.{escaped, listed, money_text, sub_text, with_index};
-ghost use Rattle.dcc_port.specs.Sheets.{IsSheet, account_sheet, health_sheet, stop_sheet, sweep_sheet, unknown_sheet};
+ghost use Rattle.std.specs.List.{list_any};
+ghost use Rattle.dcc_port.specs.Sheets.{gauge_text, gauge_value, gauges, listed, sweep_end, sweep_status, sweep_text, with_index};
+ghost use Rattle.dcc_port.specs.Sheets.{IsSheet, health_sheet, metrics_sheet, stop_sheet, sweep_sheet, unknown_sheet};
 
 use crate::sheet::{Kind, put};
-use dcc_act::Sub;
+use crate::sweeping::Swept;
 use http::StatusCode;
 use http_server::Response;
 use std::alloc::{AllocError, Global};
-
-/// The money of an account, in minor units, and the number of its acts.
-#[derive(Clone, Copy, Debug)]
-pub(crate) struct Money {
-    pub funds: i128,
-    pub reserved: i128,
-    pub free: i128,
-    pub overrun: i128,
-    pub acts: u64,
-}
-
-/// Adds the money of an account to a text.
-fn put_money(alloc: Global, text: &mut Vec<u8>, money: &Money) -> Result<(), AllocError>
-    ensures { OnOk result (text.new.items ≡ text.old.items ++ money_text money.now) }
-{
-    let line = money_line(
-        alloc,
-        money.funds,
-        money.reserved,
-        money.free,
-        money.overrun,
-        money.acts,
-    )?;
-    text.extend_from_slice(line.as_bytes())
-}
-
-/// The money of an account as text.
-fn money_line(
-    alloc: Global,
-    funds: i128,
-    reserved: i128,
-    free: i128,
-    overrun: i128,
-    acts: u64,
-) -> Result<String, AllocError>
-    ensures { IfOk result (λ line. string_bytes line
-        ≡ money_text (record { funds = funds; reserved = reserved; free = free; overrun = overrun; acts = acts })) }
-{
-    let line = format!(in alloc;
-        ",\"funds\":{funds},\"reserved\":{reserved},\"free\":{free},\"overrun\":{overrun},\"acts\":{acts}}}"
-    )?;
-    Ok(line)
-}
-
-/// Adds a subscriber in JSON to a text.
-fn put_sub(alloc: Global, text: &mut Vec<u8>, sub: &Sub) -> Result<(), AllocError>
-    ensures { OnOk result (text.new.items ≡ text.old.items ++ sub_text sub.now) }
-{
-    let kind = sub.kind();
-    let head = format!(in alloc; "\"{kind}:")?;
-    text.extend_from_slice(head.as_bytes())?;
-    put_escaped(text, sub.name())?;
-    text.extend_from_slice(b"\"")
-}
-
-/// Adds octets to a text in JSON.
-fn put_escaped(text: &mut Vec<u8>, octets: &[u8]) -> Result<(), AllocError>
-    ensures { OnOk result (text.new.items ≡ text.old.items ++ flat_map escaped octets.now) }
-{
-    for octet in octets {
-        put_octet(text, *octet)?;
-    }
-    Ok(())
-}
-
-/// Adds an octet to a text in JSON.
-fn put_octet(text: &mut Vec<u8>, octet: u8) -> Result<(), AllocError>
-    ensures { OnOk result (text.new.items ≡ text.old.items ++ escaped octet) }
-{
-    if octet == b'"' || octet == b'\\' {
-        text.extend_from_slice(&[b'\\', octet])
-    } else {
-        text.extend_from_slice(&[octet])
-    }
-}
-
-/// Writes an account. The only error is want of memory.
-pub(crate) fn put_account(
-    alloc: Global,
-    response: &mut Response,
-    sub: &Sub,
-    money: &Money,
-) -> Result<(), AllocError>
-    requires { IsBlank response.old }
-    ensures { OnOk result (IsSheet (account_sheet sub.now money.now) response.new) }
-{
-    let mut text = Vec::from_slice(alloc, b"{\"subscriber\":")?;
-    put_sub(alloc, &mut text, sub)?;
-    put_money(alloc, &mut text, money)?;
-    put(response, StatusCode::OK, Kind::Json, text.as_slice())
-}
 
 /// Writes a sweep. The only error is want of memory.
 pub(crate) fn put_sweep(
     alloc: Global,
     response: &mut Response,
-    sessions: u64,
-    refused: u64,
+    swept: Swept,
 ) -> Result<(), AllocError>
     requires { IsBlank response.old }
-    ensures { OnOk result (IsSheet (sweep_sheet sessions refused) response.new) }
+    ensures { OnOk result (IsSheet (sweep_sheet swept) response.new) }
 {
-    let text = format!(in alloc; "{{\"sessions\":{sessions},\"refused\":{refused}}}")?;
-    put(response, StatusCode::OK, Kind::Json, text.as_bytes())
+    let tally = swept.tally;
+    let text = sweep_text(alloc, tally.sessions, tally.refused, sweep_end(swept.whole))?;
+    put(
+        response,
+        sweep_status(swept.whole),
+        Kind::Json,
+        text.as_bytes(),
+    )
+}
+
+fn sweep_status(whole: bool) -> StatusCode
+    ensures { result ≡ sweep_status whole }
+{
+    if whole {
+        StatusCode::OK
+    } else {
+        StatusCode::SERVICE_UNAVAILABLE
+    }
+}
+
+fn sweep_end(whole: bool) -> &'static str
+    ensures { result.now ≡ sweep_end whole }
+{
+    if whole { "}" } else { ",\"told\":\"ended\"}" }
+}
+
+/// A sweep as text. The only error is want of memory.
+#[tactic(auto, unfolding(crate::specs::Sheets::sweep_text))]
+fn sweep_text(alloc: Global, sessions: u64, refused: u64, end: &str) -> Result<String, AllocError>
+    ensures { IfOk result (λ text. string_bytes text ≡ sweep_text sessions refused end.now) }
+{
+    let text = format!(in alloc; "{{\"sessions\":{sessions},\"refused\":{refused}{end}")?;
+    Ok(text)
+}
+
+/// Writes the server's counters, and whether each shard has stopped. The only error is want of memory.
+pub(crate) fn put_metrics(
+    alloc: Global,
+    response: &mut Response,
+    page: Vec<u8>,
+    told: &[bool],
+) -> Result<(), AllocError>
+    requires { IsBlank response.old }
+    ensures { OnOk result (IsSheet (metrics_sheet page.items told.now) response.new) }
+{
+    let mut text = page;
+    text.extend_from_slice(GAUGE_HEAD)?;
+    put_gauges(alloc, &mut text, told)?;
+    put(response, StatusCode::OK, Kind::Metrics, text.as_slice())
+}
+
+const GAUGE_HEAD: &[u8] =
+    b"# HELP dcc_shard_stopped Whether the records of a shard have failed.\n# TYPE dcc_shard_stopped gauge\n";
+
+/// Adds to a text whether each shard has stopped, a line for each.
+fn put_gauges(alloc: Global, text: &mut Vec<u8>, told: &[bool]) -> Result<(), AllocError>
+    ensures { OnOk result (text.new.items ≡ text.old.items ++ gauges 0 told.now) }
+{
+    for (i, stopped) in told.iter().enumerate() {
+        put_gauge(alloc, text, i, *stopped)?;
+    }
+    Ok(())
+}
+
+/// Adds to a text whether a shard has stopped.
+fn put_gauge(
+    alloc: Global,
+    text: &mut Vec<u8>,
+    index: usize,
+    stopped: bool,
+) -> Result<(), AllocError>
+    ensures { OnOk result (text.new.items ≡ text.old.items ++ gauge_text index (gauge_value stopped)) }
+{
+    let line = gauge_text(alloc, index, gauge_value(stopped))?;
+    text.extend_from_slice(line.as_bytes())
+}
+
+/// A gauge of a shard, as text. The only error is want of memory.
+#[tactic(auto, unfolding(crate::specs::Sheets::gauge_text))]
+fn gauge_text(alloc: Global, index: usize, value: &str) -> Result<String, AllocError>
+    ensures { IfOk result (λ text. string_bytes text ≡ gauge_text index value.now) }
+{
+    let text = format!(in alloc; "dcc_shard_stopped{{shard=\"{index}\"}} {value}\n")?;
+    Ok(text)
+}
+
+fn gauge_value(stopped: bool) -> &'static str
+    ensures { result.now ≡ gauge_value stopped }
+{
+    if stopped { "1" } else { "0" }
 }
 
 /// Writes whether the server is well, by what each shard was found. The only error is want of memory.

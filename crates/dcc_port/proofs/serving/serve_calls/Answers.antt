@@ -12,8 +12,8 @@ use Rattle.dcc_port.specs.declared.operator.Operator.{Operator}
 use Rattle.dcc_port.proofs.Chains.{serving_all, to_port}
 use Rattle.dcc_port.proofs.serving.serve_calls.Goals as goal
 
-abbrev seen_as : {C E : Type 0} → C → List Receipt → E → PortView C E
-seen_as clock seat ender = record { clock = clock; seat = seat; ender = ender }
+abbrev seen_as : {C S : Type 0} → C → List Receipt → S → PortView C S
+seen_as clock seat server = record { clock = clock; seat = seat; server = server }
 
 pub returns : goal.returns
 returns g c =
@@ -28,14 +28,14 @@ returns g c =
     let sent : (history conn).sent ≡ written.0 = written.2 ∙ ap (λ (h : History). h.sent ++ written.0) fresh in
     let made : (history conn).calls ≡ called.0 = called.1 ∙ ap (λ (h : History). h.calls ++ called.0) fresh in
     let last = c.serve-served.new.service in
-    let all = serving_all (λ (o : Operator g.row.W.Denot g.row.R.Denot g.row.C.Denot g.row.E.Denot g.R.Records). seen_as o.clock.now o.seat.now o.ender.now)
-    (λ (o : Operator g.row.W.Denot g.row.R.Denot g.row.C.Denot g.row.E.Denot g.R.Records). o.port) (λ p. p.now.count)
-    (λ (o : Operator g.row.W.Denot g.row.R.Denot g.row.C.Denot g.row.E.Denot g.R.Records). o.clock.ghost_name)
-    (λ (o : Operator g.row.W.Denot g.row.R.Denot g.row.C.Denot g.row.E.Denot g.R.Records). o.ender.ghost_name)
-    (λ (o : Operator g.row.W.Denot g.row.R.Denot g.row.C.Denot g.row.E.Denot g.R.Records). o.seat.ghost_name)
-    g.R.Records.is_stopped g.C.Clock.tells g.E.Ender.ends c.args.count called.0 _ last refl called.2 in
+    let all = serving_all (λ (o : Operator g.row.W.Denot g.row.R.Denot g.row.C.Denot g.row.S.Denot g.R.Records). seen_as o.clock.now o.seat.now o.server.now)
+    (λ (o : Operator g.row.W.Denot g.row.R.Denot g.row.C.Denot g.row.S.Denot g.R.Records). o.port) (λ p. p.now.count)
+    (λ (o : Operator g.row.W.Denot g.row.R.Denot g.row.C.Denot g.row.S.Denot g.R.Records). o.clock.ghost_name)
+    (λ (o : Operator g.row.W.Denot g.row.R.Denot g.row.C.Denot g.row.S.Denot g.R.Records). o.server.ghost_name)
+    (λ (o : Operator g.row.W.Denot g.row.R.Denot g.row.C.Denot g.row.S.Denot g.R.Records). o.seat.ghost_name)
+    g.R.Records.is_stopped g.C.Clock.tells g.S.Server.rules c.args.count called.0 _ last refl called.2 in
     let clock = sym all.1 in
-    let ender = sym all.2 in
+    let server = sym all.2 in
     let seat = sym all.3 in (
       history conn,
       c.serve-served.ensures.done,
@@ -46,9 +46,9 @@ returns g c =
         most = ap (λ (f : Config). f.max_body_len) config ∙ c.default.ensures.0;
         head = ap (λ (f : Config). f.limits.max_head_len) config ∙ c.default.ensures.3;
         served = always_served conn;
-        calls = to_port (λ old request response new. Responds g.R.Records.is_stopped g.C.Clock.tells g.E.Ender.ends c.args.count (call_for request) old response new)
-            (seen_as c.args.clock.now c.args.seat.now c.args.ender.now) (history conn).calls (search (rules, clock)) (search (rules, seat)) (search (rules, ender))
-            (subst (λ (calls : List Call). Chain (λ old request response new. Responds g.R.Records.is_stopped g.C.Clock.tells g.E.Ender.ends c.args.count (call_for request) old response new)
-            (seen_as c.args.clock.now c.args.seat.now c.args.ender.now) calls (seen_as last.clock.now last.seat.now last.ender.now)) (sym made) all.0);
+        calls = to_port (λ old request response new. Responds g.R.Records.is_stopped g.C.Clock.tells g.S.Server.rules c.args.count (call_for request) old response new)
+            (seen_as c.args.clock.now c.args.seat.now c.args.server.now) (history conn).calls (search (rules, clock)) (search (rules, seat)) (search (rules, server))
+            (subst (λ (calls : List Call). Chain (λ old request response new. Responds g.R.Records.is_stopped g.C.Clock.tells g.S.Server.rules c.args.count (call_for request) old response new)
+            (seen_as c.args.clock.now c.args.seat.now c.args.server.now) calls (seen_as last.clock.now last.seat.now last.server.now)) (sym made) all.0);
       },
     )

@@ -5,10 +5,10 @@ use Rattle.dcc_port.proofs.operator.Operator.sweep.Goals as goal
 
 pub returns-clause-answer : goal.returns-clause-answer
 returns-clause-answer g c =
-    let tally = c.in_ok-tally.tally in
-    on_ok c.put_sweep.result (λ is. (sweep_sheet tally.sessions tally.refused, is, (tally, c.in_ok-tally.ensures.swept, refl, refl))) c.put_sweep.ensures
+    let swept = c.in_ok-swept.swept in
+    on_ok c.put_sweep.result (λ is. (sweep_sheet swept, is, (swept, c.in_ok-swept.ensures.swept, refl, refl))) c.put_sweep.ensures
 
 pub returns-clause-unsaid : goal.returns-clause-unsaid
 returns-clause-unsaid g c =
-    let tally = c.in_ok-tally.tally in
-    on_err c.put_sweep.result (inr (refl, (sweep_sheet tally.sessions tally.refused, (tally, c.in_ok-tally.ensures.swept, refl, refl))))
+    let swept = c.in_ok-swept.swept in
+    on_err c.put_sweep.result (inr (refl, (sweep_sheet swept, (swept, c.in_ok-swept.ensures.swept, refl, refl))))

@@ -1,7 +1,7 @@
 use Rattle.std.proofs.Common.{FitsSigned, to_z-of_z}
 use Rattle.std.specs.Int.{w128}
-use Rattle.dcc_port.specs.Sheets.{money_text}
-use Rattle.dcc_port.proofs.texts.money_line.Goals as goal
+use Rattle.dcc_port.specs.Accounts.{money_text}
+use Rattle.dcc_port.proofs.account.money_line.Goals as goal
 
 pub returns : goal.returns
 unfolding money_text

@@ -1,0 +1,69 @@
+//! The top-ups of a text, a line for each.
+
+ghost use Rattle.std.specs.Prelude.{◌≡◌, map, IfOk};
+ghost use Rattle.dcc_words.specs.Words.{words_of};
+ghost use Rattle.dcc_port.specs.Lines.{ask_at, ask_of_words, asks_of, is_remark};
+
+use crate::call::{Ask, Asks};
+use dcc_words::{any_u64, parts, sub};
+use std::alloc::{AllocError, Global};
+
+/// The top-ups of a text, in order, or the number of the first line that is none, from 1. A line has the words `SUB TICKET AMOUNT`. An empty line, and a
+/// line that begins with `#`, has no top-up. The only error is want of memory.
+pub(crate) fn read_asks(alloc: Global, text: &[u8]) -> Result<Result<Asks, u64>, AllocError>
+    ensures { IfOk result (λ asks. asks ≡ asks_of text.now) }
+{
+    let lines = parts(alloc, text, b'\n')?;
+    let mut asks = Asks::new(alloc);
+    for (i, line) in lines.iter().enumerate() {
+        if is_remark(line) {
+            continue;
+        }
+        match read_ask(alloc, line)? {
+            Some(ask) => asks.push(ask)?,
+            None => return Ok(Err(i as u64 + 1)),
+        }
+    }
+    Ok(Ok(asks))
+}
+
+/// Whether a line holds no top-up: it is empty, or begins with `#`.
+fn is_remark(line: &[u8]) -> bool
+    ensures { result ≡ is_remark line.now }
+{
+    match line {
+        [] => true,
+        [first, ..] => *first == b'#',
+    }
+}
+
+/// The top-up of a line, if it has the form. The only error is want of memory.
+fn read_ask(alloc: Global, line: &[u8]) -> Result<Option<Ask>, AllocError>
+    ensures { IfOk result (λ ask. ask ≡ ask_of_words (words_of line.now)) }
+{
+    let words = parts(alloc, line, b' ')?;
+    Ok(ask_of_words(words.as_slice()))
+}
+
+/// The top-up of a line's words, if they have the form.
+#[tactic(auto, unfolding(crate::specs::Lines::ask_of_words))]
+fn ask_of_words(words: &[&[u8]]) -> Option<Ask>
+    ensures { result ≡ ask_of_words (map (λ word. word.now) words.now) }
+{
+    match words {
+        [sub, ticket, amount] => ask_at(sub, ticket, amount),
+        _ => None,
+    }
+}
+
+/// The top-up of these words.
+#[tactic(auto, unfolding(crate::specs::Lines::ask_at))]
+fn ask_at(who: &[u8], ticket: &[u8], amount: &[u8]) -> Option<Ask>
+    ensures { result ≡ ask_at who.now ticket.now amount.now }
+{
+    Some(Ask {
+        sub: sub(who)?,
+        ticket: any_u64(ticket)?,
+        amount: any_u64(amount)?,
+    })
+}
