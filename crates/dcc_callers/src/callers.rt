@@ -11,9 +11,6 @@ use std::mem::replace;
 use std::sync::Wait;
 use std::test::Fail;
 
-/// So many debits each caller makes.
-pub const DEBITS: u32 = 90;
-
 /// A caller for a subscriber.
 #[derive(Drop)]
 pub struct Caller {
@@ -21,8 +18,6 @@ pub struct Caller {
     /// The name of its session.
     pub name: &'static [u8],
     pub seat: Seat,
-    /// The answers to its debits, in order.
-    pub told: Vec<OctetString>,
 }
 
 impl Caller {
@@ -39,7 +34,6 @@ impl Caller {
             sub: Sub::new(0, data).ok_or("a subscriber")?,
             name,
             seat: shards.seat(alloc)?,
-            told: Vec::new(alloc),
         })
     }
 
@@ -127,34 +121,6 @@ impl Caller {
         let moment = after(seconds)?;
         Some(shards.expire(rt, alloc, &mut self.seat, self.sub, moment))
     }
-
-    /// Makes its debits, and keeps the answers to the fresh ones.
-    pub fn debit_all<W: Wait, R: Records>(&mut self, rt: &W, alloc: Global, shards: &Shards<R>) {
-        for number in 0..DEBITS {
-            if let Some((octets, true)) = self.debit(rt, alloc, shards, number) {
-                let _pushed = self.told.push(octets);
-            }
-        }
-    }
-
-    /// Repeats its first debits, so many: how many get their first answer, and no second act.
-    pub fn repeat<W: Wait, R: Records>(
-        &mut self,
-        rt: &W,
-        alloc: Global,
-        shards: &Shards<R>,
-        count: u32,
-    ) -> u32 {
-        let mut same = 0u32;
-        for number in 0..count {
-            if let Some((octets, false)) = self.debit(rt, alloc, shards, number) {
-                if is_told(&self.told, number, &octets) {
-                    same = same.saturating_add(1);
-                }
-            }
-        }
-        same
-    }
 }
 
 /// The octets of an answer to an act that the books have, and whether it is fresh.
@@ -168,12 +134,5 @@ fn done(answer: RequestAnswer) -> Option<(OctetString, bool)> {
         RequestAnswer::Unknown { octets: _ }
         | RequestAnswer::Busy { octets: _ }
         | RequestAnswer::Silent => None,
-    }
-}
-
-fn is_told(told: &[OctetString], number: u32, octets: &OctetString) -> bool {
-    match told.get(number as usize) {
-        Some(first) => first.as_slice() == octets.as_slice(),
-        None => false,
     }
 }

@@ -38,7 +38,7 @@ fn service(alloc: Global) -> Service
 
 /// The request of this number in a session.
 fn key(alloc: Global, name: &[u8], number: u32) -> Option<RequestKey> {
-    let sid = SessionId::from_vec(name.to_vec(alloc).ok()?)?;
+    let sid = SessionId::from_slice(alloc, name).ok()??;
     Some(RequestKey { sid, number })
 }
 
@@ -63,7 +63,7 @@ fn job(alloc: Global, sub: Sub, act: Act, number: u32) -> Job
 }
 
 /// The act of a one-time event in a session of this name. None if there is no such name, or memory is short.
-pub fn event(alloc: Global, action: Action, name: &[u8], number: u32) -> Option<Act>
+fn event(alloc: Global, action: Action, name: &[u8], number: u32) -> Option<Act>
     ensures { IfSome result (λ act. is_some (request_key act.kind) ≡ true) }
 {
     let moment = after(0)?;

@@ -66,16 +66,6 @@ fn alone<R: Records + Drop>(alloc: Global, shard: Shard<R>) -> Result<Vec<Shard<
     Ok(shards)
 }
 
-/// This shard alone, under its lock.
-pub fn locked_alone<S: RandomSource + AllocGlobal, R: Records + Drop>(
-    rt: &S,
-    shard: Shard<R>,
-) -> Result<Shards<R>, Fail>
-    ensures { IfOk result (λ locked. 0 < locked.count) }
-{
-    locked_for(rt, alone(rt.alloc(), shard))
-}
-
 /// The one shard over these records, under its lock.
 pub fn one<S: RandomSource + AllocGlobal, R: Records + Drop>(
     rt: &S,
@@ -83,7 +73,8 @@ pub fn one<S: RandomSource + AllocGlobal, R: Records + Drop>(
 ) -> Result<Shards<R>, Fail>
     ensures { IfOk result (λ locked. 0 < locked.count) }
 {
-    locked_alone(rt, shard_over(rt, records)?)
+    let shard = shard_over(rt, records)?;
+    locked_for(rt, alone(rt.alloc(), shard))
 }
 
 /// Two shards over these records, each under its lock.

@@ -89,3 +89,7 @@ IsConnectFault number = (number ≡ 50) ⊎ (number ≡ 51)
 -- the number of the fault for which a file is refused: it isn't opened, or the database in it isn't opened as the store of the shard
 abbrev pub IsFileFault : {S : Type 0} → Ghosts S → PlanView → ℕ → ℕ → Type 0
 IsFileFault {S} g plan shard number = IsConnectFault number ⊎ ((conn : Held S) × IsOpenFault g plan shard conn number)
+
+-- the number of the fault for which the store of a shard is refused: its file is, or there is none and the file of another shard is
+abbrev pub IsStoreFault : {S : Type 0} → Ghosts S → PlanView → ℕ → ℕ → Type 0
+IsStoreFault g plan shard number = IsFileFault g plan shard number ⊎ ((other : ℕ) × IsFileFault g plan other number)

@@ -4,7 +4,7 @@ ghost use Rattle.std.specs.Prelude.{◌≡◌, ◌≢◌, None, IfOk, IfErr, IfS
 ghost use Rattle.sqlite.specs.Files.{file_state};
 ghost use Rattle.sqlite.specs.Held.{state};
 ghost use Rattle.sqlite.specs.State.{HasCleanDisk};
-ghost use Rattle.dcc_files.specs.Stores.{IsSettingOf, AreOfShard, UpgradesShard, HasNoSetting, SeesCommitted, IsConnectFault, IsOpenFault, IsFileFault, connect_number};
+ghost use Rattle.dcc_files.specs.Stores.{IsSettingOf, AreOfShard, UpgradesShard, HasNoSetting, SeesCommitted, IsConnectFault, IsOpenFault, IsStoreFault, connect_number};
 ghost use Rattle.dcc_sqlite_store.specs.Faults.{open_number, create_number};
 ghost use Rattle.dcc_sqlite_store.specs.Tables.{no_schema};
 ghost use Rattle.dcc_sqlite_store.specs.Trees.{IsUndone};
@@ -12,15 +12,15 @@ ghost use Rattle.dcc_sqlite_store.specs.Trees.{IsUndone};
 use crate::file_records::FileRecords;
 use crate::opening::open_or_upgrade;
 use dcc_sqlite_store::{CreateFault, OpenFault, Setting, SqlRecords};
-use dcc_startup::{StoreRefusal, Stores};
-use dcc_tariff::Plan;
+use dcc_startup::{Copies, CopyFault, StoreRefusal, Stores};
+use dcc_tariff::{MAX_SHARDS, Plan};
 use sqlite::{Alter, Connection, Error, ErrorCode, FileStore};
 use sqlite_std_file::File;
 use sqlite_trees::store::Store;
 use std::alloc::{AllocError, Global};
 use std::fs;
 use std::hash::RandomState;
-use std::io::Write;
+use std::io::{self, ErrorKind, Write};
 
 /// The fault of memory, and that of a database that failed.
 const MEMORY: StoreRefusal = StoreRefusal(50);
@@ -53,6 +53,14 @@ impl<'r> FileStores<'r> {
         }
     }
 
+    /// Whether there is a file for the store of a shard.
+    fn is_there(&self, folder: &str, shard: usize) -> Result<bool, StoreRefusal>
+        ensures { IfErr result (λ refusal. IsConnectFault refusal.0) }
+    {
+        let path = path_of(self.rt.alloc(), folder, shard).map_err(|_| MEMORY)?;
+        fs::exists(self.rt, path.as_str()).map_err(|_| DEVICE)
+    }
+
     /// Reports the upgrade of a store by a line on standard error. If the line can't be written, nothing else is done.
     fn report(&self, path: &str, upgraded: Option<u64>) {
         if let Some(count) = upgraded {
@@ -65,11 +73,28 @@ impl<'r> FileStores<'r> {
     }
 }
 
+impl Copies for FileStores<'_> {
+    fn make_folder(&self, into: &str) -> Result<(), CopyFault> {
+        match fs::create_dir(self.rt, into) {
+            Ok(()) => Ok(()),
+            Err(error) if error.kind() == ErrorKind::AlreadyExists => Err(CopyFault::There),
+            Err(_) => Err(CopyFault::Io),
+        }
+    }
+
+    fn copy(&self, folder: &str, shard: usize, into: &str) -> Result<(), CopyFault> {
+        match copy_store(self.rt, folder, shard, into) {
+            Ok(()) => Ok(()),
+            Err(_) => Err(CopyFault::Io),
+        }
+    }
+}
+
 impl Stores for FileStores<'_> {
     type Records = FileRecords;
 
     // Which files there are is the system's word, and has no clause.
-    ghost refuses = { λ _ _ plan shard number. IsFileFault ⟦<FileStore<File> as Store>⟧ plan shard number };
+    ghost refuses = { λ _ _ plan shard number. IsStoreFault ⟦<FileStore<File> as Store>⟧ plan shard number };
 
     // If the disk has returned the written octets, the setting in the tables is that of the shard under the plan. No clause says what else files
     // hold, and in which folder they are.
@@ -82,11 +107,11 @@ impl Stores for FileStores<'_> {
         shard: usize,
         hasher: RandomState,
     ) -> Result<Option<FileRecords>, StoreRefusal> {
-        let alloc = self.rt.alloc();
-        let path = path_of(alloc, folder, shard).map_err(|_| MEMORY)?;
-        if !fs::exists(self.rt, path.as_str()).map_err(|_| DEVICE)? {
+        if !self.is_there(folder, shard)? {
             return Ok(None);
         }
+        let alloc = self.rt.alloc();
+        let path = path_of(alloc, folder, shard).map_err(|_| MEMORY)?;
         let conn = self.connect(path.as_str())?;
         match opened(alloc, conn, plan, shard, hasher)? {
             Some((records, upgraded)) => {
@@ -95,6 +120,24 @@ impl Stores for FileStores<'_> {
             }
             None => Ok(None),
         }
+    }
+
+    fn look_beside(
+        &self,
+        folder: &str,
+        plan: &Plan,
+        shard: usize,
+        hasher: RandomState,
+    ) -> Result<(), StoreRefusal> {
+        if self.is_there(folder, shard)? {
+            return Ok(());
+        }
+        for other in 0..usize::from(MAX_SHARDS) {
+            let found = self.open(folder, plan, other, hasher)?;
+            // By a call: records that are let go in place are proved part by part.
+            drop(found);
+        }
+        Ok(())
     }
 
     fn open_or_make(
@@ -187,6 +230,26 @@ fn opened_or_made<S: Alter + Drop>(
             Err(unmade(fault))
         }
     }
+}
+
+/// Copies the files of a shard's store into a folder.
+fn copy_store(rt: &HostRuntime, folder: &str, shard: usize, into: &str) -> io::Result<()> {
+    let alloc = rt.alloc();
+    let from = path_of(alloc, folder, shard)?;
+    let to = path_of(alloc, into, shard)?;
+    copy_file(rt, from.as_str(), to.as_str())?;
+    let from_log = format!(in alloc; "{from}-wal")?;
+    if fs::exists(rt, from_log.as_str())? {
+        let to_log = format!(in alloc; "{to}-wal")?;
+        copy_file(rt, from_log.as_str(), to_log.as_str())?;
+    }
+    fs::open(rt, into)?.sync_all()
+}
+
+/// Copies a file, and waits until the disk has its octets.
+fn copy_file(rt: &HostRuntime, from: &str, to: &str) -> io::Result<()> {
+    fs::copy(rt, from, to)?;
+    fs::open(rt, to)?.sync_all()
 }
 
 /// The refusal that reports a file that isn't opened.

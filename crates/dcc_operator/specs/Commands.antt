@@ -13,6 +13,7 @@ use Rattle.dcc_store.specs.Contents.{Content}
 use Rattle.dcc_operator.specs.declared.fault.OperatorFault.{OperatorFault}
 use Rattle.dcc_operator.specs.declared.fault.OperatorFault.TheVariants.{Store}
 use Rattle.dcc_startup.specs.Openings.{IsFaultOver}
+use Rattle.dcc_operator.specs.declared.page.Page.{Page}
 use Rattle.dcc_operator.specs.Ledgers.{page_of, unknown_line}
 use Rattle.dcc_operator.specs.Texts.{IsBegun}
 use Rattle.dcc_operator.specs.TopUps.{line_of}
@@ -48,17 +49,17 @@ IsRefused {R} refuses opens may_leave is_stopped index count fault (Some records
     (number : ℕ) × (fault ≡ Store number) × (given : R) × opens given × IsFaultOver may_leave is_stopped given index count number
     × ((found : Content) → may_leave records found → may_leave given found)
 
--- the text of a subscriber: its page by the shard that was opened, or the line of an unknown account if none was opened
-abbrev pub shown_of : Option ShardView → Sub → List ℕ
-shown_of None sub = unknown_line sub
-shown_of (Some shard) sub = page_of shard.terms sub (held shard sub)
+-- the text of a subscriber: a page of it by the shard that was opened, or the line of an unknown account if none was opened
+abbrev pub shown_of : Page → Option ShardView → Sub → List ℕ
+shown_of page None sub = unknown_line sub
+shown_of page (Some shard) sub = page_of page shard.terms sub (held shard sub)
 
 abbrev pub IsOpenedIfAny : PlanView → Identity → Sub → Option ShardView → Type 0
 IsOpenedIfAny plan identity sub None = ⊤
 IsOpenedIfAny plan identity sub (Some shard) = IsOpenedFor plan identity sub shard
 
-abbrev pub IsShown : PlanView → Identity → Sub → Option ShardView → (old new : Option (List ℕ)) → Type 0
-IsShown plan identity sub shard old new = IsOpenedIfAny plan identity sub shard × Appends old new (shown_of shard sub)
+abbrev pub IsShown : Page → PlanView → Identity → Sub → Option ShardView → (old new : Option (List ℕ)) → Type 0
+IsShown page plan identity sub shard old new = IsOpenedIfAny plan identity sub shard × Appends old new (shown_of page shard sub)
 
-abbrev pub IsShownBegun : PlanView → Identity → Sub → (old new : Option (List ℕ)) → Type 0
-IsShownBegun plan identity sub old new = (shard : Option ShardView) × IsOpenedIfAny plan identity sub shard × IsBegun (shown_of shard sub) old new
+abbrev pub IsShownBegun : Page → PlanView → Identity → Sub → (old new : Option (List ℕ)) → Type 0
+IsShownBegun page plan identity sub old new = (shard : Option ShardView) × IsOpenedIfAny plan identity sub shard × IsBegun (shown_of page shard sub) old new

@@ -12,12 +12,13 @@ ghost use Rattle.dcc_startup.specs.Openings.{IsOpenedOver, IsUnusable};
 ghost use Rattle.dcc_operator.specs.declared.fault.OperatorFault.TheVariants.{Output, Store};
 
 use crate::fault::OperatorFault;
-use crate::ledger::{ledger_run, unknown_run};
+use crate::ledger::{page_run, unknown_run};
+use crate::page::Page;
 use crate::top_up::top_up_run;
 use dcc_act::{Moment, Sub};
 use dcc_message::Identity;
 use dcc_shard::{Shard, shard_of};
-use dcc_startup::{Stores, shard_or_back, shard_over};
+use dcc_startup::{StoreRefusal, Stores, shard_or_back, shard_over};
 use dcc_tariff::Plan;
 use std::alloc::Global;
 use std::hash::RandomState;
@@ -67,7 +68,7 @@ pub fn top_up_in<S: Stores, W: Write>(
 {
     let count = usize::from(plan.shards());
     let index = shard_of(&ask.sub, count);
-    let records = match stores.open_or_make(folder, plan, index, hasher) {
+    let records = match opened_or_made(stores, folder, plan, index, hasher) {
         Ok(records) => records,
         Err(refusal) => return Err((OperatorFault::from(refusal), None)),
     };
@@ -84,21 +85,38 @@ pub fn top_up_in<S: Stores, W: Write>(
     }
 }
 
-/// Writes the ledger of a subscriber, from the store of its shard; or, where there is no such store, that its account is unknown. No
+/// The records of a shard. If there is no store of the shard, the stores beside it are looked at before it is made.
+fn opened_or_made<S: Stores>(
+    stores: &S,
+    folder: &str,
+    plan: &Plan,
+    shard: usize,
+    hasher: RandomState,
+) -> Result<S::Records, StoreRefusal>
+    ensures terms { IfOk result (λ records. S.Records.terms records ≡ plan.now.terms) }
+    ensures given { IfOk result (S.opens stores.now folder.now plan.now shard) }
+    ensures refused { IfErr result (λ refusal. S.refuses stores.now folder.now plan.now shard refusal.0) }
+{
+    stores.look_beside(folder, plan, shard, hasher)?;
+    stores.open_or_make(folder, plan, shard, hasher)
+}
+
+/// Writes a page of a subscriber, from the store of its shard; or, where there is no such store, that its account is unknown. No
 /// store is made. It gives the shard, where there is one.
 ///
-/// Errors: as of [`ledger_run`]; [`OperatorFault::Store`], and nothing is written.
-pub fn ledger_in<S: Stores, W: Write>(
+/// Errors: as of [`page_run`]; [`OperatorFault::Store`], and nothing is written.
+pub fn page_in<S: Stores, W: Write>(
     alloc: Global,
     stores: &S,
     folder: &str,
     plan: &Plan,
     identity: &Identity,
+    page: Page,
     sub: Sub,
     output: &mut W,
     hasher: RandomState,
 ) -> Result<Option<Shard<S::Records>>, OperatorFault>
-    ensures done { IfOk result (λ shard. IsShown plan.now identity.now sub (option_map (λ stored. stored.shard) shard) (W.contents output.old) (W.contents output.new)) }
+    ensures done { IfOk result (λ shard. IsShown page plan.now identity.now sub (option_map (λ stored. stored.shard) shard) (W.contents output.old) (W.contents output.new)) }
     // The store is that of the subscriber's shard, and nothing was made in it.
     ensures opened { IfOk result (λ shard. IfSome shard
         (IsOpenedOver (S.opens stores.now folder.now plan.now (shard_of sub plan.now.shards)) S.Records.may_leave)) }
@@ -108,16 +126,17 @@ pub fn ledger_in<S: Stores, W: Write>(
         → IsUnusable (S.refuses stores.now folder.now plan.now (shard_of sub plan.now.shards)) (S.opens stores.now folder.now plan.now (shard_of sub plan.now.shards))
         S.Records.may_leave S.Records.is_stopped (shard_of sub plan.now.shards) plan.now.shards number) }
     ensures silent { IfErr result (λ fault. fault ≢ Output → Keeps (W.contents output.old) (W.contents output.new)) }
-    ensures part { IfErr result (λ fault. fault ≡ Output → IsShownBegun plan.now identity.now sub (W.contents output.old) (W.contents output.new)) }
+    ensures part { IfErr result (λ fault. fault ≡ Output → IsShownBegun page plan.now identity.now sub (W.contents output.old) (W.contents output.new)) }
 {
     let count = usize::from(plan.shards());
     let index = shard_of(&sub, count);
+    stores.look_beside(folder, plan, index, hasher)?;
     let Some(records) = stores.open(folder, plan, index, hasher)? else {
         unknown_run(alloc, sub, output)?;
         return Ok(None);
     };
     let shard = shard_over(alloc, identity, records, index, count, hasher)?;
-    match ledger_run(alloc, &shard, sub, output) {
+    match page_run(alloc, &shard, page, sub, output) {
         Ok(()) => Ok(Some(shard)),
         Err(fault) => {
             // By a call: a shard that is let go in place is proved part by part.

@@ -3,7 +3,7 @@
 ghost use Rattle.std.specs.Prelude.{◌≡◌, ◌≢◌, ◌++◌, ◌<◌, ℕ, List, OnOk, IfOk, IfErr, length};
 ghost use Rattle.std.specs.Io.KnownBytes.{Appends, Keeps};
 ghost use Rattle.dcc_shard.specs.declared.answers.TopUpAnswer.{TopUpAnswer};
-ghost use Rattle.dcc_startup.specs.Openings.{IsUnusable};
+ghost use Rattle.dcc_startup.specs.Openings.{IsStarted, IsUnusable};
 ghost use Rattle.dcc_operator.specs.Many.{AreToppedUpIn, line_for, lines_for};
 ghost use Rattle.dcc_operator.specs.Texts.{IsBegun};
 ghost use Rattle.dcc_operator.specs.declared.fault.OperatorFault.TheVariants.{Output, Store};
@@ -12,8 +12,8 @@ use crate::commands::TopUpAsk;
 use crate::fault::OperatorFault;
 use crate::many::top_up_each;
 use dcc_message::Identity;
-use dcc_shard::TopUpAnswer;
-use dcc_startup::{Stores, shard_at};
+use dcc_shard::{Shard, TopUpAnswer};
+use dcc_startup::{StoreRefusal, Stores, shard_at};
 use dcc_streams::write_all;
 use dcc_tariff::Plan;
 use std::alloc::{AllocError, Global};
@@ -45,7 +45,7 @@ pub fn top_ups_in<S: Stores, W: Write>(
     ensures part { IfErr result (λ fault. fault ≡ Output → (answers : List TopUpAnswer) × IsBegun (lines_for asks.now answers) (W.contents output.old) (W.contents output.new)) }
 {
     let mut answers = Vec::with_capacity(alloc, asks.len())?;
-    let mut shard = match shard_at(alloc, stores, folder, plan, identity, index, hasher) {
+    let mut shard = match opened_shard(alloc, stores, folder, plan, identity, index, hasher) {
         Ok(shard) => shard,
         Err(refusal) => return Err(OperatorFault::from(refusal)),
     };
@@ -55,6 +55,24 @@ pub fn top_ups_in<S: Stores, W: Write>(
     let text = text_for(alloc, asks, answers.as_slice())?;
     write_all(output, text.as_slice())?;
     Ok(())
+}
+
+/// The shard of this index, over its store. If there is no store, the stores beside it are looked at before it is made.
+fn opened_shard<S: Stores>(
+    alloc: Global,
+    stores: &S,
+    folder: &str,
+    plan: &Plan,
+    identity: &Identity,
+    index: usize,
+    hasher: RandomState,
+) -> Result<Shard<S::Records>, StoreRefusal>
+    ensures started { IfOk result (IsStarted (S.opens stores.now folder.now plan.now) S.Records.may_leave plan.now.terms identity.now plan.now.shards index) }
+    ensures refused { IfErr result (λ refusal. IsUnusable (S.refuses stores.now folder.now plan.now index)
+        (S.opens stores.now folder.now plan.now index) S.Records.may_leave S.Records.is_stopped index plan.now.shards refusal.0) }
+{
+    stores.look_beside(folder, plan, index, hasher)?;
+    shard_at(alloc, stores, folder, plan, identity, index, hasher)
 }
 
 /// The lines of top-ups with these answers. The condition: each top-up has an answer. The only error is want of memory.

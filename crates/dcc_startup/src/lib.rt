@@ -10,4 +10,4 @@ mod shards;
 mod stores;
 
 pub use shards::{shard_at, shards_over};
-pub use stores::{StoreRefusal, Stores, shard_or_back, shard_over};
+pub use stores::{Copies, CopyFault, StoreRefusal, Stores, shard_or_back, shard_over};

@@ -19,6 +19,8 @@ use std::thread::{Threads, map_indices};
 /// them in order. The stores are opened side by side, each in a thread if the system gives one. Each shard is under the plan's terms, for
 /// this server, and has only subscribers of its own, as `dcc_shard::shard_of` says. Shards that work as one have to be so.
 ///
+/// If some of the stores are missing, the others are looked at first: then no store is made beside a store of another server.
+///
 /// The error is that of the first store, by its index, that cannot be used: 50 if memory is short, 51 to 55 as of [`StoreRefusal`]. Every
 /// other store may have been opened or made, and stays as it is.
 pub fn shards_over<T: Threads + Sync, S: Stores + Sync>(
@@ -35,11 +37,27 @@ pub fn shards_over<T: Threads + Sync, S: Stores + Sync>(
     ensures refused { IfErr result (λ refusal. (refusal.0 ≡ 50) ⊎ ((i : ℕ) × (i < plan.now.shards) × IsUnusable (S.refuses stores.now folder.now plan.now i)
         (S.opens stores.now folder.now plan.now i) S.Records.may_leave S.Records.is_stopped i plan.now.shards refusal.0)) }
 {
+    look_beside_each(stores, folder, plan, hasher)?;
     let opened = open_each(rt, alloc, stores, folder, plan, identity, hasher)?;
     match all_or_first(alloc, opened) {
         Ok(shards) => Ok(shards),
         Err(refusal) => Err(refusal),
     }
+}
+
+/// Looks at the stores beside each missing store of a plan.
+fn look_beside_each<S: Stores>(
+    stores: &S,
+    folder: &str,
+    plan: &Plan,
+    hasher: RandomState,
+) -> Result<(), StoreRefusal>
+    ensures { IfErr result (λ refusal. (i : ℕ) × (i < plan.now.shards) × S.refuses stores.now folder.now plan.now i refusal.0) }
+{
+    for shard in 0..usize::from(plan.shards()) {
+        stores.look_beside(folder, plan, shard, hasher)?;
+    }
+    Ok(())
 }
 
 /// Opens the store of each shard, side by side, and returns the shard of each, or its error, in order. The only other error is want of memory.

@@ -40,9 +40,32 @@ impl From<StoreFault> for StoreRefusal {
     }
 }
 
+/// Why a store isn't copied.
+#[derive(Clone, Copy, Debug, PartialEq, Eq)]
+pub enum CopyFault {
+    /// The folder for the copies is there already.
+    There,
+    /// The system refuses the folder, a file or its octets.
+    Io,
+}
+
+/// Copies of stores while they are open, by any thread. No clause says what is copied.
+pub trait Copies {
+    /// Makes a new folder for copies of stores.
+    ///
+    /// Errors: [`CopyFault::There`], something has this path already; [`CopyFault::Io`], the system refuses the folder.
+    fn make_folder(&self, into: &str) -> Result<(), CopyFault>;
+
+    /// Copies the files of a shard's store, as they are, into a folder for copies, and waits until the disk has them. No act of the shard may be
+    /// made meanwhile: then the copy is a store of exactly the acts that are held.
+    ///
+    /// Error: [`CopyFault::Io`], the system refuses a file or its octets, or memory is short. A part of a copy may be there.
+    fn copy(&self, folder: &str, shard: usize, into: &str) -> Result<(), CopyFault>;
+}
+
 /// Where the records of shards are kept: a store for each, in a folder. What opening does to files has no contract here, but that
 /// records are under the plan's terms, and which numbers its refusals have.
-pub trait Stores {
+pub trait Stores: Copies {
     ghost use Rattle.std.specs.Prelude.{ℕ, List};
     ghost use Rattle.dcc_tariff.specs.Plans.{PlanView};
 
@@ -70,7 +93,18 @@ pub trait Stores {
         ensures none { IfOk result (λ found. IfNone found (lacks self.now folder.now plan.now shard)) }
         ensures refused { IfErr result (λ refusal. refuses self.now folder.now plan.now shard refusal.0) };
 
-    /// The same, and an empty store is made where there is none.
+    /// Looks at the stores of the other shards in the folder, if there is no store of this shard. Each of them has to be of a server under this
+    /// plan: so a plan with another number of shards makes no second store of the same subscribers. No store is made.
+    fn look_beside(
+        &self,
+        folder: &str,
+        plan: &Plan,
+        shard: usize,
+        hasher: RandomState,
+    ) -> Result<(), StoreRefusal>
+        ensures refused { IfErr result (λ refusal. refuses self.now folder.now plan.now shard refusal.0) };
+
+    /// The same as [`Stores::open`], and an empty store is made where there is none.
     fn open_or_make(
         &self,
         folder: &str,

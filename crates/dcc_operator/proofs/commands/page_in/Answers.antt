@@ -3,7 +3,7 @@ use Rattle.dcc_shard.specs.Routes.{shard_of}
 use Rattle.dcc_operator.specs.declared.fault.OperatorFault.TheVariants.{Memory, Output, Store}
 use Rattle.dcc_operator.proofs.Begun.{weaker}
 use Rattle.dcc_operator.proofs.Opened.{of_found, opened_for, moved, no_store, same_number}
-use Rattle.dcc_operator.proofs.commands.ledger_in.Goals as goal
+use Rattle.dcc_operator.proofs.commands.page_in.Goals as goal
 
 pub returns-in-Err-clause-part : goal.returns-in-Err-clause-part
 returns-in-Err-clause-part g c output =
