@@ -1,0 +1,5 @@
+pub mod Ascii
+pub mod Asked
+pub mod Pieces
+pub mod Replies
+pub mod Texts
