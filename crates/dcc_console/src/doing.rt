@@ -2,7 +2,7 @@
 
 use crate::task_words::command_help;
 use dcc_act::Moment;
-use dcc_program::{Failure, run, serve, serve_of, top_ups_at, top_ups_of};
+use dcc_program::{Failure, call_at, call_of, run, serve, serve_of, top_ups_at, top_ups_of};
 use dcc_startup::Stores;
 use dcc_streams::write_all;
 use dcc_tariff::LAST_SECOND;
@@ -14,7 +14,7 @@ use std::sync::Wait;
 use std::thread::Threads;
 use std::time::Clock;
 
-/// Does what the words ask for: a server, the help of one command, or a task of `dcc_program`.
+/// Does what the words ask for: a server, a call of a server, the help of one command, or a task of `dcc_program`.
 pub(crate) fn done<
     R: Files
         + RandomSource
@@ -31,6 +31,9 @@ pub(crate) fn done<
 >(rt: &R, words: &[String], stores: &S, input: &mut I, output: &mut O) -> Result<(), Failure> {
     if let Some(ask) = serve_of(rt.alloc(), words)? {
         return serve(rt, stores, &ask, output);
+    }
+    if let Some(ask) = call_of(rt.alloc(), words)? {
+        return Ok(call_at(rt, &ask, output)?);
     }
     if let Some(ask) = top_ups_of(rt.alloc(), words)? {
         let now = moment_of(rt.since_1970()?.as_secs());

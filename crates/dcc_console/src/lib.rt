@@ -6,6 +6,7 @@
 //! nothing but the line of a failure is written on standard error. No clause says which words explain a failure.
 #![tactic(auto)]
 
+mod calling;
 mod checking;
 mod doing;
 mod ending;

@@ -1,5 +1,6 @@
 //! The program, for `main`.
 
+use crate::calling::call_lines;
 use crate::checking::{Said, check, check_ask, is_check, is_check_help};
 use crate::doing::done;
 use crate::ending::end_with;
@@ -8,7 +9,7 @@ use crate::reasons::{Seen, lines_of};
 use crate::top_up::{nothing_added, with_moment};
 use crate::watched::{WatchedInput, WatchedOutput};
 use dcc_explain::{Looks, help_of};
-use dcc_program::{Failure, HELP, end, given_words};
+use dcc_program::{CallAsk, Failure, HELP, call_at, call_of, end, given_words};
 use dcc_startup::Stores;
 use dcc_streams::write_all;
 use std::io::{self, Eprint, Write};
@@ -81,6 +82,9 @@ fn explained<
     L: Looks,
     W: Write,
 >(rt: &R, words: &[String], stores: &S, looks: &L, errors: &mut W) -> u8 {
+    if let Ok(Some(ask)) = call_of(rt.alloc(), words) {
+        return called(rt, &ask, errors);
+    }
     let used = nothing_added(rt, words, stores);
     let mut input = WatchedInput::new(rt.alloc(), rt.reader());
     let mut output = WatchedOutput::new(io::writer(rt));
@@ -107,6 +111,22 @@ fn explained<
                 errors,
             )
         }
+    }
+}
+
+/// A call of a server with an explanation, which is by this call: a second one could have another end.
+fn called<
+    R: Print + Net<Listener = TcpListener, Stream = TcpStream> + Clock + AllocGlobal,
+    W: Write,
+>(rt: &R, ask: &CallAsk, errors: &mut W) -> u8 {
+    let mut output = WatchedOutput::new(io::writer(rt));
+    match call_at(rt, ask, &mut output) {
+        Ok(()) => end(Ok(()), errors).status,
+        Err(failure) => told(
+            Err(Failure::from(failure)),
+            call_lines(rt.alloc(), ask.address, failure, output.failed).ok(),
+            errors,
+        ),
     }
 }
 

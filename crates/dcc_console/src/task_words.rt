@@ -24,7 +24,7 @@ pub(crate) fn plan_path<'a>(
     match task_of(alloc, words) {
         Ok(Task::Replay(path)) => Ok(Some(path)),
         Ok(Task::TopUp(place, _)) => Ok(Some(place.plan)),
-        Ok(Task::Ledger(place, _)) => Ok(Some(place.plan)),
+        Ok(Task::Show(_, place, _)) => Ok(Some(place.plan)),
         Ok(_) => Ok(None),
         Err(failure) => Err(failure),
     }
@@ -57,7 +57,7 @@ pub(crate) fn only_shard(
     };
     match task {
         Task::TopUp(_place, ask) => Ok(Some(shard_of_ask(ask, count))),
-        Task::Ledger(_place, sub) => Ok(Some(shard_of_sub(sub, count))),
+        Task::Show(_page, _place, sub) => Ok(Some(shard_of_sub(sub, count))),
         _ => Ok(None),
     }
 }
@@ -89,7 +89,7 @@ pub(crate) fn folder_path<'a>(
     }
     match task_of(alloc, words) {
         Ok(Task::TopUp(place, _)) => Ok(Some(place.folder)),
-        Ok(Task::Ledger(place, _)) => Ok(Some(place.folder)),
+        Ok(Task::Show(_, place, _)) => Ok(Some(place.folder)),
         Ok(_) => Ok(None),
         Err(failure) => Err(failure),
     }

@@ -1,8 +1,8 @@
 //! A top-up's words: the moment that is left out, an amount outside its limits, and a ticket that was used before.
 
 use dcc_act::MAX_AMOUNT;
-use dcc_operator::TopUpAsk;
-use dcc_program::{Failure, Place, Task, ledger, task_of};
+use dcc_operator::{Page, TopUpAsk};
+use dcc_program::{Failure, Place, Task, page, task_of};
 use dcc_startup::Stores;
 use dcc_tariff::LAST_SECOND;
 use dcc_words::parts;
@@ -83,17 +83,18 @@ fn used_ticket<R: Files + RandomSource + AllocGlobal, S: Stores>(
     let alloc = rt.alloc();
     let hasher = RandomState::new(rt)?;
     let mut file = fs::open(rt, place.plan)?;
-    let mut page = Vec::new(alloc);
-    ledger(
+    let mut text = Vec::new(alloc);
+    page(
         alloc,
         &mut file,
         stores,
         place.folder,
+        Page::Ledger,
         ask.sub,
-        &mut page,
+        &mut text,
         hasher,
     )?;
-    line_with(alloc, page.as_slice(), ask.ticket)
+    line_with(alloc, text.as_slice(), ask.ticket)
 }
 
 /// The entry of a ticket in a ledger, in words.

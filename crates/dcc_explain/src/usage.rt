@@ -11,6 +11,7 @@ use std::net::SocketAddrV4;
 /// The commands of the program.
 #[derive(Clone, Copy, PartialEq, Eq)]
 enum Command {
+    Balance,
     Check,
     Decode,
     Help,
@@ -20,9 +21,10 @@ enum Command {
     TopUp,
 }
 
-/// The options that have a value: those of a server, and the file of top-ups.
+/// The options that have a value: those of a server, the file of top-ups, and the address of a server that is called.
 #[derive(Clone, Copy, PartialEq, Eq)]
 enum Switch {
+    At,
     From,
     Listen,
     Gates,
@@ -36,6 +38,7 @@ enum Switch {
 impl Command {
     fn named(name: &str) -> Option<Command> {
         match name {
+            "balance" => Some(Command::Balance),
             "check" => Some(Command::Check),
             "decode" => Some(Command::Decode),
             "help" => Some(Command::Help),
@@ -53,7 +56,7 @@ impl Command {
             Command::Decode | Command::Help => 0,
             Command::Check | Command::Replay => 1,
             Command::Serve => 2,
-            Command::Ledger => 3,
+            Command::Balance | Command::Ledger => 3,
             Command::TopUp => 5,
         }
     }
@@ -65,7 +68,7 @@ impl Command {
             (_, 0) => Some("PLAN"),
             (Command::Replay, _) => None,
             (_, 1) => Some("DIR"),
-            (Command::Ledger | Command::TopUp, 2) => Some("SUB"),
+            (Command::Balance | Command::Ledger | Command::TopUp, 2) => Some("SUB"),
             (Command::TopUp, 3) => Some("TICKET"),
             (Command::TopUp, 4) => Some("AMOUNT"),
             (Command::TopUp, 5) => Some("MOMENT"),
@@ -76,7 +79,7 @@ impl Command {
     /// What it is read as, if not any word is.
     fn kind(self, at: usize) -> Option<Kind> {
         match (self, at) {
-            (Command::Ledger | Command::TopUp, 2) => Some(Kind::Sub),
+            (Command::Balance | Command::Ledger | Command::TopUp, 2) => Some(Kind::Sub),
             (Command::TopUp, 3) => Some(Kind::Number),
             (Command::TopUp, 4) => Some(Kind::Amount),
             (Command::TopUp, 5) => Some(Kind::Moment),
@@ -88,6 +91,7 @@ impl Command {
 impl Switch {
     fn named(name: &str) -> Option<Switch> {
         match name {
+            "--at" => Some(Switch::At),
             "--from" => Some(Switch::From),
             "--listen" => Some(Switch::Listen),
             "--gates" => Some(Switch::Gates),
@@ -102,6 +106,7 @@ impl Switch {
 
     fn name(self) -> &'static str {
         match self {
+            Switch::At => "--at",
             Switch::From => "--from",
             Switch::Listen => "--listen",
             Switch::Gates => "--gates",
@@ -123,7 +128,7 @@ impl Switch {
             Switch::Rounds => number.is_some_and(|n| 1 <= n && n <= 1_000_000),
             Switch::Every => number.is_some_and(|n| n <= 1_000_000),
             Switch::Silent | Switch::Sweep => number.is_some_and(|n| n <= 86_400),
-            Switch::Operator => is_of_this_machine(value),
+            Switch::Operator | Switch::At => is_of_this_machine(value),
         }
     }
 
@@ -135,13 +140,14 @@ impl Switch {
             Switch::Rounds => "1 to 1000000",
             Switch::Every => "0 to 1000000",
             Switch::Silent | Switch::Sweep => "0 to 86400",
-            Switch::Operator => "an address of 127.0.0.0/8 and a port, such as 127.0.0.1:3869",
+            Switch::Operator | Switch::At =>
+                "an address of 127.0.0.0/8 and a port, such as 127.0.0.1:3869",
         }
     }
 
     /// Its place among all options.
     fn place(self) -> usize
-        ensures { result < 8 }
+        ensures { result < 9 }
     {
         match self {
             Switch::Listen => 0,
@@ -152,6 +158,7 @@ impl Switch {
             Switch::Sweep => 5,
             Switch::Operator => 6,
             Switch::From => 7,
+            Switch::At => 8,
         }
     }
 
@@ -159,6 +166,7 @@ impl Switch {
     fn is_of(self, command: Command) -> bool {
         match self {
             Switch::From => command == Command::TopUp,
+            Switch::At => matches!(command, Command::Balance | Command::Ledger | Command::TopUp),
             _ => command == Command::Serve,
         }
     }
@@ -178,7 +186,7 @@ impl Switch {
 const NEEDS_OF_MANY: usize = 2;
 
 /// The place of `--stay` among all options, behind those that have a value.
-const STAY: usize = 8;
+const STAY: usize = 9;
 
 /// Whether a text is an address that no other machine can reach, with a port.
 fn is_of_this_machine(text: &str) -> bool {
@@ -207,8 +215,10 @@ struct Reading {
     stays: bool,
     /// Whether `--from` is among the words of a top-up, which then have PLAN and DIR alone.
     is_many: bool,
+    /// Whether `--at` is among the words, which then have no PLAN and no DIR.
+    is_at: bool,
     /// Whether each option was there, by its place.
-    seen: [bool; 9],
+    seen: [bool; 10],
 }
 
 /// What doesn't fit in the words of a command line, of which the first is the program's name: in one line the first word that is at fault or the
@@ -216,23 +226,27 @@ struct Reading {
 pub fn explain_words(alloc: Global, words: &[String]) -> Result<String, AllocError> {
     let Some(name) = words.get(1) else {
         return format!(in alloc;
-            "no command is named; the commands are check, decode, help, ledger, replay, serve and topup"
+            "no command is named; the commands are balance, check, decode, help, ledger, replay, serve and topup"
         );
     };
     let Some(command) = Command::named(name.as_str()) else {
         let name = quoted(alloc, name.as_bytes())?;
         return format!(in alloc;
-            "{name} is no command; the commands are check, decode, help, ledger, replay, serve and topup"
+            "{name} is no command; the commands are balance, check, decode, help, ledger, replay, serve and topup"
         );
     };
+    let is_many = command == Command::TopUp && has_option(words, "--from");
+    let is_at = Switch::At.is_of(command) && has_option(words, "--at");
     let mut reading = Reading {
         command,
-        count: 0,
+        // The arguments of a call begin behind PLAN and DIR.
+        count: if is_at && !is_many { NEEDS_OF_MANY } else { 0 },
         is_rest: false,
         awaited: None,
         stays: command == Command::Serve && has_option(words, "--stay"),
-        is_many: command == Command::TopUp && has_option(words, "--from"),
-        seen: [false; 9],
+        is_many,
+        is_at,
+        seen: [false; 10],
     };
     for word in words.iter().skip(2) {
         if let Some(slip) = reading.slip(alloc, word.as_str())? {
@@ -272,6 +286,11 @@ impl Reading {
                 "{shown} is one word too many: --from goes with PLAN and DIR alone"
             )?));
         }
+        if self.is_at && at >= self.command.needs() {
+            return Ok(Some(format!(in alloc;
+                "{shown} is one word too many: --at stands in place of PLAN and DIR, and takes no MOMENT"
+            )?));
+        }
         let Some(name) = self.command.argument(at) else {
             return Ok(Some(format!(in alloc; "{shown} is one word too many")?));
         };
@@ -299,7 +318,7 @@ impl Reading {
         }
         match Switch::named(name) {
             Some(switch) if switch.is_of(self.command) => {
-                if let Some(quarrel) = switch.quarrel(self.stays) {
+                if let Some(quarrel) = self.quarrel(switch) {
                     return Ok(Some(format!(in alloc; "{quarrel}")?));
                 }
                 if let Some(slip) = self.repeat(alloc, switch.place(), name)? {
@@ -320,9 +339,19 @@ impl Reading {
         }
     }
 
+    /// Why an option doesn't go with the other words, if it doesn't.
+    fn quarrel(&self, switch: Switch) -> Option<&'static str> {
+        if self.is_at && self.is_many {
+            return Some(
+                "--at does not go with --from: a file's top-ups are made in a folder alone",
+            );
+        }
+        switch.quarrel(self.stays)
+    }
+
     /// What is wrong with an option that was there before.
     fn repeat(&mut self, alloc: Global, at: usize, name: &str) -> Result<Option<String>, AllocError>
-        requires { at < 9 }
+        requires { at < 10 }
     {
         if self.seen[at] {
             return Ok(Some(format!(in alloc; "{name} stands twice")?));

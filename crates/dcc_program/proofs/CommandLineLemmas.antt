@@ -13,11 +13,13 @@ use Rattle.std.specs.Borrow.{Bor}
 use Rattle.std.proofs.lemmas.Bool.{and_parts, not-true}
 use Rattle.clap.specs.declared.builder.command.Command.{Command}
 use Rattle.clap.specs.declared.builder.command.Command.TheViews.{out-Command}
-use Rattle.dcc_program.specs.CommandLines.{dcc_command, wish_of, name_of, Asks, AsksWith, IsTaskOf, IsPlace, IsAsk, sub_in, IsAsked, IsNoUse, IsTaskFailure}
-use Rattle.dcc_program.specs.declared.command_line.Task.TheVariants.{Replay, TopUp, Ledger, Decode, Help, Version}
+use Rattle.dcc_program.specs.CommandLines.{dcc_command, wish_of, name_of, page_name, Asks, AsksWith, IsTaskOf, IsPlace, IsAsk, sub_in, IsAsked, IsNoUse, IsTaskFailure}
+use Rattle.dcc_program.specs.declared.command_line.Task.TheVariants.{Replay, TopUp, Show, Decode, Help, Version}
 use Rattle.dcc_program.specs.declared.failure.Failure.{Failure}
 use Rattle.dcc_act.specs.declared.sub.Sub.{Sub}
 use Rattle.dcc_operator.specs.declared.commands.TopUpAsk.{TopUpAsk}
+use Rattle.dcc_operator.specs.declared.page.Page.{Page}
+use Rattle.dcc_operator.specs.declared.page.Page.TheVariants as pages
 use Rattle.dcc_program.specs.declared.command_line.Place.{Place}
 use Rattle.dcc_program.specs.declared.command_line.Task.{Task}
 
@@ -105,7 +107,7 @@ first_same {A} {B} a c b d same =
 asked : (words : List Text) (task : Task) → IsAsked words task → Asks words task
 asked words (Replay path) given = given
 asked words (TopUp place ask) given = given
-asked words (Ledger place of) given = given
+asked words (Show page place of) given = given
 asked words Decode given = given
 asked words Help given = inr given
 asked words Version given = absurd given.2
@@ -150,7 +152,8 @@ apart a b differ same =
 pub no_replay : (found : List Row) → first_of (codes "PLAN") found ≡ None → IsTaskOf (codes "replay") found None
 no_replay found none (Replay path) named given = cc
 no_replay found none (TopUp place ask) named given = absurd (apart (codes "replay") (codes "topup") refl named)
-no_replay found none (Ledger place of) named given = absurd (apart (codes "replay") (codes "ledger") refl named)
+no_replay found none (Show pages.Ledger place of) named given = absurd (apart (codes "replay") (codes "ledger") refl named)
+no_replay found none (Show pages.Balance place of) named given = absurd (apart (codes "replay") (codes "balance") refl named)
 no_replay found none Decode named given = absurd (apart (codes "replay") (codes "decode") refl named)
 no_replay found none Help named given = absurd (apart (codes "replay") (codes "help") refl named)
 no_replay found none Version named given = given
@@ -158,18 +161,25 @@ no_replay found none Version named given = given
 pub no_top_up : (found : List Row) → ((place : Place) (ask : TopUpAsk) → IsPlace found place → IsAsk found ask → ⊥) → IsTaskOf (codes "topup") found None
 no_top_up found none (Replay path) named given = absurd (apart (codes "topup") (codes "replay") refl named)
 no_top_up found none (TopUp place ask) named given = none place ask given.0 given.1
-no_top_up found none (Ledger place of) named given = absurd (apart (codes "topup") (codes "ledger") refl named)
+no_top_up found none (Show pages.Ledger place of) named given = absurd (apart (codes "topup") (codes "ledger") refl named)
+no_top_up found none (Show pages.Balance place of) named given = absurd (apart (codes "topup") (codes "balance") refl named)
 no_top_up found none Decode named given = absurd (apart (codes "topup") (codes "decode") refl named)
 no_top_up found none Help named given = absurd (apart (codes "topup") (codes "help") refl named)
 no_top_up found none Version named given = given
 
-pub no_ledger : (found : List Row) → ((place : Place) (of : Sub) → IsPlace found place → sub_in found ≡ Some of → ⊥) → IsTaskOf (codes "ledger") found None
-no_ledger found none (Replay path) named given = absurd (apart (codes "ledger") (codes "replay") refl named)
-no_ledger found none (TopUp place ask) named given = absurd (apart (codes "ledger") (codes "topup") refl named)
-no_ledger found none (Ledger place of) named given = none place of given.0 given.1
-no_ledger found none Decode named given = absurd (apart (codes "ledger") (codes "decode") refl named)
-no_ledger found none Help named given = absurd (apart (codes "ledger") (codes "help") refl named)
-no_ledger found none Version named given = given
+pub no_page : (page : Page) (found : List Row) → ((place : Place) (of : Sub) → IsPlace found place → sub_in found ≡ Some of → ⊥) → IsTaskOf (page_name page) found None
+no_page pages.Ledger found none (Replay path) named given = absurd (apart (codes "ledger") (codes "replay") refl named)
+no_page pages.Ledger found none (TopUp place ask) named given = absurd (apart (codes "ledger") (codes "topup") refl named)
+no_page pages.Ledger found none (Show other place of) named given = none place of given.0 given.1
+no_page pages.Ledger found none Decode named given = absurd (apart (codes "ledger") (codes "decode") refl named)
+no_page pages.Ledger found none Help named given = absurd (apart (codes "ledger") (codes "help") refl named)
+no_page pages.Ledger found none Version named given = given
+no_page pages.Balance found none (Replay path) named given = absurd (apart (codes "balance") (codes "replay") refl named)
+no_page pages.Balance found none (TopUp place ask) named given = absurd (apart (codes "balance") (codes "topup") refl named)
+no_page pages.Balance found none (Show other place of) named given = none place of given.0 given.1
+no_page pages.Balance found none Decode named given = absurd (apart (codes "balance") (codes "decode") refl named)
+no_page pages.Balance found none Help named given = absurd (apart (codes "balance") (codes "help") refl named)
+no_page pages.Balance found none Version named given = given
 
 pub none_or_some : {A : Type 0} (o : Option A) (a : A) → o ≡ None → o ≡ Some a → ⊥
 none_or_some o a none some = cc

@@ -7,10 +7,11 @@ use Rattle.dcc_act.specs.declared.sub.Sub.{Sub}
 use Rattle.dcc_store.specs.Contents.{Content}
 use Rattle.dcc_shard.specs.Shards.{ShardView}
 use Rattle.dcc_operator.specs.declared.commands.TopUpAsk.{TopUpAsk}
+use Rattle.dcc_operator.specs.declared.page.Page.{Page}
 use Rattle.dcc_operator.specs.declared.fault.OperatorFault.{OperatorFault}
 use Rattle.dcc_operator.specs.declared.fault.OperatorFault.TheVariants as operator
 use Rattle.dcc_program.specs.Failures.{of_operator}
-use Rattle.dcc_program.specs.Stores.{IsTopUp, IsTopUpBegun, IsLedger, IsLedgerBegun, IsStoreFailure}
+use Rattle.dcc_program.specs.Stores.{IsTopUp, IsTopUpBegun, IsPage, IsPageBegun, IsStoreFailure}
 use Rattle.dcc_program.specs.declared.failure.Failure.{Failure}
 use Rattle.dcc_program.specs.declared.failure.Failure.TheVariants.{Usage, Memory, Io, Plan, Store, Script, Close}
 
@@ -27,9 +28,9 @@ top_up_of_any opens may_leave file ask old new it = record {
   told = it.told;
 }
 
-pub ledger_of_any : {R : Type 0} (opens : PlanView → ℕ → R → Type 0) (may_leave : R → Content → Type 0) (file : Option (List ℕ)) (sub : Sub)
-    (old new : Option (List ℕ)) → IsLedger opens may_leave file sub old new → IsLedger opens may_leave None sub old new
-ledger_of_any opens may_leave file sub old new it = record { plan = it.plan; given = tt; stored = it.stored; opened = it.opened; shown = it.shown }
+pub page_of_any : (page : Page) {R : Type 0} (opens : PlanView → ℕ → R → Type 0) (may_leave : R → Content → Type 0) (file : Option (List ℕ)) (sub : Sub)
+    (old new : Option (List ℕ)) → IsPage page opens may_leave file sub old new → IsPage page opens may_leave None sub old new
+page_of_any page opens may_leave file sub old new it = record { plan = it.plan; given = tt; stored = it.stored; opened = it.opened; shown = it.shown }
 
 failure_of_any : (file : Option (List ℕ)) (failure : Failure) → IsStoreFailure file failure → IsStoreFailure None failure
 failure_of_any file Usage it = it
@@ -55,16 +56,16 @@ pub top_up_begun_of_any : {T : Type 0} (file : Option (List ℕ)) (ask : TopUpAs
 top_up_begun_of_any file ask old new (Ok done) it = tt
 top_up_begun_of_any file ask old new (Err failure) it = λ is. begun_top_up file ask old new (it is)
 
-begun_ledger : (file : Option (List ℕ)) (sub : Sub) (old new : Option (List ℕ)) → Keeps old new ⊎ IsLedgerBegun file sub old new
-    → Keeps old new ⊎ IsLedgerBegun None sub old new
-begun_ledger file sub old new (inl kept) = inl kept
-begun_ledger file sub old new (inr begun) = inr (begun.0, tt, begun.2)
+begun_page : (page : Page) (file : Option (List ℕ)) (sub : Sub) (old new : Option (List ℕ)) → Keeps old new ⊎ IsPageBegun page file sub old new
+    → Keeps old new ⊎ IsPageBegun page None sub old new
+begun_page page file sub old new (inl kept) = inl kept
+begun_page page file sub old new (inr begun) = inr (begun.0, tt, begun.2)
 
-pub ledger_begun_of_any : {T : Type 0} (file : Option (List ℕ)) (sub : Sub) (old new : Option (List ℕ)) (r : Result T Failure)
-    → IfErr r (λ failure. failure ≡ Io → Keeps old new ⊎ IsLedgerBegun file sub old new)
-    → IfErr r (λ failure. failure ≡ Io → Keeps old new ⊎ IsLedgerBegun None sub old new)
-ledger_begun_of_any file sub old new (Ok done) it = tt
-ledger_begun_of_any file sub old new (Err failure) it = λ is. begun_ledger file sub old new (it is)
+pub page_begun_of_any : (page : Page) {T : Type 0} (file : Option (List ℕ)) (sub : Sub) (old new : Option (List ℕ)) (r : Result T Failure)
+    → IfErr r (λ failure. failure ≡ Io → Keeps old new ⊎ IsPageBegun page file sub old new)
+    → IfErr r (λ failure. failure ≡ Io → Keeps old new ⊎ IsPageBegun page None sub old new)
+page_begun_of_any page file sub old new (Ok done) it = tt
+page_begun_of_any page file sub old new (Err failure) it = λ is. begun_page page file sub old new (it is)
 
 -- a command over a store that fails at output has a fault of the output
 pub of_output : (fault : OperatorFault) → of_operator fault ≡ Io → fault ≡ operator.Output

@@ -7,9 +7,11 @@ use Rattle.clap.specs.declared.error.ErrorKind.TheVariants as kind
 use Rattle.dcc_act.specs.declared.sub.Sub.{Sub}
 use Rattle.dcc_words.specs.Words.{◌>>=◌, any_u64, moment, sub}
 use Rattle.dcc_operator.specs.declared.commands.TopUpAsk.{TopUpAsk}
+use Rattle.dcc_operator.specs.declared.page.Page.{Page}
+use Rattle.dcc_operator.specs.declared.page.Page.TheVariants as pages
 use Rattle.dcc_program.specs.declared.command_line.Place.{Place}
 use Rattle.dcc_program.specs.declared.command_line.Task.{Task}
-use Rattle.dcc_program.specs.declared.command_line.Task.TheVariants.{Replay, TopUp, Ledger, Decode, Help, Version}
+use Rattle.dcc_program.specs.declared.command_line.Task.TheVariants.{Replay, TopUp, Show, Decode, Help, Version}
 use Rattle.dcc_program.specs.declared.failure.Failure.{Failure}
 use Rattle.dcc_program.specs.declared.failure.Failure.TheVariants.{Usage, Memory, Io, Plan, Store, Script, Close}
 
@@ -30,6 +32,9 @@ topup_command = with_rule (with_rule (with_rule (store_command (codes "topup")) 
 
 abbrev pub ledger_command : App
 ledger_command = store_command (codes "ledger")
+
+abbrev pub balance_command : App
+balance_command = store_command (codes "balance")
 
 -- an option that takes a value
 abbrev pub option : Text → Rule
@@ -66,20 +71,25 @@ abbrev pub without_help_command : App → App
 without_help_command app = record app { top = record app.top { disable_help_subcommand = true } }
 
 unfoldable pub dcc_command : App
-dcc_command = with_subcommand (with_subcommand (with_subcommand (with_subcommand (with_subcommand (with_subcommand
+dcc_command = with_subcommand (with_subcommand (with_subcommand (with_subcommand (with_subcommand (with_subcommand (with_subcommand
     (without_help_command (needing_command (with_version (new_app (codes "dcc"))))) replay_command.top) topup_command.top) ledger_command.top)
-    serve_command.top) decode_command.top) help_command.top
+    balance_command.top) serve_command.top) decode_command.top) help_command.top
 
 -- the words, of which the first is the program's name, have no fault and name this command, with these arguments
 pub record IsCommand (name : Text) (found : List Row) (words : List Text) : Type 0 where
   pub accepted : fault_of dcc_command words ≡ []
   pub named : subcommand_of dcc_command words ≡ Some (name, found)
 
+-- the command by which a page is asked for
+abbrev pub page_name : Page → Text
+page_name pages.Ledger = codes "ledger"
+page_name pages.Balance = codes "balance"
+
 -- the command by which a task is asked for; the version has none
 abbrev pub name_of : Task → Text
 name_of (Replay path) = codes "replay"
 name_of (TopUp place ask) = codes "topup"
-name_of (Ledger place sub) = codes "ledger"
+name_of (Show page place sub) = page_name page
 name_of Decode = codes "decode"
 name_of Help = codes "help"
 name_of Version = []
@@ -110,7 +120,7 @@ pub record IsAsk (found : List Row) (ask : TopUpAsk) : Type 0 where
 abbrev pub AsksWith : List Row → Task → Type 0
 AsksWith found (Replay path) = first_of (codes "PLAN") found ≡ Some path.now
 AsksWith found (TopUp place ask) = IsPlace found place × IsAsk found ask
-AsksWith found (Ledger place of) = IsPlace found place × (sub_in found ≡ Some of)
+AsksWith found (Show page place of) = IsPlace found place × (sub_in found ≡ Some of)
 AsksWith found Decode = ⊤
 AsksWith found Help = ⊤
 AsksWith found Version = ⊥
@@ -141,7 +151,7 @@ Asks words task = IsAsked words task
 abbrev pub IsUnderPlan : Task → Type 0
 IsUnderPlan (Replay path) = ⊤
 IsUnderPlan (TopUp place ask) = ⊤
-IsUnderPlan (Ledger place of) = ⊤
+IsUnderPlan (Show page place of) = ⊤
 IsUnderPlan Decode = ⊥
 IsUnderPlan Help = ⊥
 IsUnderPlan Version = ⊥
@@ -150,7 +160,7 @@ IsUnderPlan Version = ⊥
 abbrev pub IsOverScript : Task → Type 0
 IsOverScript (Replay path) = ⊤
 IsOverScript (TopUp place ask) = ⊥
-IsOverScript (Ledger place of) = ⊥
+IsOverScript (Show page place of) = ⊥
 IsOverScript Decode = ⊥
 IsOverScript Help = ⊥
 IsOverScript Version = ⊥
@@ -159,7 +169,7 @@ IsOverScript Version = ⊥
 abbrev pub IsOverStore : Task → Type 0
 IsOverStore (Replay path) = ⊥
 IsOverStore (TopUp place ask) = ⊤
-IsOverStore (Ledger place of) = ⊤
+IsOverStore (Show page place of) = ⊤
 IsOverStore Decode = ⊥
 IsOverStore Help = ⊥
 IsOverStore Version = ⊥

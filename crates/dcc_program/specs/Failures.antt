@@ -15,6 +15,9 @@ use Rattle.dcc_rounds.specs.declared.fault.ServeFault.{ServeFault}
 use Rattle.dcc_rounds.specs.declared.fault.ServeFault.TheVariants as serve
 use Rattle.dcc_replay.specs.declared.fault.ReplayFault.{ReplayFault}
 use Rattle.dcc_replay.specs.declared.fault.ReplayFault.TheVariants as replay
+use Rattle.dcc_client.specs.declared.fault.CallFault.TheVariants as call
+use Rattle.dcc_program.specs.declared.calling.CallFailure.{CallFailure}
+use Rattle.dcc_program.specs.declared.calling.CallFailure.TheVariants as calling
 use Rattle.dcc_decode.specs.declared.fault.DecodeFault.{DecodeFault}
 use Rattle.dcc_decode.specs.declared.fault.DecodeFault.TheVariants as decode
 use Rattle.dcc_program.specs.declared.failure.Failure.{Failure}
@@ -34,7 +37,7 @@ status_of (Close number) = 6
 abbrev pub line_of : Failure → List ℕ
 line_of Memory = codes "dcc: memory"
 line_of Io = codes "dcc: io"
-line_of Usage = codes "dcc: usage: dcc replay PLAN, dcc topup PLAN DIR SUB TICKET AMOUNT [MOMENT], dcc topup PLAN DIR --from FILE, dcc ledger PLAN DIR SUB, dcc serve PLAN DIR, dcc check PLAN [DIR], dcc decode, or dcc help"
+line_of Usage = codes "dcc: usage: dcc replay PLAN, dcc topup PLAN DIR SUB TICKET AMOUNT [MOMENT], dcc topup PLAN DIR --from FILE, dcc topup --at ADDR SUB TICKET AMOUNT, dcc ledger PLAN DIR SUB, dcc ledger --at ADDR SUB, dcc balance PLAN DIR SUB, dcc balance --at ADDR SUB, dcc serve PLAN DIR, dcc check PLAN [DIR], dcc decode, or dcc help"
 line_of (Plan number) = codes "dcc: plan fault " ++ decimal number
 line_of (Store number) = codes "dcc: store fault " ++ decimal number
 line_of (Script line) = codes "dcc: script line " ++ decimal line
@@ -81,6 +84,12 @@ of_serve serve.Memory = Memory
 of_serve serve.Io = Io
 of_serve (serve.Close number) = Close number
 of_serve (serve.Store number) = Store number
+
+-- a call that was not printed
+abbrev pub of_call : CallFailure → Failure
+of_call calling.Memory = Memory
+of_call (calling.Call call.Memory) = Memory
+of_call _ = Io
 
 abbrev pub of_replay : ReplayFault → Failure
 of_replay (replay.Line line) = Script line

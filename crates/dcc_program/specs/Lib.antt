@@ -6,3 +6,4 @@ pub mod Stores
 pub mod Servings
 pub mod Runs
 pub mod TopUps
+pub mod Callings

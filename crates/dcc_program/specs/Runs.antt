@@ -8,12 +8,12 @@ use Rattle.dcc_replay.specs.Scripts.{script_of}
 use Rattle.dcc_replay.specs.Replays as replay
 use Rattle.dcc_decode.specs.Decodings as decode
 use Rattle.dcc_program.specs.declared.command_line.Task.{Task}
-use Rattle.dcc_program.specs.declared.command_line.Task.TheVariants.{Replay, TopUp, Ledger, Decode, Help, Version}
+use Rattle.dcc_program.specs.declared.command_line.Task.TheVariants.{Replay, TopUp, Show, Decode, Help, Version}
 use Rattle.dcc_program.specs.declared.help.TheConstants.{HELP, VERSION}
 use Rattle.dcc_program.specs.declared.failure.Failure.{Failure}
 use Rattle.dcc_program.specs.declared.failure.Failure.TheVariants.{Usage, Memory, Io, Plan, Store, Script, Close}
 use Rattle.dcc_program.specs.CommandLines.{Asks, IsUnderPlan, IsOverStore, IsOverScript, IsNoUse}
-use Rattle.dcc_program.specs.Stores.{IsTopUp, IsTopUpBegun, IsLedger, IsLedgerBegun}
+use Rattle.dcc_program.specs.Stores.{IsTopUp, IsTopUpBegun, IsPage, IsPageBegun}
 use Rattle.dcc_program.specs.Plans.{IsPlanFailure}
 
 -- a task is done over the stores of a folder as the opening returns them, by its input before and after and its writer before and after. A task
@@ -22,19 +22,24 @@ abbrev pub IsDone : {R : Type 0} → (opens : List ℕ → PlanView → ℕ → 
     → (unread left old new : Option (List ℕ)) → Type 0
 IsDone opens may_leave (Replay path) unread left old new = (plan : PlanView) × replay.IsWritten plan unread old new
 IsDone opens may_leave (TopUp place ask) unread left old new = Keeps unread left × IsTopUp (opens place.folder.now) may_leave None ask old new
-IsDone opens may_leave (Ledger place sub) unread left old new = Keeps unread left × IsLedger (opens place.folder.now) may_leave None sub old new
+IsDone opens may_leave (Show page place sub) unread left old new =
+    Keeps unread left × IsPage page (opens place.folder.now) may_leave None sub old new
 IsDone opens may_leave Decode unread left old new = decode.IsWritten unread old new
 IsDone opens may_leave Help unread left old new = Keeps unread left × Appends old new HELP.now
 IsDone opens may_leave Version unread left old new = Keeps unread left × Appends old new VERSION.now
+
+-- the first octets of a text are written
+abbrev pub IsTextBegun : List ℕ → (old new : Option (List ℕ)) → Type 0
+IsTextBegun text old new = (n : ℕ) × Appends old new (take n text)
 
 -- the first octets of a task's output are written
 abbrev pub IsBegun : Task → (unread old new : Option (List ℕ)) → Type 0
 IsBegun (Replay path) unread old new = (plan : PlanView) × replay.IsBegun plan unread old new
 IsBegun (TopUp place ask) unread old new = IsTopUpBegun None ask old new
-IsBegun (Ledger place sub) unread old new = IsLedgerBegun None sub old new
+IsBegun (Show page place sub) unread old new = IsPageBegun page None sub old new
 IsBegun Decode unread old new = decode.IsBegun unread old new
-IsBegun Help unread old new = (n : ℕ) × Appends old new (take n HELP.now)
-IsBegun Version unread old new = (n : ℕ) × Appends old new (take n VERSION.now)
+IsBegun Help unread old new = IsTextBegun HELP.now old new
+IsBegun Version unread old new = IsTextBegun VERSION.now old new
 
 -- the failures that are reported before any of the script is read
 abbrev pub IsBeforeScript : Failure → Type 0

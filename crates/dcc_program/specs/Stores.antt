@@ -1,4 +1,4 @@
--- `dcc topup` and `dcc ledger`: the commands over the store of one shard under the plan of a file.
+-- `dcc topup`, `dcc ledger` and `dcc balance`: the commands over the store of one shard under the plan of a file.
 use Rattle.std.specs.Prelude.{⊤, ℕ, Bool, List, Option, IfSome, option_map}
 use Rattle.dcc_tariff.specs.Plans.{PlanView}
 use Rattle.dcc_act.specs.declared.sub.Sub.{Sub}
@@ -8,6 +8,7 @@ use Rattle.dcc_shard.specs.Routes.{shard_of}
 use Rattle.dcc_shard.specs.Shards.{ShardView, IsStep}
 use Rattle.dcc_shard.specs.Stored.{StoredView}
 use Rattle.dcc_operator.specs.declared.commands.TopUpAsk.{TopUpAsk}
+use Rattle.dcc_operator.specs.declared.page.Page.{Page}
 use Rattle.dcc_operator.specs.Commands.{IsToppedUp, IsToppedUpBegun, IsShown, IsShownBegun}
 use Rattle.dcc_startup.specs.Openings.{IsOpenedOver}
 use Rattle.dcc_replay.specs.Names.{identity_of}
@@ -32,18 +33,18 @@ pub record IsTopUp {R : Type 0} (opens : PlanView → ℕ → R → Type 0) (may
 abbrev pub IsTopUpBegun : (file : Option (List ℕ)) → TopUpAsk → (old new : Option (List ℕ)) → Type 0
 IsTopUpBegun file ask old new = (plan : PlanView) × IsPlanOf file plan × (after : ShardView) × IsToppedUpBegun plan (identity_of plan) ask after old new
 
--- a writer has grown by the page of a subscriber under the plan of the file, from the store of its shard as the opening returns it, if there is one
-pub record IsLedger {R : Type 0} (opens : PlanView → ℕ → R → Type 0) (may_leave : R → Content → Type 0) (file : Option (List ℕ)) (sub : Sub)
+-- a writer has grown by a page of a subscriber under the plan of the file, from the store of its shard as the opening returns it, if there is one
+pub record IsPage (page : Page) {R : Type 0} (opens : PlanView → ℕ → R → Type 0) (may_leave : R → Content → Type 0) (file : Option (List ℕ)) (sub : Sub)
     (old new : Option (List ℕ)) : Type 0 where
   pub plan : PlanView
   pub given : IsPlanOf file plan
   pub stored : Option (StoredView R)
   pub opened : IfSome stored (IsOpenedOver (opens plan (shard_of sub plan.shards)) may_leave)
-  pub shown : IsShown plan (identity_of plan) sub (option_map (λ store. store.shard) stored) old new
+  pub shown : IsShown page plan (identity_of plan) sub (option_map (λ store. store.shard) stored) old new
 
 -- a writer has grown by the first octets of such a page
-abbrev pub IsLedgerBegun : (file : Option (List ℕ)) → Sub → (old new : Option (List ℕ)) → Type 0
-IsLedgerBegun file sub old new = (plan : PlanView) × IsPlanOf file plan × IsShownBegun plan (identity_of plan) sub old new
+abbrev pub IsPageBegun : Page → (file : Option (List ℕ)) → Sub → (old new : Option (List ℕ)) → Type 0
+IsPageBegun page file sub old new = (plan : PlanView) × IsPlanOf file plan × IsShownBegun page plan (identity_of plan) sub old new
 
 -- the failures of a command over a store: the plan's, or under a good plan the store's; or memory, input or output
 abbrev pub IsStoreFailure : (file : Option (List ℕ)) → Failure → Type 0

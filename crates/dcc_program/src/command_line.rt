@@ -2,7 +2,7 @@
 
 ghost use Rattle.std.specs.Prelude.{◌≡◌, ◌⊎◌, codes, None, Some, true, IfErr, IfOk, IfSome, map, option_map, string_bytes, List};
 ghost use Rattle.clap.specs.Words.{App, Row, app_of, first_of, found_of, rows_of, subcommand_rows_of, with_rule, with_subcommand};
-ghost use Rattle.dcc_program.specs.CommandLines.{dcc_command, replay_command, topup_command, store_command, listening_command, rounds_command, serve_command, argument, flag, option, name_of, wish_of, Asks, AsksWith, IsTaskOf, IsTaskFailure};
+ghost use Rattle.dcc_program.specs.CommandLines.{dcc_command, replay_command, topup_command, store_command, listening_command, rounds_command, serve_command, argument, flag, option, name_of, page_name, wish_of, Asks, AsksWith, IsTaskOf, IsTaskFailure};
 ghost use Rattle.dcc_program.specs.CommandLines.{IsPlace, IsAsk, sub_in, number_in, moment_in};
 ghost use Rattle.dcc_program.specs.declared.failure.Failure.TheVariants.{Memory, Usage};
 
@@ -11,7 +11,7 @@ use crate::help::VERSION;
 use clap::error::ErrorKind;
 use clap::{Arg, ArgAction, ArgMatches, Command};
 use dcc_act::{Moment, Sub};
-use dcc_operator::TopUpAsk;
+use dcc_operator::{Page, TopUpAsk};
 use dcc_rounds::Rounds;
 use dcc_sockets::Silence;
 use dcc_words::{any_u64, moment};
@@ -34,8 +34,8 @@ pub enum Task<'a> {
     Replay(&'a str),
     /// To make a top-up in the store of its subscriber's shard.
     TopUp(Place<'a>, TopUpAsk),
-    /// To print the ledger of a subscriber from that store.
-    Ledger(Place<'a>, Sub),
+    /// To print a page of a subscriber from that store.
+    Show(Page, Place<'a>, Sub),
     /// To show the messages of a text.
     Decode,
     /// To print what the command lines are.
@@ -281,7 +281,8 @@ fn task_named<'a>(name: &str, found: &ArgMatches<'a>) -> Option<Task<'a>>
     match name {
         "replay" => replay_of(found),
         "topup" => top_up_of(found),
-        "ledger" => ledger_of(found),
+        "ledger" => page_of(Page::Ledger, found),
+        "balance" => page_of(Page::Balance, found),
         "decode" => Some(Task::Decode),
         "help" => Some(Task::Help),
         _ => None,
@@ -302,11 +303,11 @@ fn top_up_of<'a>(found: &ArgMatches<'a>) -> Option<Task<'a>>
     Some(Task::TopUp(place_of(found)?, ask_of(found)?))
 }
 
-/// The ledger from a store.
-fn ledger_of<'a>(found: &ArgMatches<'a>) -> Option<Task<'a>>
-    ensures { IsTaskOf (codes "ledger") (rows_of (found_of found.now)) result }
+/// The page from a store.
+fn page_of<'a>(page: Page, found: &ArgMatches<'a>) -> Option<Task<'a>>
+    ensures { IsTaskOf (page_name page) (rows_of (found_of found.now)) result }
 {
-    Some(Task::Ledger(place_of(found)?, sub_of(found)?))
+    Some(Task::Show(page, place_of(found)?, sub_of(found)?))
 }
 
 /// Where the plan and the folder are.
@@ -334,14 +335,14 @@ fn ask_of(found: &ArgMatches<'_>) -> Option<TopUpAsk>
 }
 
 /// The subscriber.
-fn sub_of(found: &ArgMatches<'_>) -> Option<Sub>
+pub(crate) fn sub_of(found: &ArgMatches<'_>) -> Option<Sub>
     ensures { result ≡ sub_in (rows_of (found_of found.now)) }
 {
     dcc_words::sub(text_of(found, "SUB")?.as_bytes())
 }
 
 /// A number.
-fn number_of(found: &ArgMatches<'_>, name: &str) -> Option<u64>
+pub(crate) fn number_of(found: &ArgMatches<'_>, name: &str) -> Option<u64>
     ensures { result ≡ number_in name.now (rows_of (found_of found.now)) }
 {
     any_u64(text_of(found, name)?.as_bytes())
@@ -355,7 +356,7 @@ fn moment_of(found: &ArgMatches<'_>) -> Option<Moment>
 }
 
 /// The text that stands for an argument.
-fn text_of<'a>(found: &ArgMatches<'a>, name: &str) -> Option<&'a str>
+pub(crate) fn text_of<'a>(found: &ArgMatches<'a>, name: &str) -> Option<&'a str>
     ensures { option_map (λ text. text.now) result ≡ first_of name.now (rows_of (found_of found.now)) }
 {
     found.get_str(name)
@@ -384,13 +385,14 @@ fn command<'a>(alloc: Global) -> Result<Command<'a>, AllocError>
     let with_replay = with_command(program, replay_command(alloc))?;
     let with_topup = with_command(with_replay, topup_command(alloc))?;
     let with_ledger = with_command(with_topup, store_command(alloc, "ledger"))?;
-    let with_serve = with_command(with_ledger, serve_command(alloc))?;
+    let with_balance = with_command(with_ledger, store_command(alloc, "balance"))?;
+    let with_serve = with_command(with_balance, serve_command(alloc))?;
     let with_decode = with_command(with_serve, Ok(Command::new(alloc, "decode")))?;
     with_command(with_decode, Ok(Command::new(alloc, "help")))
 }
 
 /// The program with one more command, if that could be made.
-fn with_command<'a>(
+pub(crate) fn with_command<'a>(
     program: Command<'a>,
     made: Result<Command<'a>, AllocError>,
 ) -> Result<Command<'a>, AllocError>
@@ -461,7 +463,7 @@ fn store_command<'a>(alloc: Global, name: &'a str) -> Result<Command<'a>, AllocE
 }
 
 /// A command with one more argument, that has to be there, by its place.
-fn with_argument<'a>(
+pub(crate) fn with_argument<'a>(
     alloc: Global,
     command: Command<'a>,
     name: &'a str,
@@ -473,7 +475,7 @@ fn with_argument<'a>(
 }
 
 /// A command with one more option, which takes a value.
-fn with_option<'a>(
+pub(crate) fn with_option<'a>(
     alloc: Global,
     command: Command<'a>,
     name: &'a str,

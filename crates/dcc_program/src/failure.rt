@@ -2,9 +2,11 @@
 
 ghost use Rattle.std.specs.Prelude.{◌≡◌, Some};
 ghost use Rattle.std.specs.IoError.{error_kind};
-ghost use Rattle.dcc_program.specs.Failures.{status_of, line_of, of_plan, of_read, of_line, of_operator, of_serve, of_replay, of_decode, of_io_kind};
+ghost use Rattle.dcc_program.specs.Failures.{status_of, line_of, of_plan, of_read, of_line, of_operator, of_serve, of_call, of_replay, of_decode, of_io_kind};
 ghost use Rattle.dcc_program.specs.declared.failure.Failure.TheVariants as failure;
 
+use crate::calling::CallFailure;
+use dcc_client::CallFault;
 use dcc_decode::DecodeFault;
 use dcc_operator::{LineFault, OperatorFault};
 use dcc_replay::ReplayFault;
@@ -58,7 +60,7 @@ impl fmt::Display for Failure {
         match self {
             Failure::Usage => write!(
                 f,
-                "dcc: usage: dcc replay PLAN, dcc topup PLAN DIR SUB TICKET AMOUNT [MOMENT], dcc topup PLAN DIR --from FILE, dcc ledger PLAN DIR SUB, dcc serve PLAN DIR, dcc check PLAN [DIR], dcc decode, or dcc help"
+                "dcc: usage: dcc replay PLAN, dcc topup PLAN DIR SUB TICKET AMOUNT [MOMENT], dcc topup PLAN DIR --from FILE, dcc topup --at ADDR SUB TICKET AMOUNT, dcc ledger PLAN DIR SUB, dcc ledger --at ADDR SUB, dcc balance PLAN DIR SUB, dcc balance --at ADDR SUB, dcc serve PLAN DIR, dcc check PLAN [DIR], dcc decode, or dcc help"
             ),
             Failure::Memory => write!(f, "dcc: memory"),
             Failure::Io => write!(f, "dcc: io"),
@@ -159,6 +161,17 @@ impl From<ServeFault> for Failure {
             ServeFault::Io => Failure::Io,
             ServeFault::Close(number) => Failure::Close(number),
             ServeFault::Store(number) => Failure::Store(number),
+        }
+    }
+}
+
+impl From<CallFailure> for Failure {
+    ghost from_gives = { λ fault given. given ≡ of_call fault };
+
+    fn from(failure: CallFailure) -> Failure {
+        match failure {
+            CallFailure::Memory | CallFailure::Call(CallFault::Memory) => Failure::Memory,
+            _ => Failure::Io,
         }
     }
 }

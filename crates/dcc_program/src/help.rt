@@ -7,7 +7,11 @@ dcc is a Diameter credit-control server (RFC 8506) on prepaid balances.
 usage: dcc replay PLAN
        dcc topup PLAN DIR SUB TICKET AMOUNT [MOMENT]
        dcc topup PLAN DIR --from FILE
+       dcc topup --at ADDR SUB TICKET AMOUNT
        dcc ledger PLAN DIR SUB
+       dcc ledger --at ADDR SUB
+       dcc balance PLAN DIR SUB
+       dcc balance --at ADDR SUB
        dcc serve PLAN DIR [--listen ADDR] [--gates N] [--rounds N | --stay [--sweep S] [--operator ADDR]] [--every N] [--silent S]
        dcc check PLAN [DIR]
        dcc decode
@@ -25,10 +29,20 @@ dcc topup         makes one top-up under the plan of the file PLAN, in the store
                   MOMENT is in seconds since 1970, the clock's if it is missing
                   --from makes the top-ups of FILE, or of standard input if FILE is -: a line for each, SUB TICKET AMOUNT
                   [MOMENT]. It opens each store once, and prints SUB, TICKET and the word of each top-up
+                  --at asks the server that runs at ADDR in place of a folder: ADDR is that of its --operator, an address of
+                  127.0.0.0/8 and a port. The top-up is at the moment of the server's clock, and no MOMENT is given
 dcc ledger        prints the ledger of the subscriber SUB from the store of its shard in the folder DIR. Without such a
                   store or folder the account is unknown, and nothing is made.
                   SUB is a type and data, as 0:491700000001: type 0 a telephone number, 1 an IMSI, 2 a SIP URI, 3 an NAI,
                   4 a private name
+                  --at asks the server that runs at ADDR in place of a folder: ADDR is that of its --operator, an address of
+                  127.0.0.0/8 and a port
+dcc balance       prints how the account of the subscriber SUB stands, from the same store: its funds, the reserved money,
+                  the free money and the overrun, in minor units, a line each. Without acts the account is unknown.
+                  SUB is a type and data, as 0:491700000001: type 0 a telephone number, 1 an IMSI, 2 a SIP URI, 3 an NAI,
+                  4 a private name
+                  --at asks the server that runs at ADDR in place of a folder: ADDR is that of its --operator, an address of
+                  127.0.0.0/8 and a port
 dcc serve         serves gateways over TCP from the stores in the folder DIR, and prints its address, and a line for each
                   round. Without --stay it ends after its rounds, and serves one if --rounds is missing; a round ends
                   once each of its gateways has left

@@ -4,6 +4,7 @@ ghost use Rattle.std.specs.Prelude.{◌≡◌, ◌<◌, ◌⊎◌, ℕ, IfOk, If
 ghost use Rattle.dcc_startup.specs.Openings.{AreStarted, IsUnusable};
 
 use dcc_message::Identity;
+use dcc_metrics::Meters;
 use dcc_shard::Shard;
 use dcc_startup::{StoreRefusal, Stores, shards_over};
 use dcc_store::Records;
@@ -22,7 +23,7 @@ const LOOK: u64 = 10;
 /// The seconds after which an opening that goes on is reported, once a second.
 const LONG: u64 = 2;
 
-/// Opens the shards of a server as [`shards_over`] does. If the opening takes longer than two seconds, it reports that on standard error once a
+/// Opens the shards of a server as [`shards_over`] does, and makes the counters of a server with so many places over them. If the opening takes longer than two seconds, it reports that on standard error once a
 /// second. Behind it, it reports the subscribers and the acts of each shard, and the seconds that the opening took. A line that cannot be
 /// written is left out.
 pub(crate) fn open_shards<R: Threads + Wait + Clock + Eprint + Sync, S: Stores + Sync>(
@@ -33,8 +34,9 @@ pub(crate) fn open_shards<R: Threads + Wait + Clock + Eprint + Sync, S: Stores +
     plan: &Plan,
     identity: &Identity,
     hasher: RandomState,
-) -> Result<Vec<Shard<S::Records>>, StoreRefusal>
-    ensures started { IfOk result (λ shards. AreStarted (S.opens stores.now folder.now plan.now) S.Records.may_leave plan.now.terms identity.now plan.now.shards shards.items) }
+    places: usize,
+) -> Result<(Vec<Shard<S::Records>>, Meters), StoreRefusal>
+    ensures started { IfOk result (λ opened. AreStarted (S.opens stores.now folder.now plan.now) S.Records.may_leave plan.now.terms identity.now plan.now.shards opened.0.items) }
     ensures refused { IfErr result (λ refusal. (refusal.0 ≡ 50) ⊎ ((i : ℕ) × (i < plan.now.shards) × IsUnusable (S.refuses stores.now folder.now plan.now i)
         (S.opens stores.now folder.now plan.now i) S.Records.may_leave S.Records.is_stopped i plan.now.shards refusal.0)) }
 {
@@ -54,10 +56,21 @@ pub(crate) fn open_shards<R: Threads + Wait + Clock + Eprint + Sync, S: Stores +
             opened
         },
     );
-    if let Ok(shards) = &opened {
-        report_shards(rt, alloc, shards.as_slice(), began);
+    // By a match: the clauses of shards and the clause of a refusal are proved apart.
+    let shards = match opened {
+        Ok(shards) => shards,
+        Err(refusal) => return Err(refusal),
+    };
+    let made = meters_of(rt, alloc, shards.as_slice(), places);
+    report_time(rt, began);
+    match made {
+        Ok(meters) => Ok((shards, meters)),
+        Err(_) => {
+            // By a call: shards that are let go in place are proved part by part.
+            drop(shards);
+            Err(StoreRefusal(50))
+        }
     }
-    opened
 }
 
 /// Reports once a second that the shards are not open yet, from two seconds on, until they are.
@@ -78,21 +91,31 @@ fn report_while<R: Wait + Clock + Eprint>(rt: &R, is_open: &AtomicBool, began: O
     }
 }
 
-/// Reports the subscribers and the acts of each shard, and the time that the opening took.
-fn report_shards<R: Clock + Eprint, K: Records>(
+/// Counters for these shards and so many places, which begin with the subscribers and the acts of each shard. It reports these. The only error is
+/// want of memory.
+fn meters_of<R: Eprint, K: Records>(
     rt: &R,
     alloc: Global,
     shards: &[Shard<K>],
-    began: Option<Instant>,
-) {
-    let millis = millis_since(rt, began);
+    places: usize,
+) -> Result<Meters, AllocError> {
+    let mut meters = Meters::new(alloc, shards.len(), places)?;
     for index in 0..shards.len() {
-        if let Ok((subs, acts)) = size_of(alloc, &shards[index]) {
-            let _lost = rt.eprintln(format_args!(
-                "dcc: shard {index}: subscribers {subs}, acts {acts}"
-            ));
-        }
+        let Ok((subs, acts)) = size_of(alloc, &shards[index]) else {
+            drop(meters);
+            return Err(AllocError);
+        };
+        meters.open(index, subs as u64, acts);
+        let _lost = rt.eprintln(format_args!(
+            "dcc: shard {index}: subscribers {subs}, acts {acts}"
+        ));
     }
+    Ok(meters)
+}
+
+/// Reports the time that the opening took.
+fn report_time<R: Clock + Eprint>(rt: &R, began: Option<Instant>) {
+    let millis = millis_since(rt, began);
     let (seconds, millis) = (millis / 1_000, millis % 1_000);
     let _lost = rt.eprintln(format_args!(
         "dcc: the stores are open after {seconds}.{millis:03} seconds"

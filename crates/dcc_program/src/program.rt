@@ -1,10 +1,10 @@
 //! The program's work, over any files, reader and writer.
 
 ghost use Rattle.std.specs.Prelude.{◌≡◌, ◌≢◌, ◌⊎◌, None, map, string_bytes, IfErr, OnOk};
-ghost use Rattle.std.specs.Io.KnownBytes.{Keeps};
+ghost use Rattle.std.specs.Io.KnownBytes.{Appends, Keeps};
 ghost use Rattle.dcc_program.specs.CommandLines.{Asks};
-ghost use Rattle.dcc_program.specs.Runs.{IsDone, IsBegun, IsBeforeScript, IsRunFailure};
-ghost use Rattle.dcc_program.specs.Stores.{IsTopUp, IsTopUpBegun, IsLedger, IsLedgerBegun, IsStoreFailure};
+ghost use Rattle.dcc_program.specs.Runs.{IsDone, IsBegun, IsBeforeScript, IsRunFailure, IsTextBegun};
+ghost use Rattle.dcc_program.specs.Stores.{IsTopUp, IsTopUpBegun, IsPage, IsPageBegun, IsStoreFailure};
 ghost use Rattle.dcc_program.specs.declared.command_line.Task.{Task};
 ghost use Rattle.dcc_program.specs.declared.failure.Failure.TheVariants.{Io};
 
@@ -13,9 +13,9 @@ use crate::decoding::decode;
 use crate::failure::Failure;
 use crate::help::{HELP, VERSION};
 use crate::replaying::replay;
-use crate::storing::{ledger, top_up};
+use crate::storing::{page, top_up};
 use dcc_act::Sub;
-use dcc_operator::TopUpAsk;
+use dcc_operator::{Page, TopUpAsk};
 use dcc_startup::Stores;
 use dcc_streams::write_all;
 use std::fs;
@@ -25,7 +25,7 @@ use std::random::RandomSource;
 use std::rt::Files;
 
 /// Does what the words of a command line ask for: replays the script of the input under the plan of the file, makes a top-up or
-/// prints a ledger over the stores, shows the messages of the input, or prints a text.
+/// prints a page over the stores, shows the messages of the input, or prints a text.
 ///
 /// The words are judged first, then the plan, then the script or the store. A text is printed before anything is opened or read.
 pub fn run<F: Files + RandomSource + AllocGlobal, S: Stores, R: Read, W: Write>(
@@ -49,16 +49,28 @@ pub fn run<F: Files + RandomSource + AllocGlobal, S: Stores, R: Read, W: Write>(
         Err(failure) => return Err(failure),
     };
     match task {
-        Task::Help => Ok(write_all(output, HELP.as_bytes())?),
-        Task::Version => Ok(write_all(output, VERSION.as_bytes())?),
+        Task::Help => print_text(HELP, output),
+        Task::Version => print_text(VERSION, output),
         Task::Replay(path) => {
             let hasher = RandomState::new(rt)?;
             let mut file = fs::open(rt, path)?;
             replay(rt.alloc(), &mut file, input, output, hasher)
         }
         Task::TopUp(place, ask) => top_up_at(rt, stores, place, ask, output),
-        Task::Ledger(place, sub) => ledger_at(rt, stores, place, sub, output),
+        Task::Show(shown, place, sub) => page_at(rt, stores, shown, place, sub, output),
         Task::Decode => decode(rt.alloc(), input, output),
+    }
+}
+
+/// Prints a text, whichever it is, so that no proof looks into a long one.
+fn print_text<W: Write>(text: &str, output: &mut W) -> Result<(), Failure>
+    ensures whole { OnOk result (Appends (W.contents output.old) (W.contents output.new) text.now) }
+    ensures failure { IfErr result (λ failure. failure ≡ Io) }
+    ensures part { IfErr result (λ _. IsTextBegun text.now (W.contents output.old) (W.contents output.new)) }
+{
+    match write_all(output, text.as_bytes()) {
+        Ok(()) => Ok(()),
+        Err(_) => Err(Failure::Io),
     }
 }
 
@@ -90,28 +102,30 @@ fn top_up_at<F: Files + RandomSource + AllocGlobal, S: Stores, W: Write>(
     )
 }
 
-/// Prints a ledger from the stores of a folder, under the plan of a file.
-fn ledger_at<F: Files + RandomSource + AllocGlobal, S: Stores, W: Write>(
+/// Prints a page from the stores of a folder, under the plan of a file.
+fn page_at<F: Files + RandomSource + AllocGlobal, S: Stores, W: Write>(
     rt: &F,
     stores: &S,
+    shown: Page,
     place: Place<'_>,
     sub: Sub,
     output: &mut W,
 ) -> Result<(), Failure>
-    ensures whole { OnOk result (IsLedger (S.opens stores.now place.entry.folder.now) S.Records.may_leave None sub
+    ensures whole { OnOk result (IsPage shown (S.opens stores.now place.entry.folder.now) S.Records.may_leave None sub
         (W.contents output.old) (W.contents output.new)) }
     ensures failure { IfErr result (IsStoreFailure None) }
     ensures silent { IfErr result (λ failure. failure ≢ Io → Keeps (W.contents output.old) (W.contents output.new)) }
     ensures part { IfErr result (λ failure. failure ≡ Io → Keeps (W.contents output.old) (W.contents output.new)
-        ⊎ IsLedgerBegun None sub (W.contents output.old) (W.contents output.new)) }
+        ⊎ IsPageBegun shown None sub (W.contents output.old) (W.contents output.new)) }
 {
     let hasher = RandomState::new(rt)?;
     let mut file = fs::open(rt, place.plan)?;
-    ledger(
+    page(
         rt.alloc(),
         &mut file,
         stores,
         place.folder,
+        shown,
         sub,
         output,
         hasher,

@@ -16,7 +16,7 @@ use dcc_operator::OperatorFault;
 use dcc_replay::identity_of;
 use dcc_rounds::{Service, serve_run};
 use dcc_sockets::{
-    Calls, Closing, Door, Input, NoticeLines, Output, Staying, SystemClock, remove_stop,
+    Backing, Calls, Closing, Door, Input, NoticeLines, Output, Staying, SystemClock, remove_stop,
 };
 use dcc_startup::Stores;
 use dcc_streams::write_all;
@@ -92,9 +92,18 @@ fn serve_under<
     let alloc = rt.alloc();
     let stop = stop_path(alloc, ask)?;
     let identity = identity_of(alloc, plan)?;
-    let opened = open_shards(rt, alloc, stores, ask.place.folder, plan, &identity, hasher);
-    let shards = match opened {
-        Ok(shards) => shards,
+    let opened = open_shards(
+        rt,
+        alloc,
+        stores,
+        ask.place.folder,
+        plan,
+        &identity,
+        hasher,
+        ask.rounds.gates(),
+    );
+    let (shards, meters) = match opened {
+        Ok(opened) => opened,
         Err(refusal) => return Err(Failure::from(OperatorFault::from(refusal))),
     };
     let closing = Closing::new();
@@ -104,7 +113,12 @@ fn serve_under<
         sweep,
     });
     forget_stop(ask, stop.as_str());
-    let mut door = match open_door(rt, alloc, ask, staying, hasher, output) {
+    let backing = Backing {
+        meters: &meters,
+        stores,
+        folder: ask.place.folder,
+    };
+    let mut door = match open_door(rt, alloc, ask, staying, backing, hasher, output) {
         Ok(door) => door,
         Err(failure) => {
             // By a call: shards that are let go in place are proved part by part.
@@ -113,7 +127,7 @@ fn serve_under<
         }
     };
     let clock = SystemClock::new(rt);
-    let notices = NoticeLines::new(rt);
+    let notices = NoticeLines::new(rt, &meters);
     let service = Service {
         plan,
         identity: &identity,
@@ -126,7 +140,7 @@ fn serve_under<
         S::Records,
         Input<'_, R>,
         Output<'_, R>,
-        Door<'_, R>,
+        Door<'_, R, S>,
         SystemClock<'_, R>,
         NoticeLines<'_, R>,
         W,
@@ -148,19 +162,20 @@ fn forget_stop(ask: &ServeAsk<'_>, stop: &str) {
 }
 
 /// Listens at an address, and writes the address at which the server listens.
-fn open_door<'r, N: Net<Listener = TcpListener, Stream = TcpStream> + Eprint, W: Write>(
+fn open_door<'r, N: Net<Listener = TcpListener, Stream = TcpStream> + Eprint, S: Stores, W: Write>(
     rt: &'r N,
     alloc: Global,
     ask: &ServeAsk<'_>,
     staying: Option<Staying<'r>>,
+    backing: Backing<'r, S>,
     hasher: RandomState,
     output: &mut W,
-) -> Result<Door<'r, N>, Failure>
+) -> Result<Door<'r, N, S>, Failure>
     ensures whole { OnOk result ((address : SocketAddr) × Appends (W.contents output.old) (W.contents output.new) (listening_line address)) }
     ensures part { IfErr result (IsTellingBegun (W.contents output.old) (W.contents output.new)) }
 {
     let calls = match ask.operator {
-        Some(address) => Some(open_calls(rt, address, hasher)?),
+        Some(address) => Some(open_calls(rt, address, hasher, backing)?),
         None => None,
     };
     // No `?`: it is not proved if a value holds a reference beside a struct with a model.
@@ -179,21 +194,22 @@ fn open_door<'r, N: Net<Listener = TcpListener, Stream = TcpStream> + Eprint, W:
 }
 
 /// Listens for operators at an address, and reports it on standard error. A line that cannot be written is left out.
-fn open_calls<N: Net<Listener = TcpListener, Stream = TcpStream> + Eprint>(
+fn open_calls<'r, N: Net<Listener = TcpListener, Stream = TcpStream> + Eprint, S: Stores>(
     rt: &N,
     address: SocketAddrV4,
     hasher: RandomState,
-) -> io::Result<Calls> {
-    let calls = Calls::bind(rt, address, hasher)?;
+    backing: Backing<'r, S>,
+) -> io::Result<Calls<'r, S>> {
+    let calls = Calls::bind(rt, address, hasher, backing)?;
     let found = calls.address()?;
     let _lost = rt.eprintln(format_args!("dcc: operators at {found}"));
     Ok(calls)
 }
 
 /// Writes the address at which a door listens.
-fn tell_door<N: Net<Listener = TcpListener, Stream = TcpStream>, W: Write>(
+fn tell_door<N: Net<Listener = TcpListener, Stream = TcpStream>, S: Stores, W: Write>(
     alloc: Global,
-    door: &Door<'_, N>,
+    door: &Door<'_, N, S>,
     output: &mut W,
 ) -> Result<(), Failure>
     ensures whole { OnOk result ((address : SocketAddr) × Appends (W.contents output.old) (W.contents output.new) (listening_line address)) }

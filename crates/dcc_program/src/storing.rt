@@ -1,15 +1,15 @@
-//! `dcc topup` and `dcc ledger`, over the reader of the plan, the stores of a folder and a writer.
+//! `dcc topup`, `dcc ledger` and `dcc balance`, over the reader of the plan, the stores of a folder and a writer.
 
 ghost use Rattle.std.specs.Prelude.{◌≡◌, ◌≢◌, ◌⊎◌, ℕ, List, Option, IfErr, OnOk};
 ghost use Rattle.std.specs.Io.KnownBytes.{Keeps};
 ghost use Rattle.dcc_program.specs.Plans.{IsPlanOf};
-ghost use Rattle.dcc_program.specs.Stores.{IsTopUp, IsTopUpBegun, IsLedger, IsLedgerBegun, IsStoreFailure};
+ghost use Rattle.dcc_program.specs.Stores.{IsTopUp, IsTopUpBegun, IsPage, IsPageBegun, IsStoreFailure};
 ghost use Rattle.dcc_program.specs.declared.failure.Failure.TheVariants.{Io};
 
 use crate::failure::Failure;
 use crate::plan_file::plan_from;
 use dcc_act::Sub;
-use dcc_operator::{TopUpAsk, ledger_in, top_up_in};
+use dcc_operator::{Page, TopUpAsk, page_in, top_up_in};
 use dcc_replay::identity_of;
 use dcc_startup::Stores;
 use dcc_tariff::Plan;
@@ -75,51 +75,55 @@ fn top_up_under<S: Stores, W: Write>(
     }
 }
 
-/// Writes the ledger of a subscriber under the plan that the file gives, from the store of its shard. If there is no store, writes
+/// Writes a page of a subscriber under the plan that the file gives, from the store of its shard. If there is no store, writes
 /// that the account is unknown.
 ///
 /// The plan is judged first, then the store, and both before anything is written. If the writer fails, a beginning is written.
-pub fn ledger<P: Read, S: Stores, W: Write>(
+pub fn page<P: Read, S: Stores, W: Write>(
     alloc: Global,
     file: &mut P,
     stores: &S,
     folder: &str,
+    page: Page,
     sub: Sub,
     output: &mut W,
     hasher: RandomState,
 ) -> Result<(), Failure>
-    ensures whole { OnOk result (IsLedger (S.opens stores.now folder.now) S.Records.may_leave (P.remaining file.old) sub
+    ensures whole { OnOk result (IsPage page (S.opens stores.now folder.now) S.Records.may_leave (P.remaining file.old) sub
         (W.contents output.old) (W.contents output.new)) }
     ensures failure { IfErr result (IsStoreFailure (P.remaining file.old)) }
     ensures silent { IfErr result (λ failure. failure ≢ Io → Keeps (W.contents output.old) (W.contents output.new)) }
     ensures part { IfErr result (λ failure. failure ≡ Io → Keeps (W.contents output.old) (W.contents output.new)
-        ⊎ IsLedgerBegun (P.remaining file.old) sub (W.contents output.old) (W.contents output.new)) }
+        ⊎ IsPageBegun page (P.remaining file.old) sub (W.contents output.old) (W.contents output.new)) }
 {
     let plan = plan_from(alloc, file)?;
-    let done = ledger_under(alloc, stores, folder, &plan, sub, output, hasher);
+    let done = page_under(alloc, stores, folder, &plan, page, sub, output, hasher);
     drop(plan);
     done
 }
 
-/// Writes the ledger of a subscriber under a plan, whichever file gave the plan.
-fn ledger_under<S: Stores, W: Write>(
+/// Writes a page of a subscriber under a plan, whichever file gave the plan.
+fn page_under<S: Stores, W: Write>(
     alloc: Global,
     stores: &S,
     folder: &str,
     plan: &Plan,
+    page: Page,
     sub: Sub,
     output: &mut W,
     hasher: RandomState,
 ) -> Result<(), Failure>
-    ensures whole { (file : Option (List ℕ)) → IsPlanOf file plan.now → OnOk result (IsLedger (S.opens stores.now folder.now) S.Records.may_leave file sub
+    ensures whole { (file : Option (List ℕ)) → IsPlanOf file plan.now → OnOk result (IsPage page (S.opens stores.now folder.now) S.Records.may_leave file sub
         (W.contents output.old) (W.contents output.new)) }
     ensures failure { (file : Option (List ℕ)) → IsPlanOf file plan.now → IfErr result (IsStoreFailure file) }
     ensures silent { IfErr result (λ failure. failure ≢ Io → Keeps (W.contents output.old) (W.contents output.new)) }
     ensures part { (file : Option (List ℕ)) → IsPlanOf file plan.now → IfErr result (λ failure. failure ≡ Io → Keeps (W.contents output.old) (W.contents output.new)
-        ⊎ IsLedgerBegun file sub (W.contents output.old) (W.contents output.new)) }
+        ⊎ IsPageBegun page file sub (W.contents output.old) (W.contents output.new)) }
 {
     let identity = identity_of(alloc, plan)?;
-    match ledger_in(alloc, stores, folder, plan, &identity, sub, output, hasher) {
+    match page_in(
+        alloc, stores, folder, plan, &identity, page, sub, output, hasher,
+    ) {
         Ok(shard) => {
             drop(shard);
             Ok(())

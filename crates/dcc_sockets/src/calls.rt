@@ -2,16 +2,21 @@
 
 ghost use Rattle.std.specs.Prelude.{◌≤◌, IfOk, IfSome, length};
 
+use crate::around::Around;
 use crate::closing::Closing;
 use crate::door::TURN_SECONDS;
+use crate::notices::NoticeLines;
 use crate::options::wait_for_connections;
-use dcc_port::{Ender, serve_calls};
+use dcc_metrics::Meters;
+use dcc_port::serve_calls;
+use dcc_rounds::count_receipts;
 use dcc_running::{Seat, Shards};
+use dcc_startup::Copies;
 use dcc_store::Records;
 use std::alloc::Global;
 use std::hash::RandomState;
 use std::io;
-use std::io::{ErrorKind, Read, Write};
+use std::io::{Eprint, ErrorKind, Read, Write};
 use std::net::{Net, SocketAddr, SocketAddrV4, TcpListener, TcpStream};
 use std::sync::Wait;
 use std::time::{Clock, Duration, Instant};
@@ -19,15 +24,25 @@ use std::time::{Clock, Duration, Instant};
 /// For so many seconds in all the server waits for the octets of an operator's connection, and for so many it waits until octets are taken there.
 pub const CALL_SECONDS: u64 = 10;
 
+/// What an operator's call reaches beside the shards: the counters of the server, and the stores of its shards.
+#[derive(Drop)]
+pub struct Backing<'r, S: Copies> {
+    pub meters: &'r Meters,
+    pub stores: &'r S,
+    /// The folder of the stores.
+    pub folder: &'r str,
+}
+
 /// Where operators call the server.
 #[derive(Drop)]
-pub struct Calls {
+pub struct Calls<'r, S: Copies> {
     pub(crate) listener: TcpListener,
     /// By which the fields of a call are found.
     pub(crate) keys: RandomState,
+    pub(crate) backing: Backing<'r, S>,
 }
 
-impl Calls {
+impl<'r, S: Copies> Calls<'r, S> {
     /// Listens at an address for operators. Port 0 takes a port that is free. The fields of a call are found by hashes under these keys.
     ///
     /// Error: the system refuses the address, for instance if it is taken or isn't one of this machine.
@@ -35,10 +50,15 @@ impl Calls {
         rt: &R,
         address: SocketAddrV4,
         keys: RandomState,
-    ) -> io::Result<Calls> {
+        backing: Backing<'r, S>,
+    ) -> io::Result<Calls<'r, S>> {
         let listener = rt.bind(SocketAddr::V4(address))?;
         wait_for_connections(&listener, TURN_SECONDS)?;
-        Ok(Calls { listener, keys })
+        Ok(Calls {
+            listener,
+            keys,
+            backing,
+        })
     }
 
     /// The address that is listened at, with its port.
@@ -49,49 +69,49 @@ impl Calls {
     }
 }
 
-/// Who ends the server at an operator's call.
-#[derive(Clone, Copy)]
-struct Ending<'r> {
-    closing: &'r Closing,
-}
-
-impl Ender for Ending<'_> {
-    // No clause says when a server that stays ends.
-    ghost ends = { λ _ _. Unit {0} };
-
-    fn end<W: Wait>(&mut self, _rt: &W) {
-        self.closing.tell();
-    }
-}
-
 /// Answers the calls of one connection, until it ends or has waited as long as it may.
 ///
 /// Errors: those of the connection, and want of memory.
-pub(crate) fn answer_calls<R: Clock, W: Wait, S: Records, C: dcc_connect::Clock + Copy>(
+pub(crate) fn answer_calls<
+    R: Clock + Eprint,
+    W: Wait,
+    S: Records,
+    K: Copies,
+    C: dcc_connect::Clock + Copy,
+>(
     clocks: &R,
     rt: &W,
     alloc: Global,
     shards: &Shards<S>,
     clock: C,
     seat: &mut Seat,
-    keys: RandomState,
+    calls: &Calls<'_, K>,
     stream: TcpStream,
     closing: &Closing,
 ) -> io::Result<()> {
     let (mut input, mut output) = call_halves(clocks, stream, closing)?;
-    let (mut clock, mut ending) = (clock, Ending { closing });
-    serve_calls(
+    let mut clock = clock;
+    let mut around = Around {
+        rt,
+        closing,
+        backing: &calls.backing,
+    };
+    let counted = seat.receipts().len();
+    let served = serve_calls(
         rt,
         alloc,
         shards,
         shards.count(),
         &mut clock,
-        &mut ending,
+        &mut around,
         seat,
-        keys,
+        calls.keys,
         &mut input,
         &mut output,
-    )
+    );
+    let meters = NoticeLines::new(clocks, calls.backing.meters);
+    count_receipts(&meters, shards, seat, counted);
+    served
 }
 
 /// One half of an operator's connection: it is read from, or written to, and waits for [`CALL_SECONDS`] in all.

@@ -10,6 +10,7 @@ use crate::trouble::{Trouble, tell};
 use dcc_octets::OctetString;
 use dcc_rounds::{Connection, Listener, Tick};
 use dcc_running::{Seat, Shards};
+use dcc_startup::Copies;
 use dcc_store::Records;
 use std::alloc::Global;
 use std::io::{Eprint, ErrorKind};
@@ -26,12 +27,12 @@ pub const TURN_SECONDS: u64 = 1;
 
 /// A listener that is bound to an address of this machine.
 #[derive(Drop)]
-pub struct Door<'r, R> {
+pub struct Door<'r, R, K: Copies> {
     rt: &'r R,
     alloc: Global,
     listener: TcpListener,
     /// Where operators call a server that stays.
-    calls: Option<Calls>,
+    calls: Option<Calls<'r, K>>,
     silence: Silence,
     /// Of a server that stays: when it ends, and how often it sweeps.
     staying: Option<Staying<'r>>,
@@ -43,7 +44,7 @@ pub struct Door<'r, R> {
     since_sweep: Mutex<u64>,
 }
 
-impl<'r, R: Net<Listener = TcpListener, Stream = TcpStream>> Door<'r, R> {
+impl<'r, R: Net<Listener = TcpListener, Stream = TcpStream>, K: Copies> Door<'r, R, K> {
     /// Listens at an address, for gateways that may be silent so long, and for places that are taken again if the server stays. A server that stays
     /// may also take calls of operators. Port 0 takes a port that is free.
     ///
@@ -54,8 +55,8 @@ impl<'r, R: Net<Listener = TcpListener, Stream = TcpStream>> Door<'r, R> {
         address: SocketAddrV4,
         silence: Silence,
         staying: Option<Staying<'r>>,
-        calls: Option<Calls>,
-    ) -> io::Result<Door<'r, R>> {
+        calls: Option<Calls<'r, K>>,
+    ) -> io::Result<Door<'r, R, K>> {
         let listener = rt.bind(SocketAddr::V4(address))?;
         if staying.is_some() {
             wait_for_connections(&listener, TURN_SECONDS)?;
@@ -74,7 +75,7 @@ impl<'r, R: Net<Listener = TcpListener, Stream = TcpStream>> Door<'r, R> {
     }
 }
 
-impl<'r, R> Door<'r, R> {
+impl<'r, R, K: Copies> Door<'r, R, K> {
     /// The address that is listened at, with its port.
     ///
     /// Error: the system doesn't report it.
@@ -104,7 +105,7 @@ impl<'r, R> Door<'r, R> {
     }
 }
 
-impl<'r, R: Clock + Eprint> Door<'r, R> {
+impl<'r, R: Clock + Eprint, K: Copies> Door<'r, R, K> {
     /// One try: a connection. None if a connection was lost, which is reported, if none came in time, or, behind a wait, if there is
     /// nothing to take a connection in with.
     ///
@@ -151,7 +152,7 @@ impl<'r, R: Clock + Eprint> Door<'r, R> {
     }
 }
 
-impl<'r, R: Clock + Eprint> Listener<Input<'r, R>, Output<'r, R>> for Door<'r, R> {
+impl<'r, R: Clock + Eprint, K: Copies> Listener<Input<'r, R>, Output<'r, R>> for Door<'r, R, K> {
     // No clause says what a listener of the system does.
     ghost is_closed = { Unit {0} };
 
@@ -247,7 +248,7 @@ impl<'r, R: Clock + Eprint> Listener<Input<'r, R>, Output<'r, R>> for Door<'r, R
                         shards,
                         clock,
                         seat,
-                        calls.keys,
+                        calls,
                         stream,
                         staying.closing,
                     );

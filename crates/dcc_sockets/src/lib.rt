@@ -8,6 +8,8 @@
 //! [`SystemClock`] is the clock, and [`NoticeLines`] are the lines.
 #![tactic(auto)]
 
+mod around;
+mod calling;
 mod calls;
 mod clock;
 mod closing;
@@ -21,7 +23,8 @@ mod silence;
 mod trouble;
 mod waiting;
 
-pub use calls::{CALL_SECONDS, Calls};
+pub use calling::{ANSWER_SECONDS, CallerHalf, connect};
+pub use calls::{Backing, CALL_SECONDS, Calls};
 pub use clock::SystemClock;
 pub use closing::{Closing, Staying, remove_stop};
 pub use door::{Door, SHORT_SECONDS, TURN_SECONDS};

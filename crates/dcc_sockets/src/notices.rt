@@ -1,30 +1,86 @@
-//! What happened, as lines on standard error.
+//! What happened, as lines on standard error and in counters.
 
 use dcc_connect::{ConnectFault, ConnectionEnd, WriteEnd};
+use dcc_metrics::Meters;
 use dcc_octets::{FIRST_VISIBLE, LAST_VISIBLE};
-use dcc_rounds::{Notice, Notices};
+use dcc_receipts::{Receipt, Told};
+use dcc_rounds::{Event, Notice, Notices};
 use std::fmt;
 use std::io::Eprint;
 use std::sync::Wait;
+use std::time::{Clock, Instant};
 
 /// Writes each notice as a line to standard error, whatever octets a peer's name has: all but `!` to `~`, and the backslash, stand as `\xNN`.
-/// A line that can't be written is left out.
+/// A line that can't be written is left out. It counts notices and events.
 #[derive(Clone, Copy)]
 pub struct NoticeLines<'r, P: Eprint> {
     print: &'r P,
+    meters: &'r Meters,
+    /// The moment from which the microseconds of events are counted. None if the system has no clock: then all are 0.
+    begun: Option<Instant>,
 }
 
-impl<'r, P: Eprint> NoticeLines<'r, P> {
-    /// Lines on the standard error of this runtime.
-    pub fn new(print: &'r P) -> NoticeLines<'r, P> {
-        NoticeLines { print }
+impl<'r, P: Eprint + Clock> NoticeLines<'r, P> {
+    /// Lines on the standard error of this runtime, and these counters.
+    pub fn new(print: &'r P, meters: &'r Meters) -> NoticeLines<'r, P> {
+        NoticeLines {
+            print,
+            meters,
+            begun: Instant::now(print).ok(),
+        }
     }
 }
 
-impl<P: Eprint> Notices for NoticeLines<'_, P> {
-    fn tell<W: Wait>(&self, _rt: &W, notice: Notice<'_>) {
+impl<P: Eprint + Clock> Notices for NoticeLines<'_, P> {
+    fn tell<W: Wait>(&self, rt: &W, notice: Notice<'_>) {
+        match notice {
+            Notice::Came { .. } => self.meters.came(),
+            Notice::Host { gate, host } => self.meters.host(rt, gate, host),
+            Notice::Written { gate, .. } => self.meters.went(rt, gate),
+            Notice::Read { .. } | Notice::Stopped { .. } => {}
+        }
         let line = NoticeLine { notice };
         let _lost = self.print.eprintln(line);
+    }
+
+    fn ticks(&self) -> u64 {
+        match self.begun {
+            Some(begun) => match begun.elapsed(self.print) {
+                Ok(passed) => passed
+                    .as_secs()
+                    .saturating_mul(1_000_000)
+                    .saturating_add(u64::from(passed.subsec_micros())),
+                Err(_) => 0,
+            },
+            None => 0,
+        }
+    }
+
+    fn count(&self, event: Event<'_>) {
+        match event {
+            Event::Read { message } => self.meters.read(message),
+            Event::Replied { octets } => self.meters.replied(octets),
+            Event::Answered {
+                shard,
+                octets,
+                micros,
+            } => self.meters.answered(shard, octets, micros),
+            Event::Took { shard, items } => self.meters.took(shard, items),
+            Event::Swept { shard } => self.meters.swept(shard),
+            Event::Receipt { shard, receipt } => count_receipt(self.meters, shard, receipt),
+        }
+    }
+}
+
+/// Counts the act, or the repeat, of a receipt. An unknown subscriber has neither.
+fn count_receipt(meters: &Meters, shard: usize, receipt: &Receipt) {
+    if receipt.fresh {
+        meters.act(shard, receipt.place);
+    } else if receipt.place != 0 {
+        meters.repeat(shard);
+    }
+    if let Told::Closed { sessions } = receipt.answer {
+        meters.ended(shard, sessions);
     }
 }
 

@@ -2,7 +2,7 @@ use Rattle.std.proofs.Common.{ap, codes, refl, ◌≡◌, ◌∙◌}
 use Rattle.std.proofs.lemmas.Result.{IfOk-weaker}
 use Rattle.clap.specs.Simple.{app_of_fields}
 use Rattle.clap.specs.Words.{App, app_of, new_app, with_subcommand}
-use Rattle.dcc_program.specs.CommandLines.{replay_command, topup_command, ledger_command, serve_command, decode_command, help_command, with_version, needing_command, without_help_command, dcc_command}
+use Rattle.dcc_program.specs.CommandLines.{replay_command, topup_command, ledger_command, balance_command, serve_command, decode_command, help_command, with_version, needing_command, without_help_command, dcc_command}
 use Rattle.dcc_program.proofs.command_line.command.Goals as goal
 
 pub returns : goal.returns
@@ -20,9 +20,11 @@ returns c =
     ∙ ap (λ (a : App). with_subcommand a topup_command.top) one in
     let three : app_of c.in_ok-with_ledger.with_ledger ≡ _ = c.in_ok-with_ledger.ensures ledger_command c.store_command.ensures refl
     ∙ ap (λ (a : App). with_subcommand a ledger_command.top) two in
+    let balanced : app_of c.in_ok-with_balance.with_balance ≡ _ = c.in_ok-with_balance.ensures balance_command c.store_command-2.ensures refl
+    ∙ ap (λ (a : App). with_subcommand a balance_command.top) three in
     let four : app_of c.in_ok-with_serve.with_serve ≡ _ = c.in_ok-with_serve.ensures serve_command c.serve_command.ensures refl
-    ∙ ap (λ (a : App). with_subcommand a serve_command.top) three in
+    ∙ ap (λ (a : App). with_subcommand a serve_command.top) balanced in
     let five : app_of c.in_ok-with_decode.with_decode ≡ _ = c.in_ok-with_decode.ensures decode_command c.new-2.ensures.app refl
     ∙ ap (λ (a : App). with_subcommand a decode_command.top) four in
-    IfOk-weaker c.with_command-6.result _ _
-    (λ command added. added help_command c.new-3.ensures.app refl ∙ ap (λ (a : App). with_subcommand a help_command.top) five) c.with_command-6.ensures
+    IfOk-weaker c.with_command-7.result _ _
+    (λ command added. added help_command c.new-3.ensures.app refl ∙ ap (λ (a : App). with_subcommand a help_command.top) five) c.with_command-7.ensures

@@ -9,7 +9,7 @@ returns-clause-served g c =
     record {
       plan = c.args.plan.now;
       clock = c.new-clock.result;
-      shards = c.in-Ok.shards.items;
+      shards = c.in-Ok.opened.0.items;
       last = rounds.0;
       address = door.0;
       told = g.W.Write.contents c.open_door.new.output;
@@ -26,7 +26,7 @@ returns-in_err-served-clause-part g c =
     (inr (record {
       plan = c.args.plan.now;
       clock = c.new-clock.result;
-      shards = c.in-Ok.shards.items;
+      shards = c.in-Ok.opened.0.items;
       address = door.0;
       told = g.W.Write.contents c.open_door.new.output;
       fault = c.in_err-served.field-0.0;

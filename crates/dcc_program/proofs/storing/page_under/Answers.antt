@@ -1,4 +1,4 @@
-use Rattle.dcc_program.proofs.storing.ledger_under.Goals as goal
+use Rattle.dcc_program.proofs.storing.page_under.Goals as goal
 
 pub returns-in-Ok-clause-whole : goal.returns-in-Ok-clause-whole
 returns-in-Ok-clause-whole g c = λ file given.
