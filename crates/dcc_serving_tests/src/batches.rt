@@ -1,32 +1,20 @@
-//! Debits of several subscribers in one batch; and a round in which such batches come, since an append is held at its gate.
+//! Debits of several subscribers in one batch.
 
-use crate::gateways::{Stage, Talk};
-use crate::messages::{Change, DEBIT_SUBSCRIBER, SESSION, debit, debited};
-use crate::rounds::{Watch, check};
-use crate::rows::{self, Row};
-use crate::server::{Server, after, subscriber, topped_up};
+use crate::accounts::{subscriber, topped_up};
 use dcc_act::Sub;
 use dcc_callers::{debit_one_by_one, debit_together, one};
-use dcc_rounds::Rounds;
 use dcc_running::{Books, Seat, Shards};
 use dcc_shard::RequestAnswer;
 use dcc_store::{MemoryRecords, Records};
-use dcc_test_stores::{Gate, OnceRecords};
+use dcc_test_stores::OnceRecords;
 use std::alloc::Global;
 use std::process::Abort;
 use std::random::RandomSource;
 use std::sync::Wait;
 use std::test::Fail;
-use std::thread::Threads;
 
-/// The numbers of five subscribers. All but the last have 1,000 minor units.
-const NUMBERS: &[&[u8]] = &[
-    b"491700000001",
-    b"491700000002",
-    b"491700000003",
-    b"491700000004",
-    b"491700000005",
-];
+/// The numbers of five subscribers, as short as they may be: the check judges each octet. All but the last have 1,000 minor units.
+const NUMBERS: &[&[u8]] = &[b"1", b"2", b"3", b"4", b"5"];
 
 /// The session of their debits, and the number of their request in it.
 const REQUEST: (&[u8], u32) = (b"gw1.example;1;1", 0);
@@ -119,12 +107,12 @@ fn closed<R: Records + Drop>(
     }
 }
 
-/// Debits of these subscribers at once, whose answers are counted; and how many acts they have then.
+/// Debits of these subscribers at once, at shards that are closed behind them: the answers, and how many acts the subscribers have then.
 fn debit_at_once<W: Wait + Abort + AllocGlobal, R: Records + Drop>(
     rt: &W,
     shards: Shards<R>,
     subs: &[Sub],
-) -> Result<((u32, u32, u32), Option<usize>), Fail> {
+) -> Result<(Vec<RequestAnswer>, Option<usize>), Fail> {
     let alloc = rt.alloc();
     let mut seat = match shards.seat(alloc) {
         Ok(seat) => seat,
@@ -134,11 +122,7 @@ fn debit_at_once<W: Wait + Abort + AllocGlobal, R: Records + Drop>(
         }
     };
     match debit_together(rt, alloc, &shards, &mut seat, subs, REQUEST) {
-        Ok(answers) => {
-            let told = counts(&answers);
-            drop(answers);
-            Ok((told, closed(alloc, shards, seat, subs)))
-        }
+        Ok(answers) => Ok((answers, closed(alloc, shards, seat, subs))),
         Err(fail) => {
             drop(shards);
             drop(seat);
@@ -147,143 +131,67 @@ fn debit_at_once<W: Wait + Abort + AllocGlobal, R: Records + Drop>(
     }
 }
 
-/// Five debits in one batch: four are made, and one is of an unknown subscriber.
-#[test]
-fn five_debits_in_one_batch(rt: HostRuntime) -> Result<(), Fail> {
-    let subs = subscribers(rt.alloc())?;
-    let shards = one(&rt, records(&rt)?)?;
-    let told = debit_at_once(&rt, shards, &subs)?;
-    assert_eq!(rt; told, ((4, 1, 0), Some(8)));
-    Ok(())
-}
-
 /// If the append of a batch fails, all its acts are told as busy, and none is held.
 #[test]
 fn a_batch_whose_append_fails(rt: HostRuntime) -> Result<(), Fail> {
     let subs = subscribers(rt.alloc())?;
     let shards = one(&rt, OnceRecords::new(records(&rt)?, 1))?;
-    let told = debit_at_once(&rt, shards, &subs)?;
-    assert_eq!(rt; told.0.0, 0);
-    assert!(rt; told.0.2 >= 4);
-    assert_eq!(rt; told.1, Some(4));
+    let (answers, acts) = debit_at_once(&rt, shards, &subs)?;
+    let told = counts(&answers);
+    drop(answers);
+    assert_eq!(rt; told.0, 0);
+    assert!(rt; told.2 >= 4);
+    assert_eq!(rt; acts, Some(4));
     Ok(())
 }
 
-/// The answers of one batch and those of as many debits one by one.
-fn debit_twice<W: Wait + Abort + AllocGlobal, R: Records>(
+/// The answers to the same debits one by one, at other shards.
+fn debit_alone<W: Wait + RandomSource + AllocGlobal>(
+    rt: &W,
+    subs: &[Sub],
+) -> Result<Vec<RequestAnswer>, Fail> {
+    let shards = one(rt, records(rt)?)?;
+    let answers = debit_alone_at(rt, &shards, subs);
+    drop(shards);
+    answers
+}
+
+/// The same at these shards.
+fn debit_alone_at<W: Wait + AllocGlobal, R: Records>(
     rt: &W,
     shards: &Shards<R>,
-    others: &Shards<R>,
     subs: &[Sub],
+) -> Result<Vec<RequestAnswer>, Fail> {
+    let mut seat = shards.seat(rt.alloc())?;
+    let answers = debit_one_by_one(rt, rt.alloc(), shards, &mut seat, subs, REQUEST);
+    drop(seat);
+    answers
+}
+
+/// Asserts that these are the answers of four debits that are made, and of an unknown subscriber, and have the octets of the same one by one.
+fn check_together<W: Wait + Abort + RandomSource + AllocGlobal>(
+    rt: &W,
+    subs: &[Sub],
+    together: &[RequestAnswer],
 ) -> Result<(), Fail> {
-    let alloc = rt.alloc();
-    let mut seat = shards.seat(alloc)?;
-    let together = debit_together(rt, alloc, shards, &mut seat, subs, REQUEST)?;
-    let mut seat = others.seat(alloc)?;
-    let alone = debit_one_by_one(rt, alloc, others, &mut seat, subs, REQUEST)?;
-    assert!(rt; are_same(&together, &alone));
-    assert_eq!(rt; counts(&alone), (4, 1, 0));
+    let alone = debit_alone(rt, subs)?;
+    let (are_same, told) = (are_same(together, &alone), counts(&alone));
+    drop(alone);
+    assert!(rt; are_same);
+    assert_eq!(rt; told, (4, 1, 0));
+    assert_eq!(rt; counts(together), (4, 1, 0));
     Ok(())
 }
 
-/// Each answer of a batch has the octets of the same request by itself.
+/// Five debits in one batch: four are made, and one is of an unknown subscriber. Each answer has the octets of the same request by itself.
 #[test]
 fn a_batch_and_one_by_one(rt: HostRuntime) -> Result<(), Fail> {
     let subs = subscribers(rt.alloc())?;
     let shards = one(&rt, records(&rt)?)?;
-    let others = one(&rt, records(&rt)?)?;
-    debit_twice(&rt, &shards, &others, &subs)
-}
-
-/// The second subscriber of the first shard.
-const THIRD: &[Change] = &[(SESSION, b'3'), (DEBIT_SUBSCRIBER, b'3')];
-
-/// The subscriber of the second shard.
-const SECOND: &[Change] = &[(SESSION, b'2'), (DEBIT_SUBSCRIBER, b'2')];
-
-/// Sends a debit, changed so, behind the others at once.
-fn send(alloc: Global, talk: &mut Talk, asked: &[Change], answered: &[Change]) -> Result<(), Fail> {
-    let (message, answer) = (debit(alloc, 1001, asked)?, debited(alloc, 1001, answered)?);
-    talk.send(&message, &answer)
-}
-
-/// Sends a debit, one of another subscriber, the first once more, and one of the first subscriber in another session.
-fn send_all(alloc: Global, talk: &mut Talk) -> Result<(), Fail> {
-    send(alloc, talk, &[], &[])?;
-    send(alloc, talk, THIRD, &[(SESSION, b'3')])?;
-    send(alloc, talk, &[], &[])?;
-    send(alloc, talk, &[(SESSION, b'4')], &[(SESSION, b'4')])
-}
-
-/// A gateway that sends these at once.
-fn first(alloc: Global) -> Result<Talk, Fail> {
-    let mut talk = Talk::new(alloc)?;
-    match send_all(alloc, &mut talk) {
-        Ok(()) => Ok(talk),
-        Err(fail) => {
-            drop(talk);
-            Err(fail)
-        }
-    }
-}
-
-/// Sends a debit of the second shard.
-fn send_second(alloc: Global, talk: &mut Talk) -> Result<(), Fail> {
-    let message = debit(alloc, 1001, SECOND)?;
-    let answer = debited(alloc, 1001, &[(SESSION, b'2')])?;
-    talk.send_then(&message, &answer)
-}
-
-/// A gateway whose debit comes once an append is held at the gate, and opens the gate once it is answered.
-fn second(alloc: Global) -> Result<Talk, Fail> {
-    let mut talk = Talk::new(alloc)?;
-    match send_second(alloc, &mut talk) {
-        Ok(()) => {
-            talk.wait_for_the_gate();
-            Ok(talk)
-        }
-        Err(fail) => {
-            drop(talk);
-            Err(fail)
-        }
-    }
-}
-
-/// Both.
-fn stage(alloc: Global) -> Result<Stage, Fail> {
-    let first = first(alloc)?;
-    match second(alloc) {
-        Ok(second) => Ok(Stage {
-            first,
-            second,
-            gate: Gate::new(),
-        }),
-        Err(fail) => {
-            drop(first);
-            Err(fail)
-        }
-    }
-}
-
-/// Serves one round of both.
-pub(crate) fn run<S: Threads + Wait + Sync + Abort + RandomSource + AllocGlobal>(
-    rt: &S,
-    server: Server<'_>,
-) -> Result<(), Fail> {
-    let watch = Watch {
-        first: after(0)?,
-        readings: 0,
-        then: after(0)?,
-    };
-    let rounds = Rounds::new(2, 1, 0).ok_or("rounds")?;
-    let stage = stage(rt.alloc())?;
-    let line = b"round 1 requests 5 answers 7 acts 4\n";
-    check(rt, server, &rounds, &watch, &stage, line)
-}
-
-/// While the first debit's append is held, the others wait in the lane. The repeat is told the octets of the first, and the debit in another session
-/// is made behind it.
-#[test]
-fn requests_that_wait_in_a_lane(rt: HostRuntime) -> Result<(), Fail> {
-    rows::run(&rt, Row::Batches)
+    let (together, acts) = debit_at_once(&rt, shards, &subs)?;
+    let checked = check_together(&rt, &subs, &together);
+    drop(together);
+    checked?;
+    assert_eq!(rt; acts, Some(8));
+    Ok(())
 }

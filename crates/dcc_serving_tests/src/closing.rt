@@ -7,7 +7,7 @@ use dcc_callers::{Caller, in_memory, one};
 use dcc_receipts::{Receipt, check_receipts};
 use dcc_running::{Books, Seat, Shards, Unclosed};
 use dcc_shard::{ExpiryAnswer, TopUpAnswer};
-use dcc_store::{MemoryRecords, Records};
+use dcc_store::Records;
 use std::alloc::Global;
 use std::process::Abort;
 use std::random::RandomSource;
@@ -130,51 +130,15 @@ fn make_each<W: Wait + Abort + AllocGlobal, R: Records>(
     Ok(())
 }
 
-/// The seat at which this caller makes each call.
-fn seat_of_each_by<W: Wait + Abort + AllocGlobal, R: Records>(
+/// Tops up at other shards.
+fn top_up_others<W: Wait + Abort + RandomSource + AllocGlobal>(
     rt: &W,
-    shards: &Shards<R>,
     caller: &mut Caller,
-) -> Result<Seat, Fail>
-    requires { 0 < shards.now.count }
-{
-    make_each(rt, shards, caller)?;
-    caller.stand_up(rt.alloc(), shards)
-}
-
-/// The seat at which each call was made.
-fn seat_of_each<W: Wait + Abort + AllocGlobal, R: Records>(
-    rt: &W,
-    shards: &Shards<R>,
-) -> Result<Seat, Fail>
-    requires { 0 < shards.now.count }
-{
-    let mut caller = caller(rt.alloc(), shards)?;
-    let seat = seat_of_each_by(rt, shards, &mut caller);
-    drop(caller);
-    seat
-}
-
-/// A seat of some shards, at which money was topped up in others.
-fn seat_of_top_ups<W: Wait + Abort + AllocGlobal, R: Records>(
-    rt: &W,
-    shards: &Shards<R>,
-    others: &Shards<R>,
-) -> Result<Seat, Fail> {
-    let mut caller = caller(rt.alloc(), shards)?;
-    top_up_each(rt, others, &mut caller, THREE_TOP_UPS);
-    caller.stand_up(rt.alloc(), shards)
-}
-
-/// A seat of these shards at which money was topped up in others.
-fn seat_of_others<W: Wait + Abort + AllocGlobal + RandomSource>(
-    rt: &W,
-    shards: &Shards<MemoryRecords>,
-) -> Result<Seat, Fail> {
+) -> Result<(), Fail> {
     let others = one(rt, in_memory(rt)?)?;
-    let seat = seat_of_top_ups(rt, shards, &others);
+    top_up_each(rt, &others, caller, THREE_TOP_UPS);
     drop(others);
-    seat
+    Ok(())
 }
 
 /// Makes the subscriber's debit at other shards, and asserts that it is unknown there after a top-up.
@@ -189,26 +153,39 @@ fn ask_others<S: Wait + Abort + RandomSource + AllocGlobal>(
     Ok(())
 }
 
-/// This caller's seat, whose last receipt is of an act before one that was reported as unknown.
-fn seat_out_of_order_by<W: Wait + Abort + AllocGlobal + RandomSource, R: Records>(
+/// All of 10^18 minor units, for which a refund and a top-up are refused, and are so again.
+const CEILING: &[ToldTopUp] = &[
+    (
+        2,
+        1,
+        TopUpAnswer::Ceiling {
+            place: 3,
+            fresh: true,
+        },
+    ),
+    (
+        2,
+        1,
+        TopUpAnswer::Ceiling {
+            place: 3,
+            fresh: false,
+        },
+    ),
+    (3, 0, TopUpAnswer::BadAmount),
+    (1, 7, ADDED_BEFORE),
+];
+
+/// Tops up to the ceiling. A refund is answered with DIAMETER_UNABLE_TO_COMPLY, 5012.
+fn reach_the_ceiling<W: Wait + Abort + AllocGlobal, R: Records>(
     rt: &W,
     shards: &Shards<R>,
     caller: &mut Caller,
-) -> Result<Seat, Fail> {
-    top_up_each(rt, shards, caller, THREE_TOP_UPS);
-    ask_others(rt, caller)?;
-    caller.stand_up(rt.alloc(), shards)
-}
-
-/// A seat whose last receipt is of an act before one that was reported as unknown.
-fn seat_out_of_order<W: Wait + Abort + AllocGlobal + RandomSource, R: Records>(
-    rt: &W,
-    shards: &Shards<R>,
-) -> Result<Seat, Fail> {
-    let mut caller = caller(rt.alloc(), shards)?;
-    let seat = seat_out_of_order_by(rt, shards, &mut caller);
-    drop(caller);
-    seat
+) {
+    top_up_each(rt, shards, caller, &[(1, MAX_AMOUNT, ADDED)]);
+    let refused = caller.refund(rt, rt.alloc(), shards, 0);
+    assert_eq!(rt; refused, Some([0, 0, 0x13, 0x94]));
+    top_up_each(rt, shards, caller, CEILING);
+    assert_eq!(rt; caller.seat.receipts().len(), 5);
 }
 
 /// What was done at the seat with which shards are closed.
@@ -216,24 +193,70 @@ fn seat_out_of_order<W: Wait + Abort + AllocGlobal + RandomSource, R: Records>(
 enum Seated {
     EachCall,
     TopUpsInOthers,
+    /// The last receipt is of an act before one that was reported as unknown.
     UnknownBetween,
     AtTheCeiling,
 }
 
-/// That seat.
-fn seats_of<W: Wait + Abort + AllocGlobal + RandomSource>(
+/// Does so at this caller's seat.
+fn act_at<W: Wait + Abort + AllocGlobal + RandomSource, R: Records>(
     rt: &W,
-    shards: &Shards<MemoryRecords>,
+    shards: &Shards<R>,
+    caller: &mut Caller,
+    seated: Seated,
+) -> Result<(), Fail>
+    requires { 0 < shards.now.count }
+{
+    match seated {
+        Seated::EachCall => make_each(rt, shards, caller),
+        Seated::TopUpsInOthers => top_up_others(rt, caller),
+        Seated::UnknownBetween => {
+            top_up_each(rt, shards, caller, THREE_TOP_UPS);
+            ask_others(rt, caller)
+        }
+        Seated::AtTheCeiling => {
+            reach_the_ceiling(rt, shards, caller);
+            Ok(())
+        }
+    }
+}
+
+/// The seat of this caller, at which so was done.
+fn seat_by<W: Wait + Abort + AllocGlobal + RandomSource, R: Records>(
+    rt: &W,
+    shards: &Shards<R>,
+    caller: &mut Caller,
+    seated: Seated,
+) -> Result<Seat, Fail>
+    requires { 0 < shards.now.count }
+{
+    act_at(rt, shards, caller, seated)?;
+    caller.stand_up(rt.alloc(), shards)
+}
+
+/// A seat at which so was done.
+fn seat_of<W: Wait + Abort + AllocGlobal + RandomSource, R: Records>(
+    rt: &W,
+    shards: &Shards<R>,
+    seated: Seated,
+) -> Result<Seat, Fail>
+    requires { 0 < shards.now.count }
+{
+    let mut caller = caller(rt.alloc(), shards)?;
+    let seat = seat_by(rt, shards, &mut caller, seated);
+    drop(caller);
+    seat
+}
+
+/// That seat alone.
+fn seats_of<W: Wait + Abort + AllocGlobal + RandomSource, R: Records>(
+    rt: &W,
+    shards: &Shards<R>,
     seated: Seated,
 ) -> Result<Vec<Seat>, Fail>
     requires { 0 < shards.now.count }
 {
-    let seat = match seated {
-        Seated::EachCall => seat_of_each(rt, shards)?,
-        Seated::TopUpsInOthers => seat_of_others(rt, shards)?,
-        Seated::UnknownBetween => seat_out_of_order(rt, shards)?,
-        Seated::AtTheCeiling => seat_at_the_ceiling(rt, shards)?,
-    };
+    let seat = seat_of(rt, shards, seated)?;
     alone(rt.alloc(), seat)
 }
 
@@ -306,40 +329,4 @@ fn receipts_are_out_of_order(rt: HostRuntime) -> Result<(), Fail> {
 fn nothing_is_added_at_the_ceiling(rt: HostRuntime) -> Result<(), Fail> {
     assert_eq!(&rt; faults(&rt, Seated::AtTheCeiling)?, (61, 0));
     Ok(())
-}
-
-/// All of 10^18 minor units, for which a refund and a top-up are refused, and are so again.
-const CEILING: &[ToldTopUp] = &[
-    (
-        2,
-        1,
-        TopUpAnswer::Ceiling {
-            place: 3,
-            fresh: true,
-        },
-    ),
-    (
-        2,
-        1,
-        TopUpAnswer::Ceiling {
-            place: 3,
-            fresh: false,
-        },
-    ),
-    (3, 0, TopUpAnswer::BadAmount),
-    (1, 7, ADDED_BEFORE),
-];
-
-/// The seat at which money was topped up to the ceiling, and a refund was answered with DIAMETER_UNABLE_TO_COMPLY, 5012.
-fn seat_at_the_ceiling<W: Wait + Abort + AllocGlobal, R: Records>(
-    rt: &W,
-    shards: &Shards<R>,
-) -> Result<Seat, Fail> {
-    let mut caller = caller(rt.alloc(), shards)?;
-    top_up_each(rt, shards, &mut caller, &[(1, MAX_AMOUNT, ADDED)]);
-    let refused = caller.refund(rt, rt.alloc(), shards, 0);
-    assert_eq!(rt; refused, Some([0, 0, 0x13, 0x94]));
-    top_up_each(rt, shards, &mut caller, CEILING);
-    assert_eq!(rt; caller.seat.receipts().len(), 5);
-    caller.stand_up(rt.alloc(), shards)
 }

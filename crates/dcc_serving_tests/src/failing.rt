@@ -2,13 +2,14 @@
 
 ghost use Rattle.std.specs.Prelude.{◌≡◌, IfOk};
 
+use crate::accounts::subscriber;
 use dcc_act::Sub;
 use dcc_base::Host;
-use dcc_callers::{TERMS, after, are_shards, pair};
+use dcc_callers::{TERMS, after, are_shards, identity, pair};
 use dcc_engine::{Engine, Event, Out};
 use dcc_message::Identity;
 use dcc_octets::OctetString;
-use dcc_samples::{ANSWER, BUSY, DEBIT, PLAN};
+use dcc_samples::{ANSWER, BUSY, DEBIT};
 use dcc_shard::{Shard, Shards};
 use dcc_store::{MemoryRecords, Records};
 use dcc_tariff::{Plan, Terms};
@@ -25,7 +26,7 @@ fn engine_over<S: RandomSource + AllocGlobal, R: Records + Drop>(
     first: R,
     second: R,
 ) -> Result<Engine<R>, Fail> {
-    let plan = plan_of(rt.alloc(), PLAN)?;
+    let plan = Plan::rows(rt.alloc())?;
     match shards_over(rt, plan.terms(), first, second) {
         Ok(shards) => Ok(Engine::open(rt.alloc(), plan, shards)?),
         Err(fail) => {
@@ -33,11 +34,6 @@ fn engine_over<S: RandomSource + AllocGlobal, R: Records + Drop>(
             Err(fail)
         }
     }
-}
-
-/// The plan of this text.
-fn plan_of(alloc: Global, text: &str) -> Result<Plan, Fail> {
-    Ok(Plan::read(alloc, text)?)
 }
 
 /// Two shards over these records, as one.
@@ -50,18 +46,13 @@ fn shards_over<S: RandomSource + AllocGlobal, R: Records + Drop>(
     ensures { IfOk result (λ shards. shards.shard.terms ≡ terms.now) }
 {
     let shards = pair(rt, first, second)?;
-    match identity_of(&shards) {
+    match identity(rt.alloc()) {
         Ok(identity) => as_one(terms, identity, shards),
         Err(fail) => {
             drop(shards);
             Err(fail)
         }
     }
-}
-
-/// Who the first shard answers for.
-fn identity_of<R: Records>(shards: &[Shard<R>]) -> Result<Identity, Fail> {
-    Ok(shards.first().ok_or("a shard")?.identity().copy()?)
 }
 
 /// These shards as one, if they may stand so.
@@ -113,12 +104,7 @@ fn healed(shards: &mut Vec<Shard<OnceRecords>>) -> Option<MemoryRecords> {
     Some(shards.pop()?.into_records().healed())
 }
 
-/// A subscriber of the first shard, or of the second: 0:491700000001 or 0:491700000002.
-fn subscriber(name: &[u8]) -> Result<Sub, Fail> {
-    Ok(Sub::new(0, name).ok_or("a subscriber")?)
-}
-
-/// Both.
+/// A subscriber of the first shard, and one of the second.
 fn subscribers() -> Result<[Sub; 2], Fail> {
     Ok([subscriber(b"491700000001")?, subscriber(b"491700000002")?])
 }
@@ -155,7 +141,10 @@ fn message(seconds: u32, octets: Vec<u8>) -> Result<Event, Fail> {
 }
 
 fn put(octets: &mut [u8], place: usize, octet: u8) -> Result<(), Fail> {
-    *octets.get_mut(place).ok_or("a place")? = octet;
+    if place >= octets.len() {
+        return Err("a place".into());
+    }
+    octets[place] = octet;
     Ok(())
 }
 
@@ -272,7 +261,10 @@ fn run_until_stopped<R: Records>(
 
 /// Asserts that the last of these outs answers the debit.
 fn assert_debited(rt: &(impl Abort + AllocGlobal), outs: &[Out]) -> Result<(), Fail> {
-    assert_octets(rt, outs.last().ok_or("an out")?, ANSWER)
+    let [.., last] = outs else {
+        return Err("an out".into());
+    };
+    assert_octets(rt, last, ANSWER)
 }
 
 /// Asks for the first subscriber's debit behind these events, and asserts that it is made.

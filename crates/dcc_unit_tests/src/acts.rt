@@ -51,13 +51,18 @@ pub(crate) enum Ask {
     Expiry,
 }
 
-/// The name of a session.
+/// The session of this name.
+pub(crate) fn session(alloc: Global, name: &[u8]) -> Result<SessionId, Fail> {
+    Ok(SessionId::from_slice(alloc, name)?.ok_or("a session's name")?)
+}
+
+/// The session of this octet alone.
 pub(crate) fn name(alloc: Global, octet: u8) -> Result<SessionId, Fail> {
-    Ok(SessionId::from_vec([octet].to_vec(alloc)?).ok_or("a name")?)
+    session(alloc, &[octet])
 }
 
 /// The moment of these seconds. `Moment::new` of a literal, in its place, takes the prover minutes.
-fn moment(seconds: u64) -> Result<Moment, Fail> {
+pub(crate) fn moment(seconds: u64) -> Result<Moment, Fail> {
     Ok(Moment::new(seconds).ok_or("a moment")?)
 }
 
@@ -154,9 +159,9 @@ pub(crate) fn act(alloc: Global, place: u32, ask: Ask) -> Result<Act, Fail> {
 }
 
 /// Acts in short, by their places from 0.
-pub(crate) fn acts(alloc: Global, asks: &[Ask]) -> Result<Vec<Act>, Fail> {
+pub(crate) fn acts(alloc: Global, asks: &[(Ask, bool)]) -> Result<Vec<Act>, Fail> {
     let mut acts = Vec::new(alloc);
-    for (place, ask) in asks.iter().enumerate() {
+    for (place, (ask, _)) in asks.iter().enumerate() {
         acts.push(act(alloc, (place & 0xff) as u32, *ask)?)?;
     }
     Ok(acts)

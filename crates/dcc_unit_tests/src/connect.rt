@@ -1,5 +1,6 @@
 //! Connections whose reader comes to its end or fails: which faults come, and that what a lane has goes out at once, no clause says.
 
+use crate::acts::moment;
 use dcc_act::Moment;
 use dcc_base::Reply;
 use dcc_connect::{
@@ -7,6 +8,7 @@ use dcc_connect::{
     serve_connection, write_side,
 };
 use dcc_lane::{Lane, Receiver, Sender};
+use dcc_message::HeaderFault;
 use dcc_octets::OctetString;
 use dcc_samples::{CAPABILITIES, CAPABILITIES_ANSWER, WATCHDOG, WATCHDOG_ANSWER};
 use std::alloc::Global;
@@ -26,21 +28,27 @@ const FIRST_ANSWER: usize = 120;
 
 const BOTH_ANSWERS: usize = 188;
 
+/// A header of version 2, of a message that has nothing else.
+const VERSION_TWO: &str = "0200001480000118000000000000000500000006";
+
+/// More turns, and more reads or octets, than any of these connections takes.
 const ENOUGH: u32 = 1000;
+
+const MANY: usize = 1000;
 
 /// Gives so many octets at a time, and fails at the read after so many.
 #[derive(Drop)]
 struct Source<'a> {
     rest: &'a [u8],
     most: usize,
-    reads: u32,
+    reads: usize,
     failure: ErrorKind,
 }
 
 impl Read for Source<'_> {
     fn read(&mut self, buf: &mut [u8]) -> io::Result<usize> {
         if self.reads == 0 {
-            self.reads = ENOUGH;
+            self.reads = MANY;
             return Err(Error::from(self.failure));
         }
         self.reads -= 1;
@@ -52,11 +60,13 @@ impl Read for Source<'_> {
     }
 }
 
-/// Takes so many octets at a time.
+/// Takes so many octets at a time, and in all no more than it has room for; then it fails, or takes none.
 #[derive(Drop)]
 struct Sink {
     taken: Vec<u8>,
     most: usize,
+    room: usize,
+    refuses: bool,
     /// How often it was called.
     calls: u32,
 }
@@ -64,8 +74,12 @@ struct Sink {
 impl Write for Sink {
     fn write(&mut self, buf: &[u8]) -> io::Result<usize> {
         self.calls = self.calls.saturating_add(1);
-        let count = self.most.min(buf.len());
+        if self.room == 0 && self.refuses {
+            return Err(Error::from(ErrorKind::BrokenPipe));
+        }
+        let count = self.room.min(self.most).min(buf.len());
         self.taken.extend_from_slice(&buf[..count])?;
+        self.room -= count;
         Ok(count)
     }
 
@@ -87,7 +101,7 @@ impl Clock for Stopped {
 
 /// A clock that stands at these seconds.
 fn clock_at(seconds: u64) -> Result<Stopped, Fail> {
-    Ok(Stopped(Moment::new(seconds).ok_or("a moment")?))
+    Ok(Stopped(moment(seconds)?))
 }
 
 /// Answers the messages by their turn, with these octets; it closes behind the one that it is told, and for want of memory.
@@ -139,14 +153,16 @@ impl Submitter for Counter {
     }
 }
 
-/// A connection: what it reads, so many octets at a time, and how the read after so many fails; behind which message it closes; and how many
-/// turns it has.
+/// A connection: what it reads, so many octets at a time, and how the read after so many fails; for how many octets its writer has room, and whether
+/// it then fails; behind which message it closes; and how many turns it has.
 #[derive(Clone, Copy)]
 struct Given<'a> {
     octets: &'a [u8],
     most: usize,
-    reads: u32,
+    reads: usize,
     failure: ErrorKind,
+    room: usize,
+    refuses: bool,
     last: u32,
     turns: u32,
 }
@@ -155,8 +171,10 @@ struct Given<'a> {
 const WHOLE: Given<'static> = Given {
     octets: MESSAGES,
     most: 100,
-    reads: ENOUGH,
+    reads: MANY,
     failure: ErrorKind::ConnectionReset,
+    room: MANY,
+    refuses: true,
     last: 9,
     turns: ENOUGH,
 };
@@ -209,6 +227,8 @@ fn check(
     let mut output = Sink {
         taken: Vec::new(alloc),
         most: 1,
+        room: given.room,
+        refuses: given.refuses,
         calls: 0,
     };
     let mut answerer = InTurn {
@@ -261,6 +281,102 @@ fn check_ends(rt: &(impl Abort + AllocGlobal), octets: &[u8], answers: &[u8]) ->
 fn connections_end(rt: HostRuntime) -> Result<(), Fail> {
     let samples = decoded_samples(rt.alloc())?;
     check_ends(&rt, &samples.messages, &samples.answers)
+}
+
+/// So many octets are answered to the messages that are whole behind so many octets: the first has 108, and both have 164.
+fn answered(octets: usize) -> usize {
+    if octets < 108 {
+        0
+    } else if octets < 164 {
+        FIRST_ANSWER
+    } else {
+        BOTH_ANSWERS
+    }
+}
+
+/// A reader that fails at each read in turn, of both messages octet by octet.
+fn fail_each_read(
+    rt: &(impl Abort + AllocGlobal),
+    octets: &[u8],
+    answers: &[u8],
+) -> Result<(), Fail> {
+    let failed = ConnectionEnd::Fault(ConnectFault::Read);
+    for reads in 0..=octets.len() {
+        let given = Given {
+            octets,
+            reads,
+            ..BY_OCTETS
+        };
+        check(rt, answers, given, failed, answered(reads))?;
+    }
+    Ok(())
+}
+
+#[test]
+fn the_reader_fails_at_each_read(rt: HostRuntime) -> Result<(), Fail> {
+    let samples = decoded_samples(rt.alloc())?;
+    fail_each_read(&rt, &samples.messages, &samples.answers)
+}
+
+/// A writer that has so much room, and fails or takes nothing behind it.
+fn fail_write(
+    rt: &(impl Abort + AllocGlobal),
+    given: Given<'_>,
+    answers: &[u8],
+) -> Result<(), Fail> {
+    let failed = ConnectionEnd::Fault(ConnectFault::Write {
+        written: given.room as u64,
+    });
+    check(rt, answers, given, failed, given.room)?;
+    let full = Given {
+        refuses: false,
+        ..given
+    };
+    check(rt, answers, full, failed, given.room)
+}
+
+/// A writer that fails behind each octet in turn.
+fn fail_each_write(
+    rt: &(impl Abort + AllocGlobal),
+    octets: &[u8],
+    answers: &[u8],
+) -> Result<(), Fail> {
+    assert_eq!(rt; answers.len(), BOTH_ANSWERS);
+    for room in 0..answers.len() {
+        let given = Given {
+            octets,
+            room,
+            ..WHOLE
+        };
+        fail_write(rt, given, answers)?;
+    }
+    Ok(())
+}
+
+#[test]
+fn the_writer_fails_behind_each_octet(rt: HostRuntime) -> Result<(), Fail> {
+    let samples = decoded_samples(rt.alloc())?;
+    fail_each_write(&rt, &samples.messages, &samples.answers)
+}
+
+/// A message, and then a header of version 2: how the connection ends, and what is written.
+fn end_at_a_version(
+    rt: &(impl Abort + AllocGlobal),
+    octets: &[u8],
+    answers: &[u8],
+) -> Result<(), Fail> {
+    let fault = ConnectFault::Header(HeaderFault::Version);
+    assert_eq!(rt; fault.number(), Some(10));
+    let given = Given { octets, ..WHOLE };
+    let ended = ConnectionEnd::Fault(fault);
+    check(rt, answers, given, ended, FIRST_ANSWER)
+}
+
+#[test]
+fn a_version_ends_a_connection(rt: HostRuntime) -> Result<(), Fail> {
+    let octets = decoded(rt.alloc(), CAPABILITIES, VERSION_TWO)?;
+    let answers = decoded(rt.alloc(), CAPABILITIES_ANSWER, WATCHDOG_ANSWER)?;
+    end_at_a_version(&rt, &octets, &answers)
 }
 
 /// Hands messages on: how that ends, and how many were handed on.
@@ -352,6 +468,8 @@ fn check_one_call<W: Wait + Abort + AllocGlobal>(rt: &W, receiver: &mut Receiver
     let mut output = Sink {
         taken: Vec::new(rt.alloc()),
         most: 200,
+        room: MANY,
+        refuses: true,
         calls: 0,
     };
     let end = write_side(rt, rt.alloc(), &mut output, receiver, ENOUGH);

@@ -1,6 +1,7 @@
 //! Ledgers octet for octet.
 
-use dcc_act::{Entry, EntryKind, EntryName, Moment, SessionId, Sub};
+use crate::acts::{moment, session};
+use dcc_act::{Entry, EntryKind, EntryName, Sub};
 use dcc_ledger::{account_line, ledger_text};
 use std::alloc::Global;
 use std::process::Abort;
@@ -22,11 +23,6 @@ enum Name {
 /// An entry in short: its place, seconds, kind, group, units, amount and name.
 type Line = (u64, u64, EntryKind, Option<u32>, u64, i64, Name);
 
-/// The name of a session. In its place, of a literal, it takes the prover long.
-fn session(alloc: Global, name: &[u8]) -> Result<SessionId, Fail> {
-    Ok(SessionId::from_vec(name.to_vec(alloc)?).ok_or("a session's name")?)
-}
-
 fn named(alloc: Global, name: Name) -> Result<EntryName, Fail> {
     match name {
         Name::Ticket(ticket) => Ok(EntryName::Ticket(ticket)),
@@ -38,7 +34,7 @@ fn entry(alloc: Global, line: &Line) -> Result<Entry, Fail> {
     let (place, seconds, kind, group, units, amount, name) = *line;
     Ok(Entry {
         place,
-        moment: Moment::new(seconds).ok_or("a moment")?,
+        moment: moment(seconds)?,
         kind,
         group,
         units,
@@ -162,12 +158,18 @@ fn columns_at_their_greatest_widths(rt: HostRuntime) -> Result<(), Fail> {
     check(&rt, &WIDE, 1_000_000_000_000_000_000, 1 << 64, WIDEST)
 }
 
+/// Asserts how the last line shows these funds, this reserved money and this overrun.
+fn check_last(
+    rt: &(impl Abort + AllocGlobal),
+    (funds, reserved, overrun): (i128, i128, i128),
+    shown: &str,
+) -> Result<(), Fail> {
+    let line = account_line(rt.alloc(), funds, reserved, overrun)?;
+    assert_eq!(rt; line.as_slice(), shown.as_bytes());
+    Ok(())
+}
+
 #[test]
 fn the_last_line(rt: HostRuntime) -> Result<(), Fail> {
-    let line = account_line(rt.alloc(), -5, 7, 2)?;
-    assert_eq!(&rt;
-        line.as_slice(),
-        b"funds -5 reserved 7 overrun 2\n".as_slice()
-    );
-    Ok(())
+    check_last(&rt, (-5, 7, 2), "funds -5 reserved 7 overrun 2\n")
 }

@@ -15,24 +15,61 @@ fn write(out: &mut Vec<u8>, header: &Header, avps: &[u8]) -> Result<(), Fail> {
     Ok(())
 }
 
+/// The header of this message.
+fn header(message: &[u8]) -> Result<Header, Fail> {
+    match read_header(message) {
+        Ok(header) => Ok(header),
+        Err(_) => Err("a header".into()),
+    }
+}
+
+/// Appends the octets of this sample.
+fn append(alloc: Global, stream: &mut Vec<u8>, sample: &str) -> Result<(), Fail> {
+    let octets = hex::decode(alloc, sample)?;
+    stream.extend_from_slice(&octets)?;
+    Ok(())
+}
+
+/// This message, written of its header and its AVPs.
+fn written(alloc: Global, message: &[u8]) -> Result<Vec<u8>, Fail> {
+    let header = header(message)?;
+    let avps = message.get(20..).ok_or("a list")?;
+    let mut out = Vec::new(alloc);
+    write(&mut out, &header, avps)?;
+    Ok(out)
+}
+
 /// A request that is written of its header and its AVPs is the request.
 #[test]
 fn written_at_once(rt: HostRuntime) -> Result<(), Fail> {
-    let request = hex::decode(rt.alloc(), DEBIT)?;
-    let header = read_header(&request).ok().ok_or("a header")?;
-    let mut out = Vec::new(rt.alloc());
-    write(&mut out, &header, request.get(20..).ok_or("a list")?)?;
-    assert!(rt; out == request);
+    let mut request = Vec::new(rt.alloc());
+    append(rt.alloc(), &mut request, DEBIT)?;
+    let out = written(rt.alloc(), &request)?;
+    assert!(rt; out.as_slice() == request.as_slice());
+    Ok(())
+}
+
+/// The first whole message of the stream, taken off.
+fn first(framer: &mut Framer) -> Option<Vec<u8>> {
+    match framer.next() {
+        Ok(message) => message,
+        Err(_) => None,
+    }
+}
+
+/// Appends the octets of a message and where they end.
+fn put(given: &mut Vec<u8>, ends: &mut Vec<usize>, message: &[u8]) -> Result<(), Fail> {
+    given.extend_from_slice(message)?;
+    ends.push(given.len())?;
     Ok(())
 }
 
 /// Takes a message off, where one is whole, and appends its octets and where they end.
 fn take(framer: &mut Framer, given: &mut Vec<u8>, ends: &mut Vec<usize>) -> Result<(), Fail> {
-    if let Ok(Some(message)) = framer.next() {
-        given.extend_from_slice(&message)?;
-        ends.push(given.len())?;
+    match first(framer) {
+        Some(message) => put(given, ends, &message),
+        None => Ok(()),
     }
-    Ok(())
 }
 
 /// Feeds a stream in pieces of this size. A message is taken behind each piece, and all that are left at the end.
@@ -72,9 +109,9 @@ fn check(
 /// Two watchdog requests of 56 octets, and a debit of 228 between them.
 fn three(alloc: Global) -> Result<Vec<u8>, Fail> {
     let mut stream = Vec::new(alloc);
-    for text in [WATCHDOG, DEBIT, WATCHDOG] {
-        stream.extend_from_slice(&hex::decode(alloc, text)?)?;
-    }
+    append(alloc, &mut stream, WATCHDOG)?;
+    append(alloc, &mut stream, DEBIT)?;
+    append(alloc, &mut stream, WATCHDOG)?;
     Ok(stream)
 }
 
@@ -90,10 +127,10 @@ fn stream_in_pieces(rt: HostRuntime) -> Result<(), Fail> {
 
 /// The longest message, and a debit behind it.
 fn longest(alloc: Global) -> Result<Vec<u8>, Fail> {
-    let debit = hex::decode(alloc, DEBIT)?;
-    let header = read_header(&debit).ok().ok_or("a header")?;
+    let mut debit = Vec::new(alloc);
+    append(alloc, &mut debit, DEBIT)?;
     let mut stream = Vec::new(alloc);
-    write(&mut stream, &header, &[0x61; 65_512])?;
+    write(&mut stream, &header(&debit)?, &[0x61; 65_512])?;
     stream.extend_from_slice(&debit)?;
     Ok(stream)
 }

@@ -13,7 +13,9 @@ const TOP_UP: [u8; 26] = [
 /// The record of an act in short.
 fn record(alloc: Global, ask: Ask) -> Result<Vec<u8>, Fail> {
     let act = act(alloc, 0, ask)?;
-    Ok(write_act_1(alloc, &act)?)
+    let written = write_act_1(alloc, &act);
+    drop(act);
+    Ok(written?)
 }
 
 #[test]

@@ -1,6 +1,7 @@
 //! Readers and writers that take their time, or fail.
 
 use dcc_streams::{ReadFault, WriteFault, read_all, write_all};
+use std::alloc::Global;
 use std::io::{self, Error, ErrorKind, Read, Write};
 use std::process::Abort;
 use std::test::Fail;
@@ -77,55 +78,81 @@ impl Write for Narrow {
     }
 }
 
-/// Asserts what is read of a reader that fails so at its end, if it does.
+/// Asserts what is read of a reader of this text that fails so at its end, if it does.
 fn check_read(
     rt: &(impl Abort + AllocGlobal),
+    wanted: &[u8],
     failure: Option<ErrorKind>,
     fault: Option<ReadFault>,
 ) {
     let mut input = Slow {
-        rest: TEXT,
+        rest: wanted,
         interrupts: false,
         failure,
     };
     match read_all(rt.alloc(), &mut input, 100) {
         Ok(text) => {
             assert!(rt; fault.is_none());
-            assert_eq!(rt; text.as_slice(), TEXT);
+            assert_eq!(rt; text.as_slice(), wanted);
         }
         Err(told) => assert_eq!(rt; Some(told), fault),
     }
 }
 
+/// The same for an end, a failed read and want of memory.
+fn check_each_end(rt: &(impl Abort + AllocGlobal), text: &[u8]) {
+    let reset = Some(ErrorKind::ConnectionReset);
+    let short = Some(ErrorKind::OutOfMemory);
+    check_read(rt, text, None, None);
+    check_read(rt, text, reset, Some(ReadFault::Io));
+    check_read(rt, text, short, Some(ReadFault::Memory));
+}
+
 #[test]
 fn reads_however_a_text_comes(rt: HostRuntime) -> Result<(), Fail> {
-    check_read(&rt, None, None);
-    check_read(&rt, Some(ErrorKind::ConnectionReset), Some(ReadFault::Io));
-    check_read(&rt, Some(ErrorKind::OutOfMemory), Some(ReadFault::Memory));
+    check_each_end(&rt, TEXT);
     Ok(())
+}
+
+/// The fault of an endless reader.
+fn fault_of_endless(alloc: Global) -> Option<ReadFault> {
+    let mut input = io::repeat(b'#');
+    match read_all(alloc, &mut input, 3) {
+        Ok(_) => None,
+        Err(fault) => Some(fault),
+    }
+}
+
+/// Whether all of a text is read by two calls.
+fn is_read(alloc: Global, text: &[u8]) -> bool {
+    let mut input = text;
+    read_all(alloc, &mut input, 2).is_ok()
 }
 
 #[test]
 fn gives_up_on_a_reader_that_does_not_end(rt: HostRuntime) -> Result<(), Fail> {
-    let alloc = rt.alloc();
-    let endless = read_all(alloc, &mut io::repeat(b'#'), 3);
-    assert_eq!(&rt; endless.err(), Some(ReadFault::Io));
-    let ended = read_all(alloc, &mut b"a text".as_slice(), 2);
-    assert!(&rt; ended.is_ok());
+    assert_eq!(&rt; fault_of_endless(rt.alloc()), Some(ReadFault::Io));
+    assert!(&rt; is_read(rt.alloc(), TEXT));
     Ok(())
 }
 
-/// What a text comes to where there is room for so many octets.
-fn expected(sends: bool, room: usize) -> Result<(), WriteFault> {
-    if sends && room == TEXT.len() {
+/// What a text comes to if all of it is written and sent on, or else if there is room for so many octets.
+fn expected(is_sent: bool, room: usize) -> Result<(), WriteFault> {
+    if is_sent {
         Ok(())
     } else {
         Err(WriteFault { written: room })
     }
 }
 
-/// Asserts what is written, and what is told of it, where there is room for so many octets.
-fn check_write(rt: &(impl Abort + AllocGlobal), refuses: bool, sends: bool, room: usize) {
+/// Asserts what is written of a text, and what is told of it, where there is room for so many octets.
+fn check_write(
+    rt: &(impl Abort + AllocGlobal),
+    text: &[u8],
+    refuses: bool,
+    sends: bool,
+    room: usize,
+) {
     let mut output = Narrow {
         taken: Vec::new(rt.alloc()),
         room,
@@ -133,38 +160,44 @@ fn check_write(rt: &(impl Abort + AllocGlobal), refuses: bool, sends: bool, room
         sends,
         interrupts: false,
     };
-    let told = write_all(&mut output, TEXT);
-    assert_eq!(rt; told, expected(sends, room), "room for {room}");
+    let told = write_all(&mut output, text);
+    let is_sent = sends && room == text.len();
+    assert_eq!(rt; told, expected(is_sent, room), "room for {room}");
     assert_eq!(rt;
         Some(output.taken.as_slice()),
-        TEXT.get(..room),
+        text.get(..room),
         "room for {room}"
     );
 }
 
 /// The same for each room.
-fn check_each_room(rt: &(impl Abort + AllocGlobal), refuses: bool, sends: bool) {
-    for room in 0..=TEXT.len() {
-        check_write(rt, refuses, sends, room);
+fn check_each_room(rt: &(impl Abort + AllocGlobal), text: &[u8], refuses: bool, sends: bool) {
+    for room in 0..=text.len() {
+        check_write(rt, text, refuses, sends, room);
     }
 }
 
 /// A writer that fails, one that takes no octet any more, and one that fails to send on what it took.
 #[test]
 fn writes_whole_or_tells_how_much(rt: HostRuntime) -> Result<(), Fail> {
-    check_each_room(&rt, true, true);
-    check_each_room(&rt, false, true);
-    check_each_room(&rt, true, false);
+    check_each_room(&rt, TEXT, true, true);
+    check_each_room(&rt, TEXT, false, true);
+    check_each_room(&rt, TEXT, true, false);
     Ok(())
+}
+
+/// How many octets are read of a reader of so many.
+fn length_of_all(alloc: Global, count: u64) -> Result<usize, ReadFault> {
+    let mut input = io::repeat(b'#').take(count);
+    let text = read_all(alloc, &mut input, 100)?;
+    Ok(text.len())
 }
 
 /// Meant for refused allocations.
 #[test]
 fn a_refusal_is_told(rt: HostRuntime) -> Result<(), Fail> {
-    let alloc = rt.alloc();
-    let mut input = io::repeat(b'#').take(10_000);
-    match read_all(alloc, &mut input, 100) {
-        Ok(text) => assert!(&rt; text.as_slice().len() == 10_000),
+    match length_of_all(rt.alloc(), 10_000) {
+        Ok(length) => assert!(&rt; length == 10_000),
         Err(fault) => {
             assert_eq!(&rt; fault, ReadFault::Memory);
             return Err(Fail::from("memory was refused"));
