@@ -23,6 +23,7 @@ has other flags, and Session-Id:7='x' another length than its own. N*WORD is N t
     g1000        granted at the message's level
 """
 
+import functools
 import re
 
 # What a server says of its opening on standard error.
@@ -154,6 +155,12 @@ def service(word):
     return avps("Multiple-Services-Credit-Control{" + "+".join(named) + "}" if group else "+".join(named))
 
 
+@functools.cache
+def named(word):
+    """The octets of the AVPs of a name, which stand in many messages."""
+    return avps(NAMES[word])
+
+
 def avps(text):
     """The octets of AVPs."""
     octets = ""
@@ -162,7 +169,7 @@ def avps(text):
         if times:
             octets += avps(times[2]) * int(times[1])
         elif word in NAMES:
-            octets += avps(NAMES[word])
+            octets += named(word)
         elif re.fullmatch(r"x?(?:[0-9a-f]{2})+", word) and (word[0] == "x" or len(word) >= 16):
             octets += word.removeprefix("x")
         else:
