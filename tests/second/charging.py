@@ -18,8 +18,9 @@ TOP_UP, DEBIT, REPAYMENT, CHARGE = 1, 2, 3, 4
 
 
 class Grant(NamedTuple):
-    """What is reserved for the units that were granted, and at which tariff."""
+    """The units that were granted, what is reserved for them, and at which tariff."""
 
+    units: int
     price: int
     tariff: Tariff
 
@@ -145,7 +146,7 @@ class Account:
         units = service.tariff.most_units(service.requested, self.free())
         if units == 0:
             return ServiceOutcome(service, CREDIT_LIMIT_REACHED)
-        session.live[service.key()] = Grant(service.tariff.price_of(units), service.tariff)
+        session.live[service.key()] = Grant(units, service.tariff.price_of(units), service.tariff)
         return ServiceOutcome(service, SUCCESS, units, units < service.requested)
 
     def event(self, action, service):

@@ -34,6 +34,8 @@ def moment_text(moment):
 
 class Maker(Writer):
     most_sessions, most_services = MOST_SESSIONS, MOST_SERVICES
+    # The hosts of peers, and from when on tariffs may be and how long sessions may be held.
+    hosts, turns, holds = HOSTS, [BEGIN - 3600, BEGIN, BEGIN + 60, BEGIN + 1200, LAST_MOMENT], [1, 60, 1200, 1_000_000]
 
     def __init__(self, seed):
         self.dice = random.Random(seed)
@@ -56,7 +58,7 @@ class Maker(Writer):
         for rating_group in groups:
             unit = dice.choice(["octets", "time", "units"])
             begins = {0} if dice.random() < 0.7 else set()
-            begins |= set(dice.sample([BEGIN - 3600, BEGIN, BEGIN + 60, BEGIN + 1200, LAST_MOMENT], dice.randrange(3)))
+            begins |= set(dice.sample(self.turns, dice.randrange(3)))
             for begin in begins or {BEGIN}:
                 dear = self.temper == "bounds" and dice.random() < 0.6
                 price = 1_000_000 if dear else dice.choice([0, 1, 1, 2, 5, 7, 1_000_000, dice.randint(0, 1000)])
@@ -72,7 +74,7 @@ class Maker(Writer):
             "default_group": dice.choice(groups),
             "quantum": dice.choice([1, 1000, 100_000, MOST_TIME, MOST_TIME + 1, MOST_UNITS]),
             "validity": dice.choice([1, 600, 1_000_000]),
-            "hold": dice.choice([1, 60, 1200, 1_000_000]),
+            "hold": dice.choice(self.holds),
             "currency": dice.choice([0, 978, 999]),
             "exponent": dice.choice([-9, -2, 0, 9]),
             "tariff": "[" + ", ".join(tables) + "]",
@@ -107,13 +109,13 @@ class Maker(Writer):
     # Peers and moments.
 
     def peer_number(self):
-        return self.dice.choices(list(HOSTS), [3, 2, 1, 1])[0]
+        return self.dice.choices(list(self.hosts), [3, 2, 1, 1])[0]
 
     def open_peer(self):
         """A peer that is open, mostly."""
         peer = self.peer_number()
         if self.judge.peers.get(peer) != "open" and self.dice.random() < 0.9:
-            self.say(f"open {peer} {HOSTS[peer]}")
+            self.say(f"open {peer} {self.hosts[peer]}")
         return peer
 
     def peer(self):
@@ -324,12 +326,12 @@ class Maker(Writer):
     def opener_peer(self, message):
         """For a request that names nobody a peer of a host from which its session was opened, mostly; else none."""
         plain = {tree.code: tree.data for tree in message.trees if tree.vendor is None}
-        peers = [peer for peer, host in HOSTS.items() if (plain[SESSION_ID], host.encode()) in self.judge.openers]
+        peers = [peer for peer, host in self.hosts.items() if (plain[SESSION_ID], host.encode()) in self.judge.openers]
         if SUBSCRIPTION_ID in plain or not peers or self.dice.random() < 0.2:
             return None
         peer = self.dice.choice(peers)
-        if (self.judge.peers.get(peer), self.judge.hosts.get(peer)) != ("open", HOSTS[peer].encode()):
-            self.say(f"open {peer} {HOSTS[peer]}")
+        if (self.judge.peers.get(peer), self.judge.hosts.get(peer)) != ("open", self.hosts[peer].encode()):
+            self.say(f"open {peer} {self.hosts[peer]}")
         return peer
 
     def event(self):
@@ -387,7 +389,7 @@ class Maker(Writer):
         trees = message.trees
         if command == CAPABILITIES:
             # A later exchange may give its peer another host.
-            trees[0].data = dice.choice([*HOSTS.values(), self.text(VISIBLE, 255)]).encode()
+            trees[0].data = dice.choice([*self.hosts.values(), self.text(VISIBLE, 255)]).encode()
             trees += [number(INBAND_SECURITY_ID, dice.randrange(2)) for _ in range(dice.choice([0, 0, 0, 1, 2]))]
             for application in dice.choices([4, 4, 4, 2**32 - 1, 3], k=dice.choice([0, 1, 1, 1, 2])):
                 inside = number(AUTH_APPLICATION_ID, application)
