@@ -1,7 +1,7 @@
 /* Refuses one allocation of a program, the one whose number is in REFUSE, counted from 1; it is preloaded (LD_PRELOAD). Where there were
  * fewer it says so on standard error, so that a sweep over all of them knows its end. The allocations of all threads are counted together; with WHEN
  * set, while there is a file at WHEN, or at COUNT if that is set too. Allocations of the C library for a new thread are not counted. If THREADS is set, each new thread has
- * a line on standard error. */
+ * a line on standard error. With THREAD set, the thread of this number, counted from 1, is not made. */
 #define _GNU_SOURCE
 #include <dlfcn.h>
 #include <errno.h>
@@ -20,12 +20,16 @@ extern void *__libc_memalign(size_t, size_t);
 static unsigned long wanted;
 static unsigned long made;
 static const char *since;
+static unsigned long unmade;
+static unsigned long threads;
 static __thread int makes_thread;
 
 __attribute__((constructor)) static void begin(void) {
     const char *word = getenv("REFUSE");
     wanted = word ? strtoul(word, NULL, 10) : 0;
     since = getenv("COUNT") ? getenv("COUNT") : getenv("WHEN");
+    word = getenv("THREAD");
+    unmade = word ? strtoul(word, NULL, 10) : 0;
     made = 0;
 }
 
@@ -47,6 +51,9 @@ void _exit(int status) {
 
 int pthread_create(pthread_t *thread, const pthread_attr_t *attributes, void *(*does)(void *), void *argument) {
     int (*make)(pthread_t *, const pthread_attr_t *, void *(*)(void *), void *) = dlsym(RTLD_NEXT, "pthread_create");
+    if (__atomic_add_fetch(&threads, 1, __ATOMIC_SEQ_CST) == unmade) {
+        return EAGAIN;
+    }
     makes_thread = 1;
     int status = make(thread, attributes, does, argument);
     makes_thread = 0;

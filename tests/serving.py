@@ -5,7 +5,10 @@ Answers are compared octet for octet with what tests/rows/words.py spells.
 """
 
 import atexit
+import contextlib
 import functools
+import http.client
+import json
 import os
 import re
 import socket
@@ -22,10 +25,12 @@ sys.path.insert(0, f"{HERE}/rows")
 import words  # noqa: E402
 from words import behind_opening  # noqa: E402
 
-NAMED = [it for it in sys.argv[1:] if it != "--all"]
+NAMED = [it for it in sys.argv[1:] if not it.startswith("--")]
 PROGRAM = os.path.abspath(NAMED[0]) if NAMED else f"{TOP}/crates/dcc_server/out/dcc_server"
 PLAN, MOMENT = f"{HERE}/rows/rows.toml", "1748736000"
 A, C = "0:491700000001", "0:491700000002"
+# In the paths of calls, percent-encoded or not.
+NAMES = {A: "0:491700000001", C: "0%3A491700000002"}
 OPEN, OPENED = "cer/app", "cea/2001/"
 
 
@@ -46,6 +51,8 @@ ANSWER_SECONDS, END_SECONDS = 20, 60
 # A server that stays looks once a second whether it is to end, and so do its reads; and it waits two seconds for the ends of its gateways. The rest is for a
 # crowded machine.
 STOP_SECONDS = 8
+# So many seconds the server waits in all for the octets of an operator's connection (crates/dcc_sockets/src/calls.rs).
+CALL_SECONDS = 10
 # So many seconds more than its time an event may take on a crowded machine, and a gateway waits at most for a place that is free.
 SOON = 5
 passed, failed = 0, 0
@@ -175,6 +182,37 @@ class Staying(Server):
         return tuple(int(it) for it in line.groups()) if line else (0, 0, 0), said
 
 
+class Port(Staying):
+    """A server that stays, with an operator's port."""
+
+    def __init__(self, folder, *options, places=2, plan=PLAN, **environment):
+        super().__init__(folder, places, "--operator", "127.0.0.1:0", *options, plan=plan, **environment)
+        told = re.search(r"^dcc: operators at 127\.0\.0\.1:(\d+)$", self.all_said(), re.MULTILINE)
+        self.calls = int(told[1]) if told else 0
+
+    def said(self):
+        return re.sub(r"^dcc: operators at .*\n", "", super().said(), flags=re.MULTILINE)
+
+    def call(self, method, path, body=None, fields=None, seconds=CALL_SECONDS + SOON):
+        """The status and the text of one call, by a connection of its own."""
+        connection = http.client.HTTPConnection("127.0.0.1", self.calls, timeout=seconds)
+        with contextlib.closing(connection):
+            connection.request(method, path, body, {"Connection": "close", **(fields or {})})
+            answer = connection.getresponse()
+            self.fields = dict(answer.getheaders())
+            return answer.status, answer.read().decode()
+
+    def calls_json(self, method, path, body=None):
+        status, text = self.call(method, path, body)
+        return status, json.loads(text)
+
+    def tops_up(self, sub, ticket, amount):
+        return self.calls_json("POST", f"/subscribers/{NAMES.get(sub, sub)}/topups", json.dumps({"ticket": ticket, "amount": amount}))
+
+    def account(self, sub):
+        return self.calls_json("GET", f"/subscribers/{NAMES.get(sub, sub)}")[1]
+
+
 class Gateway:
     """A connection to a server. What it sends and is answered is spelled by words."""
 
@@ -238,6 +276,12 @@ class Gateway:
         """Closes without a farewell: what is on its way is lost."""
         self.socket.setsockopt(socket.SOL_SOCKET, socket.SO_LINGER, struct.pack("ii", 1, 0))
         self.socket.close()
+
+
+def shard_of(sub, shards):
+    """The shard of a subscriber, of so many."""
+    kind, _, data = sub.partition(":")
+    return (int(kind) + sum(data.encode())) % shards
 
 
 def connected(server, count):
