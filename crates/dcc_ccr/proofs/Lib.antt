@@ -1,4 +1,3 @@
-pub mod Walks
 pub mod Limits
 pub mod Forms
 pub mod Bounds

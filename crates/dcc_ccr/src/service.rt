@@ -1,11 +1,7 @@
 //! The services of a request.
 
-ghost use Rattle.std.specs.Prelude.{◌≡◌, filter, Ok};
+ghost use Rattle.std.specs.Prelude.{◌≡◌, Ok};
 ghost use Rattle.dcc_request.specs.Answers.{Gives};
-ghost use Rattle.dcc_request.specs.Refusals.{each};
-ghost use Rattle.dcc_avp.specs.Spelling.{has_code};
-ghost use Rattle.dcc_avp.specs.declared.codes.TheConstants.{SERVICE_IDENTIFIER};
-ghost use Rattle.dcc_request.specs.Values.{number as number_in};
 ghost use Rattle.dcc_ccr.specs.Services.{ServiceView, FitsSeconds, service_in, service_of, multi_of, is_there, services_of};
 
 use crate::amounts::{Amounts, asked_in, used_in};
@@ -13,7 +9,7 @@ use crate::request_type::RequestType;
 use crate::steps::number_of;
 use dcc_act::Form;
 use dcc_avp::{Avp, codes};
-use dcc_request::{Stop, number, read_message_list};
+use dcc_request::{Parts, Stop, number, read_each, read_message_list};
 use std::alloc::Global;
 use std::marker::Model;
 
@@ -83,17 +79,28 @@ impl Service {
     }
 }
 
-/// The Service-Identifiers of a list, in their order; `InvalidAvpLength` with the first that hasn't four octets.
-fn ids_in<'a>(alloc: Global, avps: &[Avp<'a>]) -> Result<Vec<u32>, Stop<'a>>
-    ensures { Gives (λ ids. ids.items) result (each number_in (filter (has_code SERVICE_IDENTIFIER) avps.now)) }
-{
-    let mut ids = Vec::new(alloc);
-    for avp in avps {
-        if avp.has_code(codes::SERVICE_IDENTIFIER) {
-            ids.push(number(avp)?)?;
-        }
+/// Service-Identifiers; `InvalidAvpLength` with one that hasn't four octets.
+#[derive(Drop)]
+struct Identifiers;
+
+impl<'a> Parts<'a> for Identifiers {
+    ghost use Rattle.dcc_avp.specs.Spelling.{has_code};
+    ghost use Rattle.dcc_avp.specs.declared.codes.TheConstants.{SERVICE_IDENTIFIER};
+    ghost use Rattle.dcc_request.specs.Values.{number};
+
+    type Part = u32;
+
+    ghost holds = { λ _. has_code SERVICE_IDENTIFIER };
+
+    ghost part_of = { number };
+
+    fn holds(&self, avp: &Avp<'a>) -> bool {
+        avp.has_code(codes::SERVICE_IDENTIFIER)
     }
-    Ok(ids)
+
+    fn read(&self, _alloc: Global, avp: &Avp<'a>) -> Result<u32, Stop<'a>> {
+        Ok(number(avp)?)
+    }
 }
 
 /// The service of a group in a list: the identifiers, the amounts asked for, and the amounts used.
@@ -109,7 +116,7 @@ pub(crate) fn service_in<'a>(
     Ok(Service {
         form,
         group,
-        ids: ids_in(alloc, avps)?,
+        ids: read_each(alloc, &Identifiers, avps)?,
         asked: asked_in(alloc, avps)?,
         used: used_in(alloc, avps)?,
     })
@@ -125,18 +132,36 @@ fn service_of<'a>(alloc: Global, avp: &Avp<'a>) -> Result<Service, Stop<'a>>
     service_in(alloc, Form::Multi, group, &avps)
 }
 
+/// Services, each in a Multiple-Services-Credit-Control of its own.
+#[derive(Drop)]
+struct Services;
+
+impl<'a> Parts<'a> for Services {
+    ghost use Rattle.dcc_avp.specs.Spelling.{has_code};
+    ghost use Rattle.dcc_avp.specs.declared.codes.TheConstants.{MULTIPLE_SERVICES_CREDIT_CONTROL};
+    ghost use Rattle.dcc_ccr.specs.Services.{service_of};
+
+    type Part = Service;
+
+    ghost holds = { λ _. has_code MULTIPLE_SERVICES_CREDIT_CONTROL };
+
+    ghost part_of = { service_of };
+
+    fn holds(&self, avp: &Avp<'a>) -> bool {
+        avp.has_code(codes::MULTIPLE_SERVICES_CREDIT_CONTROL)
+    }
+
+    fn read(&self, alloc: Global, avp: &Avp<'a>) -> Result<Service, Stop<'a>> {
+        service_of(alloc, avp)
+    }
+}
+
 /// The services of all Multiple-Services-Credit-Control, in their order.
 #[tactic(auto, unfolding(crate::specs::Services::multi_of))]
 pub(crate) fn multi_of<'a>(alloc: Global, avps: &[Avp<'a>]) -> Result<Vec<Service>, Stop<'a>>
     ensures { Gives (λ services. services.items) result (multi_of avps.now) }
 {
-    let mut services = Vec::new(alloc);
-    for avp in avps {
-        if avp.has_code(codes::MULTIPLE_SERVICES_CREDIT_CONTROL) {
-            services.push(service_of(alloc, avp)?)?;
-        }
-    }
-    Ok(services)
+    read_each(alloc, &Services, avps)
 }
 
 /// Whether any part of a service is there.

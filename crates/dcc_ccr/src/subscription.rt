@@ -1,16 +1,15 @@
 //! The subscriber whose account a request is for.
 
-ghost use Rattle.std.specs.Prelude.{◌≡◌, ◌==◌, if◌then◌else◌, filter, find, option_copied, Some, None};
-ghost use Rattle.dcc_avp.specs.Spelling.{has_code};
-ghost use Rattle.dcc_avp.specs.declared.codes.TheConstants.{SUBSCRIPTION_ID as SUBSCRIPTION};
+ghost use Rattle.std.specs.Prelude.{◌≡◌, ◌==◌, if◌then◌else◌, find, option_copied, Some, None};
 ghost use Rattle.dcc_act.specs.Subs.{is_sub};
 ghost use Rattle.dcc_request.specs.Answers.{Gives};
-ghost use Rattle.dcc_request.specs.Refusals.{each};
 ghost use Rattle.dcc_ccr.specs.Subscribers.{SubscriptionView, subscription_of, chosen, sub_of, sub_of_chosen, subscriber_of};
 
 use dcc_act::Sub;
 use dcc_avp::{Avp, codes};
-use dcc_request::{Cause, Refused, Stop, number, number_within, read_message_list, required};
+use dcc_request::{
+    Cause, Parts, Refused, Stop, number, number_within, read_each, read_message_list, required,
+};
 use std::alloc::Global;
 use std::marker::Model;
 
@@ -49,17 +48,28 @@ fn subscription_of<'a>(alloc: Global, avp: &Avp<'a>) -> Result<Subscription<'a>,
     })
 }
 
-/// All Subscription-Ids, in their order.
-fn subscriptions_of<'a>(alloc: Global, avps: &[Avp<'a>]) -> Result<Vec<Subscription<'a>>, Stop<'a>>
-    ensures { Gives (λ all. all.items) result (each subscription_of (filter (has_code SUBSCRIPTION) avps.now)) }
-{
-    let mut all = Vec::new(alloc);
-    for avp in avps {
-        if avp.has_code(codes::SUBSCRIPTION_ID) {
-            all.push(subscription_of(alloc, avp)?)?;
-        }
+/// Subscription-Ids.
+#[derive(Drop)]
+struct Subscriptions;
+
+impl<'a> Parts<'a> for Subscriptions {
+    ghost use Rattle.dcc_avp.specs.Spelling.{has_code};
+    ghost use Rattle.dcc_avp.specs.declared.codes.TheConstants.{SUBSCRIPTION_ID as SUBSCRIPTION};
+    ghost use Rattle.dcc_ccr.specs.Subscribers.{subscription_of};
+
+    type Part = Subscription<'a>;
+
+    ghost holds = { λ _. has_code SUBSCRIPTION };
+
+    ghost part_of = { subscription_of };
+
+    fn holds(&self, avp: &Avp<'a>) -> bool {
+        avp.has_code(codes::SUBSCRIPTION_ID)
     }
-    Ok(all)
+
+    fn read(&self, alloc: Global, avp: &Avp<'a>) -> Result<Subscription<'a>, Stop<'a>> {
+        subscription_of(alloc, avp)
+    }
 }
 
 /// The first of type E164.
@@ -113,6 +123,6 @@ fn sub_of_chosen<'a>(chosen: Option<&Subscription<'a>>) -> Result<Option<Sub>, R
 pub(crate) fn subscriber_of<'a>(alloc: Global, avps: &[Avp<'a>]) -> Result<Option<Sub>, Stop<'a>>
     ensures { Gives (λ sub. sub) result (subscriber_of avps.now) }
 {
-    let all = subscriptions_of(alloc, avps)?;
+    let all = read_each(alloc, &Subscriptions, avps)?;
     Ok(sub_of_chosen(chosen(&all))?)
 }

@@ -11,8 +11,9 @@
 //! 4. AVPs that stand too often;
 //! 5. AVPs that are missing.
 //!
-//! The command's own crate checks the values after these: it reads them by `required`, `number` and the like. A refusal
-//! (`Refused`) lends its AVPs from the octets of the message, so that refusing takes no memory and never fails.
+//! The command's own crate checks the values after these: it reads them by `required`, `number` and the like, and parts that
+//! may stand several times by `read_each`. A refusal (`Refused`) lends its AVPs from the octets of the message, so that
+//! refusing takes no memory and never fails.
 #![tactic(auto)]
 
 mod cause;
@@ -21,6 +22,7 @@ mod command;
 mod fits;
 mod laws;
 mod layout;
+mod parts;
 mod refused;
 mod stop;
 pub mod table;
@@ -32,6 +34,7 @@ pub use checks::missing;
 pub use command::{Command, check, command_of};
 pub use laws::{list_within, numbers_are_given, shown_within};
 pub use layout::{read_message_list, unread};
+pub use parts::{Parts, read_each};
 pub use refused::{Failed, Refused, clear};
 pub use stop::Stop;
 pub use values::{first, long_number, name_octets, number, number_within, required};

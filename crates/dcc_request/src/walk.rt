@@ -1,13 +1,13 @@
 //! The groups that are walked, each read once.
 
-ghost use Rattle.std.specs.Prelude.{◌≡◌, filter, option_map};
+ghost use Rattle.std.specs.Prelude.{◌≡◌, option_map};
 ghost use Rattle.dcc_request.specs.Answers.{Gives};
-ghost use Rattle.dcc_request.specs.Refusals.{each};
 ghost use Rattle.dcc_request.specs.Layout.{layout_fault};
 ghost use Rattle.dcc_request.specs.Walk.{ListView, GroupView, in_group, list_of, is_units, is_walked, group_of, groups_of};
 
 use crate::command::Command;
 use crate::layout::stop_at;
+use crate::parts::{Parts, read_each};
 use crate::stop::Stop;
 use dcc_avp::{Avp, AvpFault, codes, group};
 use std::alloc::Global;
@@ -124,17 +124,26 @@ fn list_of<'a>(alloc: Global, avp: &Avp<'a>) -> Result<List<'a>, Stop<'a>>
     }
 }
 
-/// The lists of the units among the AVPs of a list.
-fn units_in<'a>(alloc: Global, avps: &[Avp<'a>]) -> Result<Vec<List<'a>>, Stop<'a>>
-    ensures { Gives (λ lists. lists.items) result (each list_of (filter is_units avps.now)) }
-{
-    let mut lists = Vec::new(alloc);
-    for avp in avps {
-        if is_units(avp) {
-            lists.push(list_of(alloc, avp)?)?;
-        }
+/// Amounts of units, each the list of its AVP.
+#[derive(Drop)]
+struct Units;
+
+impl<'a> Parts<'a> for Units {
+    ghost use Rattle.dcc_request.specs.Walk.{list_of, is_units};
+
+    type Part = List<'a>;
+
+    ghost holds = { λ _. is_units };
+
+    ghost part_of = { list_of };
+
+    fn holds(&self, avp: &Avp<'a>) -> bool {
+        is_units(avp)
     }
-    Ok(lists)
+
+    fn read(&self, alloc: Global, avp: &Avp<'a>) -> Result<List<'a>, Stop<'a>> {
+        list_of(alloc, avp)
+    }
 }
 
 /// A group, and the walked groups inside it; or the refusal of the first that can't be read.
@@ -144,11 +153,33 @@ fn group_of<'a>(alloc: Global, avp: &Avp<'a>) -> Result<Group<'a>, Stop<'a>>
 {
     let list = list_of(alloc, avp)?;
     let inside = if list.code == codes::MULTIPLE_SERVICES_CREDIT_CONTROL {
-        units_in(alloc, &list.avps)?
+        read_each(alloc, &Units, &list.avps)?
     } else {
         Vec::new(alloc)
     };
     Ok(Group { list, inside })
+}
+
+/// The walked groups of a message of this command.
+#[derive(Drop)]
+struct Walked(Command);
+
+impl<'a> Parts<'a> for Walked {
+    ghost use Rattle.dcc_request.specs.Walk.{is_walked, group_of};
+
+    type Part = Group<'a>;
+
+    ghost holds = { λ walked. is_walked walked.0 };
+
+    ghost part_of = { group_of };
+
+    fn holds(&self, avp: &Avp<'a>) -> bool {
+        is_walked(self.0, avp)
+    }
+
+    fn read(&self, alloc: Global, avp: &Avp<'a>) -> Result<Group<'a>, Stop<'a>> {
+        group_of(alloc, avp)
+    }
 }
 
 /// The walked groups of a message's list, or the refusal of the first that can't be read.
@@ -159,11 +190,5 @@ pub(crate) fn groups_of<'a>(
 ) -> Result<Vec<Group<'a>>, Stop<'a>>
     ensures { Gives (λ groups. groups.items) result (groups_of command avps.now) }
 {
-    let mut groups = Vec::new(alloc);
-    for avp in avps {
-        if is_walked(command, avp) {
-            groups.push(group_of(alloc, avp)?)?;
-        }
-    }
-    Ok(groups)
+    read_each(alloc, &Walked(command), avps)
 }
