@@ -60,18 +60,22 @@ abbrev pub live_price : TermsView → List Done → Sid → ServiceKey → ℕ
 live_price terms past sid key = option_map_or grant_price (live terms past sid key) 0
 
 -- the tariff of a service's live grant, or else that of the act's moment
-abbrev pub charge_tariff : TermsView → List Done → Sid → ServiceView → Option TariffView
-charge_tariff terms past sid service =
-    option_or (option_map (λ (grant : Grant). grant.tariff) (live terms past sid (service_key service))) service.tariff
+abbrev pub tariff_by : Option Grant → ServiceView → Option TariffView
+tariff_by live service = option_or (option_map (λ (grant : Grant). grant.tariff) live) service.tariff
 
 -- the charge for a service's report, if there is a report and a tariff for it
+abbrev pub charge_by : Option Grant → ServiceView → Option ℕ
+charge_by live service = option_and_then (λ units. option_map (λ tariff. price tariff units) (tariff_by live service)) service.used
+
 abbrev pub charge : TermsView → List Done → Sid → ServiceView → Option ℕ
-charge terms past sid service =
-    option_and_then (λ units. option_map (λ tariff. price tariff units) (charge_tariff terms past sid service)) service.used
+charge terms past sid service = charge_by (live terms past sid (service_key service)) service
 
 -- a report that no tariff charges
+abbrev pub is_unrated_by : Option Grant → ServiceView → Bool
+is_unrated_by live service = is_some service.used && is_none (charge_by live service)
+
 abbrev pub is_unrated : TermsView → List Done → Sid → ServiceView → Bool
-is_unrated terms past sid service = is_some service.used && is_none (charge terms past sid service)
+is_unrated terms past sid service = is_unrated_by (live terms past sid (service_key service)) service
 
 -- the sum of the charges of a request's reports
 abbrev pub charges : TermsView → List Done → Sid → List ServiceView → ℕ

@@ -24,6 +24,7 @@ use Rattle.dcc_act.specs.declared.outcome.Balance.TheVariants.{EnoughCredit, NoC
 use Rattle.dcc_act.specs.declared.outcome.ServiceAnswer.{ServiceAnswer}
 use Rattle.dcc_act.specs.declared.request_key.RequestKey.{RequestKey}
 use Rattle.dcc_act.specs.declared.service.Form.TheVariants.{Single, Multi}
+use Rattle.dcc_act.specs.Services.{service_key}
 use Rattle.dcc_act.specs.declared.service.Service.{Service}
 use Rattle.dcc_act.specs.declared.session_limit.SessionLimit.{SessionLimit}
 use Rattle.dcc_model.specs.declared.done.Done.{Done}
@@ -31,8 +32,8 @@ use Rattle.dcc_model.specs.declared.decide.TheConstants.{CEILING}
 use Rattle.dcc_model.specs.declared.decide.EventResult.{EventResult}
 use Rattle.dcc_model.specs.declared.judgement.Standing.{Standing}
 use Rattle.dcc_model.specs.Keys.{request_key, same_key, same_request, is_top_up, is_expiry}
-use Rattle.dcc_model.specs.Sessions.{Sid, deadline, is_open, was_opened, was_opened_in, open_sessions, looked_at}
-use Rattle.dcc_model.specs.Money.{asked_units, grant_price, is_unrated, charges, funds_of, overrun_of, free_of, room}
+use Rattle.dcc_model.specs.Sessions.{Sid, deadline, is_open, was_opened, was_opened_in, open_sessions, live, looked_at}
+use Rattle.dcc_model.specs.Money.{asked_units, grant_price, is_unrated_by, charges, funds_of, overrun_of, free_of, room}
 
 -- an account exists from its first top-up
 abbrev pub has_account : List Done → Bool
@@ -70,9 +71,11 @@ abbrev pub asked_answer : Service → ℤ → ServiceAnswer
 asked_answer service space = if is_none service.asked then answer_with service Success None false else granted_within service space (asked_units service)
 
 -- if no tariff charges a service's report, the result is a failure, and nothing is granted
+abbrev pub answer_by : Option Grant → Service → ℤ → ServiceAnswer
+answer_by live service space = if is_unrated_by live service then answer_with service RatingFailed None false else asked_answer service space
+
 abbrev pub answer_to : TermsView → List Done → Sid → Service → ℤ → ServiceAnswer
-answer_to terms past sid service space =
-    if is_unrated terms past sid service then answer_with service RatingFailed None false else asked_answer service space
+answer_to terms past sid service space = answer_by (live terms past sid (service_key service)) service space
 
 -- the answers to a request's services in order, each in the room that the services before leave
 abbrev pub answers : TermsView → List Done → Sid → List Service → (before : List ServiceAnswer) → List Service → List ServiceAnswer

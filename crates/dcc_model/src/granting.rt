@@ -8,7 +8,9 @@ ghost use Rattle.dcc_model.specs.Outcomes.{answer_with, granted, granted_within,
 
 use crate::decide::asked_units;
 use crate::done::Done;
-use crate::money::{is_unrated, room};
+use crate::money::room;
+use crate::pricing::answer_by;
+use crate::sessions::live;
 use dcc_act::{Grant, MAX_SERVICES, ResultCode, Service, ServiceAnswer, SessionId};
 use dcc_tariff::{Terms, most_units};
 use std::alloc::{AllocError, Global};
@@ -45,11 +47,7 @@ fn answer_to(
 ) -> Result<ServiceAnswer, AllocError>
     ensures { IfOk result (λ answer. answer ≡ answer_to terms.now (reverse past.now) sid.now service.now space) }
 {
-    if is_unrated(terms, past, sid, service) {
-        answer_with(service, ResultCode::RatingFailed, None, false)
-    } else {
-        asked_answer(service, space)
-    }
+    answer_by(live(terms, past, sid, service.key()), service, space)
 }
 
 /// The answer to the units that a service asks for, in its room, in minor units. A service that asks for none succeeds. The

@@ -17,6 +17,7 @@ mod looked_at;
 mod money;
 mod outcomes;
 mod posting;
+mod pricing;
 mod results;
 mod sessions;
 
@@ -37,5 +38,6 @@ pub use looked_at::services_looked_at;
 pub use money::{credited, debited};
 pub use outcomes::{bare, command_result, is_below_floor};
 pub use posting::{charge_entry, event_entries, top_up_entries};
+pub use pricing::{answer_by, answered, charge_by, cost_by, made_prices};
 pub use results::{has_succeeded, is_refused};
 pub use sessions::{answers_of, names_any, was_opened};

@@ -5,19 +5,20 @@ ghost use Rattle.std.specs.Prelude.{◌≡◌, ◌+◌, ◌*◌, ◌∷◌, ◌^
 ghost use Rattle.std.specs.Option.{ForSome};
 ghost use Rattle.dcc_act.specs.Services.{are_services};
 ghost use Rattle.dcc_model.specs.Laws.{services_of};
-ghost use Rattle.dcc_model.specs.Money.{charged_event, refunded_event, live_price, charge_tariff, charge, is_unrated, charges, overruns, credit, debit, charged, overran, funds_of, overrun_of, held_price, free_of, is_replaced, reserved_beside, made_price, room};
+ghost use Rattle.dcc_model.specs.Money.{charged_event, refunded_event, live_price, charge, charges, overruns, credit, debit, charged, overran, funds_of, overrun_of, held_price, free_of, is_replaced, reserved_beside, made_price, room};
 ghost use Rattle.dcc_model.specs.Outcomes.{standing_of};
 
 use crate::decide::{asked_units, price};
 use crate::done::Done;
 use crate::judgement::Standing;
+use crate::pricing::{charge_by, cost_by, made_prices};
 use crate::results::has_succeeded;
 use crate::sessions::{Holding, accepted, live, lives, lives_with, names_any};
 use dcc_act::{
     Action, Grant, Kind, MAX_AMOUNT, MAX_SERVICES, OneTimeEvent, Outcome, Service, ServiceAnswer,
     ServiceKey, SessionId,
 };
-use dcc_tariff::{MAX_PRICE, Tariff, Terms, price_of};
+use dcc_tariff::{MAX_PRICE, Terms};
 use std::alloc::{AllocError, Global};
 
 /// The most by which one act may change the funds, in minor units, whatever the floor allows: 32 charges and a debit.
@@ -41,26 +42,7 @@ pub(crate) fn charge(
     ensures value { result ≡ charge terms.now (reverse past.now) sid.now service.now }
     ensures bound { ForSome result (λ cost. cost ≤ MAX_PRICE) }
 {
-    let units = service.used?;
-    let tariff = charge_tariff(terms, past, sid, service)?;
-    Some(price_of(tariff, units))
-}
-
-/// The tariff of a service's live grant, or else that of the act's moment.
-fn charge_tariff(terms: &Terms, past: &[Done], sid: &SessionId, service: &Service) -> Option<Tariff>
-    ensures { result ≡ charge_tariff terms.now (reverse past.now) sid.now service.now }
-{
-    match live(terms, past, sid, service.key()) {
-        Some(grant) => Some(grant.tariff),
-        None => service.tariff,
-    }
-}
-
-/// Whether no tariff charges a service's report.
-pub(crate) fn is_unrated(terms: &Terms, past: &[Done], sid: &SessionId, service: &Service) -> bool
-    ensures { result ≡ is_unrated terms.now (reverse past.now) sid.now service.now }
-{
-    service.used.is_some() && charge(terms, past, sid, service).is_none()
+    charge_by(live(terms, past, sid, service.key()), service)
 }
 
 /// The charge for a service's report, or 0.
@@ -68,10 +50,7 @@ fn cost(terms: &Terms, past: &[Done], sid: &SessionId, service: &Service) -> u64
     ensures value { result ≡ unwrap_or (charge terms.now (reverse past.now) sid.now service.now) 0 }
     ensures bound { result ≤ MAX_PRICE }
 {
-    match charge(terms, past, sid, service) {
-        Some(cost) => cost,
-        None => 0,
-    }
+    cost_by(live(terms, past, sid, service.key()), service)
 }
 
 /// The sum of the charges of a request's reports.
@@ -315,30 +294,6 @@ fn reserved_beside(
     let mut held = lives(alloc, terms, past)?;
     held.retain(|holding| !is_replaced(sid, services, holding));
     Ok(reserved(&held))
-}
-
-/// The price of an answer's grant, or 0.
-fn made_price(answer: &ServiceAnswer) -> u64
-    ensures value { result ≡ made_price answer.now }
-    ensures bound { result ≤ MAX_PRICE }
-{
-    match &answer.grant {
-        Some(grant) => price(grant),
-        None => 0,
-    }
-}
-
-/// The sum of the prices of the answers' grants.
-fn made_prices(answers: &[ServiceAnswer]) -> i128
-    requires { length answers.now ≤ MAX_SERVICES }
-    ensures value { result ≡ pos (sum_by made_price answers.now) }
-    ensures bound { result ≤ℤ pos (MAX_SERVICES * MAX_PRICE) }
-{
-    let mut sum = 0;
-    for answer in answers {
-        sum += i128::from(made_price(answer));
-    }
-    sum
 }
 
 /// The room of the next service's grant, after the grants that the request made to the services before. The only error

@@ -9,6 +9,7 @@ use crate::decide::CEILING;
 use crate::done::Done;
 use crate::granting::answers;
 use crate::money::{charges, funds};
+use crate::pricing::answered;
 use crate::sessions::{count_open, is_open, was_opened};
 use dcc_act::{
     Answer, Form, Outcome, RequestKey, RequestType, ResultCode, Service, ServiceAnswer,
@@ -108,15 +109,7 @@ fn served(
     ensures { IfOk result (λ outcome. outcome ≡ served terms.now (reverse past.now) request key.now services.now) }
 {
     let answers = answers(alloc, terms, past, &key.sid, services)?;
-    let code = command_result(&answers);
-    Ok(Outcome::Answered(Answer {
-        request,
-        key: key.copy()?,
-        result: code,
-        services: ServiceAnswers::from_vec(answers).unwrap(),
-        cost: None,
-        balance: None,
-    }))
+    answered(request, key, answers)
 }
 
 /// The command's result: that of a service at the message's level, which is the only service, or else success.

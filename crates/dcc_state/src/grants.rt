@@ -4,16 +4,15 @@ ghost use Rattle.std.specs.Prelude.{◌≡◌, ◌≤◌, ◌*◌, ◌^◌, pos,
 ghost use Rattle.std.specs.Option.{ForSome, option_copied};
 ghost use Rattle.dcc_act.specs.ServiceKeys.{same_service};
 ghost use Rattle.dcc_act.specs.declared.limits.TheConstants.{MAX_SERVICES};
-ghost use Rattle.dcc_session.specs.Grants.{live_in, charge_tariff_in, charge_in, charges_in, is_given_back, given_back};
-ghost use Rattle.dcc_state.specs.inner.Grants.{is_unrated_in};
+ghost use Rattle.dcc_session.specs.Grants.{live_in, charge_in, charges_in, is_given_back, given_back};
 
 use dcc_act::{Grant, MAX_SERVICES, Service, ServiceKey};
-use dcc_model::{names_any, price};
+use dcc_model::{charge_by, cost_by, names_any, price};
 use dcc_session::Held;
-use dcc_tariff::{MAX_PRICE, Tariff, price_of};
+use dcc_tariff::MAX_PRICE;
 
 /// The grant that a service holds.
-fn live(own: &[Held], key: ServiceKey) -> Option<Grant>
+pub(crate) fn live(own: &[Held], key: ServiceKey) -> Option<Grant>
     ensures { result ≡ live_in own.now key }
 {
     match held_for(own, key) {
@@ -29,31 +28,12 @@ fn held_for(own: &[Held], key: ServiceKey) -> Option<&Held>
     own.iter().find(|held| held.key.is_same(key))
 }
 
-/// The tariff of a service's live grant, or else that of the act's moment.
-fn charge_tariff(own: &[Held], service: &Service) -> Option<Tariff>
-    ensures { result ≡ charge_tariff_in own.now service.now }
-{
-    match live(own, service.key()) {
-        Some(grant) => Some(grant.tariff),
-        None => service.tariff,
-    }
-}
-
 /// The charge for a service's report, if there is a report and a tariff for it.
 pub(crate) fn charge(own: &[Held], service: &Service) -> Option<u64>
     ensures value { result ≡ charge_in own.now service.now }
     ensures bound { ForSome result (λ cost. cost ≤ MAX_PRICE) }
 {
-    let units = service.used?;
-    let tariff = charge_tariff(own, service)?;
-    Some(price_of(tariff, units))
-}
-
-/// Whether no tariff charges a service's report.
-pub(crate) fn is_unrated(own: &[Held], service: &Service) -> bool
-    ensures { result ≡ is_unrated_in own.now service.now }
-{
-    service.used.is_some() && charge(own, service).is_none()
+    charge_by(live(own, service.key()), service)
 }
 
 /// The charge for a service's report, or 0.
@@ -61,10 +41,7 @@ fn cost(own: &[Held], service: &Service) -> u64
     ensures value { result ≡ unwrap_or (charge_in own.now service.now) 0 }
     ensures bound { result ≤ MAX_PRICE }
 {
-    match charge(own, service) {
-        Some(cost) => cost,
-        None => 0,
-    }
+    cost_by(live(own, service.key()), service)
 }
 
 /// The sum of the charges of a request's reports.

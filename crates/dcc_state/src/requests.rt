@@ -13,10 +13,9 @@ use crate::grants::charges;
 use crate::limits::FARTHEST;
 use crate::open_session::OpenSession;
 use dcc_act::{
-    Answer, Kind, Looks, Outcome, RequestKey, RequestType, ResultCode, Service, ServiceAnswers,
-    SessionId, SessionLimit,
+    Kind, Looks, Outcome, RequestKey, RequestType, ResultCode, Service, SessionId, SessionLimit,
 };
-use dcc_model::{CEILING, bare, command_result, is_below_floor};
+use dcc_model::{CEILING, answered, bare, is_below_floor};
 use dcc_session::Held;
 use std::alloc::{AllocError, Global};
 
@@ -147,13 +146,5 @@ fn served(
     ensures { IfOk result (λ outcome. outcome ≡ served_in free own.now request key.now services.now) }
 {
     let answers = answers(alloc, free, own, services)?;
-    let code = command_result(&answers);
-    Ok(Outcome::Answered(Answer {
-        request,
-        key: key.copy()?,
-        result: code,
-        services: ServiceAnswers::from_vec(answers).unwrap(),
-        cost: None,
-        balance: None,
-    }))
+    answered(request, key, answers)
 }

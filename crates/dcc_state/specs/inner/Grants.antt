@@ -1,28 +1,27 @@
 -- The outcome of a request of a session, by the grants of its session and the free money.
-use Rattle.std.specs.Prelude.{ℕ, ◌+◌, ℤ, pos, ◌+ℤ◌, ◌-ℤ◌, Bool, false, ◌&&◌, if◌then◌else◌, List, [], ◌∷◌, ◌++◌, filter_map, sum_by, None, is_some, is_none, option_map}
-use Rattle.dcc_act.specs.Services.{ServiceView}
+use Rattle.std.specs.Prelude.{ℕ, ◌+◌, ℤ, pos, ◌+ℤ◌, ◌-ℤ◌, Bool, List, [], ◌∷◌, ◌++◌, filter_map, sum_by, option_map}
+use Rattle.dcc_act.specs.Services.{ServiceView, service_key}
 use Rattle.dcc_act.specs.declared.entry.Entry.{Entry}
 use Rattle.dcc_act.specs.declared.outcome.Outcome.{Outcome}
 use Rattle.dcc_act.specs.declared.outcome.RequestType.{RequestType}
-use Rattle.dcc_act.specs.declared.outcome.ResultCode.TheVariants.{RatingFailed}
 use Rattle.dcc_act.specs.declared.outcome.ServiceAnswer.{ServiceAnswer}
 use Rattle.dcc_act.specs.declared.request_key.RequestKey.{RequestKey}
 use Rattle.dcc_model.specs.Entries.{charge_entry}
-use Rattle.dcc_model.specs.Money.{made_price}
-use Rattle.dcc_model.specs.Outcomes.{answer_with, asked_answer, answered}
+use Rattle.dcc_model.specs.Money.{is_unrated_by, made_price}
+use Rattle.dcc_model.specs.Outcomes.{answer_by, answered}
 use Rattle.dcc_model.specs.Sessions.{Sid}
 use Rattle.dcc_session.specs.declared.held.Held.{Held}
-use Rattle.dcc_session.specs.Grants.{charge_in, charges_in, given_back}
+use Rattle.dcc_session.specs.Grants.{live_in, charge_in, charges_in, given_back}
 
 abbrev pub is_unrated_in : List Held → ServiceView → Bool
-is_unrated_in own service = is_some service.used && is_none (charge_in own service)
+is_unrated_in own service = is_unrated_by (live_in own (service_key service)) service
 
 -- the room of the next service's grant: the free money and the grants given back, less the charges and the grants before
 abbrev pub room_in : ℤ → List Held → List ServiceView → List ServiceAnswer → ℤ
 room_in free own services before = (free +ℤ pos (given_back own services)) -ℤ pos (charges_in own services + sum_by made_price before)
 
 abbrev pub answer_to_in : List Held → ServiceView → ℤ → ServiceAnswer
-answer_to_in own service space = if is_unrated_in own service then answer_with service RatingFailed None false else asked_answer service space
+answer_to_in own service space = answer_by (live_in own (service_key service)) service space
 
 abbrev pub answers_in : ℤ → List Held → List ServiceView → (before : List ServiceAnswer) → List ServiceView → List ServiceAnswer
 answers_in free own services before [] = []

@@ -1,6 +1,6 @@
 use Rattle.std.proofs.Common.{◌≡◌, ◌*◌, take, sum_by, pos, ◌≤ℤ◌}
 use Rattle.dcc_model.specs.Money.{made_price}
-use Rattle.dcc_state.proofs.granting.made_prices.Given as goal
+use Rattle.dcc_model.proofs.pricing.made_prices.Given as goal
 
 abbrev pub invariant-loop-answer : goal.invariant-loop-answer
 invariant-loop-answer l = record {
