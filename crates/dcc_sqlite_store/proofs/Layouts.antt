@@ -7,7 +7,6 @@ use Rattle.sqlite.specs.Table.{Table}
 use Rattle.sqlite.specs.Tree.{rowid}
 use Rattle.sqlite.specs.declared.types.Value.{Value}
 use Rattle.sqlite.specs.declared.types.Value.TheVariants.{Null, Int, Real, Text, Blob}
-use Rattle.sqlite.specs.Effect.{Database, IsDatabase}
 use Rattle.sqlite_schema.specs.declared.schema.Index.{Index}
 use Rattle.sqlite_schema.specs.Names.{same_name}
 use Rattle.sqlite_trees.specs.Objects.{catalog_tree}
@@ -15,7 +14,7 @@ use Rattle.sqlite_rules.specs.Lists.{Has}
 use Rattle.sqlite_catalog.specs.Listing.{AreListed, IsTableRow, IsIndexRow, IsDefined, is_table_row, is_index_row, is_view_row, automatic}
 use Rattle.sqlite_catalog.proofs.StepLemmas.{same_itself, named_once}
 use Rattle.dcc_sqlite_store.specs.Tables.{layout}
-use Rattle.dcc_sqlite_store.specs.Trees.{IsStore}
+use Rattle.dcc_sqlite_store.specs.Trees.{IsStore, StoresHaveTheLayout}
 
 -- what each row says is one thing
 zip_once : {A B : Type 0} (R : A → B → Type 0) → ((x : A) (y z : B) → R x y → R x z → y ≡ z) → (xs : List A) (ys zs : List B) → AllZip R xs ys → AllZip R xs zs → ys ≡ zs
@@ -97,6 +96,6 @@ module _ (objects : List Row) (listed : AreListed objects layout) where
       λ i. record { tables = tables i; indexes = indexes i; views = views i }
 
 -- so a database over the trees of a store has its layout
-pub has_layout : (db : Database) → IsStore db.trees → IsDatabase db → db.schema ≡ layout
+pub has_layout : StoresHaveTheLayout
 unfolding IsStore
 has_layout db store sound = one_schema (db.trees catalog_tree) store.lists.listed db.schema sound.lists.listed

@@ -3,12 +3,16 @@ use Rattle.std.specs.Prelude.{◌≡◌, ℕ, false, IsTrue, List, [], ◌∷◌
 use Rattle.sqlite.specs.Order.{Row, column}
 use Rattle.sqlite.specs.Tree.{Trees}
 use Rattle.sqlite.specs.State.{State}
-use Rattle.sqlite.specs.Effect.{IsDatabase}
+use Rattle.sqlite.specs.Effect.{Database, IsDatabase}
 use Rattle.dcc_sqlite_store.specs.Tables.{layout}
 
 -- the trees have exactly the tables of a store, and obey their schema
 unfoldable pub IsStore : Trees → Type 0
 IsStore db = IsDatabase (record { schema = layout; trees = db })
+
+-- the schema of a database over the trees of a store is the layout of a store
+abbrev pub StoresHaveTheLayout : Type 0
+StoresHaveTheLayout = (db : Database) → IsStore db.trees → IsDatabase db → db.schema ≡ layout
 
 -- the trees of the four tables
 abbrev pub setting_tree : ℕ

@@ -1,6 +1,7 @@
 pub mod Trees
 pub mod Tallies
 pub mod Steps
+pub mod Inside
 pub mod Keeping
 pub mod Layout
 pub mod Making

@@ -1,12 +1,13 @@
 //! The acts of a batch, as they are written.
 
 ghost use Rattle.std.specs.Prelude.{◌≡◌, ◌⊎◌, Err, IsTrue, IfOk, OnOk, OnErr};
-ghost use Rattle.sqlite.specs.State.{HasCleanDisk, Survives, KeepsCommit};
+ghost use Rattle.sqlite.specs.State.{HasCleanDisk, Survives};
 ghost use Rattle.sqlite.specs.Held.{state};
 ghost use Rattle.dcc_act.specs.declared.sub.Sub.{Sub};
 ghost use Rattle.dcc_sqlite_store.specs.Tables.{layout};
 ghost use Rattle.dcc_sqlite_rows.specs.Pages.{IsSub};
 ghost use Rattle.dcc_sqlite_rows.specs.Rows.{sub_octets};
+ghost use Rattle.dcc_sqlite_store.specs.inner.Inside.{GoesOn, CommitStays};
 ghost use Rattle.dcc_sqlite_store.specs.inner.Tallies.{tally_in};
 ghost use Rattle.dcc_sqlite_store.specs.inner.Trees.{account_tree, IsKeyed, HasRun};
 ghost use Rattle.dcc_sqlite_store.specs.inner.Steps.{step_behind, steps_behind, AppendsStep, AppendsAll, HasPlace, HavePlaces};
@@ -108,10 +109,8 @@ impl<'a> Step<'a> {
             → (state S.Store tx.old.conn.now).now.schema ≡ layout
             → IsKeyed ((state S.Store tx.old.conn.now).now.trees account_tree)
             → OnOk result (HasRun (AppendsStep self.now) (state S.Store tx.old.conn.now) (state S.Store tx.new.conn.now)) }
-        ensures inside { HasCleanDisk (state S.Store tx.new.conn.now) → IsTrue (state S.Store tx.old.conn.now).in_transaction
-            → OnOk result (IsTrue (state S.Store tx.new.conn.now).in_transaction) }
-        ensures kept { HasCleanDisk (state S.Store tx.new.conn.now) → IsTrue (state S.Store tx.old.conn.now).in_transaction
-            → KeepsCommit (state S.Store tx.old.conn.now) (state S.Store tx.new.conn.now) }
+        ensures inside { GoesOn result (state S.Store tx.old.conn.now) (state S.Store tx.new.conn.now) }
+        ensures kept { CommitStays (state S.Store tx.old.conn.now) (state S.Store tx.new.conn.now) }
         ensures survives { Survives (state S.Store tx.old.conn.now) (state S.Store tx.new.conn.now) (λ _. ⊥) }
     {
         add_rows(
@@ -172,10 +171,8 @@ pub fn add_steps<S: Alter>(tx: &mut Transaction<'_, S>, steps: &[Step<'_>]) -> R
         → (state S.Store tx.old.conn.now).now.schema ≡ layout
         → IsKeyed ((state S.Store tx.old.conn.now).now.trees account_tree)
         → OnOk result (HasRun (AppendsAll steps.now) (state S.Store tx.old.conn.now) (state S.Store tx.new.conn.now)) }
-    ensures inside { HasCleanDisk (state S.Store tx.new.conn.now) → IsTrue (state S.Store tx.old.conn.now).in_transaction
-        → OnOk result (IsTrue (state S.Store tx.new.conn.now).in_transaction) }
-    ensures kept { HasCleanDisk (state S.Store tx.new.conn.now) → IsTrue (state S.Store tx.old.conn.now).in_transaction
-        → KeepsCommit (state S.Store tx.old.conn.now) (state S.Store tx.new.conn.now) }
+    ensures inside { GoesOn result (state S.Store tx.old.conn.now) (state S.Store tx.new.conn.now) }
+    ensures kept { CommitStays (state S.Store tx.old.conn.now) (state S.Store tx.new.conn.now) }
     ensures survives { Survives (state S.Store tx.old.conn.now) (state S.Store tx.new.conn.now) (λ _. ⊥) }
 {
     for i in 0..steps.len() {

@@ -20,6 +20,7 @@
 //! - [`stop_and_open`] finds one of the databases that a stop leaves, and [`stop_and_reopen`] the records in it: what they hold is one
 //!   of the contents that a stop leaves. Where a stop leaves a book's content, only want of memory, a database that fails or another
 //!   setting keeps it from being opened.
+//! - [`stores_have_the_layout`] is the law of stores: the schema of a database over the trees of a store is the layout of a store.
 #![tactic(auto)]
 
 mod adding;
@@ -29,6 +30,7 @@ mod dropping;
 mod fault;
 mod files;
 mod judging;
+mod laws;
 mod layout;
 mod loading;
 mod making;
@@ -50,6 +52,7 @@ mod upgrading;
 
 pub use fault::{CreateFault, OpenFault};
 pub use files::{stop_and_open, stop_and_reopen};
+pub use laws::stores_have_the_layout;
 pub use setting::Setting;
 pub use sql_records::SqlRecords;
 pub use upgrading::upgrade;

@@ -1,4 +1,3 @@
 pub mod Stopped
-pub mod Layouts
 pub mod OldBooks
 pub mod Upgraded

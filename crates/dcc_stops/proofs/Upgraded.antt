@@ -17,13 +17,12 @@ use Rattle.dcc_sqlite_store.specs.Content.{HoldsBook, HoldsOldBook}
 use Rattle.dcc_sqlite_store.specs.Opening.{HasOtherSetting}
 use Rattle.dcc_sqlite_store.specs.Setting.{setting_row, old_setting_row}
 use Rattle.dcc_sqlite_store.specs.Tables.{no_schema, layout}
-use Rattle.dcc_sqlite_store.specs.Trees.{IsStore, IsUndone, setting_rows}
+use Rattle.dcc_sqlite_store.specs.Trees.{IsStore, IsUndone, StoresHaveTheLayout, setting_rows}
 use Rattle.dcc_sqlite_store.specs.Upgrade.{HasOldSetting, IsUpgraded}
 use Rattle.dcc_sqlite_store.specs.declared.fault.OpenFault.{OpenFault}
 use Rattle.dcc_sqlite_store.specs.declared.fault.OpenFault.TheVariants as f
 use Rattle.dcc_sqlite_store.specs.declared.setting.Setting.{Setting}
 use Rattle.dcc_stops.specs.Upgrades.{IsOldStore, IsOldOrUpgraded, HoldsJust, IsMemoryOrDevice}
-use Rattle.dcc_stops.proofs.Layouts.{has_layout}
 use Rattle.dcc_stops.proofs.OldBooks.{OldDiffer, one_old_book}
 
 -- the setting is of one layout
@@ -55,7 +54,7 @@ decided f.Layout it = absurd (∥∥₁_elim it (hlevel props) (λ k. elim k [ i
 decided f.Damaged it = absurd (∥∥₁_elim it (hlevel props) (λ k. elim k [ inl e ↦ let x = e in cc | inr e ↦ let x = e in cc ]))
 decided f.Disagree it = absurd (∥∥₁_elim it (hlevel props) (λ k. elim k [ inl e ↦ let x = e in cc | inr e ↦ let x = e in cc ]))
 
-module _ (differ : OldDiffer) (setting : Setting) (old : Trees) (held : Held) (it : IsOldStore setting old held) where
+module _ (differ : OldDiffer) (has_layout : StoresHaveTheLayout) (setting : Setting) (old : Trees) (held : Held) (it : IsOldStore setting old held) where
   -- it is a store of layout 2 that holds the book
   abbrev IsReady : Trees → Type 0
   IsReady db = HoldsBook setting.terms db held × (setting_rows db ≡ setting_row setting ∷ [])

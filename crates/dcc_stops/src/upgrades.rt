@@ -11,7 +11,9 @@ ghost use Rattle.dcc_sqlite_store.specs.Trees.{setting_rows};
 ghost use Rattle.dcc_stops.specs.Upgrades.{IsOldStore, IsOldOrUpgraded, LeavesOldOrUpgraded, HoldsJust, IsMemoryOrDevice};
 
 use dcc_act_codec::old_records_differ;
-use dcc_sqlite_store::{OpenFault, Setting, SqlRecords, stop_and_open, upgrade};
+use dcc_sqlite_store::{
+    OpenFault, Setting, SqlRecords, stop_and_open, stores_have_the_layout, upgrade,
+};
 use sqlite::{Alter, Connection, FileStore, Options};
 use sqlite_disk::Crash;
 use std::alloc::Global;
@@ -74,6 +76,7 @@ fn upgrade_and_open<S: Alter + Drop>(
     ensures before { IfErr result (λ failed. HasCleanDisk (state S.Store failed.1) → HasCleanDisk (state S.Store conn)) }
 {
     old_records_differ();
+    stores_have_the_layout();
     let (_count, conn) = match upgrade(alloc, conn, setting, hasher) {
         Ok(done) => done,
         Err(refused) => return Err(refused),
