@@ -55,12 +55,7 @@ fn copy_all<W: Wait, R: Records, S: Server>(
     ensures { AreCopiedAs R S.rules port.now.count folder.now server.now result }
 {
     for index in 0..port.count {
-        let look = CopyLook {
-            server,
-            folder,
-            index,
-        };
-        match port.shards.read(rt, index, look) {
+        match port.shards.read(rt, index, CopyLook { server, folder }) {
             Ok(()) => {}
             Err(_) => return BackupEnd::Uncopied(index),
         }

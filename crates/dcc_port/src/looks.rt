@@ -24,10 +24,10 @@ pub(crate) struct AccountLook {
 impl<R: Records> Look<R> for AccountLook {
     type Found = Result<Option<Vec<u8>>, AllocError>;
 
-    ghost finds = { λ look shard found. IfOk found
+    ghost finds = { λ look _ shard found. IfOk found
         (λ text. IsFoundOf shard.shard.terms look.sub (held shard.shard look.sub) (option_map (λ text. text.items) text)) };
 
-    fn look(self, shard: &Shard<R>) -> Result<Option<Vec<u8>>, AllocError> {
+    fn look(self, _index: usize, shard: &Shard<R>) -> Result<Option<Vec<u8>>, AllocError> {
         text_of(self.alloc, shard, self.sub)
     }
 }
@@ -42,10 +42,10 @@ pub(crate) struct PageLook {
 impl<R: Records> Look<R> for PageLook {
     type Found = Result<Option<Vec<u8>>, AllocError>;
 
-    ghost finds = { λ look shard found. IfOk found
+    ghost finds = { λ look _ shard found. IfOk found
         (λ page. option_map (λ text. text.items) page ≡ page_of shard.shard.terms look.sub (held shard.shard look.sub)) };
 
-    fn look(self, shard: &Shard<R>) -> Result<Option<Vec<u8>>, AllocError> {
+    fn look(self, _index: usize, shard: &Shard<R>) -> Result<Option<Vec<u8>>, AllocError> {
         page_of(self.alloc, shard, self.sub)
     }
 }
@@ -55,16 +55,15 @@ impl<R: Records> Look<R> for PageLook {
 pub(crate) struct CopyLook<'a, S> {
     pub server: &'a S,
     pub folder: &'a [u8],
-    pub index: usize,
 }
 
 impl<'a, R: Records, S: Server> Look<R> for CopyLook<'a, S> {
     type Found = Result<(), CopyFault>;
 
-    ghost finds = { λ look shard found. S.rules.copies look.server.now look.folder.now look.index found };
+    ghost finds = { λ look index _ found. S.rules.copies look.server.now look.folder.now index found };
 
-    fn look(self, shard: &Shard<R>) -> Result<(), CopyFault> {
-        self.server.copy(self.folder, self.index, shard)
+    fn look(self, index: usize, shard: &Shard<R>) -> Result<(), CopyFault> {
+        self.server.copy(self.folder, index, shard)
     }
 }
 

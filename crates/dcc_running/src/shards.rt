@@ -132,9 +132,9 @@ impl<R: Records> Shards<R> {
     /// the reader returns. No act is made in the shard meanwhile. The condition is that there is such a shard.
     pub fn read<W: Wait, L: Look<R>>(&self, rt: &W, shard: usize, look: L) -> L::Found
         requires { shard < self.now.count }
-        ensures { IsReadOf (L.finds look) result }
+        ensures { IsReadOf (L.finds look shard) result }
     {
-        look.look(&self.locks[shard].lock_as(rt, shard))
+        look.look(shard, &self.locks[shard].lock_as(rt, shard))
     }
 
     /// The number of shards.
