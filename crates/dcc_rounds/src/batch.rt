@@ -222,12 +222,13 @@ fn answer_all<W: Wait, R: Records, N: Notices>(
     let mut answers = answers;
     shards.submit_all(rt, alloc, seat, jobs, &mut answers);
     events.all_answered(answers.as_slice(), read);
-    leave_answers(rt, writers, gates, answers);
+    leave_answers(rt, events.notices, writers, gates, answers);
 }
 
 /// Puts answers into the lanes of these gateways, in order. The condition: there is a gateway for each answer.
-fn leave_answers<W: Wait>(
+fn leave_answers<W: Wait, N: Notices>(
     rt: &W,
+    notices: &N,
     writers: &mut Vec<Sender<Item>>,
     gates: Vec<usize>,
     answers: Vec<RequestAnswer>,
@@ -241,13 +242,14 @@ fn leave_answers<W: Wait>(
         let Some(gate) = gates.next() else {
             unreachable!()
         };
-        leave_answer(rt, writers, gate, answer);
+        leave_answer(rt, notices, writers, gate, answer);
     }
 }
 
 /// Puts an answer into its gateway's lane, whose writer isn't woken yet. If there is no answer, it puts nothing.
-pub(crate) fn leave_answer<W: Wait>(
+pub(crate) fn leave_answer<W: Wait, N: Notices>(
     rt: &W,
+    notices: &N,
     writers: &mut Vec<Sender<Item>>,
     gate: usize,
     answer: RequestAnswer,
@@ -258,5 +260,5 @@ pub(crate) fn leave_answer<W: Wait>(
     let Some(octets) = octets_of(answer) else {
         return;
     };
-    leave_in(rt, writers, gate, Item::Octets(octets));
+    leave_in(rt, notices, writers, gate, Item::Octets(octets));
 }

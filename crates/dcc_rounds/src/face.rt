@@ -43,11 +43,15 @@ pub trait Listener<I, O> {
     /// The relation between the receipts of an attendant's seat before and after [`Listener::attend`].
     ghost attends: { List Receipt → List Receipt → Type 0 };
 
-    /// The next connection of a round. It may wait for it.
-    fn accept(&mut self) -> io::Result<Connection<I, O>>;
+    /// Waits until all of so many threads are here, of which this is one. It may return before, for a reason of its own.
+    fn begin<W: Wait>(&self, rt: &W, threads: usize);
 
-    /// The next connection for a place that is free, at the call of one thread of several. None once no more are taken in. It may wait.
-    fn enter<W: Wait>(&self, rt: &W) -> Option<Connection<I, O>>
+    /// The next connection of a round, for the place of this index. It may wait for it.
+    fn accept(&mut self, gate: usize) -> io::Result<Connection<I, O>>;
+
+    /// The next connection for the place of this index, which is free, at the call of one thread of several. None once no more are taken in. It may
+    /// wait.
+    fn enter<W: Wait>(&self, rt: &W, gate: usize) -> Option<Connection<I, O>>
         ensures { IfNone result is_closed };
 
     /// Waits for a while, and returns what is due behind it.
@@ -132,6 +136,15 @@ pub enum Event<'a> {
     },
 }
 
+/// A sign of a place, for those who read from its gateway and write to it.
+#[derive(Clone, Copy, Debug, PartialEq, Eq)]
+pub enum Sign {
+    /// The thread that writes to its gateway has begun.
+    Writes,
+    /// The lane to its writer is full, so that a worker waits for room. A gateway that doesn't take its octets is to be dropped soon.
+    Full,
+}
+
 /// The receiver of notices of what happened, and of events that are counted, from several threads at once.
 pub trait Notices {
     /// Takes a notice. It may wait.
@@ -142,4 +155,7 @@ pub trait Notices {
 
     /// Counts an event. It takes no memory.
     fn count(&self, event: Event<'_>);
+
+    /// Takes a sign of a place, of which the first has the index 0. It takes no memory, and waits for nothing.
+    fn sign(&self, gate: usize, sign: Sign);
 }

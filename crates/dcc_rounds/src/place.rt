@@ -75,7 +75,7 @@ impl<I: Read + Send + Drop, O: Shut + Send + Drop> Place<I, O> {
         if !self.stays {
             return None;
         }
-        let connection = shared.listener.enter(rt)?;
+        let connection = shared.listener.enter(rt, self.reader.gate)?;
         tell_came(rt, shared.notices, self.reader.gate, &connection);
         Some(connection)
     }

@@ -334,7 +334,7 @@ fn first_at<W: Wait, I, O, L: Listener<I, O>, N: Notices>(
     if stays {
         return Ok(None);
     }
-    let connection = listener.accept()?;
+    let connection = listener.accept(gate)?;
     tell_came(rt, notices, gate, &connection);
     Ok(Some(connection))
 }
@@ -390,6 +390,7 @@ fn serve_all<
     ensures { AllRun I.remaining O.contents C.tells L.is_closed L.attends service.now.clock.now (record { plan = service.now.plan.now; identity = service.now.identity.now })
         count tasks.old tasks.new }
 {
+    let threads = tasks.len().max(1);
     let shared = Shared {
         alloc,
         plan: service.plan,
@@ -399,8 +400,8 @@ fn serve_all<
         listener,
         shards: locked,
         count,
+        threads,
     };
-    let threads = tasks.len().max(1);
     for_each_mut(
         rt,
         tasks,

@@ -40,11 +40,13 @@ pub(crate) struct Shared<'a, R: Records, L, C, N> {
     pub shards: &'a Shards<R>,
     /// So many shards there are.
     pub count: usize,
+    /// So many threads there are, one for each task.
+    pub threads: usize,
     ghost counted: { count ≡ shards.now.count },
 }
 
 impl<I: Read + Send + Drop, O: Shut + Send + Drop> Task<I, O> {
-    /// Does what there is to do.
+    /// Does what there is to do, once all threads have begun.
     pub fn run<
         W: Threads + Wait + Sync,
         R: Records + Send + Sync + Drop,
@@ -55,6 +57,7 @@ impl<I: Read + Send + Drop, O: Shut + Send + Drop> Task<I, O> {
         ensures { Runs I.remaining O.contents C.tells L.is_closed L.attends shared.now.clock.now (record { plan = shared.now.plan.now; identity = shared.now.identity.now })
             shared.now.count self.old self.new }
     {
+        shared.listener.begin(rt, shared.threads);
         match self {
             Task::Work(worker) => {
                 if worker.shard < shared.count {

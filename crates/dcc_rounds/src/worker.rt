@@ -11,7 +11,7 @@ use crate::batch::{BATCH, answer_batch, gather, leave_answer};
 use crate::counter::SweepCounter;
 use crate::events::Events;
 use crate::face::Notices;
-use crate::lanes::{put_into, ring_all};
+use crate::lanes::{leave_in, ring_all};
 use crate::rest::Rest;
 use crate::work::{Request, Work};
 use dcc_act::{Moment, Sub};
@@ -184,7 +184,8 @@ impl Worker {
                 false
             }
             Work::End(gate) => {
-                put_into(rt, &mut self.writers, gate, Item::End);
+                leave_in(rt, events.notices, &mut self.writers, gate, Item::End);
+                ring_all(self.writers.as_slice());
                 false
             }
             Work::Over => true,
@@ -298,7 +299,7 @@ pub(crate) fn answer<W: Wait, R: Records, N: Notices>(
     let Request { gate, job, ticks } = request;
     let answer = shards.submit(rt, alloc, seat, job);
     events.answered(&answer, ticks);
-    leave_answer(rt, writers, gate, answer);
+    leave_answer(rt, events.notices, writers, gate, answer);
 }
 
 /// Asks all subscribers that an earlier sweep has left, and then lists the subscribers of the shard. If memory is short for the list, no

@@ -4,7 +4,7 @@ ghost use Rattle.std.specs.Prelude.{◌≤◌};
 ghost use Rattle.dcc_lane.specs.Ends.{IsSameReceiver, senders_of, taken_of};
 ghost use Rattle.dcc_rounds.specs.Writing.{TakesRest, WritesOut};
 
-use crate::face::{Notice, Notices, Shut};
+use crate::face::{Notice, Notices, Shut, Sign};
 use crate::reader::TURNS;
 use dcc_connect::{Item, WriteEnd, write_side};
 use dcc_lane::Receiver;
@@ -55,6 +55,7 @@ pub(crate) fn write_gate<W: Wait, O: Shut, N: Notices>(
     ensures written { WritesOut result from.old from.new (O.contents ending.old.output) (O.contents ending.new.output) }
     ensures shut { O.is_shut ending.new.output }
 {
+    notices.sign(gate, Sign::Writes);
     let end = write_side(rt, alloc, ending, from, TURNS);
     ending.output.shut();
     let gate = gate.saturating_add(1);

@@ -1,5 +1,6 @@
 //! Where gateways connect.
 
+use crate::begun::{BEGIN_MILLIS, Begun};
 use crate::calls::{Calls, answer_calls};
 use crate::closing::{Staying, remove_stop};
 use crate::gateway::{Input, Output, halves};
@@ -42,6 +43,7 @@ pub struct Door<'r, R, K: Copies> {
     turn: Mutex<bool>,
     /// So many seconds have passed since the last sweep.
     since_sweep: Mutex<u64>,
+    begun: Begun,
 }
 
 impl<'r, R: Net<Listener = TcpListener, Stream = TcpStream>, K: Copies> Door<'r, R, K> {
@@ -71,11 +73,20 @@ impl<'r, R: Net<Listener = TcpListener, Stream = TcpStream>, K: Copies> Door<'r,
             is_short: false,
             turn: Mutex::new(false),
             since_sweep: Mutex::new(0),
+            begun: Begun::new(),
         })
     }
 }
 
 impl<'r, R, K: Copies> Door<'r, R, K> {
+    /// Whether a server that stays is to end.
+    fn is_told(&self) -> bool {
+        match self.staying {
+            Some(staying) => staying.closing.is_told(),
+            None => false,
+        }
+    }
+
     /// The address that is listened at, with its port.
     ///
     /// Error: the system doesn't report it.
@@ -158,11 +169,28 @@ impl<'r, R: Clock + Eprint, K: Copies> Listener<Input<'r, R>, Output<'r, R>> for
 
     ghost attends = { λ _ _. Unit {0} };
 
+    /// If the threads don't all come within [`BEGIN_MILLIS`] milliseconds, the system gave too few. A line reports this, and a server that stays is to end.
+    fn begin<W: Wait>(&self, rt: &W, threads: usize) {
+        let all = self.begun.enter(rt, threads);
+        for _ in 0..BEGIN_MILLIS {
+            if self.begun.have(rt, all) || self.is_told() {
+                return;
+            }
+            self.rt.sleep(Duration::from_millis(1));
+        }
+        if self.begun.is_first(rt) {
+            tell(self.rt, Trouble::Threads { threads });
+        }
+        if let Some(staying) = self.staying {
+            staying.closing.fail();
+        }
+    }
+
     /// A connection that can't be taken in costs that connection alone: it is closed, and a line reports it. If descriptors or memory are
     /// short, the next try is a second later.
     ///
     /// Error: the listener takes none any more.
-    fn accept(&mut self) -> io::Result<Connection<Input<'r, R>, Output<'r, R>>> {
+    fn accept(&mut self, _gate: usize) -> io::Result<Connection<Input<'r, R>, Output<'r, R>>> {
         let mut is_short = self.is_short;
         for _ in 0..u64::MAX {
             let tried = self.try_accept(&mut is_short);
@@ -177,7 +205,11 @@ impl<'r, R: Clock + Eprint, K: Copies> Listener<Input<'r, R>, Output<'r, R>> for
     }
 
     /// As [`Door::accept`], by one thread at a time. If the listener takes none any more, the server is to end.
-    fn enter<W: Wait>(&self, rt: &W) -> Option<Connection<Input<'r, R>, Output<'r, R>>> {
+    fn enter<W: Wait>(
+        &self,
+        rt: &W,
+        _gate: usize,
+    ) -> Option<Connection<Input<'r, R>, Output<'r, R>>> {
         let staying = self.staying?;
         let mut turn = self.turn.lock(rt);
         for _ in rt.forever() {

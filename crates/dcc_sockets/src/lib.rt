@@ -9,6 +9,7 @@
 #![tactic(auto)]
 
 mod around;
+mod begun;
 mod calling;
 mod calls;
 mod clock;
@@ -23,6 +24,7 @@ mod silence;
 mod trouble;
 mod waiting;
 
+pub use begun::BEGIN_MILLIS;
 pub use calling::{ANSWER_SECONDS, CallerHalf, connect};
 pub use calls::{Backing, CALL_SECONDS, Calls};
 pub use clock::SystemClock;

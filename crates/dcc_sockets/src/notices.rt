@@ -4,7 +4,7 @@ use dcc_connect::{ConnectFault, ConnectionEnd, WriteEnd};
 use dcc_metrics::Meters;
 use dcc_octets::{FIRST_VISIBLE, LAST_VISIBLE};
 use dcc_receipts::{Receipt, Told};
-use dcc_rounds::{Event, Notice, Notices};
+use dcc_rounds::{Event, Notice, Notices, Sign};
 use std::fmt;
 use std::io::Eprint;
 use std::sync::Wait;
@@ -70,6 +70,9 @@ impl<P: Eprint + Clock> Notices for NoticeLines<'_, P> {
             Event::Receipt { shard, receipt } => count_receipt(self.meters, shard, receipt),
         }
     }
+
+    /// No one reads the signs.
+    fn sign(&self, _gate: usize, _sign: Sign) {}
 }
 
 /// Counts the act, or the repeat, of a receipt. An unknown subscriber has neither.

@@ -24,6 +24,8 @@ pub(crate) enum Trouble {
     Over { error: io::Error },
     /// The listener for operators takes none any more.
     Unheard { error: io::Error },
+    /// The system gave fewer threads than these.
+    Threads { threads: usize },
 }
 
 impl fmt::Display for Trouble {
@@ -53,6 +55,12 @@ impl fmt::Display for Trouble {
             }
             Trouble::Unheard { error } => {
                 write!(f, "dcc: no operator can be served any more: {error}")
+            }
+            Trouble::Threads { threads } => {
+                write!(
+                    f,
+                    "dcc: the system gives too few threads: {threads} are needed"
+                )
             }
         }
     }
