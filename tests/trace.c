@@ -3,6 +3,7 @@
  * the name and, of a write, what was written:
  *
  *     W write   C change of the length   S sync   F sync of a folder   M a file that was made
+ *     R a file that got this name, of which the octets are the name before   U a file that was removed
  *     T something is told next, on standard output or to a peer
  *
  * A call that fails is not noted. With FAILS set, the call of this number, counted from 1, fails, and each later one; with ONCE set, only that one.
@@ -48,18 +49,16 @@ static int fails(void) {
     return 1;
 }
 
+/* The last part of a path. */
+static const char *last_of(const char *path) {
+    return strrchr(path, '/') ? strrchr(path, '/') + 1 : path;
+}
+
 /* One that can't be written ends the program: a call that is missing would be taken for one that wasn't made. */
-static void note(char kind, int file, uint64_t at, uint64_t length, const void *octets) {
-    char link[64], path[4096], head[18];
-    const char *name = "";
+static void note_name(char kind, const char *name, uint64_t at, uint64_t length, const void *octets) {
+    char head[18];
     if (trace < 0) {
         return;
-    }
-    if (kind != 'T') {
-        snprintf(link, sizeof link, "/proc/self/fd/%d", file);
-        ssize_t found = readlink(link, path, sizeof path - 1);
-        path[found < 0 ? 0 : found] = 0;
-        name = strrchr(path, '/') ? strrchr(path, '/') + 1 : path;
     }
     head[0] = kind;
     head[1] = (char)strlen(name);
@@ -70,6 +69,16 @@ static void note(char kind, int file, uint64_t at, uint64_t length, const void *
     if (syscall(SYS_writev, trace, parts, 3) != (long)whole) {
         syscall(SYS_exit_group, 98);
     }
+}
+
+static void note(char kind, int file, uint64_t at, uint64_t length, const void *octets) {
+    char link[64], path[4096] = "";
+    if (kind != 'T') {
+        snprintf(link, sizeof link, "/proc/self/fd/%d", file);
+        ssize_t found = readlink(link, path, sizeof path - 1);
+        path[found < 0 ? 0 : found] = 0;
+    }
+    note_name(kind, last_of(path), at, length, octets);
 }
 
 static mode_t kind_of(int file) {
@@ -149,6 +158,26 @@ int fsync(int file) {
 
 int fdatasync(int file) {
     return (int)change('S', SYS_fdatasync, file, 0);
+}
+
+int rename(const char *old, const char *name) {
+    pthread_mutex_lock(&alone);
+    int done = fails() ? -1 : (int)syscall(SYS_rename, old, name);
+    if (done == 0) {
+        note_name('R', last_of(name), 0, strlen(last_of(old)), last_of(old));
+    }
+    pthread_mutex_unlock(&alone);
+    return done;
+}
+
+int unlink(const char *path) {
+    pthread_mutex_lock(&alone);
+    int done = (int)syscall(SYS_unlink, path);
+    if (done == 0) {
+        note_name('U', last_of(path), 0, 0, NULL);
+    }
+    pthread_mutex_unlock(&alone);
+    return done;
 }
 
 static int opened(int folder, const char *path, int flags, mode_t mode) {

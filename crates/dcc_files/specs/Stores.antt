@@ -86,9 +86,14 @@ connect_number _ = 51
 abbrev pub IsConnectFault : ℕ → Type 0
 IsConnectFault number = (number ≡ 50) ⊎ (number ≡ 51)
 
--- the number of the fault for which a file is refused: it isn't opened, or the database in it isn't opened as the store of the shard
+-- The numbers for which a file isn't looked into as a store: it isn't opened, or 57, there are fewer acts in it than its count file says, or this file
+-- has no number. What is in a count file is the system's word.
+abbrev pub IsCountFault : ℕ → Type 0
+IsCountFault number = IsConnectFault number ⊎ (number ≡ 57)
+
+-- the number of the fault for which a file is refused: it isn't opened, has lost acts, or the database in it isn't opened as the store of the shard
 abbrev pub IsFileFault : {S : Type 0} → Ghosts S → PlanView → ℕ → ℕ → Type 0
-IsFileFault {S} g plan shard number = IsConnectFault number ⊎ ((conn : Held S) × IsOpenFault g plan shard conn number)
+IsFileFault {S} g plan shard number = IsCountFault number ⊎ ((conn : Held S) × IsOpenFault g plan shard conn number)
 
 -- the number of the fault for which the store of a shard is refused: its file is, or there is none and the file of another shard is
 abbrev pub IsStoreFault : {S : Type 0} → Ghosts S → PlanView → ℕ → ℕ → Type 0

@@ -6,10 +6,12 @@
 //! and a line on standard error reports it. The system decides which file that is, and what else is in it: this has no contract here.
 #![tactic(auto)]
 
+mod counts;
 mod file_records;
 mod opening;
 mod stores;
 
+pub use counts::{Count, acts_in, count_of, count_path_of};
 pub use file_records::FileRecords;
 pub use opening::open_or_upgrade;
 pub use stores::{FileStores, path_of, setting_of};

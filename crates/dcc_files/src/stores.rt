@@ -4,15 +4,18 @@ ghost use Rattle.std.specs.Prelude.{◌≡◌, ◌≢◌, None, IfOk, IfErr, IfS
 ghost use Rattle.sqlite.specs.Files.{file_state};
 ghost use Rattle.sqlite.specs.Held.{state};
 ghost use Rattle.sqlite.specs.State.{HasCleanDisk};
-ghost use Rattle.dcc_files.specs.Stores.{IsSettingOf, AreOfShard, UpgradesShard, HasNoSetting, SeesCommitted, IsConnectFault, IsOpenFault, IsStoreFault, connect_number};
+ghost use Rattle.dcc_files.specs.Stores.{IsSettingOf, AreOfShard, UpgradesShard, HasNoSetting, SeesCommitted, IsConnectFault, IsCountFault, IsOpenFault, IsStoreFault, connect_number};
 ghost use Rattle.dcc_sqlite_store.specs.Faults.{open_number, create_number};
 ghost use Rattle.dcc_sqlite_store.specs.Tables.{no_schema};
 ghost use Rattle.dcc_sqlite_store.specs.Trees.{IsUndone};
 
+use crate::counts::{
+    Count, acts_in, count_of, is_settled, keep, log_of, make_file, put_back, remove_count,
+};
 use crate::file_records::FileRecords;
 use crate::opening::open_or_upgrade;
 use dcc_sqlite_store::{CreateFault, OpenFault, Setting, SqlRecords};
-use dcc_startup::{Copies, CopyFault, StoreRefusal, Stores};
+use dcc_startup::{Copies, CopyFault, CountFault, Counts, StoreRefusal, Stores};
 use dcc_tariff::{MAX_SHARDS, Plan};
 use sqlite::{Alter, Connection, Error, ErrorCode, FileStore};
 use sqlite_std_file::File;
@@ -29,6 +32,9 @@ const DEVICE: StoreRefusal = StoreRefusal(51);
 
 /// The fault of a setting that no store has.
 const LAYOUT: StoreRefusal = StoreRefusal(53);
+
+/// The fault of a store that has fewer acts than its count file says, or whose count file has no number.
+const LOST: StoreRefusal = StoreRefusal(57);
 
 /// The stores of shards in the files of this process's system.
 #[derive(Clone, Copy)]
@@ -53,6 +59,86 @@ impl<'r> FileStores<'r> {
         }
     }
 
+    /// The same, if there are at least so many acts in the database.
+    fn connect_with(
+        &self,
+        path: &str,
+        least: u64,
+    ) -> Result<Connection<FileStore<File>>, StoreRefusal>
+        ensures sees { IfOk result (λ conn. SeesCommitted ⟦<FileStore<File> as Store>⟧ conn) }
+        ensures refused { IfErr result (λ refusal. IsCountFault refusal.0) }
+    {
+        if least == 0 {
+            return match self.connect(path) {
+                Ok(conn) => Ok(conn),
+                Err(refusal) => Err(refusal),
+            };
+        }
+        let log = self.log(path)?;
+        match self.connect(path) {
+            Ok(conn) => with_acts(self.rt, path, conn, least, log),
+            Err(refusal) => Err(refusal),
+        }
+    }
+
+    /// The octets of the log of the database at a path, if there is a log.
+    fn log(&self, path: &str) -> Result<Option<Vec<u8>>, StoreRefusal>
+        ensures { IfErr result (λ refusal. IsCountFault refusal.0) }
+    {
+        match log_of(self.rt, path) {
+            Ok(log) => Ok(log),
+            Err(error) if error.kind() == ErrorKind::OutOfMemory => Err(MEMORY),
+            Err(_) => Err(DEVICE),
+        }
+    }
+
+    /// The number of acts that the store of a shard has to have at least: that of its count file, or 0 if there is no such file.
+    fn least(&self, folder: &str, shard: usize) -> Result<u64, StoreRefusal>
+        ensures { IfErr result (λ refusal. IsCountFault refusal.0) }
+    {
+        match count_of(self.rt, folder, shard) {
+            Ok(Count::Missing) => Ok(0),
+            Ok(Count::Acts(acts)) => Ok(acts),
+            Ok(Count::Unread) => Err(LOST),
+            Err(error) if error.kind() == ErrorKind::OutOfMemory => Err(MEMORY),
+            Err(_) => Err(DEVICE),
+        }
+    }
+
+    /// Whether there is a file for the store of a shard, which has to be there if its count file says that it had acts.
+    fn is_there_with(&self, folder: &str, shard: usize, least: u64) -> Result<bool, StoreRefusal>
+        ensures { IfErr result (λ refusal. IsCountFault refusal.0) }
+    {
+        let is_there = self.is_there(folder, shard)?;
+        if !is_there && least > 0 {
+            return Err(LOST);
+        }
+        Ok(is_there)
+    }
+
+    /// The number of acts in the store of a shard, or none if the store isn't opened.
+    fn found(&self, folder: &str, shard: usize) -> Option<u64> {
+        if !self.is_there(folder, shard).ok()? {
+            return Some(0);
+        }
+        let path = path_of(self.rt.alloc(), folder, shard).ok()?;
+        let mut conn = self.connect(path.as_str()).ok()?;
+        let acts = acts_in(&mut conn);
+        // By a call: a connection that is let go in place is proved part by part.
+        drop(conn);
+        acts.ok()
+    }
+
+    /// Removes the count file of a shard's store whose loss is accepted, and reports that by this line on standard error.
+    fn forget(&self, folder: &str, shard: usize, line: Result<String, AllocError>) {
+        if remove_count(self.rt, folder, shard).is_err() {
+            return;
+        }
+        if let Ok(line) = line {
+            let _unwritten = self.rt.stderr().write_all(line.as_bytes());
+        }
+    }
+
     /// Whether there is a file for the store of a shard.
     fn is_there(&self, folder: &str, shard: usize) -> Result<bool, StoreRefusal>
         ensures { IfErr result (λ refusal. IsConnectFault refusal.0) }
@@ -61,14 +147,18 @@ impl<'r> FileStores<'r> {
         fs::exists(self.rt, path.as_str()).map_err(|_| DEVICE)
     }
 
-    /// Reports the upgrade of a store by a line on standard error. If the line can't be written, nothing else is done.
+    /// Reports the upgrade of a store by a line on standard error. The line goes out in one piece, since stores are opened side by side. If memory for
+    /// the line is short, or the line can't be written, nothing else is done.
     fn report(&self, path: &str, upgraded: Option<u64>) {
-        if let Some(count) = upgraded {
-            let acts = if count == 1 { "act" } else { "acts" };
-            let _unwritten = writeln!(
-                self.rt.stderr(),
-                "dcc: {path}: store upgraded from layout 1 to layout 2, {count} {acts}"
-            );
+        let Some(count) = upgraded else {
+            return;
+        };
+        let acts = if count == 1 { "act" } else { "acts" };
+        let line = format!(in self.rt.alloc();
+            "dcc: {path}: store upgraded from layout 1 to layout 2, {count} {acts}\n"
+        );
+        if let Ok(line) = line {
+            let _unwritten = self.rt.stderr().write_all(line.as_bytes());
         }
     }
 }
@@ -90,6 +180,39 @@ impl Copies for FileStores<'_> {
     }
 }
 
+impl Counts for FileStores<'_> {
+    fn keep_count(&self, folder: &str, shard: usize) -> Result<(), CountFault> {
+        match keep(self.rt, folder, shard) {
+            Some(()) => Ok(()),
+            None => Err(CountFault),
+        }
+    }
+
+    fn accept_loss(&self, folder: &str, shard: usize) {
+        let alloc = self.rt.alloc();
+        match count_of(self.rt, folder, shard) {
+            Ok(Count::Acts(acts)) => {
+                let Some(found) = self.found(folder, shard) else {
+                    return;
+                };
+                if found < acts {
+                    let line = format!(in alloc;
+                        "dcc: shard {shard}: {found} acts of {acts}, the loss is accepted\n"
+                    );
+                    self.forget(folder, shard, line);
+                }
+            }
+            Ok(Count::Unread) => {
+                let line = format!(in alloc;
+                    "dcc: shard {shard}: the number of its acts is lost, a loss is accepted\n"
+                );
+                self.forget(folder, shard, line);
+            }
+            Ok(Count::Missing) | Err(_) => {}
+        }
+    }
+}
+
 impl Stores for FileStores<'_> {
     type Records = FileRecords;
 
@@ -107,12 +230,13 @@ impl Stores for FileStores<'_> {
         shard: usize,
         hasher: RandomState,
     ) -> Result<Option<FileRecords>, StoreRefusal> {
-        if !self.is_there(folder, shard)? {
+        let least = self.least(folder, shard)?;
+        if !self.is_there_with(folder, shard, least)? {
             return Ok(None);
         }
         let alloc = self.rt.alloc();
         let path = path_of(alloc, folder, shard).map_err(|_| MEMORY)?;
-        let conn = self.connect(path.as_str())?;
+        let conn = self.connect_with(path.as_str(), least)?;
         match opened(alloc, conn, plan, shard, hasher)? {
             Some((records, upgraded)) => {
                 self.report(path.as_str(), upgraded);
@@ -129,7 +253,8 @@ impl Stores for FileStores<'_> {
         shard: usize,
         hasher: RandomState,
     ) -> Result<(), StoreRefusal> {
-        if self.is_there(folder, shard)? {
+        let least = self.least(folder, shard)?;
+        if self.is_there_with(folder, shard, least)? {
             return Ok(());
         }
         for other in 0..usize::from(MAX_SHARDS) {
@@ -147,12 +272,57 @@ impl Stores for FileStores<'_> {
         shard: usize,
         hasher: RandomState,
     ) -> Result<FileRecords, StoreRefusal> {
+        let least = self.least(folder, shard)?;
         let alloc = self.rt.alloc();
         let path = path_of(alloc, folder, shard).map_err(|_| MEMORY)?;
-        let conn = self.connect(path.as_str())?;
+        if !self.is_there_with(folder, shard, least)? {
+            make_file(self.rt, path.as_str());
+        }
+        let conn = self.connect_with(path.as_str(), least)?;
         let (records, upgraded) = opened_or_made(alloc, conn, plan, shard, hasher)?;
         self.report(path.as_str(), upgraded);
         Ok(FileRecords { records })
+    }
+}
+
+/// The connection to the database at a path, if there are at least so many acts in it; else its log is put back as it was before.
+fn with_acts<S: Alter + Drop>(
+    rt: &HostRuntime,
+    path: &str,
+    conn: Connection<S>,
+    least: u64,
+    log: Option<Vec<u8>>,
+) -> Result<Connection<S>, StoreRefusal>
+    ensures sees { IfOk result (λ conn. SeesCommitted S.Store conn) }
+    ensures refused { IfErr result (λ refusal. IsCountFault refusal.0) }
+{
+    let mut conn = conn;
+    match counted(&mut conn, least) {
+        Ok(()) => Ok(conn),
+        Err(refusal) => {
+            put_back(rt, path, &log);
+            // By a call: a connection that is let go in place is proved part by part.
+            drop(conn);
+            Err(refusal)
+        }
+    }
+}
+
+/// Looks whether there are at least so many acts in a database.
+fn counted<S: Alter>(conn: &mut Connection<S>, least: u64) -> Result<(), StoreRefusal>
+    ensures sees { IfOk result (λ _. SeesCommitted S.Store conn.new) }
+    ensures refused { IfErr result (λ refusal. IsCountFault refusal.0) }
+{
+    match acts_in(conn) {
+        Ok(acts) if acts < least => return Err(LOST),
+        Ok(_) => {}
+        Err(Error::SqliteFailure(ErrorCode::OutOfMemory)) => return Err(MEMORY),
+        Err(_) => return Err(DEVICE),
+    }
+    if is_settled(conn) {
+        Ok(())
+    } else {
+        Err(DEVICE)
     }
 }
 

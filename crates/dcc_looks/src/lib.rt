@@ -7,6 +7,7 @@
 #![tactic(auto)]
 
 mod copies;
+mod counting;
 mod damage;
 mod judging;
 mod looking;

@@ -1,6 +1,7 @@
 //! Looks at stores in files.
 
 use crate::copies::{Copies, connected, copies_of};
+use crate::counting::{Least, counted, least_of, lost_words};
 use crate::judging::note_over;
 use dcc_explain::{Looks, StoreNote};
 use dcc_files::path_of;
@@ -48,17 +49,31 @@ impl FileLooks<'_> {
     ) -> Result<Option<StoreNote>, AllocError> {
         let alloc = self.rt.alloc();
         let path = path_of(alloc, folder, shard)?;
-        match copies_of(self.rt, folder, path.as_str())? {
-            Copies::Missing => Ok(None),
-            Copies::Refused(words) => Ok(Some(StoreNote {
+        let copies = copies_of(self.rt, folder, path.as_str())?;
+        match (copies, least_of(self.rt, folder, shard)?) {
+            (_, Least::Lost(note)) => Ok(Some(note)),
+            (Copies::Refused(words), _) => Ok(Some(StoreNote {
                 fault: Some(51),
                 words,
             })),
-            Copies::Octets { db, log } => {
-                let found = over(alloc, db.as_slice(), log.as_slice(), plan, shard, hasher)?;
+            (_, Least::Unknown(note)) => Ok(Some(note)),
+            (Copies::Missing, Least::Acts(0)) => Ok(None),
+            (Copies::Missing, Least::Acts(least)) => {
+                let words = lost_words(alloc, 0, least)?;
+                Ok(Some(named(alloc, path.as_str(), Some(57), words.as_str())?))
+            }
+            (Copies::Octets { db, log }, Least::Acts(least)) => {
+                let found = over(
+                    alloc,
+                    db.as_slice(),
+                    log.as_slice(),
+                    plan,
+                    shard,
+                    least,
+                    hasher,
+                )?;
                 let StoreNote { fault, words } = found;
-                let words = format!(in alloc; "{path}: {words}")?;
-                Ok(Some(StoreNote { fault, words }))
+                Ok(Some(named(alloc, path.as_str(), fault, words.as_str())?))
             }
         }
     }
@@ -92,17 +107,43 @@ impl FileLooks<'_> {
     }
 }
 
-/// What is found of the store that these files are.
+/// What is found of a store, with its path in front.
+fn named(
+    alloc: Global,
+    path: &str,
+    fault: Option<u8>,
+    words: &str,
+) -> Result<StoreNote, AllocError> {
+    let words = format!(in alloc; "{path}: {words}")?;
+    Ok(StoreNote { fault, words })
+}
+
+/// What is found of the store that these files are, in which there have to be so many acts at least.
 fn over(
     alloc: Global,
     db: &[u8],
     log: &[u8],
     plan: &Plan,
     shard: usize,
+    least: u64,
     hasher: RandomState,
 ) -> Result<StoreNote, AllocError> {
     match connected(alloc, db, log, hasher.hash_one(&0u8)) {
-        Ok(conn) => note_over(alloc, conn, plan, shard, hasher),
+        Ok(conn) => {
+            let mut conn = conn;
+            match counted(alloc, &mut conn, least) {
+                Ok(None) => note_over(alloc, conn, plan, shard, hasher),
+                Ok(Some(note)) => {
+                    // By a call: a connection that is let go in place is proved part by part.
+                    drop(conn);
+                    Ok(note)
+                }
+                Err(error) => {
+                    drop(conn);
+                    Err(error)
+                }
+            }
+        }
         Err(Error::SqliteFailure(ErrorCode::OutOfMemory)) => Err(AllocError),
         Err(error) => Ok(StoreNote {
             fault: Some(51),

@@ -52,7 +52,8 @@ abbrev pub rounds_command : App
 rounds_command = with_rule (with_rule (with_rule (with_rule listening_command (option (codes "gates"))) (option (codes "rounds"))) (option (codes "every"))) (option (codes "silent"))
 
 abbrev pub serve_command : App
-serve_command = with_rule (with_rule (with_rule rounds_command (flag (codes "stay"))) (option (codes "sweep"))) (option (codes "operator"))
+serve_command =
+    with_rule (with_rule (with_rule (with_rule rounds_command (flag (codes "stay"))) (option (codes "sweep"))) (option (codes "operator"))) (flag (codes "accept-loss"))
 
 abbrev pub decode_command : App
 decode_command = new_app (codes "decode")

@@ -65,6 +65,8 @@ pub struct ServeAsk<'a> {
     pub sweep: Option<u64>,
     /// Where operators call a server that stays: an address of this machine alone.
     pub operator: Option<SocketAddrV4>,
+    /// Whether stores are opened that have fewer acts than at their last quiet end.
+    pub accepts_loss: bool,
 }
 
 /// A server that stays drops a gateway that is silent for so many seconds, if the words say nothing else.
@@ -211,6 +213,7 @@ fn serve_ask_of<'a>(found: &ArgMatches<'a>) -> Option<ServeAsk<'a>> {
         silence: Silence::new(silent)?,
         sweep,
         operator,
+        accepts_loss: found.get_flag("accept-loss"),
     })
 }
 
@@ -422,7 +425,8 @@ fn serve_command<'a>(alloc: Global) -> Result<Command<'a>, AllocError>
 {
     let with_stay = with_flag(alloc, rounds_command(alloc)?, "stay")?;
     let with_sweep = with_option(alloc, with_stay, "sweep")?;
-    with_option(alloc, with_sweep, "operator")
+    let with_operator = with_option(alloc, with_sweep, "operator")?;
+    with_flag(alloc, with_operator, "accept-loss")
 }
 
 /// The command of a server, with the options of its rounds.

@@ -12,7 +12,7 @@ usage: dcc replay PLAN
        dcc ledger --at ADDR SUB
        dcc balance PLAN DIR SUB
        dcc balance --at ADDR SUB
-       dcc serve PLAN DIR [--listen ADDR] [--gates N] [--rounds N | --stay [--sweep S] [--operator ADDR]] [--every N] [--silent S]
+       dcc serve PLAN DIR [--listen ADDR] [--gates N] [--rounds N | --stay [--sweep S] [--operator ADDR]] [--every N] [--silent S] [--accept-loss]
        dcc check PLAN [DIR]
        dcc decode
        dcc help
@@ -37,8 +37,9 @@ dcc ledger        prints the ledger of the subscriber SUB from the store of its 
                   4 a private name
                   --at asks the server that runs at ADDR in place of a folder: ADDR is that of its --operator, an address of
                   127.0.0.0/8 and a port
-dcc balance       prints how the account of the subscriber SUB stands, from the same store: its funds, the reserved money,
-                  the free money and the overrun, in minor units, a line each. Without acts the account is unknown.
+dcc balance       prints how the account of the subscriber SUB stands, from the store of its shard in the folder DIR: its
+                  funds, the reserved money, the free money and the overrun, in minor units, a line each. Without acts the
+                  account is unknown.
                   SUB is a type and data, as 0:491700000001: type 0 a telephone number, 1 an IMSI, 2 a SIP URI, 3 an NAI,
                   4 a private name
                   --at asks the server that runs at ADDR in place of a folder: ADDR is that of its --operator, an address of
@@ -46,19 +47,20 @@ dcc balance       prints how the account of the subscriber SUB stands, from the 
 dcc serve         serves gateways over TCP from the stores in the folder DIR, and prints its address, and a line for each
                   round. Without --stay it ends after its rounds, and serves one if --rounds is missing; a round ends
                   once each of its gateways has left
-                  --listen ADDR    an IPv4 address and a port; missing, 127.0.0.1:3868
-                  --gates N        the gateways of a round, 1 to 16; with --stay those at once, 1 to 256; missing, 1
-                  --rounds N       the rounds, 1 to 1000000, one after another; not with --stay; missing, 1
-                  --every N        after so many messages of a gateway, 0 to 1000000, sessions whose time is over are
-                                   ended; 0 is never; missing, 0
+                  --listen ADDR    an IPv4 address and a port; default 127.0.0.1:3868
+                  --gates N        the gateways of a round, 1 to 16; with --stay those at once, 1 to 256; default 1
+                  --rounds N       the rounds, 1 to 1000000, one after another; not with --stay; default 1
+                  --every N        after each N messages of a gateway, 0 to 1000000, the server ends the sessions behind
+                                   their deadline; 0 is never; default 0
                   --silent S       a gateway that sends nothing for so many seconds, 0 to 86400, is dropped; 0 is never;
-                                   missing, 0, and with --stay 60
+                                   default 0, and with --stay 60
                   --stay           gateways come and go in one round that stays. A file DIR/stop ends the server once it
                                    has answered what it has read
-                  --sweep S        each so many seconds, 0 to 86400, sessions whose time is over are ended; 0 is never;
-                                   with --stay alone; missing, 60
+                  --sweep S        every S seconds, 0 to 86400, the server ends the sessions behind their deadline; 0 is
+                                   never; with --stay alone; default 60
                   --operator ADDR  operators call the server by HTTP at ADDR, an address of 127.0.0.0/8 and a port: for
                                    top-ups, balances, ledgers, sweeps, its state and its end; with --stay alone
+                  --accept-loss    stores that have fewer acts than at their last quiet end are opened all the same
 dcc check         judges the plan of the file PLAN and the store of each of its shards in the folder DIR, and prints
                   what is good. It changes and makes nothing, explains each failure, warns of each key of the plan that
                   no rule reads, and ends as dcc serve would before it listens

@@ -58,7 +58,9 @@ pub fn serve<
     let hasher = RandomState::new(rt)?;
     let mut file = fs::open(rt, ask.place.plan)?;
     let plan = plan_from(alloc, &mut file)?;
+    accept_losses(stores, ask, &plan);
     let served = serve_under(rt, stores, &plan, hasher, ask, output);
+    keep_counts(rt, stores, ask, &plan, served.is_ok());
     // By a call: a plan that is let go in place is proved part by part.
     drop(plan);
     served
@@ -147,6 +149,36 @@ fn serve_under<
     >(rt, alloc, &service, shards, &mut door, output, &ask.rounds);
     forget_stop(ask, stop.as_str());
     Ok(served?)
+}
+
+/// Accepts the losses of the stores of a plan's shards, if the words ask for that.
+fn accept_losses<S: Stores>(stores: &S, ask: &ServeAsk<'_>, plan: &Plan) {
+    if !ask.accepts_loss {
+        return;
+    }
+    for shard in 0..usize::from(plan.shards()) {
+        stores.accept_loss(ask.place.folder, shard);
+    }
+}
+
+/// Copies the log of each shard's store into its database, and keeps the number of its acts, after a quiet end. The stores are closed by then.
+fn keep_counts<R: Eprint, S: Stores>(
+    rt: &R,
+    stores: &S,
+    ask: &ServeAsk<'_>,
+    plan: &Plan,
+    is_quiet: bool,
+) {
+    if !is_quiet {
+        return;
+    }
+    for shard in 0..usize::from(plan.shards()) {
+        if stores.keep_count(ask.place.folder, shard).is_err() {
+            let _lost = rt.eprintln(format_args!(
+                "dcc: shard {shard}: the number of its acts was not kept"
+            ));
+        }
+    }
 }
 
 /// The path of the file that asks a server that stays to end: `stop` in the folder of the stores.

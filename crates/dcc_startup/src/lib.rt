@@ -10,4 +10,6 @@ mod shards;
 mod stores;
 
 pub use shards::{shard_at, shards_over};
-pub use stores::{Copies, CopyFault, StoreRefusal, Stores, shard_or_back, shard_over};
+pub use stores::{
+    Copies, CopyFault, CountFault, Counts, StoreRefusal, Stores, shard_or_back, shard_over,
+};

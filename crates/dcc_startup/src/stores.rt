@@ -19,7 +19,7 @@ use std::hash::RandomState;
 use thiserror::Error;
 
 /// Why a store can't be used, by its number: 50 want of memory, 51 it failed, 52 it is stopped, 53 its tables or its setting are others,
-/// 54 its rows aren't those of acts of its subscribers, 55 a row can't be read, 56 it has no tables.
+/// 54 its rows aren't those of acts of its subscribers, 55 a row can't be read, 56 it has no tables, 57 it has fewer acts than at its last quiet end.
 #[derive(Clone, Copy, Debug, PartialEq, Eq, Error)]
 #[error("store fault {0}")]
 pub struct StoreRefusal(pub u8);
@@ -63,9 +63,25 @@ pub trait Copies {
     fn copy(&self, folder: &str, shard: usize, into: &str) -> Result<(), CopyFault>;
 }
 
+/// The number of a store's acts, or its log, was not written: the system refuses a file or its octets, the database failed, or memory is short.
+#[derive(Clone, Copy, Debug, PartialEq, Eq)]
+pub struct CountFault;
+
+/// The numbers of acts that stores had at their last quiet end, kept beside them. An opening refuses a store that has fewer, by fault 57. No clause says
+/// which number is kept.
+pub trait Counts {
+    /// Copies the log of a shard's store into its database, and keeps the number of its acts. No process may have the store open.
+    ///
+    /// Error: [`CountFault`]. The number that was kept before is still there, or the new one.
+    fn keep_count(&self, folder: &str, shard: usize) -> Result<(), CountFault>;
+
+    /// Forgets the number that is kept for a shard's store if the store has fewer acts, or if it is no number, and reports that on standard error.
+    fn accept_loss(&self, folder: &str, shard: usize);
+}
+
 /// Where the records of shards are kept: a store for each, in a folder. What opening does to files has no contract here, but that
 /// records are under the plan's terms, and which numbers its refusals have.
-pub trait Stores: Copies {
+pub trait Stores: Copies + Counts {
     ghost use Rattle.std.specs.Prelude.{ℕ, List};
     ghost use Rattle.dcc_tariff.specs.Plans.{PlanView};
 
