@@ -72,7 +72,7 @@ impl Key {
         match self {
             Key::Host | Key::Realm | Key::Address | Key::Counted | Key::Begin => "a text",
             Key::Tariffs => "a list",
-            _ => "a number",
+            _ => "a whole number",
         }
     }
 
@@ -80,7 +80,7 @@ impl Key {
     pub fn wanted(self) -> &'static str {
         match self {
             Key::Host | Key::Realm => "1 to 255 visible characters of ASCII",
-            Key::Address => "an IPv4 address such as \"127.0.0.1\"",
+            Key::Address => "an IPv4 address such as \"127.0.0.1\", without leading zeros",
             Key::Shards => "1 to 8",
             Key::DefaultGroup | Key::Group => "0 to 4294967295",
             Key::Quantum | Key::Block => "1 to 1000000000000",

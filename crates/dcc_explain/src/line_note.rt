@@ -113,7 +113,9 @@ pub fn explain_line(alloc: Global, line: &[u8]) -> Result<LineNote, AllocError>
     ensures { IfOk result (λ note. IfSome note.misfit (IsMisfit line.now)) }
 {
     let words = parts(alloc, line, b' ')?;
-    note_of_verb(alloc, line, words.as_slice())
+    let LineNote { misfit, words } = note_of_verb(alloc, line, words.as_slice())?;
+    let words = with_unseen(words, line)?;
+    Ok(LineNote { misfit, words })
 }
 
 /// The explanation of a line that is no top-up.
@@ -126,7 +128,21 @@ pub fn explain_ask(alloc: Global, line: &[u8]) -> Result<LineNote, AllocError>
     } else {
         Form::Ask
     };
-    note_of(alloc, form, words.as_slice())
+    let LineNote { misfit, words } = note_of(alloc, form, words.as_slice())?;
+    let words = with_unseen(words, line)?;
+    Ok(LineNote { misfit, words })
+}
+
+/// The words of an explanation, and behind them the octets of the line that an editor doesn't show.
+fn with_unseen(words: String, line: &[u8]) -> Result<String, AllocError> {
+    let mut words = words;
+    if line.ends_with(b"\r") {
+        words.push_str("; the line ends in a carriage return, which belongs to no form")?;
+    }
+    if line.contains(&b'\t') {
+        words.push_str("; a tab separates no words")?;
+    }
+    Ok(words)
 }
 
 /// The explanation of the words of a line that has none of the forms with a verb.
@@ -196,8 +212,9 @@ fn words_of_verb(alloc: Global, verb: &[u8]) -> Result<String, AllocError> {
 fn words_of_count(alloc: Global, form: Form, words: &[&[u8]]) -> Result<String, AllocError> {
     let (count, wanted, text) = (words.len(), form.count(), form.text());
     let Some(at) = words.iter().position(|word| word.is_empty()) else {
+        let noun = if count == 1 { "word" } else { "words" };
         return format!(in alloc;
-            "it has {count} words, with one space between them, in place of {wanted}; its form is: {text}"
+            "it has {count} {noun}, with one space between them, in place of {wanted}; its form is: {text}"
         );
     };
     if at == 0 {
@@ -226,6 +243,9 @@ fn words_of_misfit(
     };
     if word.is_empty() && misfit.at == 0 {
         return format!(in alloc; "{LEADING_SPACE}; its form is: {text}");
+    }
+    if word.is_empty() && misfit.at.saturating_add(1) == words.len() {
+        return format!(in alloc; "the line ends with a space; its form is: {text}");
     }
     let (shown, wanted) = (quoted(alloc, word)?, misfit.kind.wanted());
     let mut words = format!(in alloc; "{shown} has to be {wanted}")?;

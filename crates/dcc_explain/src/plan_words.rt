@@ -38,10 +38,23 @@ pub(crate) fn words_of_text(
             "; a number is from -9223372036854775808 to 9223372036854775807",
         )?,
         "duplicate key" => push_duplicate(alloc, &mut words, text, line)?,
-        _ => {}
+        _ => push_hint(&mut words, reason)?,
     }
     write!(words, " (line {line}, octet {column})")?;
     Ok(words)
+}
+
+/// How texts and numbers are written, if the reason says that a value can't be read.
+fn push_hint(words: &mut String, reason: &str) -> Result<(), AllocError> {
+    if reason.as_bytes().starts_with(b"invalid value") {
+        return words.push_str(
+            "; a text stands between two quotation marks (\"), and a number has no leading zero",
+        );
+    }
+    if reason.as_bytes().starts_with(b"invalid string") {
+        return words.push_str("; a text ends on its line, with a quotation mark (\")");
+    }
+    Ok(())
 }
 
 /// What a line repeats, and a line in front of it that makes one table of what is a list: `[tariff]`.
@@ -132,6 +145,9 @@ fn words_of_key(
     } else {
         format!(in alloc; "{name} is {found}; it has to be {wanted}")?
     };
+    if let Value::Float(_) = value {
+        words.push_str(", without a point and without an exponent")?;
+    }
     push_line(&mut words, line)?;
     Ok(words)
 }

@@ -188,6 +188,9 @@ const NEEDS_OF_MANY: usize = 2;
 /// The place of `--stay` among all options, behind those that have a value.
 const STAY: usize = 9;
 
+/// The place of `--accept-loss`, the last one.
+const ACCEPT_LOSS: usize = 10;
+
 /// Whether a text is an address that no other machine can reach, with a port.
 fn is_of_this_machine(text: &str) -> bool {
     match SocketAddrV4::parse_ascii(text.as_bytes()) {
@@ -218,7 +221,7 @@ struct Reading {
     /// Whether `--at` is among the words, which then have no PLAN and no DIR.
     is_at: bool,
     /// Whether each option was there, by its place.
-    seen: [bool; 10],
+    seen: [bool; 11],
 }
 
 /// What doesn't fit in the words of a command line, of which the first is the program's name: in one line the first word that is at fault or the
@@ -246,7 +249,7 @@ pub fn explain_words(alloc: Global, words: &[String]) -> Result<String, AllocErr
         stays: command == Command::Serve && has_option(words, "--stay"),
         is_many,
         is_at,
-        seen: [false; 10],
+        seen: [false; 11],
     };
     for word in words.iter().skip(2) {
         if let Some(slip) = reading.slip(alloc, word.as_str())? {
@@ -311,10 +314,10 @@ impl Reading {
             None => (word, None),
         };
         if self.stays && name == "--stay" {
-            return match value {
-                Some(_) => Ok(Some(format!(in alloc; "--stay has no value")?)),
-                None => self.repeat(alloc, STAY, name),
-            };
+            return self.flag_slip(alloc, STAY, name, value.is_some());
+        }
+        if self.command == Command::Serve && name == "--accept-loss" {
+            return self.flag_slip(alloc, ACCEPT_LOSS, name, value.is_some());
         }
         match Switch::named(name) {
             Some(switch) if switch.is_of(self.command) => {
@@ -334,9 +337,33 @@ impl Reading {
             }
             _ => {
                 let shown = quoted(alloc, name.as_bytes())?;
-                Ok(Some(format!(in alloc; "{shown} is no option of this command")?))
+                let mut slip = format!(in alloc; "{shown} is no option of this command")?;
+                if name
+                    .as_bytes()
+                    .get(1)
+                    .is_some_and(|octet| octet.is_ascii_digit())
+                {
+                    slip.push_str("; no number of a command has a sign")?;
+                }
+                Ok(Some(slip))
             }
         }
+    }
+
+    /// An option that takes no value.
+    fn flag_slip(
+        &mut self,
+        alloc: Global,
+        at: usize,
+        name: &str,
+        has_value: bool,
+    ) -> Result<Option<String>, AllocError>
+        requires { at < 11 }
+    {
+        if has_value {
+            return Ok(Some(format!(in alloc; "{name} has no value")?));
+        }
+        self.repeat(alloc, at, name)
     }
 
     /// Why an option doesn't go with the other words, if it doesn't.
@@ -351,7 +378,7 @@ impl Reading {
 
     /// What is wrong with an option that was there before.
     fn repeat(&mut self, alloc: Global, at: usize, name: &str) -> Result<Option<String>, AllocError>
-        requires { at < 10 }
+        requires { at < 11 }
     {
         if self.seen[at] {
             return Ok(Some(format!(in alloc; "{name} stands twice")?));
