@@ -7,6 +7,7 @@ use dcc_running::{Job, Seat, Shards};
 use dcc_shard::{ExpiryAnswer, RequestAnswer, TopUpAnswer};
 use dcc_store::Records;
 use std::alloc::Global;
+use std::marker::Brand;
 use std::mem::replace;
 use std::sync::Wait;
 use std::test::Fail;
@@ -26,7 +27,7 @@ impl Caller {
     /// Errors: the number is none, or want of memory.
     pub fn new<R: Records>(
         alloc: Global,
-        shards: &Shards<R>,
+        shards: &Shards<R, Brand>,
         data: &[u8],
         name: &'static [u8],
     ) -> Result<Caller, Fail> {
@@ -41,7 +42,7 @@ impl Caller {
     pub fn stand_up<R: Records>(
         &mut self,
         alloc: Global,
-        shards: &Shards<R>,
+        shards: &Shards<R, Brand>,
     ) -> Result<Seat, Fail> {
         Ok(replace(&mut self.seat, shards.seat(alloc)?))
     }
@@ -51,7 +52,7 @@ impl Caller {
         &mut self,
         rt: &W,
         alloc: Global,
-        shards: &Shards<R>,
+        shards: &Shards<R, Brand>,
         job: Job,
     ) -> RequestAnswer {
         if !matches!(job.act.kind, Kind::Event(_) | Kind::Initial { .. }) {
@@ -65,7 +66,7 @@ impl Caller {
         &mut self,
         rt: &W,
         alloc: Global,
-        shards: &Shards<R>,
+        shards: &Shards<R, Brand>,
         number: u32,
     ) -> Option<(OctetString, bool)> {
         let job = event_job(alloc, self.sub, Action::DirectDebiting, self.name, number)?;
@@ -77,7 +78,7 @@ impl Caller {
         &mut self,
         rt: &W,
         alloc: Global,
-        shards: &Shards<R>,
+        shards: &Shards<R, Brand>,
         number: u32,
     ) -> Option<[u8; 4]> {
         let job = event_job(alloc, self.sub, Action::RefundAccount, self.name, number)?;
@@ -90,7 +91,7 @@ impl Caller {
         &mut self,
         rt: &W,
         alloc: Global,
-        shards: &Shards<R>,
+        shards: &Shards<R, Brand>,
     ) -> Option<bool> {
         let job = opening(alloc, self.sub, self.name)?;
         let (_octets, fresh) = done(self.submit(rt, alloc, shards, job))?;
@@ -102,7 +103,7 @@ impl Caller {
         &mut self,
         rt: &W,
         alloc: Global,
-        shards: &Shards<R>,
+        shards: &Shards<R, Brand>,
         ticket: u64,
         amount: u64,
     ) -> Option<TopUpAnswer> {
@@ -115,7 +116,7 @@ impl Caller {
         &mut self,
         rt: &W,
         alloc: Global,
-        shards: &Shards<R>,
+        shards: &Shards<R, Brand>,
         seconds: u32,
     ) -> Option<ExpiryAnswer> {
         let moment = after(seconds)?;

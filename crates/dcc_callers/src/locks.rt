@@ -2,7 +2,7 @@
 
 ghost use Rattle.std.specs.Prelude.{◌<◌, IfOk};
 
-use crate::placed::are_shards;
+use crate::placed::{are_shards, hold_nothing};
 use crate::shards::{TERMS, identity, pair, shard_over};
 use dcc_message::Identity;
 use dcc_running::Shards;
@@ -10,22 +10,27 @@ use dcc_shard::Shard;
 use dcc_store::Records;
 use std::alloc::Global;
 use std::hash::RandomState;
+use std::marker::Brand;
 use std::random::RandomSource;
 use std::test::Fail;
 
-/// These shards under locks, if they may stand as one.
+/// These shards under locks, if they may stand as one and hold no acts.
 fn locked<R: Records + Drop>(
     alloc: Global,
     identity: &Identity,
     shards: Vec<Shard<R>>,
     hasher: RandomState,
-) -> Result<Shards<R>, Fail>
+) -> Result<Shards<R, Brand>, Fail>
     ensures { IfOk result (λ locked. 0 < locked.count) }
 {
     let count = shards.len();
     if count < 1 || count > 8 || !are_shards(&TERMS, identity, &shards) {
         drop(shards);
         return Err("shards".into());
+    }
+    if !matches!(hold_nothing(alloc, &shards), Ok(true)) {
+        drop(shards);
+        return Err("acts".into());
     }
     match Shards::new(alloc, &TERMS, identity, shards, hasher) {
         Ok(locked) => Ok(locked),
@@ -40,7 +45,7 @@ fn locked<R: Records + Drop>(
 fn locked_for<S: RandomSource + AllocGlobal, R: Records + Drop>(
     rt: &S,
     shards: Result<Vec<Shard<R>>, Fail>,
-) -> Result<Shards<R>, Fail>
+) -> Result<Shards<R, Brand>, Fail>
     ensures { IfOk result (λ locked. 0 < locked.count) }
 {
     let shards = shards?;
@@ -70,7 +75,7 @@ fn alone<R: Records + Drop>(alloc: Global, shard: Shard<R>) -> Result<Vec<Shard<
 pub fn one<S: RandomSource + AllocGlobal, R: Records + Drop>(
     rt: &S,
     records: R,
-) -> Result<Shards<R>, Fail>
+) -> Result<Shards<R, Brand>, Fail>
     ensures { IfOk result (λ locked. 0 < locked.count) }
 {
     let shard = shard_over(rt, records)?;
@@ -82,6 +87,6 @@ pub fn two<S: RandomSource + AllocGlobal, R: Records + Drop>(
     rt: &S,
     first: R,
     second: R,
-) -> Result<Shards<R>, Fail> {
+) -> Result<Shards<R, Brand>, Fail> {
     locked_for(rt, pair(rt, first, second))
 }

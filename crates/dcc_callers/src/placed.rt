@@ -1,8 +1,8 @@
 //! Whether shards may stand as one.
 
-ghost use Rattle.std.specs.Prelude.{◌≡◌, ◌≢◌, ◌<◌, ℕ, [], true, length};
+ghost use Rattle.std.specs.Prelude.{◌≡◌, ◌≢◌, ◌<◌, ℕ, [], true, length, IfOk};
 ghost use Rattle.dcc_act.specs.declared.sub.Sub.{Sub};
-ghost use Rattle.dcc_running.specs.Books.{AreShards};
+ghost use Rattle.dcc_running.specs.Books.{AreShards, book};
 ghost use Rattle.dcc_shard.specs.Routes.{shard_of};
 ghost use Rattle.dcc_shard.specs.Shards.{held};
 
@@ -10,6 +10,7 @@ use dcc_message::Identity;
 use dcc_shard::Shard;
 use dcc_store::Records;
 use dcc_tariff::Terms;
+use std::alloc::{AllocError, Global};
 
 /// Whether these shards are under these terms, answer as this server, and hold only subscribers that they keep.
 pub fn are_shards<R: Records>(terms: &Terms, identity: &Identity, shards: &[Shard<R>]) -> bool
@@ -23,6 +24,19 @@ pub fn are_shards<R: Records>(terms: &Terms, identity: &Identity, shards: &[Shar
         }
     }
     true
+}
+
+/// Whether these shards hold no acts. The only error is want of memory.
+pub fn hold_nothing<R: Records>(alloc: Global, shards: &[Shard<R>]) -> Result<bool, AllocError>
+    ensures { IfOk result (λ nothing. nothing ≡ true → (sub : Sub) → book shards.now sub ≡ []) }
+{
+    for i in 0..shards.len() {
+        let subs = shards[i].subs(alloc)?;
+        if !subs.is_empty() {
+            return Ok(false);
+        }
+    }
+    Ok(true)
 }
 
 /// Whether a shard is under these terms and answers as this server.

@@ -10,6 +10,7 @@ use dcc_running::{Job, Seat, Shards};
 use dcc_shard::RequestAnswer;
 use dcc_store::Records;
 use std::alloc::Global;
+use std::marker::Brand;
 use std::sync::Wait;
 use std::test::Fail;
 
@@ -19,7 +20,7 @@ use std::test::Fail;
 pub fn debit_together<W: Wait, R: Records>(
     rt: &W,
     alloc: Global,
-    shards: &Shards<R>,
+    shards: &Shards<R, Brand>,
     seat: &mut Seat,
     subs: &[Sub],
     (name, number): (&[u8], u32),
@@ -39,7 +40,7 @@ pub fn debit_together<W: Wait, R: Records>(
 pub fn debit_one_by_one<W: Wait, R: Records>(
     rt: &W,
     alloc: Global,
-    shards: &Shards<R>,
+    shards: &Shards<R, Brand>,
     seat: &mut Seat,
     subs: &[Sub],
     (name, number): (&[u8], u32),
@@ -59,7 +60,7 @@ pub fn debit_one_by_one<W: Wait, R: Records>(
 fn debit_alone<W: Wait, R: Records>(
     rt: &W,
     alloc: Global,
-    shards: &Shards<R>,
+    shards: &Shards<R, Brand>,
     seat: &mut Seat,
     sub: Sub,
     (name, number): (&[u8], u32),

@@ -140,8 +140,7 @@ Sweeps tells rules count old sheet new =
     (swept : Swept) × IsSwept tells rules count old.server (work_of old) swept (work_of new) × (new.server ≡ old.server)
     × (sheet ≡ sweep_sheet swept)
 
--- the store of the shard with this index was copied into a folder, with this answer, by a reader of the shard of this index, which is over these
--- records
+-- the store with this index was copied into a folder, with this answer, while some shard over these records was lent under its lock
 abbrev pub IsCopied : {S : Type 0} → Type 0 → Rules S → S → List ℕ → ℕ → Result (Unit {0}) CopyFault → Type 0
 IsCopied R rules server folder index told = (shard : StoredView R) × rules.copies server folder index told
 

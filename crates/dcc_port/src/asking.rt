@@ -13,6 +13,7 @@ use crate::port::{Port, Server};
 use crate::sheet::{Kind, put};
 use crate::texts::{put_health, put_metrics, put_unknown};
 use dcc_act::Sub;
+use dcc_running::Naming;
 use dcc_store::Records;
 use http::StatusCode;
 use http_server::Response;
@@ -20,10 +21,10 @@ use std::alloc::{AllocError, Global};
 use std::sync::Wait;
 
 /// Writes whether no shard has stopped. It waits for each shard's lock in turn. The only error is want of memory.
-pub(crate) fn health<W: Wait, R: Records>(
+pub(crate) fn health<W: Wait, R: Records, J: Naming>(
     rt: &W,
     alloc: Global,
-    port: &Port<'_, R>,
+    port: &Port<'_, R, J>,
     response: &mut Response,
 ) -> Result<(), AllocError>
     requires { IsBlank response.old }
@@ -34,10 +35,10 @@ pub(crate) fn health<W: Wait, R: Records>(
 }
 
 /// Writes the server's counters, and whether each shard has stopped. It waits for each shard's lock in turn. The only error is want of memory.
-pub(crate) fn metrics<W: Wait, R: Records, S: Server>(
+pub(crate) fn metrics<W: Wait, R: Records, J: Naming, S: Server>(
     rt: &W,
     alloc: Global,
-    port: &Port<'_, R>,
+    port: &Port<'_, R, J>,
     server: &S,
     response: &mut Response,
 ) -> Result<(), AllocError>
@@ -50,10 +51,10 @@ pub(crate) fn metrics<W: Wait, R: Records, S: Server>(
 }
 
 /// Whether each shard has stopped. The only error is want of memory.
-fn stopped<W: Wait, R: Records>(
+fn stopped<W: Wait, R: Records, J: Naming>(
     rt: &W,
     alloc: Global,
-    port: &Port<'_, R>,
+    port: &Port<'_, R, J>,
 ) -> Result<Vec<bool>, AllocError>
     ensures count { IfOk result (λ told. length told.items ≡ port.now.count) }
     ensures told { IfOk result (λ told. AllByRecursion (IsToldStopped R.is_stopped) told.items) }
@@ -66,10 +67,10 @@ fn stopped<W: Wait, R: Records>(
 }
 
 /// Writes the account of a subscriber. It waits for the lock of the subscriber's shard. The only error is want of memory.
-pub(crate) fn account<W: Wait, R: Records>(
+pub(crate) fn account<W: Wait, R: Records, J: Naming>(
     rt: &W,
     alloc: Global,
-    port: &Port<'_, R>,
+    port: &Port<'_, R, J>,
     sub: Sub,
     response: &mut Response,
 ) -> Result<(), AllocError>
@@ -94,10 +95,10 @@ fn put_account(response: &mut Response, text: Option<Vec<u8>>) -> Result<(), All
 }
 
 /// Writes the ledger of a subscriber. It waits for the lock of the subscriber's shard. The only error is want of memory.
-pub(crate) fn ledger<W: Wait, R: Records>(
+pub(crate) fn ledger<W: Wait, R: Records, J: Naming>(
     rt: &W,
     alloc: Global,
-    port: &Port<'_, R>,
+    port: &Port<'_, R, J>,
     sub: Sub,
     response: &mut Response,
 ) -> Result<(), AllocError>

@@ -9,6 +9,7 @@ use crate::account::put_escaped;
 use crate::looks::CopyLook;
 use crate::port::{CopyFault, Port, Server};
 use crate::sheet::{Kind, put};
+use dcc_running::Naming;
 use dcc_store::Records;
 use http::StatusCode;
 use http_server::Response;
@@ -30,9 +31,9 @@ pub(crate) enum BackupEnd {
 
 /// Makes a folder, and copies each shard's store into it, one after another, up to the first failure. It waits for each shard's lock in turn, and holds it
 /// until the shard's store is copied.
-pub(crate) fn back_up<W: Wait, R: Records, S: Server>(
+pub(crate) fn back_up<W: Wait, R: Records, J: Naming, S: Server>(
     rt: &W,
-    port: &Port<'_, R>,
+    port: &Port<'_, R, J>,
     server: &mut S,
     folder: &[u8],
 ) -> BackupEnd
@@ -46,9 +47,9 @@ pub(crate) fn back_up<W: Wait, R: Records, S: Server>(
 }
 
 /// Copies each shard's store into the folder, up to the first failure.
-fn copy_all<W: Wait, R: Records, S: Server>(
+fn copy_all<W: Wait, R: Records, J: Naming, S: Server>(
     rt: &W,
-    port: &Port<'_, R>,
+    port: &Port<'_, R, J>,
     server: &S,
     folder: &[u8],
 ) -> BackupEnd

@@ -17,7 +17,7 @@ use crate::top_up::top_up;
 use crate::top_ups::top_ups;
 use bytes::Bytes;
 use dcc_connect::Clock;
-use dcc_running::Seat;
+use dcc_running::{Naming, Seat};
 use dcc_store::Records;
 use http::Request;
 use http_server::{Response, Service};
@@ -26,17 +26,17 @@ use std::sync::Wait;
 
 /// Who answers the calls of a connection.
 #[derive(Drop)]
-pub(crate) struct Operator<'a, 'c, 'e, 's, W: Wait, R: Records, C: Clock, S: Server> {
+pub(crate) struct Operator<'a, 'c, 'e, 's, W: Wait, R: Records, J: Naming, C: Clock, S: Server> {
     pub rt: &'a W,
     pub alloc: Global,
-    pub port: &'a Port<'a, R>,
+    pub port: &'a Port<'a, R, J>,
     pub clock: &'c mut C,
     pub server: &'e mut S,
     pub seat: &'s mut Seat,
 }
 
-impl<'a, 'c, 'e, 's, W: Wait, R: Records, C: Clock, S: Server> Service
-    for Operator<'a, 'c, 'e, 's, W, R, C, S> {
+impl<'a, 'c, 'e, 's, W: Wait, R: Records, J: Naming, C: Clock, S: Server> Service
+    for Operator<'a, 'c, 'e, 's, W, R, J, C, S> {
     ghost use Rattle.std.specs.Prelude.{◌≡◌};
     ghost use Rattle.dcc_port.specs.Answers.{PortView, Responds};
     ghost use Rattle.dcc_port.specs.Requests.{call_for};
@@ -67,13 +67,14 @@ impl<'a, 'c, 'e, 's, W: Wait, R: Records, C: Clock, S: Server> Service
     }
 }
 
-impl<'a, 'c, 'e, 's, W: Wait, R: Records, C: Clock, S: Server> Operator<
+impl<'a, 'c, 'e, 's, W: Wait, R: Records, J: Naming, C: Clock, S: Server> Operator<
     'a,
     'c,
     'e,
     's,
     W,
     R,
+    J,
     C,
     S,
 > {

@@ -2,7 +2,7 @@
 
 ghost use Rattle.std.specs.Prelude.{◌≡◌};
 
-use dcc_running::Shards;
+use dcc_running::{Naming, Shards};
 use dcc_shard::Shard;
 use dcc_store::Records;
 use std::alloc::{AllocError, Global};
@@ -10,8 +10,8 @@ use std::sync::Wait;
 
 /// The shards behind a port.
 #[derive(Drop)]
-pub(crate) struct Port<'a, R: Records> {
-    pub shards: &'a Shards<R>,
+pub(crate) struct Port<'a, R: Records, J: Naming> {
+    pub shards: &'a Shards<R, J>,
     /// So many shards there are.
     pub count: usize,
     ghost counted: { count ≡ shards.now.count },

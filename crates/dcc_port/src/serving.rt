@@ -7,7 +7,7 @@ ghost use Rattle.dcc_port.specs.Serving.{IsServing};
 use crate::operator::Operator;
 use crate::port::{Port, Server};
 use dcc_connect::Clock;
-use dcc_running::{Seat, Shards};
+use dcc_running::{Naming, Seat, Shards};
 use dcc_store::Records;
 use http_server::{Config, Connection, serve};
 use std::alloc::Global;
@@ -22,10 +22,10 @@ use std::sync::Wait;
 /// The condition: there are so many shards.
 ///
 /// Errors: those of the reader and the writer, and want of memory for what the reader sends. What was done before an error stands.
-pub fn serve_calls<W: Wait, R: Records, C: Clock, S: Server, I: Read, O: Write>(
+pub fn serve_calls<W: Wait, R: Records, J: Naming, C: Clock, S: Server, I: Read, O: Write>(
     rt: &W,
     alloc: Global,
-    shards: &Shards<R>,
+    shards: &Shards<R, J>,
     count: usize,
     clock: &mut C,
     server: &mut S,

@@ -7,7 +7,7 @@ ghost use Rattle.dcc_running.specs.Batches.{CountsEach};
 use crate::port::{Port, Server};
 use dcc_act::{Moment, Sub};
 use dcc_connect::Clock;
-use dcc_running::{Seat, Tally};
+use dcc_running::{Naming, Seat, Tally};
 use dcc_store::Records;
 use std::alloc::{AllocError, Global};
 use std::sync::Wait;
@@ -25,10 +25,10 @@ pub(crate) struct Swept {
 
 /// Ends the due sessions of each subscriber of each shard, at the clock's moment, piece by piece. It ends early if the server is to end. It waits for the
 /// shards' locks. The only error is want of memory: then nothing was done.
-pub(crate) fn sweep<W: Wait, R: Records, C: Clock, S: Server>(
+pub(crate) fn sweep<W: Wait, R: Records, J: Naming, C: Clock, S: Server>(
     rt: &W,
     alloc: Global,
-    port: &Port<'_, R>,
+    port: &Port<'_, R, J>,
     clock: &mut C,
     server: &S,
     seat: &mut Seat,
@@ -43,10 +43,10 @@ pub(crate) fn sweep<W: Wait, R: Records, C: Clock, S: Server>(
 }
 
 /// The subscribers of each shard. The only error is want of memory.
-fn all_subs<W: Wait, R: Records>(
+fn all_subs<W: Wait, R: Records, J: Naming>(
     rt: &W,
     alloc: Global,
-    port: &Port<'_, R>,
+    port: &Port<'_, R, J>,
 ) -> Result<Vec<Sub>, AllocError>
     ensures { IfOk result (λ subs. AreAllSubs port.now.count subs.items) }
 {
@@ -59,10 +59,10 @@ fn all_subs<W: Wait, R: Records>(
 }
 
 /// Ends the due sessions of these subscribers, piece by piece, until the server is to end.
-fn end_pieces<W: Wait, R: Records, S: Server>(
+fn end_pieces<W: Wait, R: Records, J: Naming, S: Server>(
     rt: &W,
     alloc: Global,
-    port: &Port<'_, R>,
+    port: &Port<'_, R, J>,
     server: &S,
     seat: &mut Seat,
     subs: &[Sub],
@@ -89,7 +89,7 @@ fn end_pieces<W: Wait, R: Records, S: Server>(
 }
 
 /// The number of the first subscribers that one shard keeps, up to [`MOST_AT_ONCE`].
-fn piece_len<R: Records>(port: &Port<'_, R>, subs: &[Sub]) -> usize
+fn piece_len<R: Records, J: Naming>(port: &Port<'_, R, J>, subs: &[Sub]) -> usize
     requires { 0 < length subs.now }
     ensures some { 0 < result }
     ensures few { result ≤ MOST_AT_ONCE }
@@ -104,10 +104,10 @@ fn piece_len<R: Records>(port: &Port<'_, R>, subs: &[Sub]) -> usize
 }
 
 /// Ends the due sessions of these subscribers, together if they are different and of one shard.
-fn end_piece<W: Wait, R: Records>(
+fn end_piece<W: Wait, R: Records, J: Naming>(
     rt: &W,
     alloc: Global,
-    port: &Port<'_, R>,
+    port: &Port<'_, R, J>,
     seat: &mut Seat,
     subs: &[Sub],
     moment: Moment,

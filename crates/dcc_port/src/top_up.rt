@@ -9,7 +9,7 @@ use crate::port::Port;
 use crate::sheet::{Kind, make_room, put_reserved};
 use dcc_act::Sub;
 use dcc_connect::Clock;
-use dcc_running::Seat;
+use dcc_running::{Naming, Seat};
 use dcc_shard::TopUpAnswer;
 use dcc_store::Records;
 use http::StatusCode;
@@ -22,10 +22,10 @@ const MOST_TOLD: usize = 18;
 
 /// Makes a top-up at the clock's moment, and writes its answer. The room for the answer is taken first. The only error is want of memory: then
 /// nothing was done.
-pub(crate) fn top_up<W: Wait, R: Records, C: Clock>(
+pub(crate) fn top_up<W: Wait, R: Records, J: Naming, C: Clock>(
     rt: &W,
     alloc: Global,
-    port: &Port<'_, R>,
+    port: &Port<'_, R, J>,
     clock: &mut C,
     seat: &mut Seat,
     sub: Sub,

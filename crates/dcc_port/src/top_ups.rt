@@ -11,7 +11,7 @@ use crate::port::Port;
 use crate::sheet::{Kind, make_room, put_reserved};
 use dcc_act::Moment;
 use dcc_connect::Clock;
-use dcc_running::Seat;
+use dcc_running::{Naming, Seat};
 use dcc_shard::TopUpAnswer;
 use dcc_store::Records;
 use http::StatusCode;
@@ -24,10 +24,10 @@ const MOST_LINE: usize = 8;
 
 /// Makes these top-ups at the clock's moment, one after another, and writes their answers, a line each. The room for all answers is taken first. The
 /// only error is want of memory: then nothing was done.
-pub(crate) fn top_ups<W: Wait, R: Records, C: Clock>(
+pub(crate) fn top_ups<W: Wait, R: Records, J: Naming, C: Clock>(
     rt: &W,
     alloc: Global,
-    port: &Port<'_, R>,
+    port: &Port<'_, R, J>,
     clock: &mut C,
     seat: &mut Seat,
     asks: &[Ask],
@@ -49,10 +49,10 @@ pub(crate) fn top_ups<W: Wait, R: Records, C: Clock>(
 }
 
 /// Makes these top-ups, and writes their answers into a text. The condition: the text is empty, and has room for them.
-fn make_each<W: Wait, R: Records>(
+fn make_each<W: Wait, R: Records, J: Naming>(
     rt: &W,
     alloc: Global,
-    port: &Port<'_, R>,
+    port: &Port<'_, R, J>,
     seat: &mut Seat,
     asks: &[Ask],
     moment: Moment,

@@ -1,6 +1,5 @@
 -- The tests of receipts against a subscriber's acts.
-use Rattle.std.specs.Prelude.{◌≡◌, ℕ, ◌-◌, ◌<◌, ◌≤◌, Bool, true, false, not, ◌&&◌, ◌||◌, ◌==◌, nat_lt, if◌then◌else◌, bytes_eq, List, [], ◌∷◌, length, take, filter, slice_get, count_by, Option, Some, None}
-use Rattle.std.specs.Cmp.Lexicographic.{pointwise}
+use Rattle.std.specs.Prelude.{◌≡◌, ℕ, ◌-◌, ◌<◌, ◌≤◌, Bool, true, false, not, ◌&&◌, ◌||◌, ◌==◌, nat_lt, if◌then◌else◌, bytes_eq, List, [], ◌∷◌, filter, slice_get, count_by, Option, Some, None}
 use Rattle.std.specs.List.{list_all, sum_by}
 use Rattle.dcc_tariff.specs.Terms.{TermsView}
 use Rattle.dcc_message.specs.declared.identity.Identity.{Identity}
@@ -21,10 +20,6 @@ use Rattle.dcc_receipts.specs.declared.receipt.Told.TheVariants.{Octets, Added, 
 -- the receipts of one subscriber among those of a seat, in their order
 abbrev pub own : Sub → List Receipt → List Receipt
 own sub receipts = filter (λ r. same_sub r.sub sub) receipts
-
--- the acts begin with the acts at opening
-abbrev pub begins : List Act → List Act → Bool
-begins opening all = pointwise same_act opening (take (length opening) all)
 
 -- the act at a receipt's place is the receipt's act if the receipt is fresh, and otherwise an act with the same key
 abbrev pub is_there : Option Act → Receipt → Bool

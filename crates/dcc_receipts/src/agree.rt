@@ -2,7 +2,7 @@
 
 ghost use Rattle.std.specs.Prelude.{◌≡◌, ◌&&◌, ◌||◌, not, nat_lt, Some};
 ghost use Rattle.dcc_model.specs.Keys.{same_key};
-ghost use Rattle.dcc_receipts.specs.Audit.{agrees, all_agree, begins, is_there};
+ghost use Rattle.dcc_receipts.specs.Audit.{agrees, all_agree, is_there};
 
 use crate::receipt::Receipt;
 use crate::same::same_act;
@@ -69,19 +69,4 @@ fn is_same_key(a: &Kind, b: &Kind) -> bool
             _ => false,
         },
     }
-}
-
-/// Whether the acts of a journal begin with the acts at opening.
-pub fn begins(opening: &[Act], journal: &Journal) -> bool
-    ensures { result ≡ begins opening.now journal.now.acts }
-{
-    if journal.len() < opening.len() {
-        return false;
-    }
-    for i in 0..opening.len() {
-        if !same_act(&opening[i], journal.behind(i, &mut Looks::new())) {
-            return false;
-        }
-    }
-    true
 }

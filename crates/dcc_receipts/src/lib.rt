@@ -15,7 +15,7 @@ mod order;
 mod receipt;
 mod same;
 
-pub use agree::{agrees_with, begins};
+pub use agree::agrees_with;
 pub use answers::is_answered;
 pub use check::check_receipts;
 pub use fault::CloseFault;

@@ -2,14 +2,13 @@
 use Rattle.std.specs.Prelude.{◌≡◌, ◌⊎◌, ℕ, ◌+◌, ◌<◌, Bool, true, false, List, length, Option, Some}
 use Rattle.std.specs.Io.KnownBytes.{Appends}
 use Rattle.std.specs.List.{FoldsTo, filter_map, list_any}
-use Rattle.dcc_act.specs.declared.sub.Sub.{Sub}
 use Rattle.dcc_dispatch.specs.Settings.{Setting}
 use Rattle.dcc_store.specs.Contents.{Content}
 use Rattle.dcc_receipts.specs.Faults.{fault_number}
 use Rattle.dcc_receipts.specs.declared.fault.CloseFault.{CloseFault}
 use Rattle.dcc_receipts.specs.declared.receipt.Receipt.{Receipt}
 use Rattle.dcc_running.specs.Audited.{AreCovered, AreOrdered, AreOwn, AreTrue, IsFault}
-use Rattle.dcc_running.specs.Books.{AreKept, AreLeft, BooksView, at_opening, book}
+use Rattle.dcc_running.specs.Books.{AreKept, AreLeft, BooksView, book}
 use Rattle.dcc_rounds.specs.Counting.{counts_in, seat_in}
 use Rattle.dcc_rounds.specs.Finishing.{AreFinished}
 use Rattle.dcc_rounds.specs.Gathering.{AreGathered}
@@ -58,8 +57,7 @@ module _ {I O C : Type 0} (remaining : I → Option (List ℕ)) (contents : O �
     pub all : length ended ≡ length begun
     pub finished : AreFinished ended
     pub counted : counts ≡ counts_in ended
-    pub opened : (sub : Sub) → at_opening books.opening sub ≡ book old sub
-    pub audited : AreTrue books (filter_map seat_in ended) × AreCovered books (filter_map seat_in ended) × AreOrdered (filter_map seat_in ended)
+    pub audited : AreTrue (book old) books (filter_map seat_in ended) × AreCovered (book old) books (filter_map seat_in ended) × AreOrdered (filter_map seat_in ended)
     pub own : AreOwn books
     pub left : new ≡ books.parts
     pub kept : AreKept is_stopped may_leave new
@@ -80,8 +78,7 @@ module _ {I O C : Type 0} (remaining : I → Option (List ℕ)) (contents : O �
     pub ran : AllRun remaining contents tells closed attends clock setting (length old) begun ended
     pub all : length ended ≡ length begun
     pub finished : AreFinished ended
-    pub opened : (sub : Sub) → at_opening books.opening sub ≡ book old sub
-    pub fails : IsFault fault books (filter_map seat_in ended)
+    pub fails : IsFault fault (book old) books (filter_map seat_in ended)
     pub numbered : fault_number fault ≡ Some number
 
   -- The reason for which a round has no counts: receipts and books disagree; or, with fault 80, the sender of a lane is missing. Nothing is said if

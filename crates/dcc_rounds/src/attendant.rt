@@ -5,7 +5,7 @@ ghost use Rattle.dcc_rounds.specs.Attending.{Attends};
 use crate::face::Listener;
 use crate::tasks::Shared;
 use dcc_connect::Clock;
-use dcc_running::Seat;
+use dcc_running::{Naming, Seat};
 use dcc_store::Records;
 use std::sync::Wait;
 
@@ -17,10 +17,10 @@ pub(crate) struct Attendant {
 
 impl Attendant {
     /// Serves operators until the listener takes no more connections in for places.
-    pub fn run<W: Wait, R: Records, I, O, L: Listener<I, O>, C: Clock + Copy, N>(
+    pub fn run<W: Wait, R: Records, J: Naming, I, O, L: Listener<I, O>, C: Clock + Copy, N>(
         &mut self,
         rt: &W,
-        shared: &Shared<'_, R, L, C, N>,
+        shared: &Shared<'_, R, J, L, C, N>,
     )
         ensures { Attends L.attends L.is_closed self.old self.new }
     {

@@ -19,7 +19,7 @@ use crate::worker::{answer, more, octets_of};
 use dcc_act::{Sub, same_subscribers_are_equal};
 use dcc_connect::Item;
 use dcc_lane::{Receiver, Sender};
-use dcc_running::{Job, Seat, Shards};
+use dcc_running::{Job, Naming, Seat, Shards};
 use dcc_shard::RequestAnswer;
 use dcc_store::Records;
 use std::alloc::{AllocError, Global};
@@ -30,10 +30,10 @@ pub(crate) const BATCH: usize = 64;
 
 /// Takes what the lane has without a wait, and adds it to a batch: up to [`BATCH`] requests of different subscribers of one shard. It returns the
 /// first item that can't be added, if it took one. The condition: the batch has room for so many.
-pub(crate) fn gather<W: Wait, R: Records>(
+pub(crate) fn gather<W: Wait, R: Records, J: Naming>(
     rt: &W,
     from: &mut Receiver<Work>,
-    shards: &Shards<R>,
+    shards: &Shards<R, J>,
     batch: &mut Vec<Request>,
     since: &mut u32,
 ) -> Option<Work>
@@ -55,7 +55,7 @@ pub(crate) fn gather<W: Wait, R: Records>(
 }
 
 /// Adds the request of an item to a batch, if it may join it, and else returns the item. The condition: the batch has room for it.
-fn add<R: Records>(shards: &Shards<R>, batch: &mut Vec<Request>, work: Work) -> Option<Work>
+fn add<R: Records, J: Naming>(shards: &Shards<R, J>, batch: &mut Vec<Request>, work: Work) -> Option<Work>
     requires room { vec_len batch.old < vec_capacity batch.old }
     requires batch { IsOneBatch shards.now.count batch.old.items }
     ensures batch { IsOneBatch shards.now.count batch.new.items }
@@ -77,7 +77,7 @@ fn add<R: Records>(shards: &Shards<R>, batch: &mut Vec<Request>, work: Work) -> 
 
 /// Whether a request of this subscriber may join a batch: the batch has none of this subscriber, and its subscribers are of the same shard.
 #[tactic(auto, using(crate::proofs::Batching::any_sub))]
-fn may_join<R: Records>(shards: &Shards<R>, batch: &[Request], sub: &Sub) -> bool
+fn may_join<R: Records, J: Naming>(shards: &Shards<R, J>, batch: &[Request], sub: &Sub) -> bool
     ensures { result ≡ may_join shards.now.count (map sub_of_request batch.now) sub.now }
 {
     match batch.first() {
@@ -97,10 +97,10 @@ fn is_among(sub: &Sub, batch: &[Request]) -> bool
 
 /// Makes the requests of a batch and puts their answers into their gateways' lanes, in order; their writers aren't woken yet. Several are
 /// submitted together; if memory is short for that, each by itself. It leaves the batch empty.
-pub(crate) fn answer_batch<W: Wait, R: Records, N: Notices>(
+pub(crate) fn answer_batch<W: Wait, R: Records, J: Naming, N: Notices>(
     rt: &W,
     alloc: Global,
-    shards: &Shards<R>,
+    shards: &Shards<R, J>,
     events: &Events<'_, N>,
     seat: &mut Seat,
     writers: &mut Vec<Sender<Item>>,
@@ -129,10 +129,10 @@ pub(crate) fn answer_batch<W: Wait, R: Records, N: Notices>(
 }
 
 /// Makes these requests one by one, and leaves none.
-fn answer_each<W: Wait, R: Records, N: Notices>(
+fn answer_each<W: Wait, R: Records, J: Naming, N: Notices>(
     rt: &W,
     alloc: Global,
-    shards: &Shards<R>,
+    shards: &Shards<R, J>,
     events: &Events<'_, N>,
     seat: &mut Seat,
     writers: &mut Vec<Sender<Item>>,
@@ -198,10 +198,10 @@ fn parted(batch: &mut Vec<Request>, gates: Vec<usize>, jobs: Vec<Job>) -> (Vec<u
 /// Submits these jobs together, and puts their answers into the lanes of these gateways, in order. Their requests were read at these ticks. The
 /// conditions: there is a gateway for each job; the jobs are requests of different subscribers of one shard; the list of answers is empty and has
 /// room for them.
-fn answer_all<W: Wait, R: Records, N: Notices>(
+fn answer_all<W: Wait, R: Records, J: Naming, N: Notices>(
     rt: &W,
     alloc: Global,
-    shards: &Shards<R>,
+    shards: &Shards<R, J>,
     events: &Events<'_, N>,
     read: &[u64; BATCH],
     seat: &mut Seat,

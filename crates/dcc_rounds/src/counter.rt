@@ -11,7 +11,7 @@ ghost use Rattle.dcc_rounds.specs.Handing.{one_more};
 ghost use Rattle.dcc_rounds.specs.Working.{Expires, ExpiresEach};
 
 use dcc_act::{Moment, Sub};
-use dcc_running::{Seat, Shards};
+use dcc_running::{Naming, Seat, Shards};
 use dcc_shard::ExpiryAnswer;
 use dcc_store::Records;
 use std::alloc::Global;
@@ -40,11 +40,11 @@ impl SweepCounter {
 
     /// The subscribers of a shard that have acts, each once, in order. None if memory is short for the list. The condition: of an earlier
     /// list none is left to be asked.
-    pub fn list<W: Wait, R: Records>(
+    pub fn list<W: Wait, R: Records, J: Naming>(
         &mut self,
         rt: &W,
         alloc: Global,
-        shards: &Shards<R>,
+        shards: &Shards<R, J>,
         shard: usize,
     ) -> Option<Vec<Sub>>
         requires shard { shard < shards.now.count }
@@ -64,11 +64,11 @@ impl SweepCounter {
     }
 
     /// Asks the expiry of a subscriber. The condition: one is left to be asked.
-    pub fn ask<W: Wait, R: Records>(
+    pub fn ask<W: Wait, R: Records, J: Naming>(
         &mut self,
         rt: &W,
         alloc: Global,
-        shards: &Shards<R>,
+        shards: &Shards<R, J>,
         seat: &mut Seat,
         sub: Sub,
         moment: Moment,
@@ -83,11 +83,11 @@ impl SweepCounter {
     }
     /// Asks the expiries of these subscribers together, in order. The conditions: so many are left to be asked; they are different, and of one
     /// shard.
-    pub fn ask_all<W: Wait, R: Records>(
+    pub fn ask_all<W: Wait, R: Records, J: Naming>(
         &mut self,
         rt: &W,
         alloc: Global,
-        shards: &Shards<R>,
+        shards: &Shards<R, J>,
         seat: &mut Seat,
         subs: &[Sub],
         moment: Moment,

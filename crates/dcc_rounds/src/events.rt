@@ -3,14 +3,14 @@
 use crate::batch::BATCH;
 use crate::face::{Event, Notices};
 use crate::work::Request;
-use dcc_running::{Seat, Shards};
+use dcc_running::{Naming, Seat, Shards};
 use dcc_shard::RequestAnswer;
 use dcc_store::Records;
 
 /// Counts the receipts of a seat behind its first `counted` receipts, and returns the number of all its receipts. It takes no memory.
-pub fn count_receipts<R: Records, N: Notices>(
+pub fn count_receipts<R: Records, J: Naming, N: Notices>(
     notices: &N,
-    shards: &Shards<R>,
+    shards: &Shards<R, J>,
     seat: &Seat,
     counted: usize,
 ) -> usize {

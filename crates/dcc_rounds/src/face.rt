@@ -7,7 +7,7 @@ ghost use Rattle.dcc_rounds.specs.declared.face.Tick.TheVariants as end;
 use dcc_connect::{Clock, ConnectionEnd, WriteEnd};
 use dcc_octets::OctetString;
 use dcc_receipts::Receipt;
-use dcc_running::{Seat, Shards};
+use dcc_running::{Naming, Seat, Shards};
 use dcc_store::Records;
 use std::alloc::Global;
 use std::io::{self, Write};
@@ -60,11 +60,11 @@ pub trait Listener<I, O> {
 
     /// Serves operators until no more connections are taken in for places, at the call of one thread of several. Each thread has a seat of its own:
     /// the receipts of all calls on the shards go to this seat, and are compared with the books once the round has ended. It may wait.
-    fn attend<W: Wait, R: Records, C: Clock + Copy>(
+    fn attend<W: Wait, R: Records, J: Naming, C: Clock + Copy>(
         &self,
         rt: &W,
         alloc: Global,
-        shards: &Shards<R>,
+        shards: &Shards<R, J>,
         clock: C,
         seat: &mut Seat,
     )

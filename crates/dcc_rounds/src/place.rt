@@ -13,6 +13,7 @@ use crate::writer::{Ending, write_gate};
 use dcc_base::Peer;
 use dcc_connect::{Clock, ConnectionEnd, Item, WriteEnd};
 use dcc_lane::Receiver;
+use dcc_running::Naming;
 use dcc_store::Records;
 use std::io::Read;
 use std::sync::Wait;
@@ -37,10 +38,11 @@ impl<I: Read + Send + Drop, O: Shut + Send + Drop> Place<I, O> {
     pub fn run<
         W: Threads + Wait + Sync,
         R: Records + Send + Sync + Drop,
+        J: Naming + Send + Sync,
         L: Listener<I, O> + Sync,
         C: Clock + Copy + Sync,
         N: Notices + Sync,
-    >(&mut self, rt: &W, shared: &Shared<'_, R, L, C, N>)
+    >(&mut self, rt: &W, shared: &Shared<'_, R, J, L, C, N>)
         ensures { Serves I.remaining O.contents C.tells L.is_closed shared.now.clock.now
             (record { plan = shared.now.plan.now; identity = shared.now.identity.now }) shared.now.count self.old self.new }
     {
@@ -55,10 +57,10 @@ impl<I: Read + Send + Drop, O: Shut + Send + Drop> Place<I, O> {
     }
 
     /// The next gateway, if a gateway comes.
-    fn next<W: Wait, R: Records, L: Listener<I, O>, C, N: Notices>(
+    fn next<W: Wait, R: Records, J: Naming, L: Listener<I, O>, C, N: Notices>(
         &mut self,
         rt: &W,
-        shared: &Shared<'_, R, L, C, N>,
+        shared: &Shared<'_, R, J, L, C, N>,
     ) -> Option<Connection<I, O>>
         ensures first { IfSome self.old.first (λ first. result ≡ Some first) }
         ensures once { self.old.first ≡ None → self.old.stays ≡ false → result ≡ None }
@@ -84,10 +86,11 @@ impl<I: Read + Send + Drop, O: Shut + Send + Drop> Place<I, O> {
     fn visit<
         W: Threads + Wait + Sync,
         R: Records + Send + Sync + Drop,
+        J: Naming + Send + Sync,
         L: Listener<I, O> + Sync,
         C: Clock + Copy + Sync,
         N: Notices + Sync,
-    >(&mut self, rt: &W, shared: &Shared<'_, R, L, C, N>, connection: Connection<I, O>)
+    >(&mut self, rt: &W, shared: &Shared<'_, R, J, L, C, N>, connection: Connection<I, O>)
         ensures visit { (visit : Visit I O) × (visit.came ≡ connection) × IsVisit I.remaining O.contents C.tells L.is_closed shared.now.clock.now
             (record { plan = shared.now.plan.now; identity = shared.now.identity.now }) shared.now.count self.old visit self.new }
         ensures first { self.new.first ≡ self.old.first }
@@ -118,9 +121,9 @@ impl<I: Read + Send + Drop, O: Shut + Send + Drop> Place<I, O> {
 }
 
 /// Reads a gateway's messages as the others of a round are read.
-fn read_from<W: Wait, R: Records, L, I: Read, C: Clock + Copy, N: Notices>(
+fn read_from<W: Wait, R: Records, J: Naming, L, I: Read, C: Clock + Copy, N: Notices>(
     rt: &W,
-    shared: &Shared<'_, R, L, C, N>,
+    shared: &Shared<'_, R, J, L, C, N>,
     input: &mut I,
     reader: &mut Reader,
 ) -> ConnectionEnd

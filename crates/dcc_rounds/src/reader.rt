@@ -24,7 +24,7 @@ use dcc_dispatch::{Asked, Dispatched, Settled, dispatch};
 use dcc_lane::Sender;
 use dcc_message::Identity;
 use dcc_octets::OctetString;
-use dcc_running::{Job, Shards};
+use dcc_running::{Job, Naming, Shards};
 use dcc_shard::shard_of;
 use dcc_store::Records;
 use dcc_tariff::Plan;
@@ -79,16 +79,16 @@ impl Sweeps {
 
 /// Who judges a gateway's messages.
 #[derive(Drop)]
-pub(crate) struct Judge<'a, R: Records, N> {
+pub(crate) struct Judge<'a, R: Records, J: Naming, N> {
     pub alloc: Global,
     pub plan: &'a Plan,
     pub identity: &'a Identity,
-    pub shards: &'a Shards<R>,
+    pub shards: &'a Shards<R, J>,
     pub notices: &'a N,
     pub reader: &'a mut Reader,
 }
 
-impl<'a, R: Records, N: Notices> Submitter for Judge<'a, R, N> {
+impl<'a, R: Records, J: Naming, N: Notices> Submitter for Judge<'a, R, J, N> {
     ghost use Rattle.std.specs.Prelude.{◌≡◌};
     ghost use Rattle.dcc_rounds.specs.Handing.{Hands};
 
@@ -125,7 +125,7 @@ impl<'a, R: Records, N: Notices> Submitter for Judge<'a, R, N> {
     }
 }
 
-impl<'a, R: Records, N: Notices> Judge<'a, R, N> {
+impl<'a, R: Records, J: Naming, N: Notices> Judge<'a, R, J, N> {
     /// Reports the name of the peer's host, if the peer is open.
     fn tell_host<W: Wait>(&self, rt: &W) {
         if let Some(host) = self.reader.peer.host() {
@@ -137,11 +137,11 @@ impl<'a, R: Records, N: Notices> Judge<'a, R, N> {
 
 /// The outcome of a message once nobody is sought any more. For a request that names nobody, it asks each shard in turn who opened the
 /// session of the request from the host of the request's peer.
-fn settle<W: Wait, R: Records>(
+fn settle<W: Wait, R: Records, J: Naming>(
     rt: &W,
     alloc: Global,
     identity: &Identity,
-    shards: &Shards<R>,
+    shards: &Shards<R, J>,
     peer: &Peer,
     word: Dispatched,
 ) -> Settled
@@ -274,12 +274,12 @@ fn count_reply<N: Notices>(notices: &N, octets: &[u8]) {
 }
 
 /// Reads a gateway's messages and hands each on, until it ends, and says so.
-pub(crate) fn read_gate<W: Wait, R: Records, I: Read, C: Clock + Copy, N: Notices>(
+pub(crate) fn read_gate<W: Wait, R: Records, J: Naming, I: Read, C: Clock + Copy, N: Notices>(
     rt: &W,
     alloc: Global,
     plan: &Plan,
     identity: &Identity,
-    shards: &Shards<R>,
+    shards: &Shards<R, J>,
     clock: &C,
     notices: &N,
     input: &mut I,

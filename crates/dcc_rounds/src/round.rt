@@ -1,8 +1,7 @@
 //! One round.
 
 ghost use Rattle.std.specs.Prelude.{◌≡◌, ◌≢◌, ◌<◌, ◌≤◌, ◌+◌, ◌++◌, ℕ, false, [], length, slice_index_or, IfOk, IfErr, OnOk};
-ghost use Rattle.dcc_act.specs.declared.sub.Sub.{Sub};
-ghost use Rattle.dcc_running.specs.Books.{AreShards};
+ghost use Rattle.dcc_running.specs.Books.{AreShards, book};
 ghost use Rattle.dcc_rounds.specs.Counting.{counts_in};
 ghost use Rattle.dcc_rounds.specs.Gathering.{AddsPlaces, AreGathered, HasCome, attendants_of, place_of, workers_from};
 ghost use Rattle.dcc_rounds.specs.Lanes.{AreLanes};
@@ -28,11 +27,12 @@ use crate::worker::Worker;
 use dcc_base::Peer;
 use dcc_connect::{Clock, Item};
 use dcc_lane::{Receiver, Sender};
-use dcc_running::Shards;
+use dcc_running::{Naming, Shards};
 use dcc_shard::Shard;
 use dcc_store::Records;
 use std::alloc::{AllocError, Global};
 use std::io::{self, Read};
+use std::marker::Brand;
 use std::sync::Wait;
 use std::thread::{Threads, for_each_mut};
 
@@ -64,6 +64,39 @@ pub(crate) fn serve_round<
     ensures ends { IfErr result (EndsRound I.remaining O.contents C.tells L.is_closed L.attends service.now.clock.now
         (record { plan = service.now.plan.now; identity = service.now.identity.now }) rounds.now shards.items) }
 {
+    serve_over::<W, R, Brand, I, O, L, C, N>(rt, alloc, service, shards, listener, rounds)
+}
+
+/// The same over shards that hold the acts of `J`.
+fn serve_over<
+    W: Threads + Wait + Sync,
+    R: Records + Send + Sync + Drop,
+    J: Naming + Send + Sync,
+    I: Read + Send + Drop,
+    O: Shut + Send + Drop,
+    L: Listener<I, O> + Sync,
+    C: Clock + Copy + Sync,
+    N: Notices + Sync,
+>(
+    rt: &W,
+    alloc: Global,
+    service: &Service<'_, C, N>,
+    shards: Vec<Shard<R>>,
+    listener: &mut L,
+    rounds: &Rounds,
+) -> Result<(Counts, Vec<Shard<R>>), ServeFault>
+    requires shards { AreShards service.now.plan.now.terms service.now.identity.now shards.items }
+    requires some { 1 ≤ length shards.items }
+    requires most { length shards.items ≤ 8 }
+    requires opening { J.opening ≡ book shards.items }
+    ensures round { IfOk result (λ r. IsRound I.remaining O.contents C.tells L.is_closed L.attends service.now.clock.now
+        (record { plan = service.now.plan.now; identity = service.now.identity.now }) R.is_stopped R.may_leave rounds.now shards.items r.0 r.1.items) }
+    ensures shards { IfOk result (λ r. AreShards service.now.plan.now.terms service.now.identity.now r.1.items) }
+    ensures some { IfOk result (λ r. 1 ≤ length r.1.items) }
+    ensures most { IfOk result (λ r. length r.1.items ≤ 8) }
+    ensures ends { IfErr result (EndsRound I.remaining O.contents C.tells L.is_closed L.attends service.now.clock.now
+        (record { plan = service.now.plan.now; identity = service.now.identity.now }) rounds.now shards.items) }
+{
     let count = shards.len();
     let locked = match Shards::new(
         alloc,
@@ -79,7 +112,7 @@ pub(crate) fn serve_round<
             return Err(ServeFault::Memory);
         }
     };
-    let mut tasks = match gather::<W, R, I, O, L, N>(
+    let mut tasks = match gather::<W, R, J, I, O, L, N>(
         rt,
         alloc,
         service.notices,
@@ -94,7 +127,7 @@ pub(crate) fn serve_round<
             return Err(fault);
         }
     };
-    serve_all::<W, R, I, O, L, C, N>(
+    serve_all::<W, R, J, I, O, L, C, N>(
         rt,
         alloc,
         service,
@@ -122,11 +155,11 @@ pub(crate) fn serve_round<
 }
 
 /// Makes all that the threads of a round begin with, and accepts its gateways if they come before it begins.
-fn gather<W: Wait, R: Records, I: Read + Drop, O: Shut + Drop, L: Listener<I, O>, N: Notices>(
+fn gather<W: Wait, R: Records, J: Naming, I: Read + Drop, O: Shut + Drop, L: Listener<I, O>, N: Notices>(
     rt: &W,
     alloc: Global,
     notices: &N,
-    locked: &Shards<R>,
+    locked: &Shards<R, J>,
     count: usize,
     listener: &mut L,
     rounds: &Rounds,
@@ -147,7 +180,7 @@ fn gather<W: Wait, R: Records, I: Read + Drop, O: Shut + Drop, L: Listener<I, O>
         }
     };
     let mut tasks = Vec::new(alloc);
-    match add_tasks::<W, R, I, O, L, N>(
+    match add_tasks::<W, R, J, I, O, L, N>(
         rt, alloc, notices, locked, listener, rounds, &mut work, &mut items, &mut tasks,
     ) {
         Ok(()) => {
@@ -162,11 +195,11 @@ fn gather<W: Wait, R: Records, I: Read + Drop, O: Shut + Drop, L: Listener<I, O>
 }
 
 /// Adds the worker of each shard, the timer and the places, with their ends of the lanes to workers and to writers, and the attendants.
-fn add_tasks<W: Wait, R: Records, I: Read + Drop, O: Shut + Drop, L: Listener<I, O>, N: Notices>(
+fn add_tasks<W: Wait, R: Records, J: Naming, I: Read + Drop, O: Shut + Drop, L: Listener<I, O>, N: Notices>(
     rt: &W,
     alloc: Global,
     notices: &N,
-    locked: &Shards<R>,
+    locked: &Shards<R, J>,
     listener: &mut L,
     rounds: &Rounds,
     work: &mut Lanes<Work>,
@@ -184,7 +217,7 @@ fn add_tasks<W: Wait, R: Records, I: Read + Drop, O: Shut + Drop, L: Listener<I,
         drop(timers);
         return Err(ServeFault::Memory);
     };
-    let Ok(()) = add_workers::<R, I, O>(
+    let Ok(()) = add_workers::<R, J, I, O>(
         alloc,
         locked,
         &mut work.receivers,
@@ -217,7 +250,7 @@ fn add_tasks<W: Wait, R: Records, I: Read + Drop, O: Shut + Drop, L: Listener<I,
     ) {
         Ok(()) => {
             drop(replies);
-            add_attendants::<R, I, O>(alloc, locked, rounds.attendants, gathered)?;
+            add_attendants::<R, J, I, O>(alloc, locked, rounds.attendants, gathered)?;
             Ok(())
         }
         Err(fault) => {
@@ -228,9 +261,9 @@ fn add_tasks<W: Wait, R: Records, I: Read + Drop, O: Shut + Drop, L: Listener<I,
 }
 
 /// Adds a worker for each shard, in order. The only error is want of memory.
-fn add_workers<R: Records, I: Drop, O: Drop>(
+fn add_workers<R: Records, J: Naming, I: Drop, O: Drop>(
     alloc: Global,
-    locked: &Shards<R>,
+    locked: &Shards<R, J>,
     receivers: &mut Vec<Receiver<Work>>,
     senders: &mut Vec<Vec<Sender<Item>>>,
     tasks: &mut Vec<Task<I, O>>,
@@ -261,9 +294,9 @@ fn add_workers<R: Records, I: Drop, O: Drop>(
 }
 
 /// Adds so many attendants, each with a seat of its own. The only error is want of memory.
-fn add_attendants<R: Records, I: Drop, O: Drop>(
+fn add_attendants<R: Records, J: Naming, I: Drop, O: Drop>(
     alloc: Global,
-    locked: &Shards<R>,
+    locked: &Shards<R, J>,
     count: usize,
     tasks: &mut Vec<Task<I, O>>,
 ) -> Result<(), AllocError>
@@ -372,6 +405,7 @@ fn place_of<I: Drop, O: Drop>(
 fn serve_all<
     W: Threads + Wait + Sync,
     R: Records + Send + Sync + Drop,
+    J: Naming + Send + Sync,
     I: Read + Send + Drop,
     O: Shut + Send + Drop,
     L: Listener<I, O> + Sync,
@@ -382,7 +416,7 @@ fn serve_all<
     alloc: Global,
     service: &Service<'_, C, N>,
     listener: &L,
-    locked: &Shards<R>,
+    locked: &Shards<R, J>,
     count: usize,
     tasks: &mut [Task<I, O>],
 )

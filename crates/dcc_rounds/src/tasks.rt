@@ -11,7 +11,7 @@ use crate::timer::SweepTimer;
 use crate::worker::Worker;
 use dcc_connect::Clock;
 use dcc_message::Identity;
-use dcc_running::{Seat, Shards};
+use dcc_running::{Naming, Seat, Shards};
 use dcc_store::Records;
 use dcc_tariff::Plan;
 use std::alloc::Global;
@@ -30,14 +30,14 @@ pub(crate) enum Task<I, O> {
 
 /// What all threads of a round share.
 #[derive(Drop)]
-pub(crate) struct Shared<'a, R: Records, L, C, N> {
+pub(crate) struct Shared<'a, R: Records, J: Naming, L, C, N> {
     pub alloc: Global,
     pub plan: &'a Plan,
     pub identity: &'a Identity,
     pub clock: &'a C,
     pub notices: &'a N,
     pub listener: &'a L,
-    pub shards: &'a Shards<R>,
+    pub shards: &'a Shards<R, J>,
     /// So many shards there are.
     pub count: usize,
     /// So many threads there are, one for each task.
@@ -50,10 +50,11 @@ impl<I: Read + Send + Drop, O: Shut + Send + Drop> Task<I, O> {
     pub fn run<
         W: Threads + Wait + Sync,
         R: Records + Send + Sync + Drop,
+        J: Naming + Send + Sync,
         L: Listener<I, O> + Sync,
         C: Clock + Copy + Sync,
         N: Notices + Sync,
-    >(&mut self, rt: &W, shared: &Shared<'_, R, L, C, N>)
+    >(&mut self, rt: &W, shared: &Shared<'_, R, J, L, C, N>)
         ensures { Runs I.remaining O.contents C.tells L.is_closed L.attends shared.now.clock.now (record { plan = shared.now.plan.now; identity = shared.now.identity.now })
             shared.now.count self.old self.new }
     {
@@ -64,9 +65,9 @@ impl<I: Read + Send + Drop, O: Shut + Send + Drop> Task<I, O> {
                     worker.run(rt, shared.alloc, shared.shards, shared.notices);
                 }
             }
-            Task::Time(timer) => timer.run::<W, R, I, O, L, C, N>(rt, shared),
+            Task::Time(timer) => timer.run::<W, R, J, I, O, L, C, N>(rt, shared),
             Task::Place(place) => place.run(rt, shared),
-            Task::Attend(attendant) => attendant.run::<W, R, I, O, L, C, N>(rt, shared),
+            Task::Attend(attendant) => attendant.run::<W, R, J, I, O, L, C, N>(rt, shared),
         }
     }
 }

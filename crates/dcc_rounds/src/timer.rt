@@ -9,6 +9,7 @@ use crate::tasks::Shared;
 use crate::work::Work;
 use dcc_connect::Clock;
 use dcc_lane::Sender;
+use dcc_running::Naming;
 use dcc_store::Records;
 use std::sync::Wait;
 
@@ -26,25 +27,25 @@ pub(crate) struct SweepTimer {
 
 impl SweepTimer {
     /// Asks for sweeps until the listener takes no more connections in, and says behind the last that nothing more is put.
-    pub fn run<W: Wait, R: Records, I, O, L: Listener<I, O>, C: Clock + Copy, N: Notices>(
+    pub fn run<W: Wait, R: Records, J: Naming, I, O, L: Listener<I, O>, C: Clock + Copy, N: Notices>(
         &mut self,
         rt: &W,
-        shared: &Shared<'_, R, L, C, N>,
+        shared: &Shared<'_, R, J, L, C, N>,
     )
         ensures { Times C.tells L.is_closed shared.now.clock.now self.old self.new }
     {
         if self.stays {
             let mut clock = *shared.clock;
-            self.sweep_on_time::<W, R, I, O, L, C, N>(rt, shared, &mut clock);
+            self.sweep_on_time::<W, R, J, I, O, L, C, N>(rt, shared, &mut clock);
         }
         leave_all(rt, &mut self.workers);
     }
 
     /// Asks for a sweep each time that one is due, and reports each shard that has stopped.
-    fn sweep_on_time<W: Wait, R: Records, I, O, L: Listener<I, O>, C: Clock, N: Notices>(
+    fn sweep_on_time<W: Wait, R: Records, J: Naming, I, O, L: Listener<I, O>, C: Clock, N: Notices>(
         &mut self,
         rt: &W,
-        shared: &Shared<'_, R, L, C, N>,
+        shared: &Shared<'_, R, J, L, C, N>,
         clock: &mut C,
     )
         ensures swept { TimesSweeps C.tells self.old clock.old self.new clock.new }
@@ -65,9 +66,9 @@ impl SweepTimer {
 }
 
 /// Reports each shard whose records have failed, once.
-fn tell_stopped<W: Wait, R: Records, L, C, N: Notices>(
+fn tell_stopped<W: Wait, R: Records, J: Naming, L, C, N: Notices>(
     rt: &W,
-    shared: &Shared<'_, R, L, C, N>,
+    shared: &Shared<'_, R, J, L, C, N>,
     told: &mut [bool; MOST_SHARDS],
 ) {
     for shard in 0..shared.count.min(MOST_SHARDS) {

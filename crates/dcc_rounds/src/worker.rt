@@ -18,7 +18,7 @@ use dcc_act::{Moment, Sub};
 use dcc_connect::Item;
 use dcc_lane::{Receiver, Sender};
 use dcc_octets::OctetString;
-use dcc_running::{Seat, Shards};
+use dcc_running::{Naming, Seat, Shards};
 use dcc_shard::RequestAnswer;
 use dcc_store::Records;
 use std::alloc::Global;
@@ -47,11 +47,11 @@ pub(crate) struct Worker {
 impl Worker {
     /// Does what its lane asks for, and goes on with its sweep in between, until none of its senders puts anything more and no subscriber is left
     /// to be asked.
-    pub fn run<W: Wait, R: Records, N: Notices>(
+    pub fn run<W: Wait, R: Records, J: Naming, N: Notices>(
         &mut self,
         rt: &W,
         alloc: Global,
-        shards: &Shards<R>,
+        shards: &Shards<R, J>,
         notices: &N,
     )
         requires { self.old.shard < shards.now.count }
@@ -87,11 +87,11 @@ impl Worker {
 
     /// Takes requests and answers them, and then does the item behind them, if it took one. If a subscriber is left to be asked, it waits for no item.
     /// It returns whether it took an item whose sender puts nothing more.
-    fn take_some<W: Wait, R: Records, N: Notices>(
+    fn take_some<W: Wait, R: Records, J: Naming, N: Notices>(
         &mut self,
         rt: &W,
         alloc: Global,
-        shards: &Shards<R>,
+        shards: &Shards<R, J>,
         events: &Events<'_, N>,
         rest: &mut Rest,
         batch: &mut Vec<Request>,
@@ -114,11 +114,11 @@ impl Worker {
     /// Takes the requests that its lane has without a wait, up to [`BATCH`] of different subscribers, and answers them together. If no item is there, it
     /// takes none, or waits for one if `waits` is set. It returns the item behind these requests, if it took one: this item isn't done yet. Behind several
     /// requests, and before such an item, it wakes all that sleep.
-    fn take_requests<W: Wait, R: Records, N: Notices>(
+    fn take_requests<W: Wait, R: Records, J: Naming, N: Notices>(
         &mut self,
         rt: &W,
         alloc: Global,
-        shards: &Shards<R>,
+        shards: &Shards<R, J>,
         events: &Events<'_, N>,
         batch: &mut Vec<Request>,
         since: &mut u32,
@@ -152,11 +152,11 @@ impl Worker {
     }
 
     /// Does an item that it took. It returns whether the item's sender puts nothing more.
-    fn do_one<W: Wait, R: Records, N: Notices>(
+    fn do_one<W: Wait, R: Records, J: Naming, N: Notices>(
         &mut self,
         rt: &W,
         alloc: Global,
-        shards: &Shards<R>,
+        shards: &Shards<R, J>,
         events: &Events<'_, N>,
         rest: &mut Rest,
         work: Work,
@@ -193,11 +193,11 @@ impl Worker {
     }
 
     /// Asks the next piece of its sweep, if a subscriber is left. Before a piece it wakes all threads that sleep, since a piece takes long.
-    fn ask_piece<W: Wait, R: Records>(
+    fn ask_piece<W: Wait, R: Records, J: Naming>(
         &mut self,
         rt: &W,
         alloc: Global,
-        shards: &Shards<R>,
+        shards: &Shards<R, J>,
         rest: &mut Rest,
     )
         requires { IsCounted self.old.counter rest.old }
@@ -284,10 +284,10 @@ fn wake(writers: &[Sender<Item>], since: u32) {
 }
 
 /// Makes a request and puts its answer into its gateway's lane, whose writer isn't woken yet. If there is no answer, it puts nothing.
-pub(crate) fn answer<W: Wait, R: Records, N: Notices>(
+pub(crate) fn answer<W: Wait, R: Records, J: Naming, N: Notices>(
     rt: &W,
     alloc: Global,
-    shards: &Shards<R>,
+    shards: &Shards<R, J>,
     events: &Events<'_, N>,
     seat: &mut Seat,
     writers: &mut Vec<Sender<Item>>,
@@ -304,10 +304,10 @@ pub(crate) fn answer<W: Wait, R: Records, N: Notices>(
 
 /// Asks all subscribers that an earlier sweep has left, and then lists the subscribers of the shard. If memory is short for the list, no
 /// subscriber is left to be asked.
-fn sweep<W: Wait, R: Records>(
+fn sweep<W: Wait, R: Records, J: Naming>(
     rt: &W,
     alloc: Global,
-    shards: &Shards<R>,
+    shards: &Shards<R, J>,
     shard: usize,
     seat: &mut Seat,
     counter: &mut SweepCounter,
@@ -336,10 +336,10 @@ fn sweep<W: Wait, R: Records>(
 }
 
 /// Asks the expiries of the next `count` subscribers of a sweep. The condition: so many are left.
-fn ask_next<W: Wait, R: Records>(
+fn ask_next<W: Wait, R: Records, J: Naming>(
     rt: &W,
     alloc: Global,
-    shards: &Shards<R>,
+    shards: &Shards<R, J>,
     seat: &mut Seat,
     counter: &mut SweepCounter,
     rest: &mut Rest,
@@ -368,10 +368,10 @@ fn ask_next<W: Wait, R: Records>(
 }
 
 /// Ends the due sessions of each of these subscribers, in order, in pieces of at most [`PIECE`].
-fn expire_pieces<W: Wait, R: Records>(
+fn expire_pieces<W: Wait, R: Records, J: Naming>(
     rt: &W,
     alloc: Global,
-    shards: &Shards<R>,
+    shards: &Shards<R, J>,
     seat: &mut Seat,
     counter: &mut SweepCounter,
     subs: &[Sub],
@@ -391,10 +391,10 @@ fn expire_pieces<W: Wait, R: Records>(
 }
 
 /// Ends the due sessions of each of these subscribers, in order: together, if they may be asked together.
-fn expire_piece<W: Wait, R: Records>(
+fn expire_piece<W: Wait, R: Records, J: Naming>(
     rt: &W,
     alloc: Global,
-    shards: &Shards<R>,
+    shards: &Shards<R, J>,
     seat: &mut Seat,
     counter: &mut SweepCounter,
     subs: &[Sub],
@@ -413,10 +413,10 @@ fn expire_piece<W: Wait, R: Records>(
 }
 
 /// Ends the due sessions of each of these subscribers, one after another. A refused expiry leaves the other expiries.
-fn expire_each<W: Wait, R: Records>(
+fn expire_each<W: Wait, R: Records, J: Naming>(
     rt: &W,
     alloc: Global,
-    shards: &Shards<R>,
+    shards: &Shards<R, J>,
     seat: &mut Seat,
     counter: &mut SweepCounter,
     subs: &[Sub],

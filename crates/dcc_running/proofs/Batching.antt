@@ -1,14 +1,13 @@
 -- The calls of a batch, their replies, and the receipts of these.
-use Rattle.std.proofs.Common.{◌≡◌, ℕ, ◌<◌, ◌≤◌, ◌+◌, zero, suc, Bool, true, ◌&&◌, ◌==◌, List, [], ◌∷◌, ◌++◌, map, length, take, get_or, refl, sym, ap, subst, ◌∙◌, append_assoc, append-nil, arith}
+use Rattle.std.proofs.Common.{◌≡◌, ℕ, ◌<◌, zero, suc, true, ◌&&◌, ◌==◌, List, [], ◌∷◌, ◌++◌, map, length, take, get_or, refl, sym, ap, subst, ◌∙◌, append_assoc, append-nil, arith}
 use Rattle.std.proofs.lemmas.Bool.{and_parts, eqb-true}
-use Rattle.std.specs.List.{AllByRecursion, AllZip, FoldsTo, list_all}
+use Rattle.std.specs.List.{AllByRecursion, FoldsTo, list_all}
 use Rattle.dcc_act.specs.declared.sub.Sub.{Sub}
 use Rattle.dcc_receipts.specs.declared.receipt.Receipt.{Receipt}
-use Rattle.dcc_running.specs.Batches.{AreAnswersOf, AreAnswersTo, Ends, EndsEach, EndsOne, all_receipts_of, are_of_one_shard, has_request, sub_of_job}
+use Rattle.dcc_running.specs.Batches.{AreAnswersOf, AreAnswersTo, EndsEach, EndsOne, all_receipts_of, are_of_one_shard, has_request, sub_of_job}
 use Rattle.dcc_running.specs.Calls.{receipts_of}
 use Rattle.dcc_running.specs.Tallies.{tally_with, tallied}
 use Rattle.dcc_running.specs.declared.job.Job.{Job}
-use Rattle.dcc_running.specs.declared.lock.Place.{Place}
 use Rattle.dcc_running.specs.declared.tally.Tally.{Tally}
 use Rattle.dcc_running.specs.inner.Batches.{AreAnswered, AreEnded, AreKeptAt, all_end_receipts, call_of, end_of, end_receipts, reply_of}
 use Rattle.dcc_shard.specs.Batches.{AreReplies, IsReplyBounded, IsReplyToldApart, has_request_act, sub_of}

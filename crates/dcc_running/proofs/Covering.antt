@@ -1,5 +1,5 @@
 -- Acts that have marks, one shard after another.
-use Rattle.std.proofs.Common.{◌≡◌, ℕ, ◌+◌, ◌<◌, ◌≤◌, Bool, true, false, nat_lt, List, [], length, get_or, slice_get, Some, refl, sym, ap, ◌∙◌, inl, inr, arith}
+use Rattle.std.proofs.Common.{◌≡◌, ℕ, ◌+◌, ◌<◌, ◌≤◌, true, false, nat_lt, List, [], length, get_or, slice_get, Some, refl, ap, ◌∙◌, inl, inr, arith}
 use Rattle.std.proofs.lemmas.Bool.{cases_Bool}
 use Rattle.std.proofs.lemmas.Grind.{common_steps}
 use Rattle.std.proofs.lemmas.Option.{slice_get_read}
@@ -9,13 +9,14 @@ use Rattle.dcc_receipts.specs.Marks.{is_marked}
 use Rattle.dcc_shard.specs.Routes.{shard_of}
 use Rattle.dcc_shard.specs.Shards.{held, is_among}
 use Rattle.dcc_shard.specs.Stored.{StoredView}
-use Rattle.dcc_running.specs.Books.{Opening, at_opening, book, held_by}
+use Rattle.dcc_store.specs.Books.{Held}
+use Rattle.dcc_running.specs.Books.{book, held_by}
 
-pub next_covered : {R : Type 0} (parts : List (StoredView R)) (opening : Opening) (marks : List (Sub × ℕ)) (subs : List Sub) (i : ℕ) (part : StoredView R)
+pub next_covered : {R : Type 0} (parts : List (StoredView R)) (opening : Held) (marks : List (Sub × ℕ)) (subs : List Sub) (i : ℕ) (part : StoredView R)
     → i < length parts → part ≡ get_or parts i part → ((sub : Sub) → is_among sub subs ≡ false → held part.shard sub ≡ [])
-    → ((sub : Sub) (place : ℕ) → shard_of sub (length parts) < i → length (at_opening opening sub) < place → place ≤ length (book parts sub) → is_marked marks sub place ≡ true)
-    → ((sub : Sub) (place : ℕ) → is_among sub subs ≡ true → length (at_opening opening sub) < place → place ≤ length (book parts sub) → is_marked marks sub place ≡ true)
-    → (sub : Sub) (place : ℕ) → shard_of sub (length parts) < i + 1 → length (at_opening opening sub) < place → place ≤ length (book parts sub) → is_marked marks sub place ≡ true
+    → ((sub : Sub) (place : ℕ) → shard_of sub (length parts) < i → length (opening sub) < place → place ≤ length (book parts sub) → is_marked marks sub place ≡ true)
+    → ((sub : Sub) (place : ℕ) → is_among sub subs ≡ true → length (opening sub) < place → place ≤ length (book parts sub) → is_marked marks sub place ≡ true)
+    → (sub : Sub) (place : ℕ) → shard_of sub (length parts) < i + 1 → length (opening sub) < place → place ≤ length (book parts sub) → is_marked marks sub place ≡ true
 next_covered {R} parts opening marks subs i part within is none before here sub place upto low high =
     let r = shard_of sub (length parts) in
     elim (cases_Bool (nat_lt r i)) [

@@ -1,8 +1,9 @@
 pub mod Batching
 pub mod Begun
-pub mod Copies
 pub mod Covering
 pub mod Ends
+pub mod Growth
+pub mod Numbering
 pub mod Owned
 pub mod Places
 pub mod Placing

@@ -5,12 +5,12 @@ use Rattle.dcc_tariff.specs.Terms.{TermsView}
 use Rattle.dcc_message.specs.declared.identity.Identity.{Identity}
 use Rattle.dcc_act.specs.declared.sub.Sub.{Sub}
 use Rattle.dcc_model.specs.Outcomes.{acts}
-use Rattle.dcc_receipts.specs.Audit.{own, begins, agrees, is_answered, times, in_order}
+use Rattle.dcc_receipts.specs.Audit.{own, agrees, is_answered, times, in_order}
 use Rattle.dcc_receipts.specs.declared.fault.CloseFault.{CloseFault}
 use Rattle.dcc_receipts.specs.declared.fault.CloseFault.TheVariants.{Memory, ReceiptStray, ActWithoutReceipt, OutOfOrder}
 use Rattle.dcc_receipts.specs.declared.receipt.Receipt.{Receipt}
 use Rattle.dcc_store.specs.Books.{Held}
-use Rattle.dcc_running.specs.Books.{BooksView, AreShards, at_opening, book}
+use Rattle.dcc_running.specs.Books.{BooksView, AreShards, BeginWith, book}
 
 -- a receipt agrees with its subscriber's acts, of which the first were there at opening, and has the answer by the outcome of its act
 abbrev pub is_true : Identity → TermsView → Held → Held → Receipt → Bool
@@ -23,17 +23,18 @@ are_true identity terms opening held seats = list_all (λ receipts. list_all (is
 abbrev pub times_in : Sub → ℕ → List (List Receipt) → ℕ
 times_in sub place seats = sum_by (λ receipts. times place (own sub receipts)) seats
 
--- The shards may work as one, each subscriber's acts begin with the acts at opening, each receipt is true, and no place has two fresh
--- receipts.
-pub record AreTrue {R : Type 0} (books : BooksView R) (seats : List (List Receipt)) : Type 0 where
+-- Each shard came out of its own lock, the shards may work as one, each subscriber's acts begin with the acts at opening, each receipt is true, and
+-- no place has two fresh receipts.
+pub record AreTrue {R : Type 0} (opening : Held) (books : BooksView R) (seats : List (List Receipt)) : Type 0 where
+  pub own : books.are_own ≡ true
   pub shards : AreShards books.terms books.identity books.parts
-  pub begun : (sub : Sub) → begins (at_opening books.opening sub) (book books.parts sub) ≡ true
-  pub true_all : are_true books.identity books.terms (at_opening books.opening) (book books.parts) seats ≡ true
+  pub begun : (sub : Sub) → BeginWith (opening sub) (book books.parts sub)
+  pub true_all : are_true books.identity books.terms opening (book books.parts) seats ≡ true
   pub single : (sub : Sub) (place : ℕ) → times_in sub place seats ≤ 1
 
 -- each act since opening has exactly one fresh receipt
-abbrev pub AreCovered : {R : Type 0} → BooksView R → List (List Receipt) → Type 0
-AreCovered books seats = (sub : Sub) (place : ℕ) → length (at_opening books.opening sub) < place → place ≤ length (book books.parts sub)
+abbrev pub AreCovered : {R : Type 0} → (opening : Held) → BooksView R → List (List Receipt) → Type 0
+AreCovered opening books seats = (sub : Sub) (place : ℕ) → length (opening sub) < place → place ≤ length (book books.parts sub)
     → times_in sub place seats ≡ 1
 
 -- each receipt of a seat is after all earlier receipts of the same subscriber in the seat
@@ -41,11 +42,11 @@ abbrev pub AreOrdered : List (List Receipt) → Type 0
 AreOrdered seats = (sub : Sub) → list_all (λ receipts. in_order [] (own sub receipts)) seats ≡ true
 
 -- the reason for which the comparison fails: its first test that doesn't hold; nothing is said if memory was short
-abbrev pub IsFault : {R : Type 0} → CloseFault → BooksView R → List (List Receipt) → Type 0
-IsFault Memory books seats = Unit {0}
-IsFault ReceiptStray books seats = AreTrue books seats → ⊥
-IsFault ActWithoutReceipt books seats = AreTrue books seats × (AreCovered books seats → ⊥)
-IsFault OutOfOrder books seats = AreTrue books seats × AreCovered books seats × (AreOrdered seats → ⊥)
+abbrev pub IsFault : {R : Type 0} → CloseFault → (opening : Held) → BooksView R → List (List Receipt) → Type 0
+IsFault Memory opening books seats = Unit {0}
+IsFault ReceiptStray opening books seats = AreTrue opening books seats → ⊥
+IsFault ActWithoutReceipt opening books seats = AreTrue opening books seats × (AreCovered opening books seats → ⊥)
+IsFault OutOfOrder opening books seats = AreTrue opening books seats × AreCovered opening books seats × (AreOrdered seats → ⊥)
 
 -- the acts of each subscriber are exactly those that their own list makes
 abbrev pub AreOwn : {R : Type 0} → BooksView R → Type 0

@@ -1,13 +1,9 @@
 -- Shards that work under locks, and their acts once they are out of the locks.
-use Rattle.std.specs.Prelude.{◌≡◌, ◌≢◌, ℕ, ◌<◌, Bool, true, false, List, [], length, slice_index_or, Option, Some, None, slice_get}
-use Rattle.std.specs.Global.{Vec}
-use Rattle.std.specs.Map.{lookup}
-use Rattle.std.specs.Option.{option_map_or}
+use Rattle.std.specs.Prelude.{◌≡◌, ◌≢◌, ℕ, ◌<◌, Bool, true, false, List, [], ◌++◌, length, slice_index_or, Option, Some, None, slice_get}
 use Rattle.dcc_tariff.specs.Terms.{TermsView}
 use Rattle.dcc_message.specs.declared.identity.Identity.{Identity}
 use Rattle.dcc_act.specs.declared.act.Act.{Act}
 use Rattle.dcc_act.specs.declared.sub.Sub.{Sub}
-use Rattle.dcc_act.specs.Subs.{same_sub}
 use Rattle.dcc_store.specs.Books.{Held}
 use Rattle.dcc_store.specs.Contents.{Content}
 use Rattle.dcc_store.specs.Stops.{LeavesOnly}
@@ -15,28 +11,23 @@ use Rattle.dcc_shard.specs.Routes.{shard_of}
 use Rattle.dcc_shard.specs.Shards.{held}
 use Rattle.dcc_shard.specs.Stored.{StoredView, GoesOnFrom, LeavesHeld, LeavesBatch}
 
--- subscribers with their acts at opening
-abbrev pub Opening : Type 0
-Opening = List (Sub × Vec Act)
-
--- shards under locks: the terms by which they judge, the identity of the server, the acts held for each subscriber at opening, and the
--- number of shards; of a shard under its lock nothing else is known
+-- shards under locks: the terms by which they judge, the identity of the server, and the number of shards; of a shard under its lock nothing else
+-- is known but that its acts begin with the acts at opening
 pub record LockedView : Type 0 where
   pub terms : TermsView
   pub identity : Identity
-  pub opening : Opening
   pub count : ℕ
 
--- the same shards out of their locks
+-- the same shards out of their locks, and whether each came out of its own lock
 pub record BooksView (R : Type 0) : Type 0 where
   pub terms : TermsView
   pub identity : Identity
-  pub opening : Opening
   pub parts : List (StoredView R)
+  pub are_own : Bool
 
--- the acts that a subscriber had at opening
-abbrev pub at_opening : Opening → Held
-at_opening opening sub = option_map_or (λ (acts : Vec Act). acts.items) (lookup (same_sub sub) opening) []
+-- these acts begin with the acts at opening
+abbrev pub BeginWith : (opening all : List Act) → Type 0
+BeginWith opening all = (later : List Act) × (all ≡ opening ++ later)
 
 abbrev pub held_by : {R : Type 0} → Option (StoredView R) → Held
 held_by None sub = []

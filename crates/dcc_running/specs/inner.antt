@@ -1,4 +1,5 @@
 pub mod Batches
-pub mod Copies
 pub mod Locks
 pub mod Marked
+pub mod Numbers
+pub mod Wards

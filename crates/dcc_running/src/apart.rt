@@ -6,12 +6,13 @@ ghost use Rattle.dcc_running.specs.Batches.{are_of_one_shard};
 ghost use Rattle.dcc_shard.specs.Routes.{shard_of};
 ghost use Rattle.dcc_shard.specs.Shards.{are_apart, is_among};
 
+use crate::naming::Naming;
 use crate::shards::Shards;
 use dcc_act::Sub;
 use dcc_shard::shard_of;
 use dcc_store::Records;
 
-impl<R: Records> Shards<R> {
+impl<R: Records, J: Naming> Shards<R, J> {
     /// Whether these subscribers may be called together: they are different, and one shard keeps them all. It takes no memory; its time grows with the
     /// square of their number.
     pub fn is_one_batch(&self, subs: &[Sub]) -> bool

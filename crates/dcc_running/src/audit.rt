@@ -4,33 +4,34 @@ ghost use Rattle.std.specs.Prelude.{◌≡◌, ◌≢◌, ◌≤◌, ◌<◌, �
 ghost use Rattle.std.specs.List.{list_all};
 ghost use Rattle.dcc_act.specs.declared.sub.Sub.{Sub};
 ghost use Rattle.dcc_running.specs.Audited.{is_true, are_true, times_in, AreTrue, AreCovered, AreOrdered, AreOwn, IsFault};
-ghost use Rattle.dcc_running.specs.Books.{AreShards, at_opening, book};
+ghost use Rattle.dcc_running.specs.Books.{AreShards, BeginWith, book};
 ghost use Rattle.dcc_running.specs.inner.Marked.{AreMarked};
 ghost use Rattle.dcc_account.specs.Accounts.{outcomes};
 ghost use Rattle.dcc_model.specs.Outcomes.{acts};
-ghost use Rattle.dcc_receipts.specs.Audit.{agrees, begins, is_answered};
+ghost use Rattle.dcc_receipts.specs.Audit.{agrees, is_answered};
 ghost use Rattle.dcc_receipts.specs.Marks.{is_marked};
 ghost use Rattle.dcc_shard.specs.Shards.{is_among};
 
 use crate::books::Books;
+use crate::naming::Naming;
 use crate::placed::are_shards;
 use crate::seat::Seat;
 use dcc_act::{Journal, Outcome, Sub, same_subscribers_are_equal};
 use dcc_message::Identity;
-use dcc_receipts::{CloseFault, Marks, Receipt, agrees_with, begins, each_in_order, is_answered};
+use dcc_receipts::{CloseFault, Marks, Receipt, agrees_with, each_in_order, is_answered};
 use dcc_store::Records;
 use dcc_tariff::Terms;
 use std::alloc::{AllocError, Global};
 use std::hash::RandomState;
 
 /// Compares the receipts of all seats with the books, each test over all of them before the next.
-pub(crate) fn audit<R: Records>(
+pub(crate) fn audit<R: Records, J: Naming>(
     alloc: Global,
-    books: &Books<R>,
+    books: &Books<R, J>,
     seats: &[Seat],
 ) -> Result<(), CloseFault>
-    ensures ok { OnOk result (AreTrue books.now seats.now × AreCovered books.now seats.now × AreOrdered seats.now × AreOwn books.now) }
-    ensures fault { IfErr result (λ fault. IsFault fault books.now seats.now) }
+    ensures ok { OnOk result (AreTrue J.opening books.now seats.now × AreCovered J.opening books.now seats.now × AreOrdered seats.now × AreOwn books.now) }
+    ensures fault { IfErr result (λ fault. IsFault fault J.opening books.now seats.now) }
 {
     let Some(marks) = true_marks(alloc, books, seats)? else {
         return Err(CloseFault::ReceiptStray);
@@ -46,54 +47,29 @@ pub(crate) fn audit<R: Records>(
 }
 
 /// The places that have a fresh receipt, where all receipts are true.
-fn true_marks<R: Records>(
+fn true_marks<R: Records, J: Naming>(
     alloc: Global,
-    books: &Books<R>,
+    books: &Books<R, J>,
     seats: &[Seat],
 ) -> Result<Option<Marks>, AllocError>
-    ensures some { IfOk result (λ found. IfSome found (λ marks. AreTrue books.now seats.now × AreMarked marks seats.now)) }
-    ensures none { IfOk result (λ found. IfNone found (AreTrue books.now seats.now → ⊥)) }
+    ensures some { IfOk result (λ found. IfSome found (λ marks. AreTrue J.opening books.now seats.now × AreMarked marks seats.now)) }
+    ensures none { IfOk result (λ found. IfNone found (AreTrue J.opening books.now seats.now → ⊥)) }
 {
-    if !are_shards(alloc, books)? {
+    if !books.are_own || !are_shards(alloc, books)? {
         return Ok(None);
     }
-    if !are_begun(books) || !are_true(alloc, books, seats)? {
+    books.acts_are_begun();
+    if !are_true(alloc, books, seats)? {
         return Ok(None);
     }
     marked(alloc, books.hasher, seats)
 }
 
-/// Whether each subscriber's acts begin with those at opening.
-fn are_begun<R: Records>(books: &Books<R>) -> bool
-    requires { AreShards books.now.terms books.now.identity books.now.parts }
-    ensures yes { result ≡ true → (sub : Sub) → begins (at_opening books.now.opening sub) (book books.now.parts sub) ≡ true }
-    ensures no { result ≡ false → (sub : Sub) × (begins (at_opening books.now.opening sub) (book books.now.parts sub) ≡ false) }
-{
-    same_subscribers_are_equal();
-    for (sub, _) in &books.opening {
-        if !is_begun(books, sub) {
-            return false;
-        }
-    }
-    true
-}
-
-/// Whether a subscriber's acts begin with those at opening.
-fn is_begun<R: Records>(books: &Books<R>, sub: &Sub) -> bool
-    ensures { result ≡ begins (at_opening books.now.opening sub.now) (book books.now.parts sub.now) }
-{
-    let opening = books.at_opening(sub);
-    match books.account(*sub) {
-        Some(account) => begins(opening, account.acts()),
-        None => opening.is_empty(),
-    }
-}
-
 /// Whether each receipt is true.
-fn are_true<R: Records>(alloc: Global, books: &Books<R>, seats: &[Seat]) -> Result<bool, AllocError>
+fn are_true<R: Records, J: Naming>(alloc: Global, books: &Books<R, J>, seats: &[Seat]) -> Result<bool, AllocError>
     requires { AreShards books.now.terms books.now.identity books.now.parts }
     ensures { IfOk result (λ all. all
-        ≡ are_true books.now.identity books.now.terms (at_opening books.now.opening) (book books.now.parts) seats.now) }
+        ≡ are_true books.now.identity books.now.terms J.opening (book books.now.parts) seats.now) }
 {
     for seat in seats {
         if !are_true_of(alloc, books, &seat.receipts)? {
@@ -104,14 +80,14 @@ fn are_true<R: Records>(alloc: Global, books: &Books<R>, seats: &[Seat]) -> Resu
 }
 
 /// Whether each receipt of a seat is true.
-fn are_true_of<R: Records>(
+fn are_true_of<R: Records, J: Naming>(
     alloc: Global,
-    books: &Books<R>,
+    books: &Books<R, J>,
     receipts: &[Receipt],
 ) -> Result<bool, AllocError>
     requires { AreShards books.now.terms books.now.identity books.now.parts }
     ensures { IfOk result (λ all. all
-        ≡ list_all (is_true books.now.identity books.now.terms (at_opening books.now.opening) (book books.now.parts)) receipts.now) }
+        ≡ list_all (is_true books.now.identity books.now.terms J.opening (book books.now.parts)) receipts.now) }
 {
     for receipt in receipts {
         if !is_true(alloc, books, receipt)? {
@@ -122,16 +98,16 @@ fn are_true_of<R: Records>(
 }
 
 /// Whether a receipt agrees with its subscriber's acts, and tells what its act came to.
-fn is_true<R: Records>(
+fn is_true<R: Records, J: Naming>(
     alloc: Global,
-    books: &Books<R>,
+    books: &Books<R, J>,
     receipt: &Receipt,
 ) -> Result<bool, AllocError>
     requires { AreShards books.now.terms books.now.identity books.now.parts }
     ensures { IfOk result (λ told. told
-        ≡ is_true books.now.identity books.now.terms (at_opening books.now.opening) (book books.now.parts) receipt.now) }
+        ≡ is_true books.now.identity books.now.terms J.opening (book books.now.parts) receipt.now) }
 {
-    let opened = books.at_opening(&receipt.sub).len();
+    let opened = books.number_at_opening(&receipt.sub);
     let (identity, terms) = (&books.identity, &books.terms);
     match books.account(receipt.sub) {
         Some(account) => {
@@ -183,20 +159,20 @@ fn marked(alloc: Global, hasher: RandomState, seats: &[Seat]) -> Result<Option<M
 }
 
 /// Whether each act since opening has a fresh receipt.
-fn are_covered<R: Records>(
+fn are_covered<R: Records, J: Naming>(
     alloc: Global,
-    books: &Books<R>,
+    books: &Books<R, J>,
     marks: &Marks,
     seats: &[Seat],
 ) -> Result<bool, AllocError>
     requires shards { AreShards books.now.terms books.now.identity books.now.parts }
     requires marked { AreMarked marks.now seats.now }
-    ensures yes { IfOk result (λ covered. covered ≡ true → AreCovered books.now seats.now) }
-    ensures no { IfOk result (λ covered. covered ≡ false → AreCovered books.now seats.now → ⊥) }
+    ensures yes { IfOk result (λ covered. covered ≡ true → AreCovered J.opening books.now seats.now) }
+    ensures no { IfOk result (λ covered. covered ≡ false → AreCovered J.opening books.now seats.now → ⊥) }
 {
     let _seats = seats;
-    for i in 0..books.shards.len() {
-        let subs = books.shards[i].subs(alloc)?;
+    for i in 0..books.wards.len() {
+        let subs = books.wards[i].shard().subs(alloc)?;
         if !are_all_covered(books, marks, &subs) {
             return Ok(false);
         }
@@ -205,11 +181,11 @@ fn are_covered<R: Records>(
 }
 
 /// Whether each act of these subscribers since opening has a mark.
-fn are_all_covered<R: Records>(books: &Books<R>, marks: &Marks, subs: &[Sub]) -> bool
+fn are_all_covered<R: Records, J: Naming>(books: &Books<R, J>, marks: &Marks, subs: &[Sub]) -> bool
     requires { AreShards books.now.terms books.now.identity books.now.parts }
-    ensures yes { result ≡ true → (sub : Sub) (place : ℕ) → is_among sub subs.now ≡ true → length (at_opening books.now.opening sub) < place
+    ensures yes { result ≡ true → (sub : Sub) (place : ℕ) → is_among sub subs.now ≡ true → length (J.opening sub) < place
         → place ≤ length (book books.now.parts sub) → is_marked marks.now sub place ≡ true }
-    ensures no { result ≡ false → (sub : Sub) × (place : ℕ) × (length (at_opening books.now.opening sub) < place)
+    ensures no { result ≡ false → (sub : Sub) × (place : ℕ) × (length (J.opening sub) < place)
         × (place ≤ length (book books.now.parts sub)) × (is_marked marks.now sub place ≡ false) }
 {
     same_subscribers_are_equal();
@@ -222,14 +198,14 @@ fn are_all_covered<R: Records>(books: &Books<R>, marks: &Marks, subs: &[Sub]) ->
 }
 
 /// Whether each act of a subscriber since opening has a mark.
-fn is_covered<R: Records>(books: &Books<R>, marks: &Marks, sub: Sub) -> bool
+fn is_covered<R: Records, J: Naming>(books: &Books<R, J>, marks: &Marks, sub: Sub) -> bool
     requires { AreShards books.now.terms books.now.identity books.now.parts }
-    ensures yes { result ≡ true → (place : ℕ) → length (at_opening books.now.opening sub) < place → place ≤ length (book books.now.parts sub)
+    ensures yes { result ≡ true → (place : ℕ) → length (J.opening sub) < place → place ≤ length (book books.now.parts sub)
         → is_marked marks.now sub place ≡ true }
-    ensures no { result ≡ false → (place : ℕ) × (length (at_opening books.now.opening sub) < place) × (place ≤ length (book books.now.parts sub))
+    ensures no { result ≡ false → (place : ℕ) × (length (J.opening sub) < place) × (place ≤ length (book books.now.parts sub))
         × (is_marked marks.now sub place ≡ false) }
 {
-    let opened = books.at_opening(&sub).len();
+    let opened = books.number_at_opening(&sub);
     let count = books.count(sub);
     for before in opened..count {
         if !marks.has(sub, before as u64 + 1) {

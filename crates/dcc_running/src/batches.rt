@@ -9,18 +9,20 @@ ghost use Rattle.dcc_running.specs.inner.Batches.{AreAnswered, AreEnded, all_end
 
 use crate::calls::{keep, plain};
 use crate::job::Job;
+use crate::naming::Naming;
 use crate::room::{Spare, add_spares};
 use crate::seat::Seat;
 use crate::shards::Shards;
 use crate::tally::{Tally, tallied};
+use crate::ward::Ward;
 use dcc_act::{Act, Kind, Moment, Sub};
 use dcc_receipts::{Receipt, Told};
-use dcc_shard::{Call, ExpiryAnswer, Reply, RequestAnswer, Shard};
+use dcc_shard::{Call, ExpiryAnswer, Reply, RequestAnswer};
 use dcc_store::Records;
 use std::alloc::{AllocError, Global};
 use std::sync::Wait;
 
-impl<R: Records> Shards<R> {
+impl<R: Records, J: Naming> Shards<R, J> {
     /// Makes the acts of a batch of requests in their subscribers' shard, under one lock and by one append, and answers each as
     /// [`Shards::submit`] does. The answers are added in the order of the jobs, and the receipts go to the seat in this order. It waits for the
     /// shard's lock. All room is taken first: for the receipts, for copies of the answers and for the batch itself. If memory is short for
@@ -143,9 +145,9 @@ impl<R: Records> Shards<R> {
 
 /// Makes the acts of these jobs in this shard, answers the jobs in order, and adds the receipts of the answers. The conditions: the calls are
 /// those of the jobs, and there is room for replies, answers, receipts and copies of answers.
-fn make_all<R: Records>(
+fn make_all<R: Records, J: Naming>(
     alloc: Global,
-    shard: &mut Shard<R>,
+    shard: &mut Ward<R, J>,
     receipts: &mut Vec<Receipt>,
     spares: &mut Vec<Spare>,
     jobs: Vec<Job>,
@@ -199,9 +201,9 @@ fn keep_all(
 
 /// Ends what is due of these subscribers in this shard, and adds the receipts of that, in order. The conditions: the calls are the expiries of the
 /// subscribers, who are different; there is room for replies and receipts.
-fn end_all<R: Records>(
+fn end_all<R: Records, J: Naming>(
     alloc: Global,
-    shard: &mut Shard<R>,
+    shard: &mut Ward<R, J>,
     receipts: &mut Vec<Receipt>,
     subs: &[Sub],
     moment: Moment,

@@ -1,75 +1,91 @@
 //! Shards out of their locks.
 
-ghost use Rattle.std.specs.Prelude.{◌≡◌, ◌≢◌, ◌<◌, ◌≤◌, ℕ, [], length, slice_index_or, IfSome, IfNone};
+ghost use Rattle.std.specs.Prelude.{◌≡◌, ◌≢◌, ◌<◌, ◌≤◌, ℕ, [], true, length, slice_index_or, vec_len, vec_capacity, IfSome, IfNone};
 ghost use Rattle.dcc_act.specs.declared.sub.Sub.{Sub};
 ghost use Rattle.dcc_running.specs.Audited.{AreOwn};
-ghost use Rattle.dcc_running.specs.Books.{AreShards, AreKept, AreLeft, at_opening, book};
+ghost use Rattle.dcc_running.specs.Books.{AreShards, AreKept, AreLeft, BeginWith, book};
+ghost use Rattle.dcc_running.specs.inner.Wards.{AreBegun};
 ghost use Rattle.dcc_shard.specs.Routes.{shard_of};
 ghost use Rattle.dcc_shard.specs.Shards.{held};
 ghost use Rattle.dcc_shard.specs.Stored.{StoredView};
 
-use crate::lock::Lock;
-use crate::opening::Opening;
+use crate::lock::{Lock, Place};
+use crate::naming::Naming;
+use crate::opening::Numbers;
 use crate::shards::{Shards, locked, unlocked};
+use crate::ward::Ward;
 use dcc_account::Account;
-use dcc_act::{Act, Sub};
+use dcc_act::{Sub, same_subscribers_are_equal};
 use dcc_message::Identity;
 use dcc_model::leaving_out_changes_nothing;
 use dcc_shard::{Shard, shard_of};
 use dcc_store::Records;
 use dcc_tariff::Terms;
 use std::hash::RandomState;
-use std::marker::Model;
+use std::marker::{Model, PhantomData};
 
-/// What shards hold that were at work under locks, once they are out of them: a list of acts for each subscriber, and the acts that were
-/// held at opening.
+/// What shards hold that were at work under locks, once they are out of them: a list of acts for each subscriber. The acts that were held at opening stand in
+/// the type, as `J`.
 #[derive(Drop)]
-pub struct Books<R: Records> {
+pub struct Books<R: Records, J: Naming> {
     pub(crate) terms: Terms,
     pub(crate) identity: Identity,
-    pub(crate) opening: Opening,
-    pub(crate) shards: Vec<Shard<R>>,
-    /// No locks, with room for as many as there are shards.
-    pub(crate) locks: Vec<Lock<R>>,
+    /// The number of each subscriber's acts at opening.
+    numbers: Numbers,
+    pub(crate) wards: Vec<Ward<R, J>>,
+    /// Whether each shard came out of its own lock.
+    pub(crate) are_own: bool,
+    /// No locks and no shards, with room for as many as there are wards.
+    locks: Vec<Lock<R, J>>,
+    emptied: Vec<Shard<R>>,
     pub(crate) hasher: RandomState,
+    of: PhantomData<J>,
 }
 
-impl<R: Records> Model for Books<R> {
-    ghost use Rattle.std.specs.Prelude.{◌≡◌, ◌≤◌, vec_len, vec_capacity};
-    ghost use Rattle.dcc_running.specs.Audited.{AreOwn};
+impl<R: Records, J: Naming> Model for Books<R, J> {
+    ghost use Rattle.std.specs.Prelude.{◌≡◌, ◌≤◌, true, length, vec_len, vec_capacity};
     ghost use Rattle.dcc_running.specs.Books.{BooksView};
+    ghost use Rattle.dcc_running.specs.inner.Numbers.{AreNumbersOf};
+    ghost use Rattle.dcc_running.specs.inner.Wards.{AreBegun};
 
     ghost Value = { BooksView R };
 
-    ghost view = { λ b. record { terms = b.terms; identity = b.identity; opening = b.opening.entries; parts = b.shards.items } };
+    ghost view = { λ b. record { terms = b.terms; identity = b.identity; parts = b.wards.items; are_own = b.are_own } };
 
-    ghost invariant = { λ b. (1 ≤ vec_len b.shards) × (vec_len b.shards ≤ 8) × (vec_len b.locks ≡ 0) × (vec_len b.shards ≤ vec_capacity b.locks) };
+    ghost invariant = { λ b. (1 ≤ vec_len b.wards) × (vec_len b.wards ≤ 8) × (vec_len b.locks ≡ 0) × (vec_len b.wards ≤ vec_capacity b.locks)
+        × (vec_len b.emptied ≡ 0) × (vec_len b.wards ≤ vec_capacity b.emptied) × AreNumbersOf J.opening b.numbers.entries
+        × (b.are_own ≡ true → AreBegun J.opening (length b.wards.items) b.wards.items) };
 }
 
-impl<R: Records> Books<R> {
+impl<R: Records, J: Naming> Books<R, J> {
     /// The shards, once nobody is at work with them, out of their locks. It takes no memory, and waits for nobody.
-    pub(crate) fn of(shards: Shards<R>) -> Books<R>
+    pub(crate) fn of(shards: Shards<R, J>) -> Books<R, J>
         ensures terms { result.terms ≡ shards.terms }
         ensures identity { result.identity ≡ shards.identity }
-        ensures opening { result.opening ≡ shards.opening }
         ensures count { length result.parts ≡ shards.count }
     {
         let Shards {
             terms,
             identity,
-            opening,
+            numbers,
             locks,
+            wards,
             emptied,
             hasher,
+            of: _,
         } = shards;
-        let (locks, shards) = unlocked(locks, emptied);
+        let (locks, wards) = unlocked(locks, wards);
+        let are_own = are_own(&wards);
         Books {
             terms,
             identity,
-            opening,
-            shards,
+            numbers,
+            wards,
+            are_own,
             locks,
+            emptied,
             hasher,
+            of: PhantomData,
         }
     }
 
@@ -80,9 +96,8 @@ impl<R: Records> Books<R> {
         ensures none { IfNone result (book self.now.parts sub ≡ []) }
         ensures terms { IfSome result (λ account. AreShards self.now.terms self.now.identity self.now.parts → account.now.terms ≡ self.now.terms) }
     {
-        let i = shard_of(&sub, self.shards.len());
-        let shard = &self.shards[i];
-        shard.account(sub)
+        let i = shard_of(&sub, self.wards.len());
+        self.wards[i].shard().account(sub)
     }
 
     /// How many acts of a subscriber there are.
@@ -101,8 +116,8 @@ impl<R: Records> Books<R> {
         ensures { AreOwn self.now }
     {
         leaving_out_changes_nothing();
-        for shard in &self.shards {
-            shard.acts_are_own();
+        for ward in &self.wards {
+            ward.shard().acts_are_own();
         }
     }
 
@@ -110,19 +125,28 @@ impl<R: Records> Books<R> {
     pub(crate) fn records_are_kept(&self)
         ensures { AreKept R.is_stopped R.may_leave self.now.parts }
     {
-        for shard in &self.shards {
-            let _records = shard.records();
+        for ward in &self.wards {
+            let _records = ward.shard().records();
         }
     }
 
-    /// The acts of a subscriber at opening.
-    pub(crate) fn at_opening(&self, sub: &Sub) -> &[Act]
-        ensures { result.now ≡ at_opening self.now.opening sub.now }
+    /// The number of a subscriber's acts at opening.
+    pub(crate) fn number_at_opening(&self, sub: &Sub) -> usize
+        ensures { result ≡ length (J.opening sub.now) }
     {
-        match self.opening.get(sub) {
-            Some(acts) => acts,
-            None => &[],
+        same_subscribers_are_equal();
+        match self.numbers.get(sub) {
+            Some(number) => *number,
+            None => 0,
         }
+    }
+
+    /// Does nothing: if each shard came out of its own lock, the acts of each subscriber begin with the acts at opening.
+    pub(crate) fn acts_are_begun(&self)
+        requires { self.now.are_own ≡ true }
+        ensures { (sub : Sub) → BeginWith (J.opening sub) (book self.now.parts sub) }
+    {
+        let _wards = &self.wards;
     }
 
     /// The shards, each with its records, moved out. It takes no memory. Where `close` was Ok they may be opened again, as
@@ -149,41 +173,76 @@ impl<R: Records> Books<R> {
         let Books {
             terms: _,
             identity,
-            opening,
-            shards,
+            numbers,
+            wards,
+            are_own: _,
             locks,
+            emptied,
             hasher: _,
+            of: _,
         } = self;
-        // By calls: what is let go in place is proved part by part.
-        drop(identity);
-        drop(opening);
-        drop(locks);
-        shards
+        // By a call: what is let go in place is proved part by part.
+        drop((identity, numbers, locks));
+        unwarded(wards, emptied)
     }
 
     /// The shards under locks again, with the same acts at opening. It takes no memory.
-    pub fn into_locks(self) -> Shards<R>
+    pub fn into_locks(self) -> Shards<R, J>
         ensures terms { result.terms ≡ self.terms }
         ensures identity { result.identity ≡ self.identity }
-        ensures opening { result.opening ≡ self.opening }
         ensures count { result.count ≡ length self.parts }
     {
         let Books {
             terms,
             identity,
-            opening,
-            shards,
-            locks,
-            hasher,
-        } = self;
-        let (locks, emptied) = locked(locks, shards);
-        Shards {
-            terms,
-            identity,
-            opening,
+            numbers,
+            wards,
+            are_own: _,
             locks,
             emptied,
             hasher,
+            of: _,
+        } = self;
+        let (locks, wards) = locked(locks, wards);
+        Shards {
+            terms,
+            identity,
+            numbers,
+            locks,
+            wards,
+            emptied,
+            hasher,
+            of: PhantomData,
         }
     }
+}
+
+/// Whether each of these has the place of its index.
+fn are_own<R: Records, J: Naming>(wards: &[Ward<R, J>]) -> bool
+    ensures { result ≡ true → AreBegun J.opening (length wards.now) wards.now }
+{
+    let count = wards.len();
+    for index in 0..count {
+        if !wards[index].is_at(Place { index, count }) {
+            return false;
+        }
+    }
+    true
+}
+
+/// The shards of these wards, in order, put into an empty list with room for them. It takes no memory.
+fn unwarded<R: Records + Drop, J: Naming>(
+    wards: Vec<Ward<R, J>>,
+    emptied: Vec<Shard<R>>,
+) -> Vec<Shard<R>>
+    requires none { vec_len emptied ≡ 0 }
+    requires room { vec_len wards ≤ vec_capacity emptied }
+    ensures { result.items ≡ wards.items }
+{
+    let mut wards = wards;
+    let mut shards = emptied;
+    while wards.len() > 0 {
+        shards.push_reserved(wards.remove(0).into_shard());
+    }
+    shards
 }

@@ -8,9 +8,11 @@ ghost use Rattle.dcc_shard.specs.Shards.{IsStep};
 ghost use Rattle.dcc_running.specs.Calls.{IsAnswerTo, IsToldOf, IsEndOf, receipt, receipts_of, top_up_receipts, told_receipts, expiry_receipts, plain_receipt};
 
 use crate::job::Job;
+use crate::naming::Naming;
 use crate::room::{Spare, add_spares, twice};
 use crate::seat::Seat;
 use crate::shards::Shards;
+use crate::ward::Ward;
 use dcc_act::{Act, Kind, Moment, Sub, TopUp};
 use dcc_answer::{Proxies, write_busy};
 use dcc_credit::lend_session;
@@ -18,7 +20,7 @@ use dcc_message::{Header, Identity};
 use dcc_model::request_key;
 use dcc_octets::OctetString;
 use dcc_receipts::{Receipt, Told};
-use dcc_shard::{ExpiryAnswer, RequestAnswer, Shard, TopUpAnswer};
+use dcc_shard::{ExpiryAnswer, RequestAnswer, TopUpAnswer};
 use dcc_store::Records;
 use std::alloc::{AllocError, Global};
 use std::sync::Wait;
@@ -33,7 +35,7 @@ const NO_HEADER: Header = Header {
     end_to_end: 0,
 };
 
-impl<R: Records> Shards<R> {
+impl<R: Records, J: Naming> Shards<R, J> {
     /// Makes a request's act in its subscriber's shard, and answers it as that does, under the job's own header and with its own proxies.
     /// It waits for the shard's lock. The room for the receipt is taken first; where that is refused, the answer is busy, or none.
     pub fn submit<W: Wait>(&self, rt: &W, alloc: Global, seat: &mut Seat, job: Job) -> RequestAnswer
@@ -54,7 +56,7 @@ impl<R: Records> Shards<R> {
     }
 }
 
-impl<R: Records> Shards<R> {
+impl<R: Records, J: Naming> Shards<R, J> {
     /// Puts money into a subscriber's account, in minor units, as its shard does. It waits for the shard's lock. The room for the receipt
     /// is taken first; where that is refused, so is the top-up.
     pub fn top_up<W: Wait>(
@@ -104,9 +106,9 @@ impl<R: Records> Shards<R> {
 
 /// Makes a request's act in this shard, answers it, and adds the receipt of the answer, where it gives one. The conditions: the act is the job's, and
 /// there is room for the receipt, and a spare room.
-fn make<R: Records>(
+fn make<R: Records, J: Naming>(
     alloc: Global,
-    shard: &mut Shard<R>,
+    shard: &mut Ward<R, J>,
     receipts: &mut Vec<Receipt>,
     spares: &mut Vec<Spare>,
     job: Job,
@@ -126,9 +128,9 @@ fn make<R: Records>(
 }
 
 /// Puts money into a subscriber's account in this shard, and adds the receipt, where there is one. The condition: there is room for it.
-fn add<R: Records>(
+fn add<R: Records, J: Naming>(
     alloc: Global,
-    shard: &mut Shard<R>,
+    shard: &mut Ward<R, J>,
     receipts: &mut Vec<Receipt>,
     sub: Sub,
     moment: Moment,
@@ -147,9 +149,9 @@ fn add<R: Records>(
 }
 
 /// Ends what is due of a subscriber in this shard, and adds the receipt, where there is one. The condition: there is room for it.
-fn end<R: Records>(
+fn end<R: Records, J: Naming>(
     alloc: Global,
-    shard: &mut Shard<R>,
+    shard: &mut Ward<R, J>,
     receipts: &mut Vec<Receipt>,
     sub: Sub,
     moment: Moment,

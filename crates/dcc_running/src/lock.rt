@@ -1,11 +1,13 @@
-//! A shard's lock.
+//! A lock and its place.
 
 ghost use Rattle.std.specs.Prelude.{◌≡◌};
 ghost use Rattle.dcc_running.specs.inner.Batches.{AreKeptAt};
 ghost use Rattle.dcc_shard.specs.Routes.{shard_of};
 
+use crate::naming::Naming;
+use crate::ward::Ward;
 use dcc_act::Sub;
-use dcc_shard::{Call, Shard};
+use dcc_shard::Call;
 use dcc_store::Records;
 use std::sync::{Mutex, MutexGuard, Wait};
 
@@ -18,28 +20,28 @@ pub(crate) struct Place {
 
 /// A shard under its lock.
 #[derive(Drop)]
-pub(crate) struct Lock<R: Records> {
+pub(crate) struct Lock<R: Records, J: Naming> {
     /// Where it stands among the locks: for clauses, which know nothing else of a lock.
     place: Place,
-    shard: Mutex<Shard<R>>,
+    ward: Mutex<Ward<R, J>>,
 }
 
-impl<R: Records> Lock<R> {
-    pub(crate) fn new(place: Place, shard: Shard<R>) -> Lock<R>
+impl<R: Records, J: Naming> Lock<R, J> {
+    pub(crate) fn new(place: Place, ward: Ward<R, J>) -> Lock<R, J>
         ensures { result.place ≡ place }
     {
         Lock {
             place,
-            shard: Mutex::new(shard),
+            ward: Mutex::new(ward),
         }
     }
 
     /// Waits for the lock, for an act of this subscriber. The condition: the shard keeps it.
-    pub(crate) fn lock_for<'a, W: Wait>(&'a self, rt: &W, sub: &Sub) -> MutexGuard<'a, Shard<R>>
+    pub(crate) fn lock_for<'a, W: Wait>(&'a self, rt: &W, sub: &Sub) -> MutexGuard<'a, Ward<R, J>>
         requires { self.now.place.index ≡ shard_of sub.now self.now.place.count }
     {
         let _sub = sub;
-        self.shard.lock(rt)
+        self.ward.lock(rt)
     }
 
     /// Waits for the lock, for these calls. The condition: the shard keeps the subscriber of each.
@@ -47,24 +49,24 @@ impl<R: Records> Lock<R> {
         &'a self,
         rt: &W,
         calls: &[Call],
-    ) -> MutexGuard<'a, Shard<R>>
+    ) -> MutexGuard<'a, Ward<R, J>>
         requires { AreKeptAt self.now.place calls.now }
     {
         let _calls = calls;
-        self.shard.lock(rt)
+        self.ward.lock(rt)
     }
 
     /// Waits for the lock, which is the one of this index.
-    pub(crate) fn lock_as<'a, W: Wait>(&'a self, rt: &W, index: usize) -> MutexGuard<'a, Shard<R>>
+    pub(crate) fn lock_as<'a, W: Wait>(&'a self, rt: &W, index: usize) -> MutexGuard<'a, Ward<R, J>>
         requires { self.now.place.index ≡ index }
     {
         let _index = index;
-        self.shard.lock(rt)
+        self.ward.lock(rt)
     }
 
     /// The shard, once nobody is at work with it.
-    pub(crate) fn into_shard(self) -> Shard<R> {
-        let Lock { place: _, shard } = self;
-        shard.into_inner()
+    pub(crate) fn into_ward(self) -> Ward<R, J> {
+        let Lock { place: _, ward } = self;
+        ward.into_inner()
     }
 }

@@ -7,6 +7,7 @@ ghost use Rattle.dcc_shard.specs.Routes.{shard_of};
 ghost use Rattle.dcc_shard.specs.Shards.{held};
 
 use crate::books::Books;
+use crate::naming::Naming;
 use dcc_act::same_subscribers_are_equal;
 use dcc_message::Identity;
 use dcc_shard::{Shard, shard_of};
@@ -16,13 +17,16 @@ use std::alloc::{AllocError, Global};
 
 /// Whether each shard is under the terms of the books, answers as their server, and holds only subscribers that it keeps. The only
 /// error is want of memory.
-pub(crate) fn are_shards<R: Records>(alloc: Global, books: &Books<R>) -> Result<bool, AllocError>
+pub(crate) fn are_shards<R: Records, J: Naming>(
+    alloc: Global,
+    books: &Books<R, J>,
+) -> Result<bool, AllocError>
     ensures yes { IfOk result (λ all. all ≡ true → AreShards books.now.terms books.now.identity books.now.parts) }
     ensures no { IfOk result (λ all. all ≡ false → AreShards books.now.terms books.now.identity books.now.parts → ⊥) }
 {
-    let count = books.shards.len();
+    let count = books.wards.len();
     for i in 0..count {
-        let shard = &books.shards[i];
+        let shard = books.wards[i].shard();
         if !is_under(shard, &books.terms, &books.identity) || !is_placed(alloc, shard, i, count)? {
             return Ok(false);
         }

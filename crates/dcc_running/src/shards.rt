@@ -4,18 +4,22 @@ ghost use Rattle.std.specs.Prelude.{◌≡◌, ◌≢◌, ℕ, ◌<◌, ◌≤�
 ghost use Rattle.std.specs.List.Sorted.{IsStrictlySortedBy};
 ghost use Rattle.dcc_act.specs.declared.sub.Sub.{Sub};
 ghost use Rattle.dcc_store.specs.Books.{sub_order};
-ghost use Rattle.dcc_running.specs.Books.{at_opening, book};
+ghost use Rattle.dcc_running.specs.Books.{book};
 ghost use Rattle.dcc_running.specs.Calls.{AreSubs, IsReadOf, IsResolved, IsToldStopped};
 ghost use Rattle.dcc_running.specs.inner.Batches.{AreKeptAt};
 ghost use Rattle.dcc_running.specs.inner.Locks.{AreOf};
+ghost use Rattle.dcc_running.specs.inner.Numbers.{AreNumbersOf};
+ghost use Rattle.dcc_running.specs.inner.Wards.{AreBegun};
 ghost use Rattle.dcc_shard.specs.Routes.{shard_of};
 ghost use Rattle.dcc_shard.specs.Shards.{held};
 ghost use Rattle.dcc_shard.specs.Stored.{StoredView};
 
 use crate::lock::{Lock, Place};
 use crate::look::Look;
-use crate::opening::{Opening, copied};
+use crate::naming::Naming;
+use crate::opening::{Numbers, counted};
 use crate::seat::Seat;
+use crate::ward::Ward;
 use dcc_act::{SessionId, Sub};
 use dcc_message::Identity;
 use dcc_octets::Host;
@@ -24,45 +28,52 @@ use dcc_store::Records;
 use dcc_tariff::Terms;
 use std::alloc::{AllocError, Global};
 use std::hash::RandomState;
-use std::marker::Model;
+use std::marker::{Model, PhantomData};
 use std::sync::{MutexGuard, Wait};
 
-/// 1 to 8 shards, each under its lock, with a copy of the acts that were held when they were opened.
+/// 1 to 8 shards, each under its lock. The acts that were held when they were put there stand in the type, as `J`.
 #[derive(Drop)]
-pub struct Shards<R: Records> {
+pub struct Shards<R: Records, J: Naming> {
     pub(crate) terms: Terms,
     pub(crate) identity: Identity,
-    pub(crate) opening: Opening,
-    pub(crate) locks: Vec<Lock<R>>,
-    /// No shards, with room for as many as there are locks.
+    /// The number of each subscriber's acts at opening.
+    pub(crate) numbers: Numbers,
+    pub(crate) locks: Vec<Lock<R, J>>,
+    /// No wards and no shards, with room for as many as there are locks.
+    pub(crate) wards: Vec<Ward<R, J>>,
     pub(crate) emptied: Vec<Shard<R>>,
     pub(crate) hasher: RandomState,
+    pub(crate) of: PhantomData<J>,
 }
 
-impl<R: Records> Model for Shards<R> {
+impl<R: Records, J: Naming> Model for Shards<R, J> {
     ghost use Rattle.std.specs.Prelude.{◌≡◌, ◌≤◌, vec_len, vec_capacity};
     ghost use Rattle.dcc_running.specs.Books.{LockedView};
     ghost use Rattle.dcc_running.specs.inner.Locks.{AreOf};
+    ghost use Rattle.dcc_running.specs.inner.Numbers.{AreNumbersOf};
 
     ghost Value = { LockedView };
 
-    ghost view = { λ s. record { terms = s.terms; identity = s.identity; opening = s.opening.entries; count = vec_len s.locks } };
+    ghost view = { λ s. record { terms = s.terms; identity = s.identity; count = vec_len s.locks } };
 
-    ghost invariant = { λ s. (1 ≤ vec_len s.locks) × (vec_len s.locks ≤ 8) × (vec_len s.emptied ≡ 0)
-        × (vec_len s.locks ≤ vec_capacity s.emptied) × AreOf (vec_len s.locks) s.locks.items };
+    ghost invariant = { λ s. (1 ≤ vec_len s.locks) × (vec_len s.locks ≤ 8) × (vec_len s.wards ≡ 0) × (vec_len s.locks ≤ vec_capacity s.wards)
+        × (vec_len s.emptied ≡ 0) × (vec_len s.locks ≤ vec_capacity s.emptied) × AreOf (vec_len s.locks) s.locks.items
+        × AreNumbersOf J.opening s.numbers.entries };
 }
 
-impl<R: Records> Shards<R> {
+impl<R: Records, J: Naming> Shards<R, J> {
     /// These shards, each under a lock. The conditions: 1 to 8 shards, under these terms and for this server, each of which holds only
-    /// subscribers that [`dcc_shard::shard_of`] gives it. Subscribers are found by hashes under this state. The only error is want of memory, and
-    /// then the shards are handed back.
+    /// subscribers that [`dcc_shard::shard_of`] gives it; `J` is of the acts that they hold. Subscribers are found by hashes under this state. It copies no
+    /// acts. The only error is want of memory, and then the shards are handed back.
     pub fn new(
         alloc: Global,
         terms: &Terms,
         identity: &Identity,
         shards: Vec<Shard<R>>,
         hasher: RandomState,
-    ) -> Result<Shards<R>, Vec<Shard<R>>>
+    ) -> Result<Shards<R, J>, Vec<Shard<R>>>
+    where
+        R: Drop,
         requires some { 1 ≤ length shards.items }
         requires most { length shards.items ≤ 8 }
         requires terms { (i : ℕ) (none : StoredView R) → i < length shards.items → (slice_index_or shards.items i none).shard.terms ≡ terms.now }
@@ -70,23 +81,26 @@ impl<R: Records> Shards<R> {
             → (slice_index_or shards.items i none).shard.identity ≡ identity.now }
         requires placed { (i : ℕ) (none : StoredView R) (sub : Sub) → i < length shards.items
             → held (slice_index_or shards.items i none).shard sub ≢ [] → shard_of sub (length shards.items) ≡ i }
+        requires opening { (sub : Sub) → J.opening sub ≡ book shards.items sub }
         ensures terms { IfOk result (λ locked. locked.terms ≡ terms.now) }
         ensures identity { IfOk result (λ locked. locked.identity ≡ identity.now) }
         ensures count { IfOk result (λ locked. locked.count ≡ length shards.items) }
-        ensures opening { IfOk result (λ locked. (sub : Sub) → at_opening locked.opening sub ≡ book shards.items sub) }
         ensures back { IfErr result (λ back. back.items ≡ shards.items) }
     {
-        let Ok((identity, opening, locks)) = room_for(alloc, identity, &shards, hasher) else {
+        let Ok((identity, numbers, locks, wards)) = room_for(alloc, identity, &shards, hasher) else {
             return Err(shards);
         };
-        let (locks, emptied) = locked(locks, shards);
+        let (wards, emptied) = warded(wards, shards);
+        let (locks, wards) = locked(locks, wards);
         Ok(Shards {
             terms: *terms,
             identity,
-            opening,
+            numbers,
             locks,
+            wards,
             emptied,
             hasher,
+            of: PhantomData,
         })
     }
 
@@ -104,7 +118,7 @@ impl<R: Records> Shards<R> {
         ensures order { IfOk result (λ subs. IsStrictlySortedBy sub_order subs.items) }
         ensures held { IfOk result (λ subs. AreSubs subs.items) }
     {
-        self.locks[shard].lock_as(rt, shard).subs(alloc)
+        self.locks[shard].lock_as(rt, shard).shard().subs(alloc)
     }
 
     /// Who opened the session from the host, by what each shard holds when its lock is taken: nobody, one subscriber, or several. It
@@ -114,7 +128,8 @@ impl<R: Records> Shards<R> {
     {
         let mut found = Found::None;
         for shard in 0..self.locks.len() {
-            found = found.join(self.locks[shard].lock_as(rt, shard).find(host, sid));
+            let ward = self.locks[shard].lock_as(rt, shard);
+            found = found.join(ward.shard().find(host, sid));
         }
         found
     }
@@ -125,7 +140,8 @@ impl<R: Records> Shards<R> {
         requires { shard < self.now.count }
         ensures { IsToldStopped R.is_stopped result }
     {
-        self.locks[shard].lock_as(rt, shard).records().is_stopped()
+        let ward = self.locks[shard].lock_as(rt, shard);
+        ward.shard().records().is_stopped()
     }
 
     /// What a reader finds in the shard of this index, as the shard is when its lock is taken. It waits for the shard's lock, and holds it until
@@ -134,7 +150,7 @@ impl<R: Records> Shards<R> {
         requires { shard < self.now.count }
         ensures { IsReadOf (L.finds look shard) result }
     {
-        look.look(shard, &self.locks[shard].lock_as(rt, shard))
+        look.look(shard, self.locks[shard].lock_as(rt, shard).shard())
     }
 
     /// The number of shards.
@@ -159,7 +175,7 @@ impl<R: Records> Shards<R> {
         rt: &W,
         sub: &Sub,
         calls: &[Call],
-    ) -> MutexGuard<'a, Shard<R>>
+    ) -> MutexGuard<'a, Ward<R, J>>
         requires { AreKeptAt (record { index = shard_of sub.now self.now.count; count = self.now.count }) calls.now }
     {
         let at = shard_of(sub, self.locks.len());
@@ -167,78 +183,106 @@ impl<R: Records> Shards<R> {
     }
 
     /// Waits for the lock of the shard that keeps a subscriber.
-    pub(crate) fn lock_of<'a, W: Wait>(&'a self, rt: &W, sub: &Sub) -> MutexGuard<'a, Shard<R>> {
+    pub(crate) fn lock_of<'a, W: Wait>(&'a self, rt: &W, sub: &Sub) -> MutexGuard<'a, Ward<R, J>> {
         let index = shard_of(sub, self.locks.len());
         self.locks[index].lock_for(rt, sub)
     }
 }
 
-/// All that is taken of memory for shards under locks: a copy of the names, copies of the acts, and room for the locks.
-fn room_for<R: Records>(
+/// All that is taken of memory for shards under locks: a copy of the names, the numbers of the acts, and room for the locks and the wards.
+fn room_for<R: Records + Drop, J: Naming>(
     alloc: Global,
     identity: &Identity,
     shards: &[Shard<R>],
     hasher: RandomState,
-) -> Result<(Identity, Opening, Vec<Lock<R>>), AllocError>
+) -> Result<(Identity, Numbers, Vec<Lock<R, J>>, Vec<Ward<R, J>>), AllocError>
     requires some { 1 ≤ length shards.now }
     requires placed { (i : ℕ) (none : StoredView R) (sub : Sub) → i < length shards.now
         → held (slice_index_or shards.now i none).shard sub ≢ [] → shard_of sub (length shards.now) ≡ i }
     ensures identity { IfOk result (λ room. room.0 ≡ identity.now) }
-    ensures opening { IfOk result (λ room. (sub : Sub) → at_opening room.1.entries sub ≡ book shards.now sub) }
-    ensures none { IfOk result (λ room. vec_len room.2 ≡ 0) }
-    ensures room { IfOk result (λ room. length shards.now ≤ vec_capacity room.2) }
+    ensures numbers { IfOk result (λ room. AreNumbersOf (book shards.now) room.1.entries) }
+    ensures no_locks { IfOk result (λ room. vec_len room.2 ≡ 0) }
+    ensures locks { IfOk result (λ room. length shards.now ≤ vec_capacity room.2) }
+    ensures no_wards { IfOk result (λ room. vec_len room.3 ≡ 0) }
+    ensures wards { IfOk result (λ room. length shards.now ≤ vec_capacity room.3) }
 {
     let identity = identity.copy()?;
-    let Ok(opening) = copied(alloc, shards, hasher) else {
+    let Ok(numbers) = counted(alloc, shards, hasher) else {
         // By a call, here and below: what is let go in place is proved part by part.
         drop(identity);
         return Err(AllocError);
     };
     let Ok(locks) = Vec::with_capacity(alloc, shards.len()) else {
-        drop(identity);
-        drop(opening);
+        drop((identity, numbers));
         return Err(AllocError);
     };
-    Ok((identity, opening, locks))
+    let Ok(wards) = Vec::with_capacity(alloc, shards.len()) else {
+        drop((identity, numbers, locks));
+        return Err(AllocError);
+    };
+    Ok((identity, numbers, locks, wards))
 }
 
-/// Puts each shard under a lock, in order, and gives what held them back, emptied. It takes no memory.
-pub(crate) fn locked<R: Records>(
-    locks: Vec<Lock<R>>,
+/// Gives each shard its place, in order, and gives what held the shards back, emptied. It takes no memory. The condition: the acts of each shard begin
+/// with the acts at opening.
+fn warded<R: Records, J: Naming>(
+    wards: Vec<Ward<R, J>>,
     shards: Vec<Shard<R>>,
-) -> (Vec<Lock<R>>, Vec<Shard<R>>)
-    requires none { vec_len locks ≡ 0 }
-    requires room { vec_len shards ≤ vec_capacity locks }
-    ensures count { vec_len result.0 ≡ vec_len shards }
-    ensures places { AreOf (vec_len shards) result.0.items }
+) -> (Vec<Ward<R, J>>, Vec<Shard<R>>)
+    requires none { vec_len wards ≡ 0 }
+    requires room { vec_len shards ≤ vec_capacity wards }
+    requires begun { AreBegun J.opening (length shards.items) shards.items }
+    ensures shards { result.0.items ≡ shards.items }
     ensures emptied { vec_len result.1 ≡ 0 }
     ensures room { vec_len shards ≤ vec_capacity result.1 }
 {
-    let mut locks = locks;
+    let mut wards = wards;
     let mut shards = shards;
     let count = shards.len();
     while shards.len() > 0 {
-        let index = locks.len();
-        locks.push_reserved(Lock::new(Place { index, count }, shards.remove(0)));
+        let index = wards.len();
+        wards.push_reserved(Ward::new(Place { index, count }, shards.remove(0)));
     }
-    (locks, shards)
+    (wards, shards)
+}
+
+/// Puts each shard under a lock, in order, and gives what held them back, emptied. It takes no memory.
+pub(crate) fn locked<R: Records, J: Naming>(
+    locks: Vec<Lock<R, J>>,
+    wards: Vec<Ward<R, J>>,
+) -> (Vec<Lock<R, J>>, Vec<Ward<R, J>>)
+    requires none { vec_len locks ≡ 0 }
+    requires room { vec_len wards ≤ vec_capacity locks }
+    ensures count { vec_len result.0 ≡ vec_len wards }
+    ensures places { AreOf (vec_len wards) result.0.items }
+    ensures emptied { vec_len result.1 ≡ 0 }
+    ensures room { vec_len wards ≤ vec_capacity result.1 }
+{
+    let mut locks = locks;
+    let mut wards = wards;
+    let count = wards.len();
+    while wards.len() > 0 {
+        let index = locks.len();
+        locks.push_reserved(Lock::new(Place { index, count }, wards.remove(0)));
+    }
+    (locks, wards)
 }
 
 /// Takes each shard out of its lock, in order, and gives what held the locks back, emptied. It takes no memory.
-pub(crate) fn unlocked<R: Records>(
-    locks: Vec<Lock<R>>,
-    shards: Vec<Shard<R>>,
-) -> (Vec<Lock<R>>, Vec<Shard<R>>)
-    requires none { vec_len shards ≡ 0 }
-    requires room { vec_len locks ≤ vec_capacity shards }
+pub(crate) fn unlocked<R: Records, J: Naming>(
+    locks: Vec<Lock<R, J>>,
+    wards: Vec<Ward<R, J>>,
+) -> (Vec<Lock<R, J>>, Vec<Ward<R, J>>)
+    requires none { vec_len wards ≡ 0 }
+    requires room { vec_len locks ≤ vec_capacity wards }
     ensures count { vec_len result.1 ≡ vec_len locks }
     ensures emptied { vec_len result.0 ≡ 0 }
     ensures room { vec_len locks ≤ vec_capacity result.0 }
 {
     let mut locks = locks;
-    let mut shards = shards;
+    let mut wards = wards;
     while locks.len() > 0 {
-        shards.push_reserved(locks.remove(0).into_shard());
+        wards.push_reserved(locks.remove(0).into_ward());
     }
-    (locks, shards)
+    (locks, wards)
 }

@@ -8,6 +8,7 @@ use dcc_shard::RequestAnswer;
 use dcc_store::{MemoryRecords, Records};
 use dcc_test_stores::OnceRecords;
 use std::alloc::Global;
+use std::marker::Brand;
 use std::process::Abort;
 use std::random::RandomSource;
 use std::sync::Wait;
@@ -71,7 +72,7 @@ fn are_same(ones: &[RequestAnswer], others: &[RequestAnswer]) -> bool {
 }
 
 /// How many acts these subscribers have.
-fn acts_of<R: Records>(books: &Books<R>, subs: &[Sub]) -> usize {
+fn acts_of<R: Records>(books: &Books<R, Brand>, subs: &[Sub]) -> usize {
     let mut count = 0usize;
     for sub in subs {
         if let Some(account) = books.account(*sub) {
@@ -84,7 +85,7 @@ fn acts_of<R: Records>(books: &Books<R>, subs: &[Sub]) -> usize {
 /// Closes shards with the receipts of one seat: how many acts these subscribers have then. None if receipts and acts disagree.
 fn closed<R: Records + Drop>(
     alloc: Global,
-    shards: Shards<R>,
+    shards: Shards<R, Brand>,
     seat: Seat,
     subs: &[Sub],
 ) -> Option<usize> {
@@ -110,7 +111,7 @@ fn closed<R: Records + Drop>(
 /// Debits of these subscribers at once, at shards that are closed behind them: the answers, and how many acts the subscribers have then.
 fn debit_at_once<W: Wait + Abort + AllocGlobal, R: Records + Drop>(
     rt: &W,
-    shards: Shards<R>,
+    shards: Shards<R, Brand>,
     subs: &[Sub],
 ) -> Result<(Vec<RequestAnswer>, Option<usize>), Fail> {
     let alloc = rt.alloc();
@@ -159,7 +160,7 @@ fn debit_alone<W: Wait + RandomSource + AllocGlobal>(
 /// The same at these shards.
 fn debit_alone_at<W: Wait + AllocGlobal, R: Records>(
     rt: &W,
-    shards: &Shards<R>,
+    shards: &Shards<R, Brand>,
     subs: &[Sub],
 ) -> Result<Vec<RequestAnswer>, Fail> {
     let mut seat = shards.seat(rt.alloc())?;

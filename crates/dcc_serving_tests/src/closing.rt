@@ -9,13 +9,14 @@ use dcc_running::{Books, Seat, Shards, Unclosed};
 use dcc_shard::{ExpiryAnswer, TopUpAnswer};
 use dcc_store::Records;
 use std::alloc::Global;
+use std::marker::Brand;
 use std::process::Abort;
 use std::random::RandomSource;
 use std::sync::Wait;
 use std::test::Fail;
 
 /// A caller for the subscriber of these tests.
-fn caller<R: Records>(alloc: Global, shards: &Shards<R>) -> Result<Caller, Fail> {
+fn caller<R: Records>(alloc: Global, shards: &Shards<R, Brand>) -> Result<Caller, Fail> {
     Caller::new(alloc, shards, b"491700000001", b"gw1.example;1;1")
 }
 
@@ -34,7 +35,7 @@ fn alone(alloc: Global, seat: Seat) -> Result<Vec<Seat>, Fail> {
 }
 
 /// The fault's number, 0 for none of these.
-fn close<R: Records + Drop>(alloc: Global, shards: Shards<R>, seats: Vec<Seat>) -> u8 {
+fn close<R: Records + Drop>(alloc: Global, shards: Shards<R, Brand>, seats: Vec<Seat>) -> u8 {
     match shards.close(alloc, seats) {
         Ok(books) => {
             drop(books);
@@ -71,7 +72,7 @@ const THREE_TOP_UPS: &[ToldTopUp] = &[
 /// Tops up, and asserts the answer of each top-up.
 fn top_up_each<W: Wait + Abort + AllocGlobal, R: Records>(
     rt: &W,
-    shards: &Shards<R>,
+    shards: &Shards<R, Brand>,
     caller: &mut Caller,
     top_ups: &[ToldTopUp],
 ) {
@@ -84,7 +85,7 @@ fn top_up_each<W: Wait + Abort + AllocGlobal, R: Records>(
 /// Ends a session, which is held for 1,200 seconds.
 fn end_session<W: Wait + Abort + AllocGlobal, R: Records>(
     rt: &W,
-    shards: &Shards<R>,
+    shards: &Shards<R, Brand>,
     caller: &mut Caller,
 ) {
     assert_eq!(rt; caller.open(rt, rt.alloc(), shards), Some(true));
@@ -107,7 +108,7 @@ fn check(receipts: &[Receipt]) -> u8 {
 }
 
 /// How many subscribers the first shard has.
-fn count<W: Wait, R: Records>(rt: &W, alloc: Global, shards: &Shards<R>) -> Result<usize, Fail>
+fn count<W: Wait, R: Records>(rt: &W, alloc: Global, shards: &Shards<R, Brand>) -> Result<usize, Fail>
     requires { 0 < shards.now.count }
 {
     Ok(shards.subs(rt, alloc, 0)?.len())
@@ -116,7 +117,7 @@ fn count<W: Wait, R: Records>(rt: &W, alloc: Global, shards: &Shards<R>) -> Resu
 /// Makes each call, and asserts how many receipts they give.
 fn make_each<W: Wait + Abort + AllocGlobal, R: Records>(
     rt: &W,
-    shards: &Shards<R>,
+    shards: &Shards<R, Brand>,
     caller: &mut Caller,
 ) -> Result<(), Fail>
     requires { 0 < shards.now.count }
@@ -178,7 +179,7 @@ const CEILING: &[ToldTopUp] = &[
 /// Tops up to the ceiling. A refund is answered with DIAMETER_UNABLE_TO_COMPLY, 5012.
 fn reach_the_ceiling<W: Wait + Abort + AllocGlobal, R: Records>(
     rt: &W,
-    shards: &Shards<R>,
+    shards: &Shards<R, Brand>,
     caller: &mut Caller,
 ) {
     top_up_each(rt, shards, caller, &[(1, MAX_AMOUNT, ADDED)]);
@@ -201,7 +202,7 @@ enum Seated {
 /// Does so at this caller's seat.
 fn act_at<W: Wait + Abort + AllocGlobal + RandomSource, R: Records>(
     rt: &W,
-    shards: &Shards<R>,
+    shards: &Shards<R, Brand>,
     caller: &mut Caller,
     seated: Seated,
 ) -> Result<(), Fail>
@@ -224,7 +225,7 @@ fn act_at<W: Wait + Abort + AllocGlobal + RandomSource, R: Records>(
 /// The seat of this caller, at which so was done.
 fn seat_by<W: Wait + Abort + AllocGlobal + RandomSource, R: Records>(
     rt: &W,
-    shards: &Shards<R>,
+    shards: &Shards<R, Brand>,
     caller: &mut Caller,
     seated: Seated,
 ) -> Result<Seat, Fail>
@@ -237,7 +238,7 @@ fn seat_by<W: Wait + Abort + AllocGlobal + RandomSource, R: Records>(
 /// A seat at which so was done.
 fn seat_of<W: Wait + Abort + AllocGlobal + RandomSource, R: Records>(
     rt: &W,
-    shards: &Shards<R>,
+    shards: &Shards<R, Brand>,
     seated: Seated,
 ) -> Result<Seat, Fail>
     requires { 0 < shards.now.count }
@@ -251,7 +252,7 @@ fn seat_of<W: Wait + Abort + AllocGlobal + RandomSource, R: Records>(
 /// That seat alone.
 fn seats_of<W: Wait + Abort + AllocGlobal + RandomSource, R: Records>(
     rt: &W,
-    shards: &Shards<R>,
+    shards: &Shards<R, Brand>,
     seated: Seated,
 ) -> Result<Vec<Seat>, Fail>
     requires { 0 < shards.now.count }
@@ -261,7 +262,7 @@ fn seats_of<W: Wait + Abort + AllocGlobal + RandomSource, R: Records>(
 }
 
 /// The fault's number of a close without any seat, 0 for none of these, and the books that it leaves.
-fn close_without<R: Records + Drop>(alloc: Global, shards: Shards<R>) -> (u8, Books<R>) {
+fn close_without<R: Records + Drop>(alloc: Global, shards: Shards<R, Brand>) -> (u8, Books<R, Brand>) {
     match shards.close(alloc, Vec::new(alloc)) {
         Ok(books) => (0, books),
         Err(unclosed) => {
@@ -277,7 +278,7 @@ fn close_without<R: Records + Drop>(alloc: Global, shards: Shards<R>) -> (u8, Bo
 }
 
 /// The outcome of a close without any seat, and of a close with these seats over what the first left.
-fn close_twice<R: Records + Drop>(alloc: Global, shards: Shards<R>, seats: Vec<Seat>) -> (u8, u8) {
+fn close_twice<R: Records + Drop>(alloc: Global, shards: Shards<R, Brand>, seats: Vec<Seat>) -> (u8, u8) {
     let (number, books) = close_without(alloc, shards);
     (number, close(alloc, books.into_locks(), seats))
 }
@@ -285,7 +286,7 @@ fn close_twice<R: Records + Drop>(alloc: Global, shards: Shards<R>, seats: Vec<S
 /// The same if there are seats.
 fn close_with<R: Records + Drop>(
     alloc: Global,
-    shards: Shards<R>,
+    shards: Shards<R, Brand>,
     seats: Result<Vec<Seat>, Fail>,
 ) -> Result<(u8, u8), Fail> {
     match seats {

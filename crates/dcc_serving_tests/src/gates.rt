@@ -8,6 +8,7 @@ use dcc_test_stores::{Gate, GateRecords};
 use std::alloc::Global;
 use std::hash::RandomState;
 use std::hint::spin_loop;
+use std::marker::Brand;
 use std::process::Abort;
 use std::random::RandomSource;
 use std::sync::Wait;
@@ -18,7 +19,7 @@ use std::thread::{Threads, join};
 fn call_beside<W: Wait, R: Records>(
     rt: &W,
     alloc: Global,
-    shards: &Shards<R>,
+    shards: &Shards<R, Brand>,
     caller: &mut Caller,
     gate: &Gate,
 ) -> bool {
@@ -40,7 +41,7 @@ fn call_beside<W: Wait, R: Records>(
 /// Calls of both shards at once, of which the first one's append is held at its gate.
 fn call_at_once<W: Wait + Threads + Abort + Sync + AllocGlobal>(
     rt: &W,
-    shards: &Shards<GateRecords>,
+    shards: &Shards<GateRecords, Brand>,
     shut: &Gate,
     held: &mut Caller,
     beside: &mut Caller,
@@ -66,7 +67,7 @@ fn call_at_once<W: Wait + Threads + Abort + Sync + AllocGlobal>(
 /// The same of two callers.
 fn call_both<W: Wait + Threads + Abort + Sync + AllocGlobal>(
     rt: &W,
-    shards: &Shards<GateRecords>,
+    shards: &Shards<GateRecords, Brand>,
     shut: &Gate,
 ) -> Result<(), Fail> {
     let alloc = rt.alloc();
@@ -90,7 +91,7 @@ fn gated<'a, S: RandomSource + AllocGlobal>(
     rt: &S,
     shut: &'a Gate,
     open: &'a Gate,
-) -> Result<Shards<GateRecords<'a>>, Fail> {
+) -> Result<Shards<GateRecords<'a>, Brand>, Fail> {
     let hasher = RandomState::new(rt)?;
     let first = MemoryRecords::new(rt.alloc(), &TERMS, hasher);
     let second = MemoryRecords::new(rt.alloc(), &TERMS, hasher);

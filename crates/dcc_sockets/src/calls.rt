@@ -10,7 +10,7 @@ use crate::options::wait_for_connections;
 use dcc_metrics::Meters;
 use dcc_port::serve_calls;
 use dcc_rounds::count_receipts;
-use dcc_running::{Seat, Shards};
+use dcc_running::{Naming, Seat, Shards};
 use dcc_startup::Copies;
 use dcc_store::Records;
 use std::alloc::Global;
@@ -76,13 +76,14 @@ pub(crate) fn answer_calls<
     R: Clock + Eprint,
     W: Wait,
     S: Records,
+    J: Naming,
     K: Copies,
     C: dcc_connect::Clock + Copy,
 >(
     clocks: &R,
     rt: &W,
     alloc: Global,
-    shards: &Shards<S>,
+    shards: &Shards<S, J>,
     clock: C,
     seat: &mut Seat,
     calls: &Calls<'_, K>,

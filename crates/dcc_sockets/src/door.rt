@@ -10,7 +10,7 @@ use crate::silence::Silence;
 use crate::trouble::{Trouble, tell};
 use dcc_octets::OctetString;
 use dcc_rounds::{Connection, Listener, Tick};
-use dcc_running::{Seat, Shards};
+use dcc_running::{Naming, Seat, Shards};
 use dcc_startup::Copies;
 use dcc_store::Records;
 use std::alloc::Global;
@@ -254,11 +254,11 @@ impl<'r, R: Clock + Eprint, K: Copies> Listener<Input<'r, R>, Output<'r, R>> for
 
     /// Serves one connection of an operator after another, and ends with the server. A fault of a connection ends that connection alone. If the listener takes
     /// none any more, a line reports this, and the server goes on without operators.
-    fn attend<W: Wait, S: Records, C: dcc_connect::Clock + Copy>(
+    fn attend<W: Wait, S: Records, J: Naming, C: dcc_connect::Clock + Copy>(
         &self,
         rt: &W,
         alloc: Global,
-        shards: &Shards<S>,
+        shards: &Shards<S, J>,
         clock: C,
         seat: &mut Seat,
     ) {

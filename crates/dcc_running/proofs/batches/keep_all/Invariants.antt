@@ -1,5 +1,5 @@
 use Rattle.std.proofs.Common.{◌≡◌, ◌≤◌, ◌+◌, ◌++◌, List, length, map, vec_len, vec_capacity}
-use Rattle.std.specs.Vec.Iter.{into_iter_items, into_iter_len}
+use Rattle.std.specs.Vec.Iter.{into_iter_items}
 use Rattle.dcc_running.specs.Batches.{all_receipts_of}
 use Rattle.dcc_running.specs.inner.Batches.{AreAnswered, reply_of}
 use Rattle.dcc_shard.specs.declared.answers.RequestAnswer.{RequestAnswer}

@@ -8,6 +8,6 @@ loop-locks-preserved g c = record {
   room = omega arith;
   back = omega arith;
   places = rw c.push_reserved.ensures.items
-      (one_placed (vec_len c.args.shards) c.len-index.result c.len-count.result c.loop-locks.locks.items c.new.result c.loop-locks.invariant.places
+      (one_placed (vec_len c.args.wards) c.len-index.result c.len-count.result c.loop-locks.locks.items c.new.result c.loop-locks.invariant.places
       (omega (arith, c.loop-locks.locks.ok.0)) c.len-count.ensures c.new.ensures);
 }

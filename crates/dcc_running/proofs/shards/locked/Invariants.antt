@@ -4,11 +4,11 @@ use Rattle.dcc_running.proofs.shards.locked.Given as goal
 
 abbrev pub invariant-loop-locks : goal.invariant-loop-locks
 invariant-loop-locks g l = record {
-  count : vec_len l.locks + vec_len l.shards ≡ vec_len l.fn.shards;
-  room : vec_len l.fn.shards ≤ vec_capacity l.locks;
-  back : vec_len l.fn.shards ≤ vec_capacity l.shards;
-  places : AreOf (vec_len l.fn.shards) l.locks.items;
+  count : vec_len l.locks + vec_len l.wards ≡ vec_len l.fn.wards;
+  room : vec_len l.fn.wards ≤ vec_capacity l.locks;
+  back : vec_len l.fn.wards ≤ vec_capacity l.wards;
+  places : AreOf (vec_len l.fn.wards) l.locks.items;
 }
 
 abbrev pub decreases-loop-locks : goal.decreases-loop-locks
-decreases-loop-locks g l = vec_len l.shards
+decreases-loop-locks g l = vec_len l.wards

@@ -1,5 +1,4 @@
 use Rattle.std.proofs.Common.{◌≡◌, ◌++◌, List, get_or, sym, subst}
-use Rattle.dcc_act.specs.declared.sub.Sub.{Sub}
 use Rattle.dcc_receipts.specs.declared.receipt.Receipt.{Receipt}
 use Rattle.dcc_running.specs.Batches.{CountsEach, EndsEach}
 use Rattle.dcc_running.specs.Tallies.{no_tally, tallied}

@@ -1,7 +1,4 @@
 use Rattle.std.proofs.Common.{◌≡◌, ◌∙◌, List, get_or, map, ap, sym, subst}
-use Rattle.std.proofs.lemmas.List.{get_or-map}
-use Rattle.dcc_act.specs.declared.sub.Sub.{Sub}
-use Rattle.dcc_running.specs.Batches.{sub_of_job}
 use Rattle.dcc_running.specs.inner.Batches.{AreKeptAt, call_of}
 use Rattle.dcc_running.specs.declared.job.Job.{Job}
 use Rattle.dcc_shard.specs.Routes.{shard_of}

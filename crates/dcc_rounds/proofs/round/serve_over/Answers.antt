@@ -4,7 +4,7 @@ use Rattle.std.specs.List.{filter_map}
 use Rattle.dcc_receipts.specs.declared.receipt.Receipt.{Receipt}
 use Rattle.dcc_receipts.specs.Faults.{fault_number}
 use Rattle.dcc_running.specs.Audited.{AreCovered, AreOrdered, AreTrue, IsFault}
-use Rattle.dcc_running.specs.Books.{Opening, at_opening}
+use Rattle.dcc_store.specs.Books.{Held}
 use Rattle.dcc_rounds.specs.Counting.{seat_in}
 use Rattle.dcc_dispatch.specs.Settings.{Setting}
 use Rattle.dcc_rounds.specs.Finishing.{AreFinished, AreTied, ends_in}
@@ -14,7 +14,7 @@ use Rattle.dcc_rounds.proofs.LaneEnds.{ended_tied}
 use Rattle.dcc_rounds.specs.Served.{EndsRound}
 use Rattle.dcc_rounds.specs.Tasks.{AllRun}
 use Rattle.dcc_rounds.specs.declared.tasks.Task.{Task}
-use Rattle.dcc_rounds.proofs.round.serve_round.Goals as goal
+use Rattle.dcc_rounds.proofs.round.serve_over.Goals as goal
 
 -- what is said of lists and their count is said of their equals
 said_of : {A : Type 0} (Said : ℕ → List A → List A → Type 0) (n m : ℕ) (a b c d : List A) → n ≡ m → a ≡ b → c ≡ d → Said n a c → Said m b d
@@ -47,9 +47,10 @@ returns-in-Ok-close-clause-round g c =
       all = sym (ap length last) ∙ same;
       finished = subst (λ (ts : List (Task g.row.I.Denot g.row.O.Denot)). AreFinished ts) (sym c.as_slice.ensures.value) c.in-Ok-finished.ensures.finished;
       counted = c.counted-counts.ensures;
-      opened = λ sub. ap (λ (opening : Opening). at_opening opening sub) c.in-Ok-close.ensures.opening ∙ c.in-Ok.ensures.opening sub;
-      audited = subst (λ (all : List (List Receipt)). AreTrue books all × AreCovered books all × AreOrdered all) seats
-          (c.in-Ok-close.ensures.audited.0, c.in-Ok-close.ensures.audited.1, c.in-Ok-close.ensures.audited.2);
+      audited = subst (λ (opening : Held). AreTrue opening books (filter_map seat_in ended) × AreCovered opening books (filter_map seat_in ended)
+          × AreOrdered (filter_map seat_in ended)) c.requires.opening
+          (subst (λ (all : List (List Receipt)). AreTrue g.J.Naming.opening books all × AreCovered g.J.Naming.opening books all × AreOrdered all) seats
+          (c.in-Ok-close.ensures.audited.0, c.in-Ok-close.ensures.audited.1, c.in-Ok-close.ensures.audited.2));
       own = c.in-Ok-close.ensures.audited.3;
       left = c.into_shards.ensures.parts;
       kept = c.into_shards.ensures.kept;
@@ -103,7 +104,8 @@ returns-in-Err-close-clause-ends g c =
           c.as_mut_slice.result.now begun c.serve_all.new.tasks ended count first last c.serve_all.ensures;
       all = sym (ap length last) ∙ same;
       finished = subst (λ (ts : List (Task g.row.I.Denot g.row.O.Denot)). AreFinished ts) (sym c.as_slice.ensures.value) c.in-Ok-finished.ensures.finished;
-      opened = λ sub. ap (λ (opening : Opening). at_opening opening sub) c.in-Err-close.ensures.back.2 ∙ c.in-Ok.ensures.opening sub;
-      fails = subst (λ (all : List (List Receipt)). IsFault c.in-Err-close.unclosed.fault c.in-Err-close.unclosed.books all) seats c.in-Err-close.ensures.fault;
+      fails = subst (λ (opening : Held). IsFault c.in-Err-close.unclosed.fault opening c.in-Err-close.unclosed.books (filter_map seat_in ended)) c.requires.opening
+          (subst (λ (all : List (List Receipt)). IsFault c.in-Err-close.unclosed.fault g.J.Naming.opening c.in-Err-close.unclosed.books all) seats
+          c.in-Err-close.ensures.fault);
       numbered = told;
     })))
