@@ -55,7 +55,11 @@ pub(crate) fn gather<W: Wait, R: Records, J: Naming>(
 }
 
 /// Adds the request of an item to a batch, if it may join it, and else returns the item. The condition: the batch has room for it.
-fn add<R: Records, J: Naming>(shards: &Shards<R, J>, batch: &mut Vec<Request>, work: Work) -> Option<Work>
+fn add<R: Records, J: Naming>(
+    shards: &Shards<R, J>,
+    batch: &mut Vec<Request>,
+    work: Work,
+) -> Option<Work>
     requires room { vec_len batch.old < vec_capacity batch.old }
     requires batch { IsOneBatch shards.now.count batch.old.items }
     ensures batch { IsOneBatch shards.now.count batch.new.items }

@@ -155,7 +155,15 @@ fn serve_over<
 }
 
 /// Makes all that the threads of a round begin with, and accepts its gateways if they come before it begins.
-fn gather<W: Wait, R: Records, J: Naming, I: Read + Drop, O: Shut + Drop, L: Listener<I, O>, N: Notices>(
+fn gather<
+    W: Wait,
+    R: Records,
+    J: Naming,
+    I: Read + Drop,
+    O: Shut + Drop,
+    L: Listener<I, O>,
+    N: Notices,
+>(
     rt: &W,
     alloc: Global,
     notices: &N,
@@ -195,7 +203,15 @@ fn gather<W: Wait, R: Records, J: Naming, I: Read + Drop, O: Shut + Drop, L: Lis
 }
 
 /// Adds the worker of each shard, the timer and the places, with their ends of the lanes to workers and to writers, and the attendants.
-fn add_tasks<W: Wait, R: Records, J: Naming, I: Read + Drop, O: Shut + Drop, L: Listener<I, O>, N: Notices>(
+fn add_tasks<
+    W: Wait,
+    R: Records,
+    J: Naming,
+    I: Read + Drop,
+    O: Shut + Drop,
+    L: Listener<I, O>,
+    N: Notices,
+>(
     rt: &W,
     alloc: Global,
     notices: &N,

@@ -27,11 +27,16 @@ pub(crate) struct SweepTimer {
 
 impl SweepTimer {
     /// Asks for sweeps until the listener takes no more connections in, and says behind the last that nothing more is put.
-    pub fn run<W: Wait, R: Records, J: Naming, I, O, L: Listener<I, O>, C: Clock + Copy, N: Notices>(
-        &mut self,
-        rt: &W,
-        shared: &Shared<'_, R, J, L, C, N>,
-    )
+    pub fn run<
+        W: Wait,
+        R: Records,
+        J: Naming,
+        I,
+        O,
+        L: Listener<I, O>,
+        C: Clock + Copy,
+        N: Notices,
+    >(&mut self, rt: &W, shared: &Shared<'_, R, J, L, C, N>)
         ensures { Times C.tells L.is_closed shared.now.clock.now self.old self.new }
     {
         if self.stays {

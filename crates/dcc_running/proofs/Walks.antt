@@ -34,9 +34,9 @@ pub stands_next : {X : Type 0} (front xs all : List X) (x none : X) → 0 < leng
     → (length front < length all) × (get_or all (length front) none ≡ x)
 stands_next front [] all x none some is whole = absurd (omega arith)
 stands_next {X} front (y ∷ ys) all x none some is whole = (
-      omega (arith, ap (λ (l : List X). length l) whole, length-append front (y ∷ ys)),
-      subst (λ (l : List X). get_or l (length front) none ≡ x) whole (get_or_at front y ys none (length front) refl ∙ sym is),
-    )
+  omega (arith, ap (λ (l : List X). length l) whole, length-append front (y ∷ ys)),
+  subst (λ (l : List X). get_or l (length front) none ≡ x) whole (get_or_at front y ys none (length front) refl ∙ sym is),
+)
 
 pub all_moved : {X : Type 0} (front xs all : List X) → length xs ≡ 0 → front ++ xs ≡ all → front ≡ all
 all_moved front [] all none whole = sym (append-nil front) ∙ whole

@@ -66,7 +66,11 @@ fn true_marks<R: Records, J: Naming>(
 }
 
 /// Whether each receipt is true.
-fn are_true<R: Records, J: Naming>(alloc: Global, books: &Books<R, J>, seats: &[Seat]) -> Result<bool, AllocError>
+fn are_true<R: Records, J: Naming>(
+    alloc: Global,
+    books: &Books<R, J>,
+    seats: &[Seat],
+) -> Result<bool, AllocError>
     requires { AreShards books.now.terms books.now.identity books.now.parts }
     ensures { IfOk result (λ all. all
         ≡ are_true books.now.identity books.now.terms J.opening (book books.now.parts) seats.now) }

@@ -87,7 +87,8 @@ impl<R: Records, J: Naming> Shards<R, J> {
         ensures count { IfOk result (λ locked. locked.count ≡ length shards.items) }
         ensures back { IfErr result (λ back. back.items ≡ shards.items) }
     {
-        let Ok((identity, numbers, locks, wards)) = room_for(alloc, identity, &shards, hasher) else {
+        let Ok((identity, numbers, locks, wards)) = room_for(alloc, identity, &shards, hasher)
+        else {
             return Err(shards);
         };
         let (wards, emptied) = warded(wards, shards);

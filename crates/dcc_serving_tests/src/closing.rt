@@ -108,7 +108,11 @@ fn check(receipts: &[Receipt]) -> u8 {
 }
 
 /// How many subscribers the first shard has.
-fn count<W: Wait, R: Records>(rt: &W, alloc: Global, shards: &Shards<R, Brand>) -> Result<usize, Fail>
+fn count<W: Wait, R: Records>(
+    rt: &W,
+    alloc: Global,
+    shards: &Shards<R, Brand>,
+) -> Result<usize, Fail>
     requires { 0 < shards.now.count }
 {
     Ok(shards.subs(rt, alloc, 0)?.len())
@@ -262,7 +266,10 @@ fn seats_of<W: Wait + Abort + AllocGlobal + RandomSource, R: Records>(
 }
 
 /// The fault's number of a close without any seat, 0 for none of these, and the books that it leaves.
-fn close_without<R: Records + Drop>(alloc: Global, shards: Shards<R, Brand>) -> (u8, Books<R, Brand>) {
+fn close_without<R: Records + Drop>(
+    alloc: Global,
+    shards: Shards<R, Brand>,
+) -> (u8, Books<R, Brand>) {
     match shards.close(alloc, Vec::new(alloc)) {
         Ok(books) => (0, books),
         Err(unclosed) => {
@@ -278,7 +285,11 @@ fn close_without<R: Records + Drop>(alloc: Global, shards: Shards<R, Brand>) -> 
 }
 
 /// The outcome of a close without any seat, and of a close with these seats over what the first left.
-fn close_twice<R: Records + Drop>(alloc: Global, shards: Shards<R, Brand>, seats: Vec<Seat>) -> (u8, u8) {
+fn close_twice<R: Records + Drop>(
+    alloc: Global,
+    shards: Shards<R, Brand>,
+    seats: Vec<Seat>,
+) -> (u8, u8) {
     let (number, books) = close_without(alloc, shards);
     (number, close(alloc, books.into_locks(), seats))
 }
