@@ -27,16 +27,24 @@ pub fn are_shards<R: Records>(terms: &Terms, identity: &Identity, shards: &[Shar
 }
 
 /// Whether these shards hold no acts. The only error is want of memory.
+#[tactic(auto, using(crate::proofs::Nothing::nothing_in))]
 pub fn hold_nothing<R: Records>(alloc: Global, shards: &[Shard<R>]) -> Result<bool, AllocError>
     ensures { IfOk result (λ nothing. nothing ≡ true → (sub : Sub) → book shards.now sub ≡ []) }
 {
     for i in 0..shards.len() {
-        let subs = shards[i].subs(alloc)?;
-        if !subs.is_empty() {
+        if !holds_nothing(alloc, &shards[i])? {
             return Ok(false);
         }
     }
     Ok(true)
+}
+
+/// Whether a shard holds no acts. The only error is want of memory.
+fn holds_nothing<R: Records>(alloc: Global, shard: &Shard<R>) -> Result<bool, AllocError>
+    ensures { IfOk result (λ nothing. nothing ≡ true → (sub : Sub) → held shard.now.shard sub ≡ []) }
+{
+    let subs = shard.subs(alloc)?;
+    Ok(subs.is_empty())
 }
 
 /// Whether a shard is under these terms and answers as this server.

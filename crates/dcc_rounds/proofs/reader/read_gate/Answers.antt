@@ -12,24 +12,24 @@ use Rattle.dcc_rounds.proofs.Handings.{same_as, same_on}
 use Rattle.dcc_rounds.proofs.Mapped.{read_on}
 use Rattle.dcc_rounds.proofs.reader.read_gate.Goals as goal
 
-abbrev IsOf : {R N : Type 0} → Judge R N → Judge R N → Type 0
+abbrev IsOf : {R J N : Type 0} → Judge R J N → Judge R J N → Type 0
 IsOf first judge =
     (judge.plan ≡ first.plan) × (judge.identity ≡ first.identity) × (judge.shards ≡ first.shards) × (judge.reader.ghost_name ≡ first.reader.ghost_name)
     × IsSameReader first.reader.now judge.reader.now
 
-abbrev setting_of : {R N : Type 0} → Judge R N → Setting
+abbrev setting_of : {R J N : Type 0} → Judge R J N → Setting
 setting_of judge = record { plan = judge.plan.now; identity = judge.identity.now }
 
-abbrev Judges : {R N : Type 0} → Judge R N → ℕ → List ℕ → Handed → Judge R N → Type 0
+abbrev Judges : {R J N : Type 0} → Judge R J N → ℕ → List ℕ → Handed → Judge R J N → Type 0
 Judges old moment message handed new =
     Hands (setting_of old) old.shards.now.count moment message handed old.reader.now new.reader.now × (new.plan ≡ old.plan) × (new.identity ≡ old.identity) × (new.shards ≡ old.shards)
     × (new.reader.ghost_name ≡ old.reader.ghost_name)
 
-abbrev seen : {R N C : Type 0} → Judge R N × C → Reader × C
+abbrev seen : {R J N C : Type 0} → Judge R J N × C → Reader × C
 seen s = (s.0.reader.now, s.1)
 
 -- a judge keeps by what it judges, and whose reader it has
-judges_one : {R N C : Type 0} (tells : C → ℕ → C → Type 0) (first : Judge R N) (old : Judge R N × C) (moment : ℕ) (message : List ℕ) (handed : Handed) (new : Judge R N × C)
+judges_one : {R J N C : Type 0} (tells : C → ℕ → C → Type 0) (first : Judge R J N) (old : Judge R J N × C) (moment : ℕ) (message : List ℕ) (handed : Handed) (new : Judge R J N × C)
     → IsOf first old.0 → timed tells Judges old moment message handed new
     → timed tells (HandsUnder (setting_of first) first.shards.now.count) (seen old) moment message handed (seen new) × IsOf first new.0
 judges_one tells first old moment message handed new is h =
@@ -41,11 +41,11 @@ judges_one tells first old moment message handed new is h =
     subst (λ (n : ℕ). Hands (setting_of first) n moment message handed old.0.reader.now new.0.reader.now) many under in
     ((h.0, hands), (h.1.1 ∙ is.0, h.1.2 ∙ is.1, h.1.3 ∙ is.2, h.1.4 ∙ is.3, same_on _ _ _ is.4 hands.7))
 
-judges_all : {R N C : Type 0} (tells : C → ℕ → C → Type 0) (first last : Judge R N) (clock later : C) (end : ConnectionEnd) (turns : ℕ) (before after : Option (List ℕ))
+judges_all : {R J N C : Type 0} (tells : C → ℕ → C → Type 0) (first last : Judge R J N) (clock later : C) (end : ConnectionEnd) (turns : ℕ) (before after : Option (List ℕ))
     → ReadsAndHands (timed tells Judges) end turns before after (first, clock) (last, later)
     → ReadsAndHands (timed tells (HandsUnder (setting_of first) first.shards.now.count)) end turns before after (first.reader.now, clock) (last.reader.now, later) × IsOf first last
-judges_all {R = R} {N = N} {C = C} tells first last clock later end turns before after h =
-    read_on (seen {R = R} {N = N} {C = C}) (λ (s : Judge R N × C). IsOf first s.0) (timed tells Judges) (timed tells (HandsUnder (setting_of first) first.shards.now.count)) (judges_one tells first) end turns
+judges_all {R = R} {J = J} {N = N} {C = C} tells first last clock later end turns before after h =
+    read_on (seen {R = R} {J = J} {N = N} {C = C}) (λ (s : Judge R J N × C). IsOf first s.0) (timed tells Judges) (timed tells (HandsUnder (setting_of first) first.shards.now.count)) (judges_one tells first) end turns
     before after (first, clock) (last, later) (refl, refl, refl, refl, same_as first.reader.now) h
 
 pub returns : goal.returns

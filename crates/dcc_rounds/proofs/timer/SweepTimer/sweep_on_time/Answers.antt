@@ -1,4 +1,4 @@
-use Rattle.std.proofs.Common.{[], ◌∷◌, ◌++◌, ◌∙◌}
+use Rattle.std.proofs.Common.{[], ◌∷◌, ◌++◌, refl, ◌∙◌}
 use Rattle.std.proofs.lemmas.Fn.{FoldsTo-push}
 use Rattle.dcc_rounds.specs.Lanes.{all_put}
 use Rattle.dcc_rounds.specs.Timing.{AsksAt}
@@ -15,3 +15,6 @@ loop-preserved g c =
       ),
       was.1,
     )
+
+pub loop-init : goal.loop-init
+loop-init g c = (([], refl, refl), refl)
