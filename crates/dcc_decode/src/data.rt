@@ -56,7 +56,8 @@ pub(crate) fn put_data(text: &mut String, alloc: Global, avp: &Avp<'_>) -> Resul
 /// Appends octets in hex.
 pub(crate) fn put_hex(text: &mut String, alloc: Global, octets: &[u8]) -> Result<(), AllocError> {
     let digits = hex::encode(alloc, octets)?;
-    write!(text, "0x{digits}")
+    text.push_str("0x")?;
+    text.push_str(digits.as_str())
 }
 
 /// Appends octets: as text between quotes where all are visible characters of ASCII, and else in hex.

@@ -64,7 +64,12 @@ fn first_avp(alloc: Global, octets: &[u8]) -> Result<Option<Avp<'_>>, AllocError
     let stated = u24_at(octets, 5) as usize;
     let asked = stated.next_multiple_of(4).max(LEAST);
     match read_list(alloc, octets.get(..asked).unwrap_or(octets)) {
-        Ok(mut avps) => Ok(avps.pop()),
+        Ok(mut avps) => {
+            let avp = avps.pop();
+            // By a call: AVPs that are let go in place are proved part by part.
+            drop(avps);
+            Ok(avp)
+        }
         Err(AvpFault::Memory) => Err(AllocError),
         Err(_) => Ok(None),
     }

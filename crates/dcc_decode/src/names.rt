@@ -87,11 +87,10 @@ pub(crate) fn put_flags(text: &mut String, flags: u8) -> Result<(), AllocError> 
     if flags & command_flags::RETRANSMITTED != 0 {
         text.push_str(", Potentially re-transmitted")?;
     }
-    let reserved = flags & RESERVED;
-    if reserved != 0 {
-        write!(text, ", reserved 0x{reserved:02x}")?;
+    match flags & RESERVED {
+        0 => Ok(()),
+        reserved => write!(text, ", reserved 0x{reserved:02x}"),
     }
-    Ok(())
 }
 
 /// Appends an AVP's name: that of the dictionary, or its code, and its vendor if it has one.

@@ -63,7 +63,12 @@ fn count_in(octets: &[u8]) -> Count {
 /// The number of acts in a database. A database without a table of acts has none.
 pub fn acts_in<S: Alter>(conn: &mut Connection<S>) -> Result<u64, Error> {
     match conn.query_row("SELECT COUNT(*) FROM act", &[]) {
-        Ok(row) => Ok(number_in(&row)),
+        Ok(row) => {
+            let acts = number_in(&row);
+            // By a call, here and below: what is let go in place is proved part by part.
+            drop(row);
+            Ok(acts)
+        }
         Err(Error::SqlInputError(_)) => Ok(0),
         Err(error) => Err(error),
     }
@@ -81,7 +86,10 @@ fn number_in(row: &Row) -> u64 {
 pub(crate) fn is_settled<S: Alter>(conn: &mut Connection<S>) -> bool
     ensures { result ≡ true → SeesCommitted S.Store conn.new }
 {
-    if conn.prepare("SELECT 1").is_err() {
+    let prepared = conn.prepare("SELECT 1");
+    let is_prepared = prepared.is_ok();
+    drop(prepared);
+    if !is_prepared {
         return false;
     }
     conn.is_autocommit()
@@ -105,20 +113,28 @@ pub(crate) fn put_back(rt: &HostRuntime, path: &str, log: &Option<Vec<u8>>) {
 
 fn try_put_back(rt: &HostRuntime, path: &str, log: &Option<Vec<u8>>) -> io::Result<()> {
     let log_path = log_path_of(rt.alloc(), path)?;
-    let Some(octets) = log else {
-        return fs::remove_file(rt, log_path.as_str());
-    };
-    let found = fs::read(rt, log_path.as_str())?;
-    if found.as_slice() == octets.as_slice() {
+    match log {
+        Some(octets) => write_log(rt, log_path.as_str(), octets.as_slice()),
+        None => fs::remove_file(rt, log_path.as_str()),
+    }
+}
+
+/// Writes octets in place of those of the log at a path, unless they are the same.
+fn write_log(rt: &HostRuntime, log_path: &str, octets: &[u8]) -> io::Result<()> {
+    let found = fs::read(rt, log_path)?;
+    let is_same = found.as_slice() == octets;
+    drop(found);
+    if is_same {
         return Ok(());
     }
-    let file = OpenOptions::new().write(true).open(rt, log_path.as_str())?;
-    file.write_all_at(octets.as_slice(), 0)?;
+    let file = OpenOptions::new().write(true).open(rt, log_path)?;
+    file.write_all_at(octets, 0)?;
     file.set_len(octets.len() as u64)?;
     file.sync_all()
 }
 
-fn log_path_of(alloc: Global, path: &str) -> Result<String, AllocError> {
+/// The path of the log beside the database at a path.
+pub(crate) fn log_path_of(alloc: Global, path: &str) -> Result<String, AllocError> {
     format!(in alloc; "{path}-wal")
 }
 
@@ -141,10 +157,10 @@ fn new_file(rt: &HostRuntime, path: &str) -> io::Result<fs::File> {
 pub(crate) fn keep(rt: &HostRuntime, folder: &str, shard: usize) -> Option<()> {
     let path = path_of(rt.alloc(), folder, shard).ok()?;
     let mut conn = Connection::open(rt, path.as_str()).ok()?;
-    let acts = acts_in(&mut conn);
+    let acts = acts_in(&mut conn).ok();
     // The count is written behind the copy: a stop between them leaves the older number.
     conn.close().ok()?;
-    write_count(rt, folder, shard, acts.ok()?).ok()
+    write_count(rt, folder, shard, acts?).ok()
 }
 
 /// Writes the count file of a shard's store under another name, and renames it once the disk has it: a stop leaves the file before or this one, whole.
@@ -152,14 +168,19 @@ fn write_count(rt: &HostRuntime, folder: &str, shard: usize, acts: u64) -> io::R
     let alloc = rt.alloc();
     let path = count_path_of(alloc, folder, shard)?;
     let new_path = format!(in alloc; "{path}.new")?;
-    let text = format!(in alloc; "{acts}\n")?;
-    // One that an earlier end left unfinished.
-    let _was_there = fs::remove_file(rt, new_path.as_str());
-    let file = new_file(rt, new_path.as_str())?;
-    file.write_all_at(text.as_bytes(), 0)?;
-    file.sync_all()?;
+    write_new(rt, new_path.as_str(), acts)?;
     fs::rename(rt, new_path.as_str(), path.as_str())?;
     sync_folder(rt, folder)
+}
+
+/// Writes a count file at a path, and waits until the disk has it.
+fn write_new(rt: &HostRuntime, path: &str, acts: u64) -> io::Result<()> {
+    let text = format!(in rt.alloc(); "{acts}\n")?;
+    // One that an earlier end left unfinished.
+    drop(fs::remove_file(rt, path));
+    let file = new_file(rt, path)?;
+    file.write_all_at(text.as_bytes(), 0)?;
+    file.sync_all()
 }
 
 /// Removes the count file of a shard's store.

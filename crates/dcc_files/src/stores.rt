@@ -10,7 +10,8 @@ ghost use Rattle.dcc_sqlite_store.specs.Tables.{no_schema};
 ghost use Rattle.dcc_sqlite_store.specs.Trees.{IsUndone};
 
 use crate::counts::{
-    Count, acts_in, count_of, is_settled, keep, log_of, make_file, put_back, remove_count,
+    Count, acts_in, count_of, is_settled, keep, log_of, log_path_of, make_file, put_back,
+    remove_count,
 };
 use crate::file_records::FileRecords;
 use crate::opening::open_or_upgrade;
@@ -408,12 +409,18 @@ fn copy_store(rt: &HostRuntime, folder: &str, shard: usize, into: &str) -> io::R
     let from = path_of(alloc, folder, shard)?;
     let to = path_of(alloc, into, shard)?;
     copy_file(rt, from.as_str(), to.as_str())?;
-    let from_log = format!(in alloc; "{from}-wal")?;
-    if fs::exists(rt, from_log.as_str())? {
-        let to_log = format!(in alloc; "{to}-wal")?;
-        copy_file(rt, from_log.as_str(), to_log.as_str())?;
-    }
+    copy_log(rt, from.as_str(), to.as_str())?;
     fs::open(rt, into)?.sync_all()
+}
+
+/// Copies the log beside the database at a path, if there is a log.
+fn copy_log(rt: &HostRuntime, from: &str, to: &str) -> io::Result<()> {
+    let from_log = log_path_of(rt.alloc(), from)?;
+    if !fs::exists(rt, from_log.as_str())? {
+        return Ok(());
+    }
+    let to_log = log_path_of(rt.alloc(), to)?;
+    copy_file(rt, from_log.as_str(), to_log.as_str())
 }
 
 /// Copies a file, and waits until the disk has its octets.
