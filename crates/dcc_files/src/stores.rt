@@ -4,7 +4,7 @@ ghost use Rattle.std.specs.Prelude.{◌≡◌, ◌≢◌, None, IfOk, IfErr, IfS
 ghost use Rattle.sqlite.specs.Files.{file_state};
 ghost use Rattle.sqlite.specs.Held.{state};
 ghost use Rattle.sqlite.specs.State.{HasCleanDisk};
-ghost use Rattle.dcc_files.specs.Stores.{IsSettingOf, AreOfShard, UpgradesShard, HasNoSetting, SeesCommitted, IsConnectFault, IsCountFault, IsOpenFault, IsStoreFault, connect_number};
+ghost use Rattle.dcc_files.specs.Stores.{IsSettingOf, AreOfShard, UpgradesShard, HasNoSetting, SeesCommitted, IsConnectFault, IsCountFault, IsOpenFault, IsFileFault, IsStoreFault, connect_number};
 ghost use Rattle.dcc_sqlite_store.specs.Faults.{open_number, create_number};
 ghost use Rattle.dcc_sqlite_store.specs.Tables.{no_schema};
 ghost use Rattle.dcc_sqlite_store.specs.Trees.{IsUndone};
@@ -60,32 +60,13 @@ impl<'r> FileStores<'r> {
         }
     }
 
-    /// The same, if there are at least so many acts in the database.
-    fn connect_with(
-        &self,
-        path: &str,
-        least: u64,
-    ) -> Result<Connection<FileStore<File>>, StoreRefusal>
-        ensures sees { IfOk result (λ conn. SeesCommitted ⟦<FileStore<File> as Store>⟧ conn) }
-        ensures refused { IfErr result (λ refusal. IsCountFault refusal.0) }
-    {
-        if least == 0 {
-            return match self.connect(path) {
-                Ok(conn) => Ok(conn),
-                Err(refusal) => Err(refusal),
-            };
-        }
-        let log = self.log(path)?;
-        match self.connect(path) {
-            Ok(conn) => with_acts(self.rt, path, conn, least, log),
-            Err(refusal) => Err(refusal),
-        }
-    }
-
-    /// The octets of the log of the database at a path, if there is a log.
-    fn log(&self, path: &str) -> Result<Option<Vec<u8>>, StoreRefusal>
+    /// The octets of the log of the database at a path, if there is a log. It isn't read if the database may have no acts.
+    fn log(&self, path: &str, least: u64) -> Result<Option<Vec<u8>>, StoreRefusal>
         ensures { IfErr result (λ refusal. IsCountFault refusal.0) }
     {
+        if least == 0 {
+            return Ok(None);
+        }
         match log_of(self.rt, path) {
             Ok(log) => Ok(log),
             Err(error) if error.kind() == ErrorKind::OutOfMemory => Err(MEMORY),
@@ -123,11 +104,10 @@ impl<'r> FileStores<'r> {
             return Some(0);
         }
         let path = path_of(self.rt.alloc(), folder, shard).ok()?;
-        let mut conn = self.connect(path.as_str()).ok()?;
-        let acts = acts_in(&mut conn);
-        // By a call: a connection that is let go in place is proved part by part.
-        drop(conn);
-        acts.ok()
+        match self.connect(path.as_str()) {
+            Ok(conn) => acts_of(conn),
+            Err(_) => None,
+        }
     }
 
     /// Removes the count file of a shard's store whose loss is accepted, and reports that by this line on standard error.
@@ -235,10 +215,16 @@ impl Stores for FileStores<'_> {
         if !self.is_there_with(folder, shard, least)? {
             return Ok(None);
         }
-        let alloc = self.rt.alloc();
-        let path = path_of(alloc, folder, shard).map_err(|_| MEMORY)?;
-        let conn = self.connect_with(path.as_str(), least)?;
-        match opened(alloc, conn, plan, shard, hasher)? {
+        let path = path_of(self.rt.alloc(), folder, shard).map_err(|_| MEMORY)?;
+        let log = self.log(path.as_str(), least)?;
+        let before = Before {
+            rt: self.rt,
+            path: path.as_str(),
+            least,
+            log: &log,
+        };
+        let conn = self.connect(path.as_str())?;
+        match opened_with(before, conn, plan, shard, hasher)? {
             Some((records, upgraded)) => {
                 self.report(path.as_str(), upgraded);
                 Ok(Some(FileRecords { records }))
@@ -274,35 +260,62 @@ impl Stores for FileStores<'_> {
         hasher: RandomState,
     ) -> Result<FileRecords, StoreRefusal> {
         let least = self.least(folder, shard)?;
-        let alloc = self.rt.alloc();
-        let path = path_of(alloc, folder, shard).map_err(|_| MEMORY)?;
+        let path = path_of(self.rt.alloc(), folder, shard).map_err(|_| MEMORY)?;
         if !self.is_there_with(folder, shard, least)? {
             make_file(self.rt, path.as_str());
         }
-        let conn = self.connect_with(path.as_str(), least)?;
-        let (records, upgraded) = opened_or_made(alloc, conn, plan, shard, hasher)?;
+        let log = self.log(path.as_str(), least)?;
+        let before = Before {
+            rt: self.rt,
+            path: path.as_str(),
+            least,
+            log: &log,
+        };
+        let conn = self.connect(path.as_str())?;
+        let (records, upgraded) = opened_or_made_with(before, conn, plan, shard, hasher)?;
         self.report(path.as_str(), upgraded);
         Ok(FileRecords { records })
     }
 }
 
-/// The connection to the database at a path, if there are at least so many acts in it; else its log is put back as it was before.
-fn with_acts<S: Alter + Drop>(
-    rt: &HostRuntime,
-    path: &str,
-    conn: Connection<S>,
+/// What was there before a database was opened.
+#[derive(Clone, Copy)]
+struct Before<'a> {
+    rt: &'a HostRuntime,
+    /// The path of the database.
+    path: &'a str,
+    /// At least so many acts have to be in it, by its count file.
     least: u64,
-    log: Option<Vec<u8>>,
+    /// The octets of its log, if there was a log.
+    log: &'a Option<Vec<u8>>,
+}
+
+/// The number of acts in a database, which is closed.
+fn acts_of<S: Alter + Drop>(conn: Connection<S>) -> Option<u64> {
+    let mut conn = conn;
+    let acts = acts_in(&mut conn).ok();
+    // By a call, here and below: a connection that is let go in place is proved part by part.
+    drop(conn);
+    acts
+}
+
+/// The connection to a database, if there are enough acts in it; else its log is put back as it was before.
+fn with_acts<S: Alter + Drop>(
+    before: Before<'_>,
+    conn: Connection<S>,
 ) -> Result<Connection<S>, StoreRefusal>
+    requires { SeesCommitted S.Store conn }
     ensures sees { IfOk result (λ conn. SeesCommitted S.Store conn) }
     ensures refused { IfErr result (λ refusal. IsCountFault refusal.0) }
 {
+    if before.least == 0 {
+        return Ok(conn);
+    }
     let mut conn = conn;
-    match counted(&mut conn, least) {
+    match counted(&mut conn, before.least) {
         Ok(()) => Ok(conn),
         Err(refusal) => {
-            put_back(rt, path, &log);
-            // By a call: a connection that is let go in place is proved part by part.
+            put_back(before.rt, before.path, before.log);
             drop(conn);
             Err(refusal)
         }
@@ -327,6 +340,54 @@ fn counted<S: Alter>(conn: &mut Connection<S>, least: u64) -> Result<(), StoreRe
     }
 }
 
+/// What [`opened`] returns, if there are enough acts in the database.
+fn opened_with<S: Alter + Drop>(
+    before: Before<'_>,
+    conn: Connection<S>,
+    plan: &Plan,
+    shard: usize,
+    hasher: RandomState,
+) -> Result<Option<(SqlRecords<S>, Option<u64>)>, StoreRefusal>
+    requires { SeesCommitted S.Store conn }
+    ensures terms { IfOk result (λ found. IfSome found (λ opened. opened.0.terms ≡ plan.now.terms)) }
+    ensures shard { IfOk result (λ found. IfSome found (λ opened. HasCleanDisk (state S.Store opened.0.conn)
+        → AreOfShard plan.now shard (state S.Store opened.0.conn).now.trees)) }
+    ensures refused { IfErr result (λ refusal. IsFileFault S.Store plan.now shard refusal.0) }
+{
+    let conn = match with_acts(before, conn) {
+        Ok(conn) => conn,
+        Err(refusal) => return Err(refusal),
+    };
+    match opened(before.rt.alloc(), conn, plan, shard, hasher) {
+        Ok(found) => Ok(found),
+        Err(refusal) => Err(refusal),
+    }
+}
+
+/// What [`opened_or_made`] returns, if there are enough acts in the database.
+fn opened_or_made_with<S: Alter + Drop>(
+    before: Before<'_>,
+    conn: Connection<S>,
+    plan: &Plan,
+    shard: usize,
+    hasher: RandomState,
+) -> Result<(SqlRecords<S>, Option<u64>), StoreRefusal>
+    requires { SeesCommitted S.Store conn }
+    ensures terms { IfOk result (λ opened. opened.0.terms ≡ plan.now.terms) }
+    ensures shard { IfOk result (λ opened. HasCleanDisk (state S.Store opened.0.conn)
+        → AreOfShard plan.now shard (state S.Store opened.0.conn).now.trees) }
+    ensures refused { IfErr result (λ refusal. IsFileFault S.Store plan.now shard refusal.0) }
+{
+    let conn = match with_acts(before, conn) {
+        Ok(conn) => conn,
+        Err(refusal) => return Err(refusal),
+    };
+    match opened_or_made(before.rt.alloc(), conn, plan, shard, hasher) {
+        Ok(opened) => Ok(opened),
+        Err(refusal) => Err(refusal),
+    }
+}
+
 /// The records over a database, and how many acts its store had if it was of layout 1 and is upgraded. None if there is nothing in the
 /// database.
 fn opened<S: Alter + Drop>(
@@ -348,7 +409,6 @@ fn opened<S: Alter + Drop>(
     ensures refused { IfErr result (λ refusal. IsOpenFault S.Store plan.now shard conn refusal.0) }
 {
     let Some(setting) = setting_of(plan, shard) else {
-        // By a call, here and below: a connection that is let go in place is proved part by part.
         drop(conn);
         return Err(LAYOUT);
     };

@@ -1,7 +1,7 @@
-use Rattle.std.proofs.Common.{inl, inr}
+use Rattle.std.proofs.Common.{inl}
 use Rattle.dcc_files.proofs.Refusals.{handed_on}
 use Rattle.dcc_files.proofs.stores.FileStoresStores.open_or_make.Goals as goal
 
 pub returns-in_err-records-clause-refused : goal.returns-in_err-records-clause-refused
 returns-in_err-records-clause-refused c =
-    handed_on _ c.from_residual-in_err-records.result c.in_err-records.field-0.0 c.from_residual-in_err-records.ensures.1 (inl (inr (c.in_ok-conn.conn, c.in_err-records.ensures.refused)))
+    handed_on _ c.from_residual-in_err-records.result c.in_err-records.field-0.0 c.from_residual-in_err-records.ensures.1 (inl c.in_err-records.ensures.refused)
