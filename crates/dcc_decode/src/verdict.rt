@@ -1,6 +1,6 @@
 //! What an answer says, in words.
 
-use crate::lists::{Found, read_as_far};
+use crate::lists::read_as_far;
 use crate::names::put_avp_name;
 use crate::values::value_name;
 use crate::words::{put_count, put_part, put_plain, put_price};
@@ -53,7 +53,7 @@ fn number_in(avps: &[Avp<'_>], code: u32) -> Option<u32> {
 fn group_in<'a>(alloc: Global, avps: &[Avp<'a>], code: u32) -> Result<Vec<Avp<'a>>, AllocError> {
     match first_of(avps, code) {
         Some(avp) => {
-            let Found { avps, .. } = read_as_far(alloc, avp.value())?;
+            let crate::lists::Found { avps, .. } = read_as_far(alloc, avp.value())?;
             Ok(avps)
         }
         None => Ok(Vec::new(alloc)),

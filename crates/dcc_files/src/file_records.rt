@@ -30,7 +30,7 @@ impl Records for FileRecords {
     }
 
     fn faults(&self) -> u64 {
-        self.records.faults()
+        u64::from(self.is_stopped())
     }
 
     fn is_stopped(&self) -> bool {
