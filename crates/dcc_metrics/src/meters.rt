@@ -16,7 +16,8 @@ use std::marker::Model;
 use std::sync::atomic::{AtomicU64, Ordering};
 use std::sync::{Mutex, Wait};
 
-/// The counters of a server, by which many threads count at once. Contracts see the number of its shards, and not what it has counted.
+/// The counters of a server, by which many threads count at once. Contracts see the number of its shards, and not what it has counted. The counters of
+/// writers and of full lanes are on no page: the connection of a gateway reads them.
 #[derive(Drop)]
 pub struct Meters {
     alloc: Global,
@@ -27,6 +28,10 @@ pub struct Meters {
     replies: Row,
     shards: Vec<ShardMeters>,
     hosts: Mutex<Hosts>,
+    /// By place: the writers that have begun.
+    writers: Row,
+    /// By place: how often the lane to its writer was full.
+    fillings: Row,
 }
 
 impl Model for Meters {
@@ -49,6 +54,8 @@ impl Meters {
             meters.push(ShardMeters::new(alloc)?)?;
         }
         let hosts = Hosts::new(alloc, places)?;
+        let writers = Row::new(alloc, places)?;
+        let fillings = Row::new(alloc, places)?;
         Ok(Meters {
             alloc,
             came: AtomicU64::new(0),
@@ -57,6 +64,8 @@ impl Meters {
             replies,
             shards: meters,
             hosts: Mutex::new(hosts),
+            writers,
+            fillings,
         })
     }
 
@@ -87,6 +96,26 @@ impl Meters {
         let none = OctetString::new(self.alloc);
         self.hosts.lock(rt).set(gate.saturating_sub(1), none);
         self.went.fetch_add(1, Ordering::SeqCst);
+    }
+
+    /// Counts a thread that has begun to write to the gateway of the place of this index.
+    pub fn began(&self, place: usize) {
+        self.writers.add(place, 1);
+    }
+
+    /// The number of threads that have begun to write to gateways of this place.
+    pub fn writers(&self, place: usize) -> u64 {
+        self.writers.at(place)
+    }
+
+    /// Counts that the lane to the writer of the place of this index is full, so that a worker waits for room.
+    pub fn filled(&self, place: usize) {
+        self.fillings.add(place, 1);
+    }
+
+    /// How often the lane to the writer of this place was full.
+    pub fn fillings(&self, place: usize) -> u64 {
+        self.fillings.at(place)
     }
 
     /// Counts a message of a gateway.
