@@ -206,12 +206,13 @@ fn open_door<'r, N: Net<Listener = TcpListener, Stream = TcpStream> + Eprint, S:
     ensures whole { OnOk result ((address : SocketAddr) × Appends (W.contents output.old) (W.contents output.new) (listening_line address)) }
     ensures part { IfErr result (IsTellingBegun (W.contents output.old) (W.contents output.new)) }
 {
+    let meters = backing.meters;
     let calls = match ask.operator {
         Some(address) => Some(open_calls(rt, address, hasher, backing)?),
         None => None,
     };
     // No `?`: it is not proved if a value holds a reference beside a struct with a model.
-    let door = match Door::bind(rt, alloc, ask.address, ask.silence, staying, calls) {
+    let door = match Door::bind(rt, alloc, ask.address, meters, ask.silence, staying, calls) {
         Ok(door) => door,
         Err(error) => return Err(Failure::from(error)),
     };

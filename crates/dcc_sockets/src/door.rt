@@ -5,9 +5,11 @@ use crate::calls::{Calls, answer_calls};
 use crate::closing::{Staying, remove_stop};
 use crate::gateway::{Input, Output, halves};
 use crate::options::wait_for_connections;
+use crate::place::Place;
 use crate::refusal::{Refusal, meaning_of};
 use crate::silence::Silence;
 use crate::trouble::{Trouble, tell};
+use dcc_metrics::Meters;
 use dcc_octets::OctetString;
 use dcc_rounds::{Connection, Listener, Tick};
 use dcc_running::{Naming, Seat, Shards};
@@ -32,6 +34,8 @@ pub struct Door<'r, R, K: Copies> {
     rt: &'r R,
     alloc: Global,
     listener: TcpListener,
+    /// By which the halves of a connection hear of the signs of its place.
+    meters: &'r Meters,
     /// Where operators call a server that stays.
     calls: Option<Calls<'r, K>>,
     silence: Silence,
@@ -47,14 +51,15 @@ pub struct Door<'r, R, K: Copies> {
 }
 
 impl<'r, R: Net<Listener = TcpListener, Stream = TcpStream>, K: Copies> Door<'r, R, K> {
-    /// Listens at an address, for gateways that may be silent so long, and for places that are taken again if the server stays. A server that stays
-    /// may also take calls of operators. Port 0 takes a port that is free.
+    /// Listens at an address, for gateways that may be silent so long, and for places that are taken again if the server stays. The signs of the places
+    /// are counted by these counters. A server that stays may also take calls of operators. Port 0 takes a port that is free.
     ///
     /// Error: the system refuses the address, for instance if it is taken or isn't one of this machine.
     pub fn bind(
         rt: &'r R,
         alloc: Global,
         address: SocketAddrV4,
+        meters: &'r Meters,
         silence: Silence,
         staying: Option<Staying<'r>>,
         calls: Option<Calls<'r, K>>,
@@ -67,6 +72,7 @@ impl<'r, R: Net<Listener = TcpListener, Stream = TcpStream>, K: Copies> Door<'r,
             rt,
             alloc,
             listener,
+            meters,
             calls,
             silence,
             staying,
@@ -94,11 +100,12 @@ impl<'r, R, K: Copies> Door<'r, R, K> {
         self.listener.local_addr()
     }
 
-    /// A connection that was accepted, set up.
+    /// A connection that was accepted for the place of this index, set up.
     ///
     /// Error: the system refuses that, or memory for the name.
     fn set_up(
         &self,
+        gate: usize,
         stream: TcpStream,
         from: SocketAddr,
     ) -> io::Result<Connection<Input<'r, R>, Output<'r, R>>> {
@@ -107,7 +114,11 @@ impl<'r, R, K: Copies> Door<'r, R, K> {
             Some(staying) => Some(staying.closing),
             None => None,
         };
-        let (input, output) = halves(self.rt, stream, from, self.silence, closing)?;
+        let place = Place {
+            meters: self.meters,
+            gate,
+        };
+        let (input, output) = halves(self.rt, stream, from, place, self.silence, closing)?;
         Ok(Connection {
             input,
             output,
@@ -117,18 +128,19 @@ impl<'r, R, K: Copies> Door<'r, R, K> {
 }
 
 impl<'r, R: Clock + Eprint, K: Copies> Door<'r, R, K> {
-    /// One try: a connection. None if a connection was lost, which is reported, if none came in time, or, behind a wait, if there is
+    /// One try: a connection for the place of this index. None if a connection was lost, which is reported, if none came in time, or, behind a wait, if there is
     /// nothing to take a connection in with.
     ///
     /// Error: the listener takes none any more.
     fn try_accept(
         &self,
+        gate: usize,
         is_short: &mut bool,
     ) -> io::Result<Option<Connection<Input<'r, R>, Output<'r, R>>>> {
         match self.listener.accept() {
             Ok((stream, from)) => {
                 *is_short = false;
-                match self.set_up(stream, from) {
+                match self.set_up(gate, stream, from) {
                     Ok(connection) => Ok(Some(connection)),
                     Err(error) => {
                         tell(self.rt, Trouble::Unready { from, error });
@@ -190,10 +202,10 @@ impl<'r, R: Clock + Eprint, K: Copies> Listener<Input<'r, R>, Output<'r, R>> for
     /// short, the next try is a second later.
     ///
     /// Error: the listener takes none any more.
-    fn accept(&mut self, _gate: usize) -> io::Result<Connection<Input<'r, R>, Output<'r, R>>> {
+    fn accept(&mut self, gate: usize) -> io::Result<Connection<Input<'r, R>, Output<'r, R>>> {
         let mut is_short = self.is_short;
         for _ in 0..u64::MAX {
-            let tried = self.try_accept(&mut is_short);
+            let tried = self.try_accept(gate, &mut is_short);
             self.is_short = is_short;
             match tried {
                 Ok(Some(connection)) => return Ok(connection),
@@ -208,7 +220,7 @@ impl<'r, R: Clock + Eprint, K: Copies> Listener<Input<'r, R>, Output<'r, R>> for
     fn enter<W: Wait>(
         &self,
         rt: &W,
-        _gate: usize,
+        gate: usize,
     ) -> Option<Connection<Input<'r, R>, Output<'r, R>>> {
         let staying = self.staying?;
         let mut turn = self.turn.lock(rt);
@@ -217,7 +229,7 @@ impl<'r, R: Clock + Eprint, K: Copies> Listener<Input<'r, R>, Output<'r, R>> for
                 return None;
             }
             let mut is_short = *turn;
-            let tried = self.try_accept(&mut is_short);
+            let tried = self.try_accept(gate, &mut is_short);
             *turn = is_short;
             match tried {
                 Ok(Some(connection)) => return Some(connection),

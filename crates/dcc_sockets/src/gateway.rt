@@ -1,26 +1,31 @@
 //! The two halves of a gateway's connection.
 
-ghost use Rattle.std.specs.Prelude.{◌≤◌, IfOk, length};
+ghost use Rattle.std.specs.Prelude.{◌≤◌, IfOk, IfSome, length};
 
 use crate::closing::Closing;
 use crate::door::TURN_SECONDS;
 use crate::lingering::linger;
 use crate::options::keep_alive;
-use crate::silence::Silence;
+use crate::place::Place;
+use crate::silence::{FIRST_SECONDS, Silence};
 use crate::trouble::{Trouble, tell};
-use crate::waiting::{WRITE_SECONDS, Waiting};
+use crate::waiting::{LOOK_MILLIS, Waiting};
 use dcc_rounds::Shut;
 use std::io;
 use std::io::{Eprint, ErrorKind, Read, Write};
 use std::net::{Shutdown, SocketAddr, TcpStream};
 use std::time::{Clock, Duration, Instant};
 
-/// What a gateway sends. A read waits for octets as long as the gateway may be silent, and then fails.
+/// What a gateway sends. Nothing is read before the thread that writes to the gateway has begun: without this thread no answer would go out, and
+/// the workers would wait for room in its lane. A read waits for octets as long as the gateway may be silent, and then fails.
 #[derive(Drop)]
 pub struct Input<'r, R> {
     rt: &'r R,
     stream: TcpStream,
     from: SocketAddr,
+    place: Place<'r>,
+    /// So many writers of the place had begun when the gateway came. None once its own writer has begun.
+    earlier: Option<u64>,
     silence: Silence,
     has_sent: bool,
     /// For so many seconds the system has a read wait, or without an end.
@@ -29,13 +34,17 @@ pub struct Input<'r, R> {
     closing: Option<&'r Closing>,
 }
 
-/// What a gateway is sent. Octets wait for a gateway that doesn't take them for [`WRITE_SECONDS`] in all, however many writes they need, and
-/// then the write fails. Behind the last octets the connection lingers for [`crate::LINGER_SECONDS`] at most, until the gateway ends it too.
+/// What a gateway is sent. Octets wait for a gateway that doesn't take them for [`crate::WRITE_SECONDS`] in all, however many writes they need, and
+/// then the write fails. It fails earlier if the gateway has taken nothing for [`LOOK_MILLIS`], and a worker has waited for room in its lane since
+/// all octets were out the last time. Behind the last octets the connection lingers for [`crate::LINGER_SECONDS`] at most, until the gateway ends it too.
 #[derive(Drop)]
 pub struct Output<'r, R> {
     rt: &'r R,
     stream: TcpStream,
     from: SocketAddr,
+    place: Place<'r>,
+    /// So often the lane of the place had been full when all octets were out the last time.
+    fillings: u64,
     waiting: Waiting,
     /// For so long the system has a write wait.
     wait: Duration,
@@ -43,7 +52,7 @@ pub struct Output<'r, R> {
     is_lost: bool,
 }
 
-/// Both halves of a connection from this address, set up: neither waits longer than it may, small answers go out at once,
+/// Both halves of a connection from this address for this place, set up: neither waits longer than it may, small answers go out at once,
 /// and the system asks whether the other end is still there.
 ///
 /// Error: the system refuses that.
@@ -51,10 +60,11 @@ pub fn halves<'r, R>(
     rt: &'r R,
     stream: TcpStream,
     from: SocketAddr,
+    place: Place<'r>,
     silence: Silence,
     closing: Option<&'r Closing>,
 ) -> io::Result<(Input<'r, R>, Output<'r, R>)> {
-    let wait = Duration::from_secs(WRITE_SECONDS);
+    let wait = Duration::from_millis(LOOK_MILLIS);
     stream.set_write_timeout(Some(wait))?;
     stream.set_nodelay(true)?;
     keep_alive(&stream)?;
@@ -63,6 +73,8 @@ pub fn halves<'r, R>(
         rt,
         stream: other,
         from,
+        place,
+        earlier: Some(place.writers()),
         silence,
         has_sent: false,
         wait: None,
@@ -72,6 +84,8 @@ pub fn halves<'r, R>(
         rt,
         stream,
         from,
+        place,
+        fillings: place.fillings(),
         waiting: Waiting::new(),
         wait,
         is_lost: false,
@@ -148,8 +162,36 @@ fn is_over(waited: u64, allowed: Option<u64>) -> bool {
     }
 }
 
-impl<R: Eprint> Read for Input<'_, R> {
+impl<R: Clock + Eprint> Input<'_, R> {
+    /// Waits until more writers than these have begun, and returns whether they have; they have not if the server is to end.
+    ///
+    /// Error: none begins within the time that a gateway has for its first octets, of [`FIRST_SECONDS`] if silence has no end.
+    fn wait_for_writer(&self, earlier: u64) -> io::Result<bool> {
+        let seconds = self.silence.read_wait(false).unwrap_or(FIRST_SECONDS);
+        for _ in 0..seconds.saturating_mul(1000) {
+            if self.place.writers() != earlier {
+                return Ok(true);
+            }
+            if let Some(closing) = self.closing
+                && closing.is_told()
+            {
+                return Ok(false);
+            }
+            self.rt.sleep(Duration::from_millis(1));
+        }
+        tell(self.rt, Trouble::Unwritten { from: self.from });
+        Err(io::Error::from(ErrorKind::TimedOut))
+    }
+}
+
+impl<R: Clock + Eprint> Read for Input<'_, R> {
     fn read(&mut self, buf: &mut [u8]) -> io::Result<usize> {
+        if let Some(earlier) = self.earlier {
+            if !self.wait_for_writer(earlier)? {
+                return Ok(0);
+            }
+            self.earlier = None;
+        }
         let allowed = self.silence.read_wait(self.has_sent);
         let read = match self.closing {
             Some(closing) => self.read_until(buf, closing, allowed),
@@ -179,36 +221,48 @@ impl<R: Eprint> Output<'_, R> {
         }
         Ok(())
     }
-
-    /// Reports that octets waited too long.
-    fn tell_slow(&self) {
-        tell(self.rt, Trouble::Slow { from: self.from });
-    }
 }
 
 impl<R: Clock + Eprint> Output<'_, R> {
-    /// Writes once, and reports octets that waited too long.
-    fn write_once(&mut self, buf: &[u8]) -> io::Result<usize>
-        ensures { IfOk result (λ count. count ≤ length buf.now) }
+    /// Writes once. None if the gateway took nothing for [`LOOK_MILLIS`].
+    ///
+    /// Error: that of the system, or octets waited too long, which is reported.
+    fn write_once(&mut self, buf: &[u8]) -> io::Result<Option<usize>>
+        ensures { IfOk result (λ count. IfSome count (λ count. count ≤ length buf.now)) }
     {
         let now = Instant::now(self.rt)?;
-        let Some(wait) = self.waiting.begin(now) else {
-            self.tell_slow();
+        let Some(left) = self.waiting.begin(now) else {
+            tell(self.rt, Trouble::Slow { from: self.from });
             return Err(io::Error::from(ErrorKind::TimedOut));
         };
-        self.set_wait(wait)?;
+        self.set_wait(left.min(Duration::from_millis(LOOK_MILLIS)))?;
         match self.stream.write(buf) {
             Ok(count) => {
                 self.waiting.took(count, buf.len());
-                Ok(count)
-            }
-            Err(error) => {
-                if error.kind() == ErrorKind::WouldBlock {
-                    self.tell_slow();
+                if count >= buf.len() {
+                    self.fillings = self.place.fillings();
                 }
-                Err(error)
+                Ok(Some(count))
+            }
+            Err(error) if error.kind() == ErrorKind::WouldBlock => Ok(None),
+            Err(error) => Err(error),
+        }
+    }
+
+    /// Writes until the gateway takes octets, and drops a gateway that takes none while its lane is full.
+    fn write_until(&mut self, buf: &[u8]) -> io::Result<usize>
+        ensures { IfOk result (λ count. count ≤ length buf.now) }
+    {
+        for _ in 0..u64::MAX {
+            if let Some(count) = self.write_once(buf)? {
+                return Ok(count);
+            }
+            if self.place.fillings() != self.fillings {
+                tell(self.rt, Trouble::Crowded { from: self.from });
+                break;
             }
         }
+        Err(io::Error::from(ErrorKind::TimedOut))
     }
 }
 
@@ -222,7 +276,7 @@ fn is_loss(written: &io::Result<usize>) -> bool {
 
 impl<R: Clock + Eprint> Write for Output<'_, R> {
     fn write(&mut self, buf: &[u8]) -> io::Result<usize> {
-        let written = self.write_once(buf);
+        let written = self.write_until(buf);
         self.is_lost = self.is_lost || is_loss(&written);
         written
     }

@@ -11,7 +11,7 @@ use std::sync::Wait;
 use std::time::{Clock, Instant};
 
 /// Writes each notice as a line to standard error, whatever octets a peer's name has: all but `!` to `~`, and the backslash, stand as `\xNN`.
-/// A line that can't be written is left out. It counts notices and events.
+/// A line that can't be written is left out. It counts notices, events and signs.
 #[derive(Clone, Copy)]
 pub struct NoticeLines<'r, P: Eprint> {
     print: &'r P,
@@ -71,8 +71,12 @@ impl<P: Eprint + Clock> Notices for NoticeLines<'_, P> {
         }
     }
 
-    /// No one reads the signs.
-    fn sign(&self, _gate: usize, _sign: Sign) {}
+    fn sign(&self, gate: usize, sign: Sign) {
+        match sign {
+            Sign::Writes => self.meters.began(gate),
+            Sign::Full => self.meters.filled(gate),
+        }
+    }
 }
 
 /// Counts the act, or the repeat, of a receipt. An unknown subscriber has neither.

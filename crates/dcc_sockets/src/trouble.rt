@@ -1,6 +1,6 @@
 //! What a socket alone knows of a connection's trouble, as lines on standard error.
 
-use crate::waiting::WRITE_SECONDS;
+use crate::waiting::{LOOK_MILLIS, WRITE_SECONDS};
 use std::io::Eprint;
 use std::net::SocketAddr;
 use std::{fmt, io};
@@ -14,6 +14,10 @@ pub(crate) enum Trouble {
     Unbegun { from: SocketAddr, seconds: u64 },
     /// Octets waited for it as long as they may, and it is dropped.
     Slow { from: SocketAddr },
+    /// It took nothing while a worker waited for room in its lane, and is dropped.
+    Crowded { from: SocketAddr },
+    /// The thread that writes to it has not begun, and it is dropped.
+    Unwritten { from: SocketAddr },
     /// It was accepted, and couldn't be set up.
     Unready { from: SocketAddr, error: io::Error },
     /// It was lost before it was accepted.
@@ -42,6 +46,15 @@ impl fmt::Display for Trouble {
                     f,
                     "dcc: {from} was slow: octets waited {WRITE_SECONDS} seconds"
                 )
+            }
+            Trouble::Crowded { from } => {
+                write!(
+                    f,
+                    "dcc: {from} was slow: its lane was full, and it took nothing for {LOOK_MILLIS} milliseconds"
+                )
+            }
+            Trouble::Unwritten { from } => {
+                write!(f, "dcc: {from} has no thread that writes to it")
             }
             Trouble::Unready { from, error } => {
                 write!(f, "dcc: a connection from {from} was lost: {error}")

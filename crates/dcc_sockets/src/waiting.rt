@@ -11,6 +11,9 @@ use std::time::{Duration, Instant};
 /// For so many seconds octets wait for a gateway that doesn't take them; then writing fails.
 pub const WRITE_SECONDS: u64 = 5;
 
+/// After so many milliseconds without a taken octet a write looks whether the lane of its gateway is full.
+pub const LOOK_MILLIS: u64 = 200;
+
 /// Since when octets wait to go out: from the first write on that they are given to, over all writes of their rest, until all are out.
 #[derive(Drop)]
 pub struct Waiting {
