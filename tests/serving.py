@@ -41,6 +41,8 @@ def opening(host):
 
 OPEN_OTHER = opening("gw2.example")
 DEBIT, DEBITED = "debit/0/1001", "cca/2001/4/0/g1001"
+# A debit whose answer is so large that it goes out alone.
+LARGE = "ccr/4/1/debit+sub+a1000+Proxy-Info{Proxy-Host='p'+Proxy-State=x00*32768}"
 BUSY = "raw/60000110000000040000001100000021/session+Result-Code=3004+server"
 # The end of a busy answer's Result-Code.
 TOO_BUSY = "0000010c4000000c00000bbc"
@@ -259,6 +261,17 @@ class Gateway:
 
     def asks(self, word, wanted):
         equal(word, self.ask(word), spelled(wanted) if wanted else "")
+
+    def is_deaf(self, pieces=10):
+        """Asks twenty times as often for a large answer, and then for a watchdog's now and then, and reads nothing, until the connection ends or half a minute
+        is over. Ten pieces are more than the system takes of answers, and fewer than the lane has room for."""
+        piece = bytes.fromhex(spelled(LARGE)) * 20
+        with contextlib.suppress(OSError):
+            for _ in range(pieces):
+                self.socket.sendall(piece)
+            for _ in range(60):
+                time.sleep(0.5)
+                self.send("dwr")
 
     def is_ended(self):
         """Whether the server has ended the connection: a silent one isn't."""
