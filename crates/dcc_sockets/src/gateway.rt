@@ -224,10 +224,10 @@ impl<R: Eprint> Output<'_, R> {
 }
 
 impl<R: Clock + Eprint> Output<'_, R> {
-    /// Writes once. None if the gateway took nothing for [`LOOK_MILLIS`].
+    /// Writes once, and waits for so many milliseconds at most. None if the gateway took nothing.
     ///
     /// Error: that of the system, or octets waited too long, which is reported.
-    fn write_once(&mut self, buf: &[u8]) -> io::Result<Option<usize>>
+    fn write_once(&mut self, buf: &[u8], millis: u64) -> io::Result<Option<usize>>
         ensures { IfOk result (λ count. IfSome count (λ count. count ≤ length buf.now)) }
     {
         let now = Instant::now(self.rt)?;
@@ -235,7 +235,7 @@ impl<R: Clock + Eprint> Output<'_, R> {
             tell(self.rt, Trouble::Slow { from: self.from });
             return Err(io::Error::from(ErrorKind::TimedOut));
         };
-        self.set_wait(left.min(Duration::from_millis(LOOK_MILLIS)))?;
+        self.set_wait(left.min(Duration::from_millis(millis)))?;
         match self.stream.write(buf) {
             Ok(count) => {
                 self.waiting.took(count, buf.len());
@@ -254,14 +254,27 @@ impl<R: Clock + Eprint> Output<'_, R> {
         ensures { IfOk result (λ count. count ≤ length buf.now) }
     {
         for _ in 0..u64::MAX {
-            if let Some(count) = self.write_once(buf)? {
+            if let Some(count) = self.write_once(buf, LOOK_MILLIS)? {
                 return Ok(count);
             }
             if self.place.fillings() != self.fillings {
-                tell(self.rt, Trouble::Crowded { from: self.from });
-                break;
+                return self.write_last(buf);
             }
         }
+        Err(io::Error::from(ErrorKind::TimedOut))
+    }
+
+    /// Writes a last time to a gateway whose lane is full. A write that waits goes on only once a third of the system's buffer is free, and a new
+    /// write takes what is free before.
+    ///
+    /// Error: that of the system, or nothing is free, which is reported.
+    fn write_last(&mut self, buf: &[u8]) -> io::Result<usize>
+        ensures { IfOk result (λ count. count ≤ length buf.now) }
+    {
+        if let Some(count) = self.write_once(buf, 1)? {
+            return Ok(count);
+        }
+        tell(self.rt, Trouble::Crowded { from: self.from });
         Err(io::Error::from(ErrorKind::TimedOut))
     }
 }
