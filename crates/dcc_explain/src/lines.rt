@@ -313,7 +313,7 @@ fn second_part(rest: &[u8]) -> &[u8] {
 }
 
 /// A part without the brackets, blanks and quotes round it.
-fn bare(part: &[u8]) -> &[u8] {
+pub(crate) fn bare(part: &[u8]) -> &[u8] {
     let first = part.iter().position(|octet| !is_edge(*octet));
     let last = part.iter().rposition(|octet| !is_edge(*octet));
     match (first, last) {

@@ -1,7 +1,7 @@
 //! The words of a plan's explanation.
 
 use crate::key::{Key, PLAN_KEYS, TABLE_KEYS};
-use crate::lines::{Sought, line_of};
+use crate::lines::{Sought, bare, line_of};
 use crate::place::Place;
 use crate::tariffs::{Spot, tables_of};
 use crate::text::{quoted, shortened};
@@ -57,7 +57,7 @@ fn push_hint(words: &mut String, reason: &str) -> Result<(), AllocError> {
     Ok(())
 }
 
-/// What a line repeats, and a line in front of it that makes one table of what is a list: `[tariff]`.
+/// What a line repeats and the line that had it first, and a line in front of it that makes one table of what is a list: `[tariff]`.
 fn push_duplicate(
     alloc: Global,
     words: &mut String,
@@ -65,12 +65,16 @@ fn push_duplicate(
     line: usize,
 ) -> Result<(), AllocError> {
     let lines = parts(alloc, text, b'\n')?;
+    let before = lines
+        .as_slice()
+        .get(..line.saturating_sub(1))
+        .unwrap_or(&[]);
     if let Some(repeated) = lines.get(line.saturating_sub(1)) {
         let shown = quoted(alloc, repeated.trim_ascii())?;
         write!(words, " in {shown}")?;
+        push_first(words, before, repeated)?;
     }
-    let mut before = lines.iter().take(line.saturating_sub(1));
-    if let Some(at) = before.position(|line| is_single_header(line)) {
+    if let Some(at) = before.iter().position(|line| is_single_header(line)) {
         let number = at.saturating_add(1);
         write!(
             words,
@@ -78,6 +82,51 @@ fn push_duplicate(
         )?;
     }
     Ok(())
+}
+
+/// The number of the first of these lines that has what a line behind them repeats, if one has it.
+fn push_first(words: &mut String, before: &[&[u8]], repeated: &[u8]) -> Result<(), AllocError> {
+    match first_of(before, repeated) {
+        Some(number) => write!(words, "; line {number} has it first"),
+        None => Ok(()),
+    }
+}
+
+/// The number, from 1, of the first line that has the key or the header of a line behind these. A key is sought behind the last header alone, since
+/// each table has keys of its own.
+fn first_of(before: &[&[u8]], repeated: &[u8]) -> Option<usize> {
+    let from = if is_header(repeated) {
+        0
+    } else {
+        behind_header(before)
+    };
+    let at = before
+        .get(from..)?
+        .iter()
+        .position(|line| key_in(line) == key_in(repeated))?;
+    Some(from.saturating_add(at).saturating_add(1))
+}
+
+/// The place behind the last header of these lines, or the first place.
+fn behind_header(lines: &[&[u8]]) -> usize {
+    match lines.iter().rposition(|line| is_header(line)) {
+        Some(at) => at.saturating_add(1),
+        None => 0,
+    }
+}
+
+/// Whether a line is a header.
+fn is_header(line: &[u8]) -> bool {
+    line.trim_ascii().starts_with(b"[")
+}
+
+/// What a line has in front of its first equals sign: a key, or else a header.
+fn key_in(line: &[u8]) -> &[u8] {
+    let end = match line.iter().position(|octet| *octet == b'=') {
+        Some(at) => at,
+        None => line.len(),
+    };
+    bare(line.get(..end).unwrap_or(&[]))
 }
 
 /// Whether a line is the header of one table in place of that of a list's element.

@@ -64,7 +64,9 @@ impl Command {
     /// The name of the argument at a place, from 0.
     fn argument(self, at: usize) -> Option<&'static str> {
         match (self, at) {
-            (Command::Decode | Command::Help, _) => None,
+            (Command::Decode, _) => None,
+            (Command::Help, 0) => Some("COMMAND"),
+            (Command::Help, _) => None,
             (_, 0) => Some("PLAN"),
             (Command::Replay, _) => None,
             (_, 1) => Some("DIR"),
@@ -233,11 +235,11 @@ pub fn explain_words(alloc: Global, words: &[String]) -> Result<String, AllocErr
         );
     };
     let Some(command) = Command::named(name.as_str()) else {
-        let name = quoted(alloc, name.as_bytes())?;
-        return format!(in alloc;
-            "{name} is no command; the commands are balance, check, decode, help, ledger, replay, serve and topup"
-        );
+        return stranger(alloc, name.as_str());
     };
+    if let Some(topic) = unknown_topic(command, words) {
+        return stranger(alloc, topic);
+    }
     let is_many = command == Command::TopUp && has_option(words, "--from");
     let is_at = Switch::At.is_of(command) && has_option(words, "--at");
     let mut reading = Reading {
@@ -257,6 +259,23 @@ pub fn explain_words(alloc: Global, words: &[String]) -> Result<String, AllocErr
         }
     }
     reading.lack(alloc)
+}
+
+/// A word that names no command.
+fn stranger(alloc: Global, word: &str) -> Result<String, AllocError> {
+    let name = quoted(alloc, word.as_bytes())?;
+    format!(in alloc;
+        "{name} is no command; the commands are balance, check, decode, help, ledger, replay, serve and topup"
+    )
+}
+
+/// The word that stands in the place of a command whose help is asked for, if it names none.
+fn unknown_topic(command: Command, words: &[String]) -> Option<&str> {
+    let topic = words.get(2)?.as_str();
+    if command != Command::Help || is_switch(topic) || Command::named(topic).is_some() {
+        return None;
+    }
+    Some(topic)
 }
 
 impl Reading {
