@@ -8,11 +8,15 @@ use Rattle.serde_json.specs.Find.{get, as_number, as_str, as_u64}
 use Rattle.serde_json.specs.Read.{read}
 use Rattle.dcc_act.specs.declared.sub.Sub.{Sub}
 use Rattle.dcc_words.specs.Words.{◌>>=◌, sub}
-use Rattle.dcc_port.specs.Lines.{asks_of}
+use Rattle.dcc_port.specs.Lines.{asks_of, slip_in}
 use Rattle.dcc_port.specs.declared.call.Ask.{Ask}
+use Rattle.dcc_port.specs.declared.call.BodySlip.{BodySlip}
+use Rattle.dcc_port.specs.declared.call.BodySlip.TheVariants.{NoJson, Missing, NoNumber}
 use Rattle.dcc_port.specs.declared.call.Call.{Call}
 use Rattle.dcc_port.specs.declared.call.Call.TheVariants as calls
 use Rattle.dcc_port.specs.declared.call.Flaw.TheVariants as flaws
+use Rattle.dcc_port.specs.declared.call.Member.{Member}
+use Rattle.dcc_port.specs.declared.call.Member.TheVariants.{Ticket, Amount}
 use Rattle.dcc_port.specs.declared.call.Verb.{Verb}
 use Rattle.dcc_port.specs.declared.call.Verb.TheVariants.{Get, Post}
 
@@ -25,24 +29,44 @@ name_of Post = codes "POST"
 abbrev pub by : Verb → List ℕ → Call → Call
 by verb method call = if bytes_eq method (name_of verb) then call else calls.Flawed (flaws.Method verb)
 
--- a number of an object in JSON, by its name
-abbrev pub number_in : List ℕ → Data → Option ℕ
-number_in name found = option_and_then as_u64 (option_and_then as_number (get name found))
+abbrev pub member_name : Member → List ℕ
+member_name Ticket = codes "ticket"
+member_name Amount = codes "amount"
 
--- the ticket and the amount of an object in JSON
-abbrev pub ask_in : Data → Option (ℕ × ℕ)
-ask_in found = do
-  ticket ← number_in (codes "ticket") found
-  amount ← number_in (codes "amount") found
-  Some (ticket, amount)
+-- the number that a member has, or its slip
+abbrev pub number_of : Member → Option ℕ → Result ℕ BodySlip
+number_of member None = Err (NoNumber member)
+number_of member (Some number) = Ok number
+
+abbrev pub number_at : Member → Option Data → Result ℕ BodySlip
+number_at member None = Err (Missing member)
+number_at member (Some found) = number_of member (option_and_then as_u64 (as_number found))
+
+-- the number of a member of an object in JSON, or its slip
+abbrev pub member_in : Member → Data → Result ℕ BodySlip
+member_in member found = number_at member (get (member_name member) found)
+
+-- two numbers, or the first slip
+abbrev pub both : Result ℕ BodySlip → Result ℕ BodySlip → Result (ℕ × ℕ) BodySlip
+both (Err slip) amount = Err slip
+both (Ok ticket) (Err slip) = Err slip
+both (Ok ticket) (Ok amount) = Ok (ticket, amount)
+
+-- the ticket and the amount of an object in JSON, or its first slip
+abbrev pub ask_in : Data → Result (ℕ × ℕ) BodySlip
+ask_in found = both (member_in Ticket found) (member_in Amount found)
+
+abbrev pub ask_read : Option Data → Result (ℕ × ℕ) BodySlip
+ask_read None = Err NoJson
+ask_read (Some found) = ask_in found
 
 -- whether a text is ASCII
 abbrev pub is_ascii : List ℕ → Bool
 is_ascii text = list_all (λ octet. nat_lt octet 128) text
 
--- the ticket and the amount of a body: ASCII text in JSON
-unfoldable pub ask_of : List ℕ → Option (ℕ × ℕ)
-ask_of body = if is_ascii body then read body >>= ask_in else None
+-- the ticket and the amount of a body, which is ASCII text in JSON, or its first slip
+unfoldable pub ask_of : List ℕ → Result (ℕ × ℕ) BodySlip
+ask_of body = if is_ascii body then ask_read (read body) else Err NoJson
 
 -- a path from the root
 abbrev pub is_absolute : List ℕ → Bool
@@ -74,18 +98,18 @@ of_sub call None = calls.Flawed flaws.Subscriber
 of_sub call (Some sub) = call sub
 
 -- a top-up of a subscriber
-abbrev pub top_up_of : Option (ℕ × ℕ) → Sub → Call
-top_up_of None sub = calls.Flawed flaws.Body
-top_up_of (Some ask) sub = calls.TopUp sub ask.0 ask.1
+abbrev pub top_up_of : Result (ℕ × ℕ) BodySlip → Sub → Call
+top_up_of (Err slip) sub = calls.Flawed (flaws.Body slip)
+top_up_of (Ok ask) sub = calls.TopUp sub ask.0 ask.1
 
 -- the subscriber that a part of a path names
 abbrev pub named : List ℕ → Option Sub
 named part = sub (percent_decode part)
 
--- the top-ups of a text
-abbrev pub top_ups_of : Result (List Ask) ℕ → Call
-top_ups_of (Ok asks) = calls.TopUps asks
-top_ups_of (Err line) = calls.Flawed (flaws.Line line)
+-- the top-ups of a text, as it was read
+abbrev pub top_ups_of : List ℕ → Result (List Ask) ℕ → Call
+top_ups_of text (Ok asks) = calls.TopUps asks
+top_ups_of text (Err line) = calls.Flawed (flaws.Line line (slip_in text line))
 
 -- a backup into a folder
 abbrev pub backup_of : Option (List ℕ) → Call
@@ -95,7 +119,7 @@ backup_of (Some folder) = calls.Backup folder
 -- the call of a path with one part, to which a body is sent
 unfoldable pub sent_call : (method page body : List ℕ) → Call
 sent_call method page body =
-    if bytes_eq page (codes "topups") then by Post method (top_ups_of (asks_of body))
+    if bytes_eq page (codes "topups") then by Post method (top_ups_of body (asks_of body))
     else (if bytes_eq page (codes "backup") then by Post method (backup_of (folder_of body))
     else calls.Flawed flaws.Path)
 

@@ -1,7 +1,9 @@
 -- The top-ups of a text, a line for each.
-use Rattle.std.specs.Prelude.{ℕ, ◌+◌, Bool, true, ◌==◌, if◌then◌else◌, List, [], ◌∷◌, Option, Some, None, Result, Ok, Err}
+use Rattle.std.specs.Prelude.{ℕ, ◌+◌, ◌-◌, Bool, true, ◌==◌, if◌then◌else◌, is_some, List, [], ◌∷◌, slice_get, Option, Some, None, Result, Ok, Err}
 use Rattle.dcc_words.specs.Words.{◌>>=◌, lines_of, words_of, any_u64, sub}
 use Rattle.dcc_port.specs.declared.call.Ask.{Ask}
+use Rattle.dcc_port.specs.declared.call.LineSlip.{LineSlip}
+use Rattle.dcc_port.specs.declared.call.LineSlip.TheVariants as slips
 
 -- a top-up of these words, if they have the form
 unfoldable pub ask_at : (s t a : List ℕ) → Option Ask
@@ -37,3 +39,20 @@ asks_from n (line ∷ lines) =
 -- the top-ups of a text, or the number of its first line with a fault
 unfoldable pub asks_of : List ℕ → Result (List Ask) ℕ
 asks_of text = asks_from 1 (lines_of text)
+
+-- the first of these words that is not read, or else the word behind them
+abbrev pub slip_at : (s t : List ℕ) → LineSlip
+slip_at s t = if is_some (sub s) then (if is_some (any_u64 t) then slips.Amount else slips.Ticket) else slips.Subscriber
+
+-- what is wrong with words that are no top-up
+unfoldable pub slip_of_words : List (List ℕ) → LineSlip
+slip_of_words (s ∷ t ∷ a ∷ []) = slip_at s t
+slip_of_words _ = slips.Count
+
+abbrev pub slip_of_line : Option (List ℕ) → LineSlip
+slip_of_line None = slips.Count
+slip_of_line (Some line) = slip_of_words (words_of line)
+
+-- what is wrong with the line of a text with this number, from 1
+unfoldable pub slip_in : List ℕ → ℕ → LineSlip
+slip_in text number = slip_of_line (slice_get (lines_of text) (number - 1))

@@ -9,6 +9,7 @@ use Rattle.http_header.specs.FieldValue.{FieldValue}
 use Rattle.dcc_port.specs.Calls.{call_of}
 use Rattle.dcc_port.specs.declared.call.Call.{Call}
 use Rattle.dcc_port.specs.declared.call.Call.TheVariants as calls
+use Rattle.dcc_port.specs.declared.call.Flaw.{Flaw}
 use Rattle.dcc_port.specs.declared.call.Flaw.TheVariants as flaws
 
 -- an octet of an address in numbers and of its port: a digit, a dot or a colon
@@ -24,8 +25,12 @@ is_at_address (Some value) = list_all is_of_address value.bytes
 unfoldable pub is_foreign : Entries FieldValue → Bool
 is_foreign fields = is_some (get fields (codes "origin")) || not (is_at_address (get fields (codes "host")))
 
+-- what such a request has: an origin, or else a host by name
+abbrev pub foreign_flaw : Entries FieldValue → Flaw
+foreign_flaw fields = if is_some (get fields (codes "origin")) then flaws.Origin else flaws.Host
+
 -- the call of a request, by its method, its path without the query, and its body; none of a page of a browser
 abbrev pub call_for : Request (List ℕ) → Call
 call_for request =
-    if is_foreign (head_of request).headers then calls.Flawed flaws.Foreign
+    if is_foreign (head_of request).headers then calls.Flawed (foreign_flaw (head_of request).headers)
     else call_of (head_of request).method (uri_path (head_of request).uri) (body_of request)

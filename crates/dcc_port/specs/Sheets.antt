@@ -8,7 +8,14 @@ use Rattle.dcc_port.specs.Accounts.{escaped}
 use Rattle.dcc_port.specs.declared.backup.BackupEnd.{BackupEnd}
 use Rattle.dcc_port.specs.declared.backup.BackupEnd.TheVariants.{Done, There, NoFolder, Uncopied}
 use Rattle.dcc_port.specs.declared.call.Flaw.{Flaw}
-use Rattle.dcc_port.specs.declared.call.Flaw.TheVariants.{Path, Method, Subscriber, Body, Line, Folder, Foreign}
+use Rattle.dcc_port.specs.declared.call.Flaw.TheVariants.{Path, Method, Subscriber, Body, Line, Folder, Origin, Host}
+use Rattle.dcc_port.specs.declared.call.BodySlip.{BodySlip}
+use Rattle.dcc_port.specs.declared.call.BodySlip.TheVariants.{NoJson, Missing, NoNumber}
+use Rattle.dcc_port.specs.declared.call.LineSlip.{LineSlip}
+use Rattle.dcc_port.specs.declared.call.LineSlip.TheVariants as slips
+use Rattle.dcc_port.specs.declared.call.Member.TheVariants.{Ticket, Amount}
+use Rattle.dcc_port.specs.declared.call.Verb.{Verb}
+use Rattle.dcc_port.specs.declared.call.Verb.TheVariants.{Get, Post}
 use Rattle.dcc_port.specs.declared.sheet.Kind.{Kind}
 use Rattle.dcc_port.specs.declared.sheet.Kind.TheVariants.{Json, Plain, Metrics}
 use Rattle.dcc_port.specs.declared.sweeping.Swept.{Swept}
@@ -44,21 +51,44 @@ abbrev pub flaw_status : Flaw → ℕ
 flaw_status Path = 404
 flaw_status (Method verb) = 405
 flaw_status Subscriber = 400
-flaw_status Body = 400
-flaw_status (Line line) = 400
+flaw_status (Body slip) = 400
+flaw_status (Line line slip) = 400
 flaw_status Folder = 400
-flaw_status Foreign = 403
+flaw_status Origin = 403
+flaw_status Host = 403
+
+abbrev pub method_text : Verb → List ℕ
+method_text Get = codes "{\"error\":\"other method\",\"in\":\"method\",\"expected\":\"GET\"}"
+method_text Post = codes "{\"error\":\"other method\",\"in\":\"method\",\"expected\":\"POST\"}"
+
+-- the body of a top-up: the fault of each member has its own text
+abbrev pub body_text : BodySlip → List ℕ
+body_text NoJson = codes "{\"error\":\"body is no JSON\",\"in\":\"body\",\"expected\":\"an object in ASCII, as {\\\"ticket\\\":1,\\\"amount\\\":1000}\"}"
+body_text (Missing Ticket) = codes "{\"error\":\"missing member\",\"in\":\"ticket\",\"expected\":\"a whole number of 0 to 18446744073709551615\"}"
+body_text (Missing Amount) = codes "{\"error\":\"missing member\",\"in\":\"amount\",\"expected\":\"a whole number of 0 to 18446744073709551615\"}"
+body_text (NoNumber Ticket) = codes "{\"error\":\"no whole number\",\"in\":\"ticket\",\"expected\":\"0 to 18446744073709551615, without a point and without quotes\"}"
+body_text (NoNumber Amount) = codes "{\"error\":\"no whole number\",\"in\":\"amount\",\"expected\":\"0 to 18446744073709551615, without a point and without quotes\"}"
+
+-- a line of top-ups: its number, and behind it the word at fault and what its place expects
+abbrev pub line_end : LineSlip → List ℕ
+line_end slips.Count = codes "\",\"expected\":\"SUB TICKET AMOUNT, with one space between them, as 0:491700000001 1 1000\"}"
+line_end slips.Subscriber = codes ", SUB\",\"expected\":\"TYPE:DATA, as 0:491700000001\"}"
+line_end slips.Ticket = codes ", TICKET\",\"expected\":\"0 to 18446744073709551615\"}"
+line_end slips.Amount = codes ", AMOUNT\",\"expected\":\"0 to 18446744073709551615\"}"
+
+unfoldable pub line_text : ℕ → List ℕ → List ℕ
+line_text line end = codes "{\"error\":\"unreadable top-up\",\"in\":\"line " ++ (decimal line ++ end)
 
 abbrev pub flaw_text : Flaw → List ℕ
 flaw_text Path =
     codes "{\"error\":\"unknown path\",\"in\":\"path\",\"expected\":\"/health, /metrics, /subscribers/SUB, its /ledger or /topups, /topups, /sweep, /backup or /stop\"}"
-flaw_text (Method verb) = codes "{\"error\":\"other method\",\"in\":\"method\",\"expected\":\"the method of the field allow\"}"
-flaw_text Subscriber = codes "{\"error\":\"unreadable subscriber\",\"in\":\"path\",\"expected\":\"TYPE:DATA, percent-encoded\"}"
-flaw_text Body = codes "{\"error\":\"unreadable top-up\",\"in\":\"body\",\"expected\":\"{\\\"ticket\\\":N,\\\"amount\\\":N} in ASCII\"}"
-flaw_text (Line line) =
-    codes "{\"error\":\"unreadable top-up\",\"in\":\"line " ++ (decimal line ++ codes "\",\"expected\":\"SUB TICKET AMOUNT\"}")
+flaw_text (Method verb) = method_text verb
+flaw_text Subscriber = codes "{\"error\":\"unreadable subscriber\",\"in\":\"path\",\"expected\":\"TYPE:DATA, percent-encoded, as 0:491700000001 or 4:a%2Fb\"}"
+flaw_text (Body slip) = body_text slip
+flaw_text (Line line slip) = line_text line (line_end slip)
 flaw_text Folder = codes "{\"error\":\"unreadable folder\",\"in\":\"body\",\"expected\":\"{\\\"folder\\\":\\\"/PATH\\\"} in ASCII, with at most 1024 octets\"}"
-flaw_text Foreign = codes "{\"error\":\"page of a browser\",\"in\":\"fields\",\"expected\":\"no origin, and a host in numbers, as 127.0.0.1\"}"
+flaw_text Origin = codes "{\"error\":\"origin of a page\",\"in\":\"field origin\",\"expected\":\"no such field: a page of a browser sends it\"}"
+flaw_text Host = codes "{\"error\":\"host by name\",\"in\":\"field host\",\"expected\":\"an address in numbers, as 127.0.0.1 in place of localhost: a page of a browser may send a name\"}"
 
 abbrev pub allowed : Flaw → List (List ℕ × List ℕ)
 allowed (Method verb) = (codes "allow", name_of verb) ∷ []
@@ -144,7 +174,7 @@ copies_text folder count = codes "{\"folder\":\"" ++ flat_map escaped folder ++ 
 
 unfoldable pub uncopied_text : ℕ → List ℕ
 uncopied_text index =
-    codes "{\"error\":\"copy failed\",\"in\":\"shard " ++ (decimal index ++ codes "\",\"expected\":\"a folder that can be written to\"}")
+    codes "{\"error\":\"copy failed\",\"in\":\"shard " ++ (decimal index ++ codes "\",\"expected\":\"a disk with room, and files that the user of the server may write\"}")
 
 -- a backup: its files, or the reason for which there are not all of them
 abbrev pub backup_sheet : List ℕ → ℕ → BackupEnd → Sheet
@@ -152,5 +182,5 @@ backup_sheet folder count Done = sheet_of Json 200 (copies_text folder count)
 backup_sheet folder count There =
     sheet_of Json 409 (codes "{\"error\":\"folder is there\",\"in\":\"folder\",\"expected\":\"the path of a new folder\"}")
 backup_sheet folder count NoFolder =
-    sheet_of Json 507 (codes "{\"error\":\"copy failed\",\"in\":\"folder\",\"expected\":\"a folder that can be made\"}")
+    sheet_of Json 507 (codes "{\"error\":\"copy failed\",\"in\":\"folder\",\"expected\":\"a new folder in one that exists, and to which the user of the server may write\"}")
 backup_sheet folder count (Uncopied index) = sheet_of Json 507 (uncopied_text index)

@@ -103,7 +103,7 @@ const THERE_TEXT: &[u8] =
     b"{\"error\":\"folder is there\",\"in\":\"folder\",\"expected\":\"the path of a new folder\"}";
 
 const NO_FOLDER_TEXT: &[u8] =
-    b"{\"error\":\"copy failed\",\"in\":\"folder\",\"expected\":\"a folder that can be made\"}";
+    b"{\"error\":\"copy failed\",\"in\":\"folder\",\"expected\":\"a new folder in one that exists, and to which the user of the server may write\"}";
 
 /// The copies of so many shards in a folder, as text.
 #[tactic(auto, unfolding(crate::specs::Sheets::copies_text))]
@@ -163,7 +163,7 @@ fn uncopied_text(alloc: Global, index: usize) -> Result<String, AllocError>
     ensures { IfOk result (λ text. string_bytes text ≡ uncopied_text index) }
 {
     let text = format!(in alloc;
-        "{{\"error\":\"copy failed\",\"in\":\"shard {index}\",\"expected\":\"a folder that can be written to\"}}"
+        "{{\"error\":\"copy failed\",\"in\":\"shard {index}\",\"expected\":\"a disk with room, and files that the user of the server may write\"}}"
     )?;
     Ok(text)
 }

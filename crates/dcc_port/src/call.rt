@@ -97,12 +97,42 @@ pub enum Flaw {
     Method(Verb),
     /// The path names no subscriber.
     Subscriber,
-    /// The body of a top-up has no ticket or no amount.
-    Body,
-    /// The line of this number, from 1, is no top-up.
-    Line(u64),
+    /// The body of a top-up has this slip.
+    Body(BodySlip),
+    /// The line of this number, from 1, is no top-up, for this slip.
+    Line(u64, LineSlip),
     /// The body of a backup has no folder.
     Folder,
-    /// The request may come from a page of a browser.
-    Foreign,
+    /// The request has an origin, as one from a page of a browser has.
+    Origin,
+    /// The host of the request is no address in numbers.
+    Host,
+}
+
+/// The members of a top-up's body.
+#[derive(Clone, Copy, Debug, PartialEq, Eq)]
+pub enum Member {
+    Ticket,
+    Amount,
+}
+
+/// The first slip of a top-up's body.
+#[derive(Clone, Copy, Debug, PartialEq, Eq)]
+pub enum BodySlip {
+    /// The body is no JSON in ASCII.
+    NoJson,
+    /// This member is missing.
+    Missing(Member),
+    /// The value of this member is no whole number of 0 to 2^64 - 1.
+    NoNumber(Member),
+}
+
+/// The first slip of a line of top-ups.
+#[derive(Clone, Copy, Debug, PartialEq, Eq)]
+pub enum LineSlip {
+    /// The line has not three words.
+    Count,
+    Subscriber,
+    Ticket,
+    Amount,
 }

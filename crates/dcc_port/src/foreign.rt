@@ -2,8 +2,9 @@
 
 ghost use Rattle.std.specs.Prelude.{◌≡◌, option_copied};
 ghost use Rattle.std.specs.List.{list_all};
-ghost use Rattle.dcc_port.specs.Requests.{is_at_address, is_foreign, is_of_address};
+ghost use Rattle.dcc_port.specs.Requests.{foreign_flaw, is_at_address, is_foreign, is_of_address};
 
+use crate::call::Flaw;
 use http::{HeaderMap, HeaderValue};
 
 /// Whether a request may come from a page of a browser: it has an `Origin`, as a page's request to another server has (RFC 6454, section 7), or its
@@ -13,6 +14,17 @@ pub(crate) fn is_foreign(fields: &HeaderMap<HeaderValue>) -> bool
     ensures { result ≡ is_foreign fields.now }
 {
     fields.get("origin").is_some() || !is_at_address(fields.get("host"))
+}
+
+/// What such a request has: an origin, or else a host by name.
+pub(crate) fn foreign_flaw(fields: &HeaderMap<HeaderValue>) -> Flaw
+    ensures { result ≡ foreign_flaw fields.now }
+{
+    if fields.get("origin").is_some() {
+        Flaw::Origin
+    } else {
+        Flaw::Host
+    }
 }
 
 /// Whether a host is an address in numbers, with its port or without, or missing.

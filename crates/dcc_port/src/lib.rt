@@ -29,6 +29,6 @@ mod texts;
 mod top_up;
 mod top_ups;
 
-pub use call::{Ask, Asks, Call, Flaw, Verb};
+pub use call::{Ask, Asks, BodySlip, Call, Flaw, LineSlip, Member, Verb};
 pub use port::{CopyFault, Server};
 pub use serving::serve_calls;

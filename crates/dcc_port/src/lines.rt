@@ -2,9 +2,9 @@
 
 ghost use Rattle.std.specs.Prelude.{◌≡◌, map, IfOk};
 ghost use Rattle.dcc_words.specs.Words.{words_of};
-ghost use Rattle.dcc_port.specs.Lines.{ask_at, ask_of_words, asks_of, is_remark};
+ghost use Rattle.dcc_port.specs.Lines.{ask_at, ask_of_words, asks_of, is_remark, slip_at, slip_in, slip_of_words};
 
-use crate::call::{Ask, Asks};
+use crate::call::{Ask, Asks, LineSlip};
 use dcc_words::{any_u64, parts, sub};
 use std::alloc::{AllocError, Global};
 
@@ -53,6 +53,50 @@ fn ask_of_words(words: &[&[u8]]) -> Option<Ask>
     match words {
         [sub, ticket, amount] => ask_at(sub, ticket, amount),
         _ => None,
+    }
+}
+
+/// The slip of the line of a text with this number, from 1. The only error is want of memory.
+#[tactic(auto, unfolding(crate::specs::Lines::slip_in))]
+pub(crate) fn slip_in(alloc: Global, text: &[u8], number: u64) -> Result<LineSlip, AllocError>
+    ensures { IfOk result (λ slip. slip ≡ slip_in text.now number) }
+{
+    let lines = parts(alloc, text, b'\n')?;
+    match lines.get((number as usize).saturating_sub(1)) {
+        Some(line) => slip_of(alloc, line),
+        None => Ok(LineSlip::Count),
+    }
+}
+
+/// The slip of a line. The only error is want of memory.
+fn slip_of(alloc: Global, line: &[u8]) -> Result<LineSlip, AllocError>
+    ensures { IfOk result (λ slip. slip ≡ slip_of_words (words_of line.now)) }
+{
+    let words = parts(alloc, line, b' ')?;
+    Ok(slip_of_words(words.as_slice()))
+}
+
+/// The slip of words that are no top-up: their number, or else the first one that is not read.
+#[tactic(auto, unfolding(crate::specs::Lines::slip_of_words))]
+fn slip_of_words(words: &[&[u8]]) -> LineSlip
+    ensures { result ≡ slip_of_words (map (λ word. word.now) words.now) }
+{
+    match words {
+        [who, ticket, _amount] => slip_at(who, ticket),
+        _ => LineSlip::Count,
+    }
+}
+
+/// The first word of these that is not read, or else the word behind them.
+fn slip_at(who: &[u8], ticket: &[u8]) -> LineSlip
+    ensures { result ≡ slip_at who.now ticket.now }
+{
+    if sub(who).is_none() {
+        LineSlip::Subscriber
+    } else if any_u64(ticket).is_none() {
+        LineSlip::Ticket
+    } else {
+        LineSlip::Amount
     }
 }
 

@@ -5,11 +5,11 @@ ghost use Rattle.std.specs.List.{list_all};
 ghost use Rattle.serde_json.specs.View.{view};
 ghost use Rattle.dcc_port.specs.Requests.{call_for};
 ghost use Rattle.dcc_port.specs.Lines.{asks_of};
-ghost use Rattle.dcc_port.specs.Calls.{ask_in, ask_of, backup_of, by, call_of, folder_in, folder_of, if_folder, is_absolute, is_ascii, is_folder, is_of_subs, is_printed, name_of, named, of_sub, page_call, parts_call, sent_call, sub_call, top_up_of, top_ups_of};
+ghost use Rattle.dcc_port.specs.Calls.{ask_in, ask_of, backup_of, by, call_of, folder_in, folder_of, if_folder, is_absolute, is_ascii, is_folder, is_of_subs, is_printed, member_in, member_name, name_of, named, of_sub, page_call, parts_call, sent_call, sub_call, top_up_of, top_ups_of};
 
-use crate::call::{Call, Flaw, Verb};
-use crate::foreign::is_foreign;
-use crate::lines::read_asks;
+use crate::call::{BodySlip, Call, Flaw, Member, Verb};
+use crate::foreign::{foreign_flaw, is_foreign};
+use crate::lines::{read_asks, slip_in};
 use bytes::Bytes;
 use dcc_act::Sub;
 use dcc_octets::OctetString;
@@ -27,7 +27,7 @@ pub(crate) fn call_for(alloc: Global, request: &Request<Bytes>) -> Result<Call, 
     ensures { IfOk result (λ call. call ≡ call_for request.now) }
 {
     if is_foreign(request.headers()) {
-        return Ok(Call::Flawed(Flaw::Foreign));
+        return Ok(Call::Flawed(foreign_flaw(request.headers())));
     }
     let method = request.method().as_str().as_bytes();
     let path = request.uri().path().as_bytes();
@@ -145,12 +145,12 @@ fn top_up_call(alloc: Global, sub: Sub, body: &[u8]) -> Result<Call, AllocError>
     ensures { IfOk result (λ call. call ≡ top_up_of (ask_of body.now) sub) }
 {
     match ask_of(alloc, body)? {
-        Some((ticket, amount)) => Ok(Call::TopUp {
+        Ok((ticket, amount)) => Ok(Call::TopUp {
             sub,
             ticket,
             amount,
         }),
-        None => Ok(Call::Flawed(Flaw::Body)),
+        Err(slip) => Ok(Call::Flawed(Flaw::Body(slip))),
     }
 }
 
@@ -188,11 +188,14 @@ fn sent_call(alloc: Global, method: &[u8], page: &[u8], body: &[u8]) -> Result<C
 
 /// The call of many top-ups by its body. The only error is want of memory.
 fn top_ups_call(alloc: Global, body: &[u8]) -> Result<Call, AllocError>
-    ensures { IfOk result (λ call. call ≡ top_ups_of (asks_of body.now)) }
+    ensures { IfOk result (λ call. call ≡ top_ups_of body.now (asks_of body.now)) }
 {
     match read_asks(alloc, body)? {
         Ok(asks) => Ok(Call::TopUps(asks)),
-        Err(line) => Ok(Call::Flawed(Flaw::Line(line))),
+        Err(line) => {
+            let slip = slip_in(alloc, body, line)?;
+            Ok(Call::Flawed(Flaw::Line(line, slip)))
+        }
     }
 }
 
@@ -238,13 +241,13 @@ fn named(alloc: Global, part: &[u8]) -> Result<Option<Sub>, AllocError>
     Ok(sub(word.as_slice()))
 }
 
-/// The ticket and the amount of a body. The only error is want of memory.
+/// The ticket and the amount of a body, or its first slip. The only error is want of memory.
 #[tactic(auto, unfolding(crate::specs::Calls::ask_of))]
-fn ask_of(alloc: Global, body: &[u8]) -> Result<Option<(u64, u64)>, AllocError>
+fn ask_of(alloc: Global, body: &[u8]) -> Result<Result<(u64, u64), BodySlip>, AllocError>
     ensures { IfOk result (λ ask. ask ≡ ask_of body.now) }
 {
     if !is_ascii(body) {
-        return Ok(None);
+        return Ok(Err(BodySlip::NoJson));
     }
     match Value::from_slice(alloc, body) {
         Ok(value) => {
@@ -257,7 +260,7 @@ fn ask_of(alloc: Global, body: &[u8]) -> Result<Option<(u64, u64)>, AllocError>
             if error.is_memory() {
                 Err(AllocError)
             } else {
-                Ok(None)
+                Ok(Err(BodySlip::NoJson))
             }
         }
     }
@@ -269,13 +272,35 @@ fn is_ascii(body: &[u8]) -> bool
     body.iter().all(|octet| *octet < 128)
 }
 
-/// The ticket and the amount of an object in JSON.
-fn ask_in(value: &Value) -> Option<(u64, u64)>
+/// The ticket and the amount of an object in JSON, or its first slip.
+fn ask_in(value: &Value) -> Result<(u64, u64), BodySlip>
     ensures { result ≡ ask_in (view value.now) }
 {
-    let ticket = value.get("ticket").and_then(Value::as_u64)?;
-    let amount = value.get("amount").and_then(Value::as_u64)?;
-    Some((ticket, amount))
+    let ticket = member_in(value, Member::Ticket)?;
+    let amount = member_in(value, Member::Amount)?;
+    Ok((ticket, amount))
+}
+
+/// The number of a member, or its slip.
+fn member_in(value: &Value, member: Member) -> Result<u64, BodySlip>
+    ensures { result ≡ member_in member (view value.now) }
+{
+    match value.get(member_name(member)) {
+        Some(found) => match found.as_u64() {
+            Some(number) => Ok(number),
+            None => Err(BodySlip::NoNumber(member)),
+        },
+        None => Err(BodySlip::Missing(member)),
+    }
+}
+
+fn member_name(member: Member) -> &'static str
+    ensures { result.now ≡ member_name member }
+{
+    match member {
+        Member::Ticket => "ticket",
+        Member::Amount => "amount",
+    }
 }
 
 /// The folder of a body. The only error is want of memory.
