@@ -37,7 +37,7 @@ status_of (Close number) = 6
 abbrev pub line_of : Failure → List ℕ
 line_of Memory = codes "dcc: memory"
 line_of Io = codes "dcc: io"
-line_of Usage = codes "dcc: usage: dcc replay PLAN, dcc topup PLAN DIR SUB TICKET AMOUNT [MOMENT], dcc topup PLAN DIR --from FILE, dcc topup --at ADDR SUB TICKET AMOUNT, dcc ledger PLAN DIR SUB, dcc ledger --at ADDR SUB, dcc balance PLAN DIR SUB, dcc balance --at ADDR SUB, dcc serve PLAN DIR, dcc check PLAN [DIR], dcc decode, or dcc help"
+line_of Usage = codes "dcc: usage: dcc COMMAND ..; the commands are balance, check, decode, help, ledger, replay, serve and topup; dcc help COMMAND prints the forms of one"
 line_of (Plan number) = codes "dcc: plan fault " ++ decimal number
 line_of (Store number) = codes "dcc: store fault " ++ decimal number
 line_of (Script line) = codes "dcc: script line " ++ decimal line

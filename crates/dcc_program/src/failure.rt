@@ -60,7 +60,7 @@ impl fmt::Display for Failure {
         match self {
             Failure::Usage => write!(
                 f,
-                "dcc: usage: dcc replay PLAN, dcc topup PLAN DIR SUB TICKET AMOUNT [MOMENT], dcc topup PLAN DIR --from FILE, dcc topup --at ADDR SUB TICKET AMOUNT, dcc ledger PLAN DIR SUB, dcc ledger --at ADDR SUB, dcc balance PLAN DIR SUB, dcc balance --at ADDR SUB, dcc serve PLAN DIR, dcc check PLAN [DIR], dcc decode, or dcc help"
+                "dcc: usage: dcc COMMAND ..; the commands are balance, check, decode, help, ledger, replay, serve and topup; dcc help COMMAND prints the forms of one"
             ),
             Failure::Memory => write!(f, "dcc: memory"),
             Failure::Io => write!(f, "dcc: io"),

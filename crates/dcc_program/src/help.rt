@@ -15,7 +15,7 @@ usage: dcc replay PLAN
        dcc serve PLAN DIR [--listen ADDR] [--gates N] [--rounds N | --stay [--sweep S] [--operator ADDR]] [--every N] [--silent S] [--accept-loss]
        dcc check PLAN [DIR]
        dcc decode
-       dcc help
+       dcc help [COMMAND]
 
 dcc replay PLAN   reads a script of events from standard input, and prints what each event is answered under the
                   plan of the file PLAN. A path that begins with a hyphen stands behind --
@@ -66,7 +66,8 @@ dcc check         judges the plan of the file PLAN and the store of each of its 
                   no rule reads, and ends as dcc serve would before it listens
 dcc decode        reads what a replay printed, a script, or messages in hex from standard input, and prints each
                   message as a tree of names and values, and each line without one as it is
-dcc help          prints this text, as dcc --help and dcc -h do; dcc COMMAND --help prints the part of one command
+dcc help          prints this text, as dcc --help and dcc -h do; dcc help COMMAND prints the part of one command, as
+                  dcc COMMAND --help does
 dcc --version     prints the version, as dcc -V does
 
 Each command takes --explain, before a -- if there is one: behind the line of a failure, further lines on standard
