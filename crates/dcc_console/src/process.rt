@@ -5,13 +5,15 @@ use crate::checking::{Said, check, check_ask, is_check, is_check_help};
 use crate::doing::done;
 use crate::ending::end_with;
 use crate::explain_word::without_explain;
-use crate::reasons::{Seen, lines_of};
-use crate::top_up::{nothing_added, with_moment};
+use crate::reasons::{Seen, lines_of, unknown_lines, usage_line};
+use crate::task_words::with_help;
+use crate::top_up::{nothing_added, nothing_added_at, with_moment};
 use crate::watched::{WatchedInput, WatchedOutput};
 use dcc_explain::{Looks, help_of};
 use dcc_program::{CallAsk, Failure, HELP, call_at, call_of, end, given_words};
 use dcc_startup::Stores;
 use dcc_streams::write_all;
+use std::alloc::Global;
 use std::io::{self, Eprint, Write};
 use std::net::{Net, TcpListener, TcpStream};
 use std::process::ExitCode;
@@ -22,7 +24,8 @@ use std::thread::Threads;
 use std::time::Clock;
 
 /// Does what the process was asked for, over these stores, and reports a failure by its line on standard error and by the exit status. Lines that
-/// explain the failure follow if the words have `--explain`, and for `dcc check` always.
+/// explain the failure follow if the words have `--explain`, and for `dcc check` always. Words that are no command line of the command that they name
+/// are reported by the forms of this command.
 pub fn execute<
     R: Env
         + Files
@@ -45,6 +48,10 @@ pub fn execute<
         Err(failure) => return ExitCode::from(end(Err(failure), errors).status),
     };
     let (words, is_explained) = without_explain(words);
+    let words = match with_help(rt.alloc(), words) {
+        Ok(words) => words,
+        Err(failure) => return ExitCode::from(end(Err(failure), errors).status),
+    };
     if is_check(words.as_slice()) {
         return ExitCode::from(checked(rt, words.as_slice(), looks, errors));
     }
@@ -62,7 +69,7 @@ pub fn execute<
         &mut rt.reader(),
         &mut io::writer(rt),
     );
-    ExitCode::from(end(ended, errors).status)
+    ExitCode::from(told(rt.alloc(), words.as_slice(), ended, None, errors))
 }
 
 /// The same with an explanation.
@@ -83,7 +90,7 @@ fn explained<
     W: Write,
 >(rt: &R, words: &[String], stores: &S, looks: &L, errors: &mut W) -> u8 {
     if let Ok(Some(ask)) = call_of(rt.alloc(), words) {
-        return called(rt, &ask, errors);
+        return called(rt, words, &ask, errors);
     }
     let used = nothing_added(rt, words, stores);
     let mut input = WatchedInput::new(rt.alloc(), rt.reader());
@@ -101,41 +108,65 @@ fn explained<
         output: output.failed,
         script: text,
     };
-    match ended {
-        Ok(()) => told(ended, used, errors),
+    let lines = match ended {
+        Ok(()) if output.is_unknown => {
+            drop(used);
+            unknown_lines(rt, words, looks).ok()
+        }
+        Ok(()) => used,
         Err(failure) => {
             drop(used);
-            told(
-                ended,
-                lines_of(rt, words, looks, failure, &seen).ok(),
-                errors,
-            )
+            lines_of(rt, words, looks, failure, &seen).ok()
+        }
+    };
+    told(rt.alloc(), words, ended, lines, errors)
+}
+
+/// A call of a server with an explanation, which is by this call: a second one could have another end. Before a top-up the server sends the ledger.
+fn called<
+    R: Print + Net<Listener = TcpListener, Stream = TcpStream> + Clock + AllocGlobal,
+    W: Write,
+>(rt: &R, words: &[String], ask: &CallAsk, errors: &mut W) -> u8 {
+    let alloc = rt.alloc();
+    let used = nothing_added_at(rt, ask);
+    let mut output = WatchedOutput::new(io::writer(rt));
+    match call_at(rt, ask, &mut output) {
+        Ok(()) => told(alloc, words, Ok(()), used, errors),
+        Err(failure) => {
+            drop(used);
+            let lines = call_lines(alloc, ask.address, failure, output.failed).ok();
+            told(alloc, words, Err(Failure::from(failure)), lines, errors)
         }
     }
 }
 
-/// A call of a server with an explanation, which is by this call: a second one could have another end.
-fn called<
-    R: Print + Net<Listener = TcpListener, Stream = TcpStream> + Clock + AllocGlobal,
-    W: Write,
->(rt: &R, ask: &CallAsk, errors: &mut W) -> u8 {
-    let mut output = WatchedOutput::new(io::writer(rt));
-    match call_at(rt, ask, &mut output) {
-        Ok(()) => end(Ok(()), errors).status,
-        Err(failure) => told(
-            Err(Failure::from(failure)),
-            call_lines(rt.alloc(), ask.address, failure, output.failed).ok(),
-            errors,
-        ),
+/// Writes the end with the lines that there are, and gives the exit status. If the words are no command line of the command that they name, the line
+/// of the failure has the forms of this command.
+fn told<W: Write>(
+    alloc: Global,
+    words: &[String],
+    ended: Result<(), Failure>,
+    lines: Option<String>,
+    errors: &mut W,
+) -> u8 {
+    if matches!(ended, Err(Failure::Usage)) {
+        if let Ok(Some(usage)) = usage_line(alloc, words) {
+            return misused(usage.as_str(), lines, errors);
+        }
     }
-}
-
-/// Writes the end with the lines that there are, and gives the exit status.
-fn told<W: Write>(ended: Result<(), Failure>, lines: Option<String>, errors: &mut W) -> u8 {
     match lines {
         Some(lines) => end_with(ended, lines.as_str(), errors).status,
         None => end(ended, errors).status,
     }
+}
+
+/// Writes the line of a failure of usage and the lines that there are, and gives the exit status.
+fn misused<W: Write>(usage: &str, lines: Option<String>, errors: &mut W) -> u8 {
+    let _usage = write_all(errors, usage.as_bytes());
+    if let Some(lines) = lines {
+        let _lines = write_all(errors, lines.as_bytes());
+    }
+    Failure::Usage.status()
 }
 
 /// `dcc check`, which explains always.
@@ -168,7 +199,13 @@ fn checked<
         }
         _ => Some(faults),
     };
-    told(ended, with_warnings(lines, warnings.as_str()), errors)
+    told(
+        alloc,
+        words,
+        ended,
+        with_warnings(lines, warnings.as_str()),
+        errors,
+    )
 }
 
 /// The lines, if there are some, and behind them the warnings of a check; without the warnings if memory is short.

@@ -53,22 +53,29 @@ fn line(alloc: Global, words: &str) -> Result<String, Failure> {
     Ok(format!(in alloc; "dcc: {words}\n")?)
 }
 
-/// The word that doesn't fit, and the command's own lines.
+/// The word that doesn't fit.
 fn lines_of_usage(alloc: Global, words: &[String]) -> Result<String, Failure> {
     let slip = explain_words(alloc, words)?;
-    let mut lines = line(alloc, slip.as_str())?;
-    let name = match words.get(1) {
-        Some(name) => name.as_str(),
-        None => "",
+    line(alloc, slip.as_str())
+}
+
+/// The line for words that are no command line of the command that they name: the forms of this command. None if they name no command. The only
+/// error is want of memory.
+pub(crate) fn usage_line(alloc: Global, words: &[String]) -> Result<Option<String>, AllocError> {
+    let Some(name) = words.get(1) else {
+        return Ok(None);
     };
-    let usages = usage_lines(alloc, HELP, name)?;
+    let usages = usage_lines(alloc, HELP, name.as_str())?;
     if usages.is_empty() {
-        lines.push_str("dcc: dcc help prints the commands\n")?;
+        return Ok(None);
     }
-    for usage in &usages {
-        write!(lines, "dcc: usage: {usage}\n")?;
+    let mut line = String::from_str(alloc, "dcc: usage: ")?;
+    for (at, usage) in usages.iter().enumerate() {
+        let front = if at == 0 { "" } else { ", or " };
+        write!(line, "{front}{usage}")?;
     }
-    Ok(lines)
+    line.push_str("\n")?;
+    Ok(Some(line))
 }
 
 /// The explanation of a plan's fault.
@@ -254,6 +261,44 @@ fn store_lines<R: Files + RandomSource + AllocGlobal, L: Looks>(
     Ok(lines)
 }
 
+/// The line for an account that is unknown: what is found of the store of the subscriber whom the words name. No line if they name none.
+pub(crate) fn unknown_lines<R: Files + RandomSource + AllocGlobal, L: Looks>(
+    rt: &R,
+    words: &[String],
+    looks: &L,
+) -> Result<String, Failure> {
+    let alloc = rt.alloc();
+    let Some(folder) = folder_path(alloc, words)? else {
+        return Ok(String::new(alloc));
+    };
+    let Some(path) = plan_path(alloc, words)? else {
+        return Ok(String::new(alloc));
+    };
+    let octets = fs::read(rt, path)?;
+    let plan = plan_of(alloc, octets.as_slice())?;
+    let line = unknown_line(rt, words, looks, folder, &plan);
+    // By a call: a plan that is let go in place is proved part by part.
+    drop(plan);
+    line
+}
+
+/// The same under a plan.
+fn unknown_line<R: Files + RandomSource + AllocGlobal, L: Looks>(
+    rt: &R,
+    words: &[String],
+    looks: &L,
+    folder: &str,
+    plan: &Plan,
+) -> Result<String, Failure> {
+    let alloc = rt.alloc();
+    let Some(shard) = only_shard(alloc, words, usize::from(plan.shards()))? else {
+        return Ok(String::new(alloc));
+    };
+    let note = looks.look(folder, plan, shard, RandomState::new(rt)?)?;
+    let found = note.words.as_str();
+    Ok(format!(in alloc; "dcc: the subscriber has no acts: {found}\n")?)
+}
+
 /// The shards whose stores the words ask for: that of one subscriber, or all.
 fn shards_of(alloc: Global, words: &[String], plan: &Plan) -> Result<Range<usize>, Failure> {
     let count = usize::from(plan.shards());
@@ -303,17 +348,30 @@ pub(crate) fn push_line(alloc: Global, lines: &mut String, words: &str) -> Resul
     lines.push_str(line.as_str())
 }
 
-/// Adds what is known of a folder in which a store could not be used: its mode and its owner, since a missing store and each log are made in it.
+/// Adds what is known of a folder in which a store could not be used: its mode, its owner, and the user as whom the program runs, since a missing
+/// store and each log are made in it.
 fn push_folder<R: Files>(rt: &R, lines: &mut String, folder: &str) -> Result<(), AllocError> {
     match fs::metadata(rt, folder) {
         Ok(found) => {
             let (mode, owner) = (found.mode() & 0o7777, found.uid());
             write!(
                 lines,
-                "dcc: {folder}: a store could not be opened, made or written here; the folder has mode {mode:03o} and belongs to user {owner}\n"
-            )
+                "dcc: {folder}: a store could not be opened, made or written here; the folder has mode {mode:03o} and belongs to user {owner}"
+            )?;
+            push_user(rt, lines)
         }
         Err(error) => write!(lines, "dcc: {folder}: {error}\n"),
+    }
+}
+
+/// Adds the user as whom the program runs, if the system tells it: the owner of the program's folder below `/proc`.
+fn push_user<R: Files>(rt: &R, lines: &mut String) -> Result<(), AllocError> {
+    match fs::metadata(rt, "/proc/self") {
+        Ok(found) => {
+            let user = found.uid();
+            write!(lines, "; the program runs as user {user}\n")
+        }
+        Err(_) => lines.push_str("\n"),
     }
 }
 

@@ -3,7 +3,7 @@
 ghost use Rattle.std.specs.Prelude.{◌<◌};
 
 use dcc_act::Sub;
-use dcc_explain::help_of;
+use dcc_explain::{help_of, usage_lines};
 use dcc_operator::TopUpAsk;
 use dcc_program::{Failure, HELP, Task, serve_of, task_of, top_ups_of};
 use dcc_shard::shard_of;
@@ -103,6 +103,27 @@ pub(crate) fn addresses(
     match serve_of(alloc, words)? {
         Some(ask) => Ok([Some(ask.address), ask.operator]),
         None => Ok([None, None]),
+    }
+}
+
+/// The words of a command line; those of `dcc help COMMAND` as those of `dcc COMMAND --help`.
+pub(crate) fn with_help(alloc: Global, words: Vec<String>) -> Result<Vec<String>, Failure> {
+    let mut words = words;
+    if words.len() == 3 && is_topic(alloc, words.as_slice())? {
+        let _help = words.remove(1);
+        words.push(String::from_str(alloc, "--help")?)?;
+    }
+    Ok(words)
+}
+
+/// Whether the words ask for the help of a command by its name.
+fn is_topic(alloc: Global, words: &[String]) -> Result<bool, Failure> {
+    match words {
+        [_, first, topic] if first.as_str() == "help" => {
+            let usages = usage_lines(alloc, HELP, topic.as_str())?;
+            Ok(!usages.is_empty())
+        }
+        _ => Ok(false),
     }
 }
 

@@ -1,14 +1,16 @@
 //! A top-up's words: the moment that is left out, an amount outside its limits, and a ticket that was used before.
 
-use dcc_act::MAX_AMOUNT;
+use dcc_act::{MAX_AMOUNT, Sub};
+use dcc_client::Call;
 use dcc_operator::{Page, TopUpAsk};
-use dcc_program::{Failure, Place, Task, page, task_of};
+use dcc_program::{CallAsk, Failure, Place, Task, call_at, page, task_of};
 use dcc_startup::Stores;
 use dcc_tariff::LAST_SECOND;
 use dcc_words::parts;
 use std::alloc::Global;
 use std::fs;
 use std::hash::RandomState;
+use std::net::{Net, SocketAddrV4, TcpListener, TcpStream};
 use std::random::RandomSource;
 use std::rt::Files;
 use std::time::Clock;
@@ -68,6 +70,47 @@ pub(crate) fn nothing_added<R: Files + RandomSource + AllocGlobal, S: Stores>(
         }
         _ => None,
     }
+}
+
+/// The same of a top-up that a server is asked for. The server sends the ledger before it is asked for the top-up. A failure of this call is the
+/// top-up's too, and is reported there.
+pub(crate) fn nothing_added_at<
+    R: Net<Listener = TcpListener, Stream = TcpStream> + Clock + AllocGlobal,
+>(rt: &R, ask: &CallAsk) -> Option<String> {
+    match ask.call {
+        Call::TopUp {
+            sub,
+            ticket,
+            amount,
+        } => {
+            let found = if amount < 1 || amount > MAX_AMOUNT {
+                amount_words(rt.alloc(), amount)
+            } else {
+                used_ticket_at(rt, ask.address, sub, ticket)
+            };
+            match found {
+                Ok(words) => words,
+                Err(_) => None,
+            }
+        }
+        _ => None,
+    }
+}
+
+fn used_ticket_at<R: Net<Listener = TcpListener, Stream = TcpStream> + Clock + AllocGlobal>(
+    rt: &R,
+    address: SocketAddrV4,
+    sub: Sub,
+    ticket: u64,
+) -> Result<Option<String>, Failure> {
+    let alloc = rt.alloc();
+    let mut text = Vec::new(alloc);
+    let ask = CallAsk {
+        address,
+        call: Call::Ledger(sub),
+    };
+    call_at(rt, &ask, &mut text)?;
+    line_with(alloc, text.as_slice(), ticket)
 }
 
 fn amount_words(alloc: Global, amount: u64) -> Result<Option<String>, Failure> {

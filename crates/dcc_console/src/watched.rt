@@ -46,11 +46,13 @@ impl<R: Read> Read for WatchedInput<R> {
     }
 }
 
-/// A writer that keeps the reason for which a write failed.
+/// A writer that keeps the reason for which a write failed, and whether an account is unknown.
 #[derive(Drop)]
 pub struct WatchedOutput<W> {
     pub output: W,
     pub failed: Option<io::Error>,
+    /// Whether the last octets that were written are the end of the line of an unknown account.
+    pub is_unknown: bool,
 }
 
 impl<W: Write> WatchedOutput<W> {
@@ -59,6 +61,7 @@ impl<W: Write> WatchedOutput<W> {
         WatchedOutput {
             output,
             failed: None,
+            is_unknown: false,
         }
     }
 }
@@ -68,7 +71,10 @@ impl<W: Write> Write for WatchedOutput<W> {
 
     fn write(&mut self, buf: &[u8]) -> io::Result<usize> {
         match self.output.write(buf) {
-            Ok(count) => Ok(count),
+            Ok(count) => {
+                self.is_unknown = buf.ends_with(b" unknown\n");
+                Ok(count)
+            }
             Err(error) => {
                 if error.kind() != ErrorKind::Interrupted {
                     self.failed = Some(error);
