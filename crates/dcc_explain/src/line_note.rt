@@ -9,7 +9,7 @@ use dcc_words::parts;
 use std::alloc::{AllocError, Global};
 
 /// A word of a line that doesn't fit.
-#[derive(Clone, Copy, Debug, PartialEq, Eq)]
+#[derive(Clone, Copy)]
 pub struct Misfit {
     /// Its place among the words of the line; the first has place 0.
     pub at: usize,
@@ -18,7 +18,7 @@ pub struct Misfit {
 }
 
 /// A line of a script that has none of the forms, explained.
-#[derive(Debug, Drop)]
+#[derive(Drop)]
 pub struct LineNote {
     /// The first word that isn't read as what its place asks for, if the line has a form's verb and its number of words.
     pub misfit: Option<Misfit>,

@@ -36,7 +36,7 @@ enum Part {
 }
 
 /// Whose the keys of a line are, outside brackets.
-#[derive(Clone, Copy, PartialEq, Eq)]
+#[derive(Clone, Copy)]
 enum Owner {
     Plan,
     Tariff,
@@ -220,17 +220,22 @@ impl Walk<'_, '_> {
             return;
         }
         self.part = Part::Value;
-        let Some((from, line)) = self.from else {
-            return;
-        };
-        let (first, _) = two_parts(self.text.get(from..self.at).unwrap_or(&[]));
-        if self.depth == 0 && self.owner == Owner::Plan {
-            self.is_list = first == b"tariff".as_slice();
-            self.found_key(first, line);
-        } else if self.depth == 0 && self.owner == Owner::Tariff
-            || self.is_list && self.depth == 2
-        {
-            self.found_key_of_table(first, line);
+        if let Some((from, line)) = self.from {
+            let (first, _) = two_parts(self.text.get(from..self.at).unwrap_or(&[]));
+            self.meet_key(first, line);
+        }
+    }
+
+    /// A key, whose name is read.
+    fn meet_key(&mut self, name: &[u8], line: usize) {
+        match self.owner {
+            Owner::Plan if self.depth == 0 => {
+                self.is_list = name == b"tariff".as_slice();
+                self.found_key(name, line);
+            }
+            Owner::Tariff if self.depth == 0 => self.found_key_of_table(name, line),
+            _ if self.is_list && self.depth == 2 => self.found_key_of_table(name, line),
+            _ => {}
         }
     }
 

@@ -13,7 +13,7 @@ use std::net::Ipv4Addr;
 use toml::Table;
 
 /// Where the fault of a plan stands.
-#[derive(Clone, Copy, Debug, PartialEq, Eq)]
+#[derive(Clone, Copy)]
 pub enum Place {
     /// The text is no TOML document.
     Text,

@@ -13,7 +13,7 @@ use std::alloc::{AllocError, Global};
 use toml::Table;
 
 /// The first fault of a plan file, explained.
-#[derive(Debug, Drop)]
+#[derive(Drop)]
 pub struct PlanNote {
     /// The fault that the reading of the plan reports.
     pub fault: PlanFault,

@@ -159,20 +159,26 @@ pub(crate) fn words_of(
 ) -> Result<String, AllocError> {
     match place {
         Place::Text => format!(in alloc; "the plan is no TOML document"),
-        Place::Key(key) => {
-            let value = table.get(key.name());
-            let line = line_of(text, Sought::Key(key.name()));
-            let words = words_of_key(alloc, value, key, line, fault)?;
-            if value.is_none() {
-                return with_hint(alloc, text, table, key, words);
-            }
-            Ok(words)
-        }
-        Place::NoAddress => {
-            let line = line_of(text, Sought::Key(Key::Address.name()));
-            words_of_key(alloc, table.get("address"), Key::Address, line, fault)
-        }
+        Place::Key(key) => words_in_plan(alloc, text, table, key, fault),
+        Place::NoAddress => words_in_plan(alloc, text, table, Key::Address, fault),
         Place::Tariffs(spot) => words_of_spot(alloc, text, table, spot, fault),
+    }
+}
+
+/// What is wrong with a key of the plan.
+fn words_in_plan(
+    alloc: Global,
+    text: &[u8],
+    table: &Table,
+    key: Key,
+    fault: PlanFault,
+) -> Result<String, AllocError> {
+    let value = table.get(key.name());
+    let line = line_of(text, Sought::Key(key.name()));
+    let words = words_of_key(alloc, value, key, line, fault)?;
+    match value {
+        Some(_) => Ok(words),
+        None => with_hint(alloc, text, table, key, words),
     }
 }
 

@@ -7,7 +7,7 @@ use std::alloc::{AllocError, Global};
 use toml::{Table, Value};
 
 /// A place in the list of tariffs. Its elements are counted from 1.
-#[derive(Clone, Copy, Debug, PartialEq, Eq)]
+#[derive(Clone, Copy)]
 pub enum Spot {
     /// A key of this table is missing, or its value has another type or is outside its limits.
     Key(usize, Key),

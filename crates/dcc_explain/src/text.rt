@@ -17,14 +17,25 @@ pub(crate) fn shortened(alloc: Global, text: &str) -> Result<String, AllocError>
 /// Octets in quotes: visible characters of ASCII and spaces as they are, others by their number.
 pub fn quoted(alloc: Global, octets: &[u8]) -> Result<String, AllocError> {
     let mut shown = String::from_str(alloc, "\"")?;
-    for octet in octets.iter().take(MOST) {
-        match *octet {
-            b'"' => shown.push_str("\\\"")?,
-            b'\\' => shown.push_str("\\\\")?,
-            b' '..=b'~' => shown.push(char::from(*octet))?,
-            other => write!(shown, "\\x{other:02x}")?,
-        }
-    }
+    push_octets(&mut shown, octets)?;
     shown.push_str(if octets.len() > MOST { "..\"" } else { "\"" })?;
     Ok(shown)
+}
+
+/// Adds the first octets of a word.
+fn push_octets(shown: &mut String, octets: &[u8]) -> Result<(), AllocError> {
+    for octet in octets.iter().take(MOST) {
+        push_octet(shown, *octet)?;
+    }
+    Ok(())
+}
+
+/// Adds an octet.
+fn push_octet(shown: &mut String, octet: u8) -> Result<(), AllocError> {
+    match octet {
+        b'"' => shown.push_str("\\\""),
+        b'\\' => shown.push_str("\\\\"),
+        b' '..=b'~' => shown.push(char::from(octet)),
+        other => write!(shown, "\\x{other:02x}"),
+    }
 }

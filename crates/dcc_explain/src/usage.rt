@@ -421,9 +421,18 @@ impl Reading {
             let (name, wanted) = (switch.name(), switch.wanted(self.stays));
             return format!(in alloc; "{name} has no value; it has to be {wanted}");
         }
-        match self.command.argument(self.count) {
-            Some(name) if self.count < self.needs() => format!(in alloc; "{name} is missing"),
-            _ => format!(in alloc; "a word stands in a place where the command has none"),
+        match self.missing() {
+            Some(name) => format!(in alloc; "{name} is missing"),
+            None => String::from_str(alloc, "a word stands in a place where the command has none"),
+        }
+    }
+
+    /// The argument that is missing, if one is.
+    fn missing(&self) -> Option<&'static str> {
+        if self.count < self.needs() {
+            self.command.argument(self.count)
+        } else {
+            None
         }
     }
 }

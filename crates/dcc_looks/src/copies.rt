@@ -7,6 +7,7 @@ use sqlite_disk::{Disk, Memory};
 use sqlite_std_file::{OpenError, Unknown};
 use std::alloc::{AllocError, Global};
 use std::fs::OpenOptions;
+use std::os::unix::fs::MetadataExt;
 use std::{fs, io};
 
 /// The octets of a store's files, or why they can't be had.
@@ -24,11 +25,11 @@ pub(crate) enum Copies {
 pub(crate) fn copies_of(rt: &HostRuntime, folder: &str, path: &str) -> Result<Copies, AllocError> {
     let alloc = rt.alloc();
     if let Some(reason) = folder_reason(rt, folder) {
-        return refused(alloc, folder, &reason);
+        return refused(rt, folder, &reason);
     }
     match fs::symlink_metadata(rt, path) {
         Err(error) if error.kind() == io::ErrorKind::NotFound => return Ok(Copies::Missing),
-        Err(error) => return refused(alloc, path, &error),
+        Err(error) => return refused(rt, path, &error),
         Ok(_) => {}
     }
     let log = format!(in alloc; "{path}-wal")?;
@@ -41,7 +42,7 @@ pub(crate) fn copies_of(rt: &HostRuntime, folder: &str, path: &str) -> Result<Co
             db,
             log: Vec::new(alloc),
         }),
-        Err(error) => refused(alloc, path, &error),
+        Err(error) => refused(rt, path, &error),
     }
 }
 
@@ -54,9 +55,30 @@ fn folder_reason(rt: &HostRuntime, folder: &str) -> Option<io::Error> {
     }
 }
 
-fn refused(alloc: Global, path: &str, error: &io::Error) -> Result<Copies, AllocError> {
-    let reason = format!(in alloc; "{path}: {error}")?;
+/// The system's reason for which a path can't be used; if rights are the reason, also what is known of them.
+fn refused(rt: &HostRuntime, path: &str, error: &io::Error) -> Result<Copies, AllocError> {
+    let mut reason = format!(in rt.alloc(); "{path}: {error}")?;
+    if error.kind() == io::ErrorKind::PermissionDenied {
+        push_rights(rt, &mut reason, path)?;
+    }
     Ok(Copies::Refused(reason))
+}
+
+/// Adds the mode and the owner of a file, if its folder lets them be known, and the user as whom the program runs: the owner of the program's folder
+/// below `/proc`.
+fn push_rights(rt: &HostRuntime, reason: &mut String, path: &str) -> Result<(), AllocError> {
+    if let Ok(found) = fs::metadata(rt, path) {
+        let (mode, owner) = (found.mode() & 0o7777, found.uid());
+        write!(
+            reason,
+            "; the file has mode {mode:03o} and belongs to user {owner}"
+        )?;
+    }
+    if let Ok(own) = fs::metadata(rt, "/proc/self") {
+        let user = own.uid();
+        write!(reason, "; the program runs as user {user}")?;
+    }
+    Ok(())
 }
 
 /// The octets of a file that may be written too.
@@ -78,8 +100,8 @@ fn both_of(rt: &HostRuntime, path: &str, log_path: &str) -> Result<Copies, Alloc
     drop(files);
     match (db, log) {
         (Ok(db), Ok(log)) => Ok(Copies::Octets { db, log }),
-        (Err(error), _) => refused(alloc, path, &error),
-        (_, Err(error)) => refused(alloc, log_path, &error),
+        (Err(error), _) => refused(rt, path, &error),
+        (_, Err(error)) => refused(rt, log_path, &error),
     }
 }
 
@@ -95,7 +117,7 @@ fn unopened(
         OpenError::OutOfMemory => return Err(AllocError),
         OpenError::Io(error) => {
             let is_log = is_usable(rt, path) && !is_usable(rt, log_path);
-            return refused(alloc, if is_log { log_path } else { path }, error);
+            return refused(rt, if is_log { log_path } else { path }, error);
         }
         OpenError::Busy => format!(in alloc; "{path}: another process has it open")?,
         other => format!(in alloc; "{path}: {other}")?,
