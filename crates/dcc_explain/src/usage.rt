@@ -122,14 +122,13 @@ impl Switch {
 
     /// Whether a value is one of the option, of a server that stays or not.
     fn fits(self, value: &str, stays: bool) -> bool {
-        let number = any_u64(value.as_bytes());
         match self {
             Switch::From => true,
             Switch::Listen => SocketAddrV4::parse_ascii(value.as_bytes()).is_ok(),
-            Switch::Gates => number.is_some_and(|n| 1 <= n && n <= most_gates(stays)),
-            Switch::Rounds => number.is_some_and(|n| 1 <= n && n <= 1_000_000),
-            Switch::Every => number.is_some_and(|n| n <= 1_000_000),
-            Switch::Silent | Switch::Sweep => number.is_some_and(|n| n <= 86_400),
+            Switch::Gates => is_within(value, 1, most_gates(stays)),
+            Switch::Rounds => is_within(value, 1, 1_000_000),
+            Switch::Every => is_within(value, 0, 1_000_000),
+            Switch::Silent | Switch::Sweep => is_within(value, 0, 86_400),
             Switch::Operator | Switch::At => is_of_this_machine(value),
         }
     }
@@ -198,6 +197,14 @@ fn is_of_this_machine(text: &str) -> bool {
     match SocketAddrV4::parse_ascii(text.as_bytes()) {
         Ok(address) => address.ip().is_loopback(),
         Err(_) => false,
+    }
+}
+
+/// Whether a text is a number from the low to the high limit.
+fn is_within(text: &str, low: u64, high: u64) -> bool {
+    match any_u64(text.as_bytes()) {
+        Some(number) => low <= number && number <= high,
+        None => false,
     }
 }
 
