@@ -7,7 +7,7 @@ use crate::ending::end_with;
 use crate::explain_word::without_explain;
 use crate::reasons::{Seen, lines_of, unknown_lines, usage_line};
 use crate::task_words::with_help;
-use crate::top_up::{nothing_added, nothing_added_at, with_moment};
+use crate::top_up::{entry_at, nothing_added, with_moment};
 use crate::watched::{WatchedInput, WatchedOutput};
 use dcc_explain::{Looks, help_of};
 use dcc_program::{CallAsk, Failure, HELP, call_at, call_of, end, given_words};
@@ -122,18 +122,17 @@ fn explained<
     told(rt.alloc(), words, ended, lines, errors)
 }
 
-/// A call of a server with an explanation, which is by this call: a second one could have another end. Before a top-up the server sends the ledger.
+/// A call of a server with an explanation. A failure is explained by this call: a second one could have another end. Behind a top-up the server is asked
+/// for the ledger.
 fn called<
     R: Print + Net<Listener = TcpListener, Stream = TcpStream> + Clock + AllocGlobal,
     W: Write,
 >(rt: &R, words: &[String], ask: &CallAsk, errors: &mut W) -> u8 {
     let alloc = rt.alloc();
-    let used = nothing_added_at(rt, ask);
     let mut output = WatchedOutput::new(io::writer(rt));
     match call_at(rt, ask, &mut output) {
-        Ok(()) => told(alloc, words, Ok(()), used, errors),
+        Ok(()) => told(alloc, words, Ok(()), entry_at(rt, ask), errors),
         Err(failure) => {
-            drop(used);
             let lines = call_lines(alloc, ask.address, failure, output.failed).ok();
             told(alloc, words, Err(Failure::from(failure)), lines, errors)
         }

@@ -72,11 +72,12 @@ pub(crate) fn nothing_added<R: Files + RandomSource + AllocGlobal, S: Stores>(
     }
 }
 
-/// The same of a top-up that a server is asked for. The server sends the ledger before it is asked for the top-up. A failure of this call is the
-/// top-up's too, and is reported there.
-pub(crate) fn nothing_added_at<
-    R: Net<Listener = TcpListener, Stream = TcpStream> + Clock + AllocGlobal,
->(rt: &R, ask: &CallAsk) -> Option<String> {
+/// What is known of a top-up for which a server was asked: its amount is outside its limits, or the entry of its ticket, which the server then sends with
+/// the ledger. An entry with another amount was there before. Nothing is known if this call fails.
+pub(crate) fn entry_at<R: Net<Listener = TcpListener, Stream = TcpStream> + Clock + AllocGlobal>(
+    rt: &R,
+    ask: &CallAsk,
+) -> Option<String> {
     match ask.call {
         Call::TopUp {
             sub,
@@ -86,7 +87,7 @@ pub(crate) fn nothing_added_at<
             let found = if amount < 1 || amount > MAX_AMOUNT {
                 amount_words(rt.alloc(), amount)
             } else {
-                used_ticket_at(rt, ask.address, sub, ticket)
+                ticket_at(rt, ask.address, sub, ticket, amount)
             };
             match found {
                 Ok(words) => words,
@@ -97,11 +98,12 @@ pub(crate) fn nothing_added_at<
     }
 }
 
-fn used_ticket_at<R: Net<Listener = TcpListener, Stream = TcpStream> + Clock + AllocGlobal>(
+fn ticket_at<R: Net<Listener = TcpListener, Stream = TcpStream> + Clock + AllocGlobal>(
     rt: &R,
     address: SocketAddrV4,
     sub: Sub,
     ticket: u64,
+    amount: u64,
 ) -> Result<Option<String>, Failure> {
     let alloc = rt.alloc();
     let mut text = Vec::new(alloc);
@@ -110,7 +112,7 @@ fn used_ticket_at<R: Net<Listener = TcpListener, Stream = TcpStream> + Clock + A
         call: Call::Ledger(sub),
     };
     call_at(rt, &ask, &mut text)?;
-    line_with(alloc, text.as_slice(), ticket)
+    line_with(alloc, text.as_slice(), ticket, Some(amount))
 }
 
 fn amount_words(alloc: Global, amount: u64) -> Result<Option<String>, Failure> {
@@ -137,23 +139,33 @@ fn used_ticket<R: Files + RandomSource + AllocGlobal, S: Stores>(
         &mut text,
         hasher,
     )?;
-    line_with(alloc, text.as_slice(), ask.ticket)
+    line_with(alloc, text.as_slice(), ask.ticket, None)
 }
 
-/// The entry of a ticket in a ledger, in words.
-fn line_with(alloc: Global, page: &[u8], ticket: u64) -> Result<Option<String>, Failure> {
+/// The entry of a ticket in a ledger, in words. With an amount the entry may be that of a top-up that was just made.
+fn line_with(
+    alloc: Global,
+    page: &[u8],
+    ticket: u64,
+    amount: Option<u64>,
+) -> Result<Option<String>, Failure> {
     let end = format!(in alloc; " ticket {ticket}")?;
     let lines = parts(alloc, page, b'\n')?;
     for line in &lines {
         if line.ends_with(end.as_bytes()) {
-            return entry_words(alloc, line, ticket);
+            return entry_words(alloc, line, ticket, amount);
         }
     }
     Ok(None)
 }
 
 /// An entry's moment and amount: its second word, and the one that begins with a plus.
-fn entry_words(alloc: Global, line: &[u8], ticket: u64) -> Result<Option<String>, Failure> {
+fn entry_words(
+    alloc: Global,
+    line: &[u8],
+    ticket: u64,
+    asked: Option<u64>,
+) -> Result<Option<String>, Failure> {
     let Ok(line) = str::from_utf8(line) else {
         return Ok(None);
     };
@@ -162,6 +174,14 @@ fn entry_words(alloc: Global, line: &[u8], ticket: u64) -> Result<Option<String>
         .split_ascii_whitespace()
         .find(|word| word.starts_with('+'))
         .unwrap_or("");
+    if let Some(asked) = asked {
+        let own = format!(in alloc; "+{asked}")?;
+        if own.as_str() == amount {
+            return Ok(Some(format!(in alloc;
+                "dcc: ticket {ticket} counts once, for {amount} at {moment}\n"
+            )?));
+        }
+    }
     Ok(Some(format!(in alloc;
         "dcc: ticket {ticket} was used before, for {amount} at {moment}: nothing was added\n"
     )?))
