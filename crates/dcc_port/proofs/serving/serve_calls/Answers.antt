@@ -28,11 +28,11 @@ returns g c =
     let sent : (history conn).sent ≡ written.0 = written.2 ∙ ap (λ (h : History). h.sent ++ written.0) fresh in
     let made : (history conn).calls ≡ called.0 = called.1 ∙ ap (λ (h : History). h.calls ++ called.0) fresh in
     let last = c.serve-served.new.service in
-    let all = serving_all (λ (o : Operator g.row.W.Denot g.row.R.Denot g.row.C.Denot g.row.S.Denot g.R.Records). seen_as o.clock.now o.seat.now o.server.now)
-    (λ (o : Operator g.row.W.Denot g.row.R.Denot g.row.C.Denot g.row.S.Denot g.R.Records). o.port) (λ p. p.now.count)
-    (λ (o : Operator g.row.W.Denot g.row.R.Denot g.row.C.Denot g.row.S.Denot g.R.Records). o.clock.ghost_name)
-    (λ (o : Operator g.row.W.Denot g.row.R.Denot g.row.C.Denot g.row.S.Denot g.R.Records). o.server.ghost_name)
-    (λ (o : Operator g.row.W.Denot g.row.R.Denot g.row.C.Denot g.row.S.Denot g.R.Records). o.seat.ghost_name)
+    let all = serving_all (λ (o : Operator g.row.W.Denot g.row.R.Denot g.row.J.Denot g.row.C.Denot g.row.S.Denot g.R.Records g.J.Naming). seen_as o.clock.now o.seat.now o.server.now)
+    (λ (o : Operator g.row.W.Denot g.row.R.Denot g.row.J.Denot g.row.C.Denot g.row.S.Denot g.R.Records g.J.Naming). o.port) (λ p. p.now.count)
+    (λ (o : Operator g.row.W.Denot g.row.R.Denot g.row.J.Denot g.row.C.Denot g.row.S.Denot g.R.Records g.J.Naming). o.clock.ghost_name)
+    (λ (o : Operator g.row.W.Denot g.row.R.Denot g.row.J.Denot g.row.C.Denot g.row.S.Denot g.R.Records g.J.Naming). o.server.ghost_name)
+    (λ (o : Operator g.row.W.Denot g.row.R.Denot g.row.J.Denot g.row.C.Denot g.row.S.Denot g.R.Records g.J.Naming). o.seat.ghost_name)
     g.R.Records.is_stopped g.C.Clock.tells g.S.Server.rules c.args.count called.0 _ last refl called.2 in
     let clock = sym all.1 in
     let server = sym all.2 in
