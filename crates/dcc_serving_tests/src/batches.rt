@@ -1,11 +1,11 @@
 //! Debits of several subscribers in one batch.
 
-use crate::accounts::{subscriber, topped_up};
+use crate::accounts::{subscriber, top_up_each};
 use dcc_act::Sub;
-use dcc_callers::{debit_one_by_one, debit_together, one};
+use dcc_callers::{debit_one_by_one, debit_together, in_memory, one};
 use dcc_running::{Books, Seat, Shards};
 use dcc_shard::RequestAnswer;
-use dcc_store::{MemoryRecords, Records};
+use dcc_store::Records;
 use dcc_test_stores::OnceRecords;
 use std::alloc::Global;
 use std::marker::Brand;
@@ -29,9 +29,9 @@ fn subscribers(alloc: Global) -> Result<Vec<Sub>, Fail> {
     Ok(subs)
 }
 
-/// Records in which all but the last have money.
-fn records<S: RandomSource + AllocGlobal>(rt: &S) -> Result<MemoryRecords, Fail> {
-    topped_up(rt, NUMBERS.get(..4).ok_or("numbers")?)
+/// All of these but the last.
+fn payers(subs: &[Sub]) -> Result<&[Sub], Fail> {
+    Ok(subs.get(..4).ok_or("subscribers")?)
 }
 
 /// The octets of an answer; none if there is no answer.
@@ -108,7 +108,19 @@ fn closed<R: Records + Drop>(
     }
 }
 
-/// Debits of these subscribers at once, at shards that are closed behind them: the answers, and how many acts the subscribers have then.
+/// Debits of these subscribers at once, of whom all but the last have money.
+fn debit_with_money<W: Wait, R: Records>(
+    rt: &W,
+    alloc: Global,
+    shards: &Shards<R, Brand>,
+    seat: &mut Seat,
+    subs: &[Sub],
+) -> Result<Vec<RequestAnswer>, Fail> {
+    top_up_each(rt, alloc, shards, seat, payers(subs)?)?;
+    debit_together(rt, alloc, shards, seat, subs, REQUEST)
+}
+
+/// The same at shards that are closed behind them: the answers, and how many acts the subscribers have then.
 fn debit_at_once<W: Wait + Abort + AllocGlobal, R: Records + Drop>(
     rt: &W,
     shards: Shards<R, Brand>,
@@ -122,7 +134,7 @@ fn debit_at_once<W: Wait + Abort + AllocGlobal, R: Records + Drop>(
             return Err(error.into());
         }
     };
-    match debit_together(rt, alloc, &shards, &mut seat, subs, REQUEST) {
+    match debit_with_money(rt, alloc, &shards, &mut seat, subs) {
         Ok(answers) => Ok((answers, closed(alloc, shards, seat, subs))),
         Err(fail) => {
             drop(shards);
@@ -136,7 +148,7 @@ fn debit_at_once<W: Wait + Abort + AllocGlobal, R: Records + Drop>(
 #[test]
 fn a_batch_whose_append_fails(rt: HostRuntime) -> Result<(), Fail> {
     let subs = subscribers(rt.alloc())?;
-    let shards = one(&rt, OnceRecords::new(records(&rt)?, 1))?;
+    let shards = one(&rt, OnceRecords::new(in_memory(&rt)?, 5))?;
     let (answers, acts) = debit_at_once(&rt, shards, &subs)?;
     let told = counts(&answers);
     drop(answers);
@@ -151,7 +163,7 @@ fn debit_alone<W: Wait + RandomSource + AllocGlobal>(
     rt: &W,
     subs: &[Sub],
 ) -> Result<Vec<RequestAnswer>, Fail> {
-    let shards = one(rt, records(rt)?)?;
+    let shards = one(rt, in_memory(rt)?)?;
     let answers = debit_alone_at(rt, &shards, subs);
     drop(shards);
     answers
@@ -164,9 +176,21 @@ fn debit_alone_at<W: Wait + AllocGlobal, R: Records>(
     subs: &[Sub],
 ) -> Result<Vec<RequestAnswer>, Fail> {
     let mut seat = shards.seat(rt.alloc())?;
-    let answers = debit_one_by_one(rt, rt.alloc(), shards, &mut seat, subs, REQUEST);
+    let answers = debit_each_with_money(rt, rt.alloc(), shards, &mut seat, subs);
     drop(seat);
     answers
+}
+
+/// The same at this seat.
+fn debit_each_with_money<W: Wait, R: Records>(
+    rt: &W,
+    alloc: Global,
+    shards: &Shards<R, Brand>,
+    seat: &mut Seat,
+    subs: &[Sub],
+) -> Result<Vec<RequestAnswer>, Fail> {
+    top_up_each(rt, alloc, shards, seat, payers(subs)?)?;
+    debit_one_by_one(rt, alloc, shards, seat, subs, REQUEST)
 }
 
 /// Asserts that these are the answers of four debits that are made, and of an unknown subscriber, and have the octets of the same one by one.
@@ -188,7 +212,7 @@ fn check_together<W: Wait + Abort + RandomSource + AllocGlobal>(
 #[test]
 fn a_batch_and_one_by_one(rt: HostRuntime) -> Result<(), Fail> {
     let subs = subscribers(rt.alloc())?;
-    let shards = one(&rt, records(&rt)?)?;
+    let shards = one(&rt, in_memory(&rt)?)?;
     let (together, acts) = debit_at_once(&rt, shards, &subs)?;
     let checked = check_together(&rt, &subs, &together);
     drop(together);
