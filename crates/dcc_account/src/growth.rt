@@ -14,8 +14,8 @@ use std::mem::replace;
 /// The least room of acts, outcomes, entries and maps, so that the first few acts of an account move nothing.
 pub(crate) const LEAST: usize = 4;
 
-/// A larger vector, without items yet, if these have no room for `more` items more. It has room for all of them, for twice
-/// these, and for at least `least`. None if these have room. The only error is want of memory.
+/// A larger vector, without items yet, if these have no room for `more` items more. It has room for all of them, for these and half as many
+/// more, and for at least `least`. None if these have room. The only error is want of memory.
 pub(crate) fn larger<T: Drop>(
     alloc: Global,
     items: &Vec<T>,
@@ -26,14 +26,23 @@ pub(crate) fn larger<T: Drop>(
     ensures empty { IfOk result (λ larger. ForSome larger (λ larger. larger.items ≡ [])) }
     ensures room { IfOk result (λ larger. MatchOption larger (vec_len items.now + more ≤ vec_capacity items.now)
         (λ larger. vec_len items.now + more ≤ vec_capacity larger)) }
-    ensures doubled { IfOk result (λ larger. ForSome larger (λ larger. 2 * vec_len items.now < 2 ^ 64 → 2 * vec_len items.now ≤ vec_capacity larger)) }
+    ensures half { IfOk result (λ larger. ForSome larger (λ larger. 2 * vec_len items.now < 2 ^ 64 → 3 * vec_len items.now ≤ 2 * vec_capacity larger + 1)) }
 {
     let count = items.len();
     if count + more <= items.capacity() {
         return Ok(None);
     }
-    let doubled = count.saturating_mul(2).max(least);
-    Ok(Some(Vec::with_capacity(alloc, doubled.max(count + more))?))
+    let wanted = grown(count).max(least);
+    Ok(Some(Vec::with_capacity(alloc, wanted.max(count + more))?))
+}
+
+/// The room of a list that grows from so many items: half as many more, or as many more if there are 64; at most the greatest number. The room of a
+/// short list lies in memory that is in use. That of a long list is no memory until it is written, and each growth leaves the old list's memory behind.
+fn grown(count: usize) -> usize
+    ensures { 2 * count < 2 ^ 64 → 3 * count ≤ 2 * result + 1 }
+{
+    let more = if count < 64 { count / 2 } else { count };
+    count.saturating_add(more)
 }
 
 /// Moves the items into the larger vector, if there is any.
@@ -59,7 +68,7 @@ pub(crate) fn append<T: Drop>(items: &mut Vec<T>, mut more: Vec<T>)
 }
 
 /// A larger journal, without acts yet, if this one has no room for `more` acts more. It has room for all of them, and
-/// for twice these. None if this one has room. The only error is want of memory.
+/// for these and half as many more. None if this one has room. The only error is want of memory.
 pub(crate) fn larger_journal(
     alloc: Global,
     acts: &Journal,
@@ -69,14 +78,14 @@ pub(crate) fn larger_journal(
     ensures empty { IfOk result (λ larger. ForSome larger (λ larger. larger.acts ≡ [])) }
     ensures room { IfOk result (λ larger. MatchOption larger (more ≤ acts.now.spare)
         (λ larger. length acts.now.acts + more ≤ larger.spare)) }
-    ensures doubled { IfOk result (λ larger. ForSome larger (λ larger. 2 * length acts.now.acts < 2 ^ 64 → 2 * length acts.now.acts ≤ larger.spare)) }
+    ensures half { IfOk result (λ larger. ForSome larger (λ larger. 2 * length acts.now.acts < 2 ^ 64 → 3 * length acts.now.acts ≤ 2 * larger.spare + 1)) }
 {
     if more <= acts.spare() {
         return Ok(None);
     }
     let count = acts.len();
-    let doubled = count.saturating_mul(2).max(LEAST);
-    Ok(Some(Journal::with_room(alloc, doubled.max(count + more))?))
+    let wanted = grown(count).max(LEAST);
+    Ok(Some(Journal::with_room(alloc, wanted.max(count + more))?))
 }
 
 /// Moves the acts into the larger journal, if there is any.
