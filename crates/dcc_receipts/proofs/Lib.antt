@@ -4,3 +4,4 @@ pub mod Outcomes
 pub mod Places
 pub mod SameActs
 pub mod Singles
+pub mod Stretches

@@ -1,5 +1,5 @@
 -- Places that are marked are those of the fresh receipts so far.
-use Rattle.std.proofs.Common.{◌≡◌, ℕ, ◌+◌, ◌<◌, ◌≤◌, Bool, true, false, not, cond, ◌&&◌, ◌||◌, ◌==◌, nat_eq, List, [], ◌∷◌, length, take, get_or, refl, sym, ap, ◌∙◌, subst, inl, inr, arith}
+use Rattle.std.proofs.Common.{◌≡◌, ℕ, ◌+◌, ◌<◌, ◌≤◌, true, false, cond, ◌&&◌, ◌==◌, nat_eq, List, [], ◌∷◌, length, take, get_or, refl, sym, ap, ◌∙◌, inl, inr, arith}
 use Rattle.std.specs.List.{sum_by}
 use Rattle.std.proofs.lemmas.Bool.{cases_Bool}
 use Rattle.std.proofs.lemmas.Grind.{common_steps}
@@ -7,7 +7,7 @@ use Rattle.std.proofs.lemmas.List.Sums.{sum_by-cons, sum_by_more, sum_by-take-le
 use Rattle.dcc_act.specs.declared.sub.Sub.{Sub}
 use Rattle.dcc_act.specs.Subs.{same_sub, SameAreEqual}
 use Rattle.dcc_receipts.specs.Audit.{own, times}
-use Rattle.dcc_receipts.specs.Marks.{is_marked}
+use Rattle.dcc_receipts.specs.Marks.{MarksView, is_marked}
 use Rattle.dcc_receipts.specs.inner.Spots.{is_of}
 use Rattle.dcc_receipts.specs.declared.receipt.Receipt.{Receipt}
 
@@ -50,7 +50,7 @@ fewer sub place receipts i =
     omega (arith, a, b, le)
 
 -- a new place is marked once
-pub marked_more : SameAreEqual → (marks new : List (Sub × ℕ)) (r : Receipt) → r.fresh ≡ true → is_marked marks r.sub r.place ≡ false
+pub marked_more : SameAreEqual → (marks new : MarksView) (r : Receipt) → r.fresh ≡ true → is_marked marks r.sub r.place ≡ false
     → ((other : Sub) (at : ℕ) → is_marked new other at ≡ cond (same_sub r.sub other && nat_eq r.place at) true (is_marked marks other at))
     → (sub : Sub) (place : ℕ) → cond (is_marked new sub place) 1 0 ≡ cond (is_marked marks sub place) 1 0 + cond (is_of sub place r) 1 0
 marked_more same marks new r fresh unmarked updates sub place =

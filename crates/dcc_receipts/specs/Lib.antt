@@ -3,4 +3,5 @@ pub mod Audit
 pub mod Checks
 pub mod Faults
 pub mod Marks
+pub mod Stretches
 pub mod inner

@@ -3,7 +3,10 @@
 ghost use Rattle.std.specs.Prelude.{◌≡◌, Some};
 ghost use Rattle.dcc_receipts.specs.Acts.{SameActsAreEqual};
 ghost use Rattle.dcc_receipts.specs.Faults.{fault_number};
+ghost use Rattle.dcc_receipts.specs.Stretches.{TrueStayTrue};
 ghost use Rattle.dcc_receipts.specs.declared.fault.CloseFault.TheVariants as fault;
+
+use dcc_model::later_acts_change_no_outcome;
 
 /// Two acts agree field by field exactly if they are equal.
 pub fn same_acts_are_equal()
@@ -16,3 +19,10 @@ pub fn numbers_are_given()
     ensures uncovered { fault_number fault.ActWithoutReceipt ≡ Some 61 }
     ensures unordered { fault_number fault.OutOfOrder ≡ Some 62 }
 {}
+
+/// A receipt that agrees with acts and is answered by them does so once acts are added.
+pub fn true_receipts_stay_true()
+    ensures { TrueStayTrue }
+{
+    later_acts_change_no_outcome();
+}

@@ -12,6 +12,7 @@ mod fault;
 mod laws;
 mod marks;
 mod order;
+mod own_marks;
 mod receipt;
 mod same;
 
@@ -19,7 +20,7 @@ pub use agree::agrees_with;
 pub use answers::is_answered;
 pub use check::check_receipts;
 pub use fault::CloseFault;
-pub use laws::{numbers_are_given, same_acts_are_equal};
+pub use laws::{numbers_are_given, same_acts_are_equal, true_receipts_stay_true};
 pub use marks::Marks;
 pub use order::each_in_order;
 pub use receipt::{Receipt, Told};
