@@ -1,5 +1,5 @@
 -- Shards begin with the acts at opening, when they are put under locks and when they are out of them.
-use Rattle.std.proofs.Common.{◌≡◌, ℕ, ◌+◌, ◌<◌, ◌≤◌, List, length, get_or, refl, sym, ap, subst, ◌∙◌, inl, inr, arith}
+use Rattle.std.proofs.Common.{◌≡◌, ℕ, ◌<◌, ◌≤◌, zero, suc, List, [], ◌∷◌, length, get_or, refl, sym, ap, subst, ◌∙◌, inl, inr, arith}
 use Rattle.std.proofs.lemmas.Option.{slice_get-get_or, slice_get_cases}
 use Rattle.std.specs.Prelude.{Option, Some, slice_get}
 use Rattle.dcc_act.specs.declared.act.Act.{Act}
@@ -8,10 +8,13 @@ use Rattle.dcc_store.specs.Books.{Held}
 use Rattle.dcc_shard.specs.Routes.{shard_of}
 use Rattle.dcc_shard.specs.Shards.{held}
 use Rattle.dcc_shard.specs.Stored.{StoredView}
-use Rattle.dcc_running.specs.Books.{BeginWith, book, held_by}
-use Rattle.dcc_running.specs.inner.Wards.{AreBegun, IsBegun}
+use Rattle.dcc_running.specs.Books.{BeginWith, HaveOwnPlaces, book, held_by}
+use Rattle.dcc_receipts.specs.declared.receipt.Receipt.{Receipt}
+use Rattle.dcc_running.specs.declared.lock.Place.{Place}
+use Rattle.dcc_running.specs.declared.lock.Side.{Side}
+use Rattle.dcc_running.specs.inner.Wards.{AreBegun, AreBeside, AreTold, IsBegun, IsBeside}
 use Rattle.dcc_running.proofs.Growth.{begin_alike}
-use Rattle.dcc_running.proofs.Walks.{at_index, below_or_last}
+use Rattle.dcc_running.proofs.Walks.{as_long}
 
 -- at opening each holds exactly these acts
 pub opened : {R : Type 0} (opening : Held) (parts : List (StoredView R)) → ((sub : Sub) → opening sub ≡ book parts sub) → AreBegun opening (length parts) parts
@@ -36,14 +39,49 @@ begun {R} opening parts some are sub =
       | inr past ↦ absurd (omega (arith, some, past.0))
     ]
 
--- one shard more
-pub next_begun : {R : Type 0} (opening : Held) (count n : ℕ) (parts : List (StoredView R)) (part : StoredView R) → n < length parts → part ≡ get_or parts n part
-    → ((i : ℕ) (none : StoredView R) → i < n → IsBegun opening (record { index = i; count = count }) (get_or parts i none))
-    → IsBegun opening (record { index = n; count = count }) part
-    → (i : ℕ) (none : StoredView R) → i < n + 1 → IsBegun opening (record { index = i; count = count }) (get_or parts i none)
-next_begun {R} opening count n parts part within is before here i none below = elim (below_or_last i n below) [
-  | inl low ↦ before i none low
-  | inr last ↦
-      let Q : ℕ → Type 0 = λ j. IsBegun opening (record { index = j; count = count }) (get_or parts j none) in
-      subst Q last (subst (λ (p : StoredView R). IsBegun opening (record { index = n; count = count }) p) (is ∙ at_index parts n part none within) here)
-]
+-- shards that are begun at the places of a row, and without audited receipts, are beside sides of these places
+zipped : {R : Type 0} (opening : Held) (row : ℕ → Place) (sides : List Side) (parts : List (StoredView R)) → length sides ≡ length parts
+    → ((i : ℕ) (none : Side) → i < length sides → (get_or sides i none).place ≡ row i) → ((i : ℕ) (none : Side) → i < length sides → (get_or sides i none).told ≡ [])
+    → ((i : ℕ) (none : StoredView R) → i < length parts → IsBegun opening (row i) (get_or parts i none)) → AreBeside opening sides parts
+zipped opening row [] [] as_many own untold are = tt
+zipped opening row [] (part ∷ parts) as_many own untold are = absurd (omega (arith, as_many))
+zipped opening row (side ∷ sides) [] as_many own untold are = absurd (omega (arith, as_many))
+zipped {R} opening row (side ∷ sides) (part ∷ parts) as_many own untold are = (
+  (
+    subst (λ (p : Place). IsBegun opening p part) (sym (own zero side (omega arith))) (are zero part (omega arith)),
+    subst (λ (told : List Receipt). AreTold opening part told) (sym (untold zero side (omega arith))) refl,
+  ),
+  zipped opening (λ i. row (suc i)) sides parts (omega (arith, as_many)) (λ i none within. own (suc i) none (omega (arith, within)))
+      (λ i none within. untold (suc i) none (omega (arith, within))) (λ i none within. are (suc i) none (omega (arith, within))),
+)
+
+-- and back
+unzipped : {R : Type 0} (opening : Held) (row : ℕ → Place) (sides : List Side) (parts : List (StoredView R)) → AreBeside opening sides parts
+    → ((i : ℕ) (none : Side) → i < length sides → (get_or sides i none).place ≡ row i)
+    → (i : ℕ) (none : StoredView R) → i < length parts → IsBegun opening (row i) (get_or parts i none)
+unzipped opening row [] [] are own i none within = absurd (omega (arith, within))
+unzipped opening row [] (part ∷ parts) are own i none within = absurd are
+unzipped opening row (side ∷ sides) [] are own i none within = absurd are
+unzipped {R} opening row (side ∷ sides) (part ∷ parts) are own zero none within =
+    subst (λ (p : Place). IsBegun opening p part) (own zero side (omega arith)) are.0.0
+unzipped {R} opening row (side ∷ sides) (part ∷ parts) are own (suc i) none within =
+    unzipped opening (λ j. row (suc j)) sides parts are.1 (λ j other below. own (suc j) other (omega (arith, below))) i none (omega (arith, within))
+
+row_of : ℕ → ℕ → Place
+row_of count index = record { index = index; count = count }
+
+-- shards that hold exactly the acts at opening are begun at their own places
+pub opened_at : {R : Type 0} (opening : Held) (sides : List Side) (parts : List (StoredView R)) → length sides ≡ length parts → HaveOwnPlaces sides
+    → ((i : ℕ) (none : Side) → i < length sides → (get_or sides i none).told ≡ []) → ((sub : Sub) → opening sub ≡ book parts sub) → AreBeside opening sides parts
+unfolding row_of
+opened_at {R} opening sides parts as_many own untold are =
+    zipped opening (row_of (length parts)) sides parts as_many
+    (λ i none within. subst (λ (n : ℕ). (get_or sides i none).place ≡ row_of n i) as_many (own i none within)) untold (opened opening parts are)
+
+-- shards that came out of their own locks: the acts of each subscriber begin with its acts at opening
+pub begun_at : {R : Type 0} (opening : Held) (sides : List Side) (parts : List (StoredView R)) → 1 ≤ length parts → AreBeside opening sides parts → HaveOwnPlaces sides
+    → (sub : Sub) → BeginWith (opening sub) (book parts sub)
+unfolding row_of
+begun_at {R} opening sides parts some are own =
+    begun opening parts some (unzipped opening (row_of (length parts)) sides parts are
+    (λ i none within. subst (λ (n : ℕ). (get_or sides i none).place ≡ row_of n i) (as_long (IsBeside opening) sides parts are) (own i none within)))

@@ -8,6 +8,7 @@ pub mod Owned
 pub mod Places
 pub mod Placing
 pub mod Subscribers
+pub mod Telling
 pub mod TopUps
 pub mod Walks
 pub mod Resolved

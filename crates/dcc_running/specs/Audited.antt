@@ -1,6 +1,6 @@
 -- The tests of the receipts of all seats against the books.
-use Rattle.std.specs.Prelude.{◌≡◌, ℕ, ◌<◌, ◌≤◌, Bool, true, ◌&&◌, List, [], length}
-use Rattle.std.specs.List.{list_all, sum_by}
+use Rattle.std.specs.Prelude.{◌≡◌, ℕ, ◌<◌, ◌≤◌, Bool, true, ◌&&◌, List, [], ◌++◌, length}
+use Rattle.std.specs.List.{AllByRecursion, list_all, sum_by}
 use Rattle.dcc_tariff.specs.Terms.{TermsView}
 use Rattle.dcc_message.specs.declared.identity.Identity.{Identity}
 use Rattle.dcc_act.specs.declared.sub.Sub.{Sub}
@@ -9,8 +9,9 @@ use Rattle.dcc_receipts.specs.Audit.{own, agrees, is_answered, times, in_order}
 use Rattle.dcc_receipts.specs.declared.fault.CloseFault.{CloseFault}
 use Rattle.dcc_receipts.specs.declared.fault.CloseFault.TheVariants.{Memory, ReceiptStray, ActWithoutReceipt, OutOfOrder}
 use Rattle.dcc_receipts.specs.declared.receipt.Receipt.{Receipt}
+use Rattle.dcc_shard.specs.Shards.{ShardView, held}
 use Rattle.dcc_store.specs.Books.{Held}
-use Rattle.dcc_running.specs.Books.{BooksView, AreShards, BeginWith, book}
+use Rattle.dcc_running.specs.Books.{BooksView, AreShards, BeginWith, HaveOwnPlaces, book, told_in}
 
 -- a receipt agrees with its subscriber's acts, of which the first were there at opening, and has the answer by the outcome of its act
 abbrev pub is_true : Identity → TermsView → Held → Held → Receipt → Bool
@@ -23,19 +24,30 @@ are_true identity terms opening held seats = list_all (λ receipts. list_all (is
 abbrev pub times_in : Sub → ℕ → List (List Receipt) → ℕ
 times_in sub place seats = sum_by (λ receipts. times place (own sub receipts)) seats
 
+-- the receipts that were audited while the shards were under locks, and those of the seats
+abbrev pub all_of : {R : Type 0} → BooksView R → List (List Receipt) → List (List Receipt)
+all_of books seats = told_in books.sides ++ seats
+
 -- Each shard came out of its own lock, the shards may work as one, each subscriber's acts begin with the acts at opening, each receipt is true, and
 -- no place has two fresh receipts.
 pub record AreTrue {R : Type 0} (opening : Held) (books : BooksView R) (seats : List (List Receipt)) : Type 0 where
-  pub own : books.are_own ≡ true
+  pub own : HaveOwnPlaces books.sides
   pub shards : AreShards books.terms books.identity books.parts
   pub begun : (sub : Sub) → BeginWith (opening sub) (book books.parts sub)
-  pub true_all : are_true books.identity books.terms opening (book books.parts) seats ≡ true
-  pub single : (sub : Sub) (place : ℕ) → times_in sub place seats ≤ 1
+  pub true_all : are_true books.identity books.terms opening (book books.parts) (all_of books seats) ≡ true
+  pub single : (sub : Sub) (place : ℕ) → times_in sub place (all_of books seats) ≤ 1
+
+-- a receipt agreed, when it was audited, with the acts that some shard held, and had the answer by the outcome of its act
+abbrev pub WasTrue : Held → Receipt → Type 0
+WasTrue opening r = (shard : ShardView) × (is_true shard.identity shard.terms opening (held shard) r ≡ true)
+
+abbrev pub WereTrue : Held → List Receipt → Type 0
+WereTrue opening receipts = AllByRecursion (WasTrue opening) receipts
 
 -- each act since opening has exactly one fresh receipt
 abbrev pub AreCovered : {R : Type 0} → (opening : Held) → BooksView R → List (List Receipt) → Type 0
 AreCovered opening books seats = (sub : Sub) (place : ℕ) → length (opening sub) < place → place ≤ length (book books.parts sub)
-    → times_in sub place seats ≡ 1
+    → times_in sub place (all_of books seats) ≡ 1
 
 -- each receipt of a seat is after all earlier receipts of the same subscriber in the seat
 abbrev pub AreOrdered : List (List Receipt) → Type 0

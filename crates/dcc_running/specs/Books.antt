@@ -1,5 +1,5 @@
 -- Shards that work under locks, and their acts once they are out of the locks.
-use Rattle.std.specs.Prelude.{◌≡◌, ◌≢◌, ℕ, ◌<◌, Bool, true, false, List, [], ◌++◌, length, slice_index_or, Option, Some, None, slice_get}
+use Rattle.std.specs.Prelude.{◌≡◌, ◌≢◌, ℕ, ◌<◌, ◌-◌, ◌^◌, min, Bool, true, false, List, [], ◌++◌, length, map, sum_by, slice_index_or, Option, Some, None, slice_get}
 use Rattle.dcc_tariff.specs.Terms.{TermsView}
 use Rattle.dcc_message.specs.declared.identity.Identity.{Identity}
 use Rattle.dcc_act.specs.declared.act.Act.{Act}
@@ -7,6 +7,9 @@ use Rattle.dcc_act.specs.declared.sub.Sub.{Sub}
 use Rattle.dcc_store.specs.Books.{Held}
 use Rattle.dcc_store.specs.Contents.{Content}
 use Rattle.dcc_store.specs.Stops.{LeavesOnly}
+use Rattle.dcc_receipts.specs.declared.receipt.Receipt.{Receipt}
+use Rattle.dcc_running.specs.Acts.{acts_of}
+use Rattle.dcc_running.specs.declared.lock.Side.{Side}
 use Rattle.dcc_shard.specs.Routes.{shard_of}
 use Rattle.dcc_shard.specs.Shards.{held}
 use Rattle.dcc_shard.specs.Stored.{StoredView, GoesOnFrom, LeavesHeld, LeavesBatch}
@@ -18,12 +21,24 @@ pub record LockedView : Type 0 where
   pub identity : Identity
   pub count : ℕ
 
--- the same shards out of their locks, and whether each came out of its own lock
+-- the same shards out of their locks; beside each one the place of its lock, and its receipts that were audited
 pub record BooksView (R : Type 0) : Type 0 where
   pub terms : TermsView
   pub identity : Identity
   pub parts : List (StoredView R)
-  pub are_own : Bool
+  pub sides : List Side
+
+-- the place of each of these is that of its index, among as many as there are
+abbrev pub HaveOwnPlaces : List Side → Type 0
+HaveOwnPlaces sides = (i : ℕ) (none : Side) → i < length sides → (slice_index_or sides i none).place ≡ record { index = i; count = length sides }
+
+-- the receipts of each shard that were audited
+abbrev pub told_in : List Side → List (List Receipt)
+told_in sides = map (λ (s : Side). s.told) sides
+
+-- the number of acts of the audited receipts, up to 2^64 - 1
+abbrev pub acts_told : List Side → ℕ
+acts_told sides = min (sum_by (λ (s : Side). acts_of s.told) sides) (2 ^ 64 - 1)
 
 -- these acts begin with the acts at opening
 abbrev pub BeginWith : (opening all : List Act) → Type 0

@@ -1,4 +1,5 @@
 pub mod Books
+pub mod Acts
 pub mod Audited
 pub mod Calls
 pub mod Batches

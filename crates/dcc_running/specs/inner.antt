@@ -2,4 +2,5 @@ pub mod Batches
 pub mod Locks
 pub mod Marked
 pub mod Numbers
+pub mod Told
 pub mod Wards

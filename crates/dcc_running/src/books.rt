@@ -1,18 +1,18 @@
 //! Shards out of their locks.
 
-ghost use Rattle.std.specs.Prelude.{◌≡◌, ◌≢◌, ◌<◌, ◌≤◌, ℕ, [], true, length, slice_index_or, vec_len, vec_capacity, IfSome, IfNone};
+ghost use Rattle.std.specs.Prelude.{◌≡◌, ◌≢◌, ◌<◌, ◌≤◌, ℕ, [], true, false, length, map, slice_index_or, vec_len, vec_capacity, IfSome, IfNone};
 ghost use Rattle.dcc_act.specs.declared.sub.Sub.{Sub};
-ghost use Rattle.dcc_running.specs.Audited.{AreOwn};
-ghost use Rattle.dcc_running.specs.Books.{AreShards, AreKept, AreLeft, BeginWith, book};
-ghost use Rattle.dcc_running.specs.inner.Wards.{AreBegun};
+ghost use Rattle.dcc_running.specs.Audited.{AreOwn, are_true, times_in};
+ghost use Rattle.dcc_running.specs.Books.{AreShards, AreKept, AreLeft, BeginWith, HaveOwnPlaces, acts_told, book, told_in};
+ghost use Rattle.dcc_running.specs.inner.Wards.{AreBeside, shard_in, side_in};
 ghost use Rattle.dcc_shard.specs.Routes.{shard_of};
 ghost use Rattle.dcc_shard.specs.Shards.{held};
 ghost use Rattle.dcc_shard.specs.Stored.{StoredView};
 
-use crate::lock::{Lock, Place};
+use crate::lock::{Lock, Side};
 use crate::naming::Naming;
 use crate::opening::Numbers;
-use crate::shards::{Shards, locked, unlocked};
+use crate::shards::{Shards, locked, unlocked, warded};
 use crate::ward::Ward;
 use dcc_account::Account;
 use dcc_act::{Sub, same_subscribers_are_equal};
@@ -32,29 +32,29 @@ pub struct Books<R: Records, J: Naming> {
     pub(crate) identity: Identity,
     /// The number of each subscriber's acts at opening.
     numbers: Numbers,
-    pub(crate) wards: Vec<Ward<R, J>>,
-    /// Whether each shard came out of its own lock.
-    pub(crate) are_own: bool,
-    /// No locks and no shards, with room for as many as there are wards.
+    pub(crate) shards: Vec<Shard<R>>,
+    /// Beside each shard the place of its lock, and its receipts that were audited.
+    pub(crate) sides: Vec<Side>,
+    /// No locks and no wards, with room for as many as there are shards.
     locks: Vec<Lock<R, J>>,
-    emptied: Vec<Shard<R>>,
+    wards: Vec<Ward<R, J>>,
     pub(crate) hasher: RandomState,
     of: PhantomData<J>,
 }
 
 impl<R: Records, J: Naming> Model for Books<R, J> {
-    ghost use Rattle.std.specs.Prelude.{◌≡◌, ◌≤◌, true, length, vec_len, vec_capacity};
+    ghost use Rattle.std.specs.Prelude.{◌≡◌, ◌≤◌, vec_len, vec_capacity};
     ghost use Rattle.dcc_running.specs.Books.{BooksView};
     ghost use Rattle.dcc_running.specs.inner.Numbers.{AreNumbersOf};
-    ghost use Rattle.dcc_running.specs.inner.Wards.{AreBegun};
+    ghost use Rattle.dcc_running.specs.inner.Wards.{AreBeside};
 
     ghost Value = { BooksView R };
 
-    ghost view = { λ b. record { terms = b.terms; identity = b.identity; parts = b.wards.items; are_own = b.are_own } };
+    ghost view = { λ b. record { terms = b.terms; identity = b.identity; parts = b.shards.items; sides = b.sides.items } };
 
-    ghost invariant = { λ b. (1 ≤ vec_len b.wards) × (vec_len b.wards ≤ 8) × (vec_len b.locks ≡ 0) × (vec_len b.wards ≤ vec_capacity b.locks)
-        × (vec_len b.emptied ≡ 0) × (vec_len b.wards ≤ vec_capacity b.emptied) × AreNumbersOf J.opening b.numbers.entries
-        × (b.are_own ≡ true → AreBegun J.opening (length b.wards.items) b.wards.items) };
+    ghost invariant = { λ b. (1 ≤ vec_len b.shards) × (vec_len b.shards ≤ 8) × (vec_len b.locks ≡ 0) × (vec_len b.shards ≤ vec_capacity b.locks)
+        × (vec_len b.wards ≡ 0) × (vec_len b.shards ≤ vec_capacity b.wards) × AreNumbersOf J.opening b.numbers.entries
+        × (vec_len b.sides ≡ vec_len b.shards) × AreBeside J.opening b.sides.items b.shards.items };
 }
 
 impl<R: Records, J: Naming> Books<R, J> {
@@ -71,19 +71,20 @@ impl<R: Records, J: Naming> Books<R, J> {
             locks,
             wards,
             emptied,
+            sides,
             hasher,
             of: _,
         } = shards;
         let (locks, wards) = unlocked(locks, wards);
-        let are_own = are_own(&wards);
+        let (wards, shards, sides) = parted(wards, emptied, sides);
         Books {
             terms,
             identity,
             numbers,
-            wards,
-            are_own,
+            shards,
+            sides,
             locks,
-            emptied,
+            wards,
             hasher,
             of: PhantomData,
         }
@@ -96,8 +97,8 @@ impl<R: Records, J: Naming> Books<R, J> {
         ensures none { IfNone result (book self.now.parts sub ≡ []) }
         ensures terms { IfSome result (λ account. AreShards self.now.terms self.now.identity self.now.parts → account.now.terms ≡ self.now.terms) }
     {
-        let i = shard_of(&sub, self.wards.len());
-        self.wards[i].shard().account(sub)
+        let i = shard_of(&sub, self.shards.len());
+        self.shards[i].account(sub)
     }
 
     /// How many acts of a subscriber there are.
@@ -116,8 +117,8 @@ impl<R: Records, J: Naming> Books<R, J> {
         ensures { AreOwn self.now }
     {
         leaving_out_changes_nothing();
-        for ward in &self.wards {
-            ward.shard().acts_are_own();
+        for shard in &self.shards {
+            shard.acts_are_own();
         }
     }
 
@@ -125,8 +126,8 @@ impl<R: Records, J: Naming> Books<R, J> {
     pub(crate) fn records_are_kept(&self)
         ensures { AreKept R.is_stopped R.may_leave self.now.parts }
     {
-        for ward in &self.wards {
-            let _records = ward.shard().records();
+        for shard in &self.shards {
+            let _records = shard.records();
         }
     }
 
@@ -141,12 +142,31 @@ impl<R: Records, J: Naming> Books<R, J> {
         }
     }
 
+    /// How many acts the audited receipts are of: each act has one receipt that is fresh. At most 2^64 - 1.
+    pub fn acts_told(&self) -> u64
+        ensures { result ≡ acts_told self.now.sides }
+    {
+        acts_in(&self.sides)
+    }
+
+    /// Does nothing: the receipts that were audited are true of the acts of the books, and no place has two fresh ones.
+    pub(crate) fn told_are_true(&self)
+        requires { AreShards self.now.terms self.now.identity self.now.parts }
+        ensures all { are_true self.now.identity self.now.terms J.opening (book self.now.parts) (told_in self.now.sides) ≡ true }
+        ensures once { (sub : Sub) (place : ℕ) → times_in sub place (told_in self.now.sides) ≤ 1 }
+    {
+        same_subscribers_are_equal();
+        for side in &self.sides {
+            side.told.are_once();
+        }
+    }
+
     /// Does nothing: if each shard came out of its own lock, the acts of each subscriber begin with the acts at opening.
     pub(crate) fn acts_are_begun(&self)
-        requires { self.now.are_own ≡ true }
+        requires { HaveOwnPlaces self.now.sides }
         ensures { (sub : Sub) → BeginWith (J.opening sub) (book self.now.parts sub) }
     {
-        let _wards = &self.wards;
+        let _shards = &self.shards;
     }
 
     /// The shards, each with its records, moved out. It takes no memory. Where `close` was Ok they may be opened again, as
@@ -174,16 +194,16 @@ impl<R: Records, J: Naming> Books<R, J> {
             terms: _,
             identity,
             numbers,
-            wards,
-            are_own: _,
+            shards,
+            sides,
             locks,
-            emptied,
+            wards,
             hasher: _,
             of: _,
         } = self;
         // By a call: what is let go in place is proved part by part.
-        drop((identity, numbers, locks));
-        unwarded(wards, emptied)
+        drop((identity, numbers, sides, locks, wards));
+        shards
     }
 
     /// The shards under locks again, with the same acts at opening. It takes no memory.
@@ -196,13 +216,14 @@ impl<R: Records, J: Naming> Books<R, J> {
             terms,
             identity,
             numbers,
-            wards,
-            are_own: _,
+            shards,
+            sides,
             locks,
-            emptied,
+            wards,
             hasher,
             of: _,
         } = self;
+        let (wards, emptied, sides) = warded(wards, shards, sides);
         let (locks, wards) = locked(locks, wards);
         Shards {
             terms,
@@ -211,38 +232,65 @@ impl<R: Records, J: Naming> Books<R, J> {
             locks,
             wards,
             emptied,
+            sides,
             hasher,
             of: PhantomData,
         }
     }
 }
 
-/// Whether each of these has the place of its index.
-fn are_own<R: Records, J: Naming>(wards: &[Ward<R, J>]) -> bool
-    ensures { result ≡ true → AreBegun J.opening (length wards.now) wards.now }
+/// Whether the place of each of these is that of its index, among as many as there are.
+pub(crate) fn are_own(sides: &[Side]) -> bool
+    ensures yes { result ≡ true → HaveOwnPlaces sides.now }
+    ensures no { result ≡ false → HaveOwnPlaces sides.now → ⊥ }
 {
-    let count = wards.len();
+    let count = sides.len();
     for index in 0..count {
-        if !wards[index].is_at(Place { index, count }) {
+        let place = sides[index].place;
+        if place.index != index || place.count != count {
             return false;
         }
     }
     true
 }
 
-/// The shards of these wards, in order, put into an empty list with room for them. It takes no memory.
-fn unwarded<R: Records + Drop, J: Naming>(
+/// How many acts the audited receipts of these are of, at most 2^64 - 1.
+fn acts_in(sides: &[Side]) -> u64
+    ensures { result ≡ acts_told sides.now }
+{
+    let mut count = 0u64;
+    for side in sides {
+        count = count.saturating_add(side.told.acts());
+    }
+    count
+}
+
+/// The list of these wards, emptied; their shards, in order; and their sides. The shards and the sides are put into empty lists with room for them. It
+/// takes no memory.
+fn parted<R: Records, J: Naming>(
     wards: Vec<Ward<R, J>>,
-    emptied: Vec<Shard<R>>,
-) -> Vec<Shard<R>>
-    requires none { vec_len emptied ≡ 0 }
-    requires room { vec_len wards ≤ vec_capacity emptied }
-    ensures { result.items ≡ wards.items }
+    shards: Vec<Shard<R>>,
+    sides: Vec<Side>,
+) -> (Vec<Ward<R, J>>, Vec<Shard<R>>, Vec<Side>)
+    requires no_shards { vec_len shards ≡ 0 }
+    requires room { vec_len wards ≤ vec_capacity shards }
+    requires no_sides { vec_len sides ≡ 0 }
+    requires room_for_sides { vec_len wards ≤ vec_capacity sides }
+    ensures emptied { vec_len result.0 ≡ 0 }
+    ensures room { vec_len wards ≤ vec_capacity result.0 }
+    ensures count { vec_len result.1 ≡ vec_len wards }
+    ensures each { vec_len result.2 ≡ vec_len wards }
+    ensures shards { result.1.items ≡ map shard_in wards.items }
+    ensures sides { result.2.items ≡ map side_in wards.items }
+    ensures begun { AreBeside J.opening result.2.items result.1.items }
 {
     let mut wards = wards;
-    let mut shards = emptied;
+    let mut shards = shards;
+    let mut sides = sides;
     while wards.len() > 0 {
-        shards.push_reserved(wards.remove(0).into_shard());
+        let (side, shard) = wards.remove(0).into_parts();
+        shards.push_reserved(shard);
+        sides.push_reserved(side);
     }
-    shards
+    (wards, shards, sides)
 }

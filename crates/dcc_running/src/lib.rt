@@ -15,6 +15,7 @@
 
 mod apart;
 mod audit;
+mod auditing;
 mod batches;
 mod books;
 mod calls;
@@ -29,6 +30,7 @@ mod room;
 mod seat;
 mod shards;
 mod tally;
+mod told;
 mod ward;
 
 pub use books::Books;

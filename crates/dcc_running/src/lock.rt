@@ -5,6 +5,7 @@ ghost use Rattle.dcc_running.specs.inner.Batches.{AreKeptAt};
 ghost use Rattle.dcc_shard.specs.Routes.{shard_of};
 
 use crate::naming::Naming;
+use crate::told::Told;
 use crate::ward::Ward;
 use dcc_act::Sub;
 use dcc_shard::Call;
@@ -16,6 +17,13 @@ use std::sync::{Mutex, MutexGuard, Wait};
 pub(crate) struct Place {
     pub(crate) index: usize,
     pub(crate) count: usize,
+}
+
+/// The place of a shard's lock, and the receipts of the shard that were audited.
+#[derive(Drop)]
+pub(crate) struct Side {
+    pub(crate) place: Place,
+    pub(crate) told: Told,
 }
 
 /// A shard under its lock.

@@ -24,9 +24,9 @@ pub(crate) fn are_shards<R: Records, J: Naming>(
     ensures yes { IfOk result (λ all. all ≡ true → AreShards books.now.terms books.now.identity books.now.parts) }
     ensures no { IfOk result (λ all. all ≡ false → AreShards books.now.terms books.now.identity books.now.parts → ⊥) }
 {
-    let count = books.wards.len();
+    let count = books.shards.len();
     for i in 0..count {
-        let shard = books.wards[i].shard();
+        let shard = &books.shards[i];
         if !is_under(shard, &books.terms, &books.identity) || !is_placed(alloc, shard, i, count)? {
             return Ok(false);
         }

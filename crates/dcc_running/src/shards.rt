@@ -1,26 +1,27 @@
 //! The shards under their locks.
 
-ghost use Rattle.std.specs.Prelude.{◌≡◌, ◌≢◌, ℕ, ◌<◌, ◌≤◌, [], length, slice_index_or, IfOk, IfErr, vec_len, vec_capacity};
+ghost use Rattle.std.specs.Prelude.{◌≡◌, ◌≢◌, ℕ, ◌<◌, ◌≤◌, [], length, map, slice_index_or, IfOk, IfErr, vec_len, vec_capacity};
 ghost use Rattle.std.specs.List.Sorted.{IsStrictlySortedBy};
 ghost use Rattle.dcc_act.specs.declared.sub.Sub.{Sub};
 ghost use Rattle.dcc_store.specs.Books.{sub_order};
-ghost use Rattle.dcc_running.specs.Books.{book};
+ghost use Rattle.dcc_running.specs.Books.{HaveOwnPlaces, book};
 ghost use Rattle.dcc_running.specs.Calls.{AreSubs, IsReadOf, IsResolved, IsToldStopped};
 ghost use Rattle.dcc_running.specs.inner.Batches.{AreKeptAt};
 ghost use Rattle.dcc_running.specs.inner.Locks.{AreOf};
 ghost use Rattle.dcc_running.specs.inner.Numbers.{AreNumbersOf};
-ghost use Rattle.dcc_running.specs.inner.Wards.{AreBegun};
+ghost use Rattle.dcc_running.specs.inner.Wards.{AreBeside, shard_in, side_in};
 ghost use Rattle.dcc_shard.specs.Routes.{shard_of};
 ghost use Rattle.dcc_shard.specs.Shards.{held};
 ghost use Rattle.dcc_shard.specs.Stored.{StoredView};
 
-use crate::lock::{Lock, Place};
+use crate::lock::{Lock, Place, Side};
 use crate::look::Look;
 use crate::naming::Naming;
 use crate::opening::{Numbers, counted};
 use crate::seat::Seat;
+use crate::told::Told;
 use crate::ward::Ward;
-use dcc_act::{SessionId, Sub};
+use dcc_act::{SessionId, Sub, same_subscribers_are_equal};
 use dcc_message::Identity;
 use dcc_octets::Host;
 use dcc_shard::{Call, Found, Shard, shard_of};
@@ -39,9 +40,10 @@ pub struct Shards<R: Records, J: Naming> {
     /// The number of each subscriber's acts at opening.
     pub(crate) numbers: Numbers,
     pub(crate) locks: Vec<Lock<R, J>>,
-    /// No wards and no shards, with room for as many as there are locks.
+    /// No wards, no shards and no sides, with room for as many as there are locks.
     pub(crate) wards: Vec<Ward<R, J>>,
     pub(crate) emptied: Vec<Shard<R>>,
+    pub(crate) sides: Vec<Side>,
     pub(crate) hasher: RandomState,
     pub(crate) of: PhantomData<J>,
 }
@@ -58,7 +60,7 @@ impl<R: Records, J: Naming> Model for Shards<R, J> {
 
     ghost invariant = { λ s. (1 ≤ vec_len s.locks) × (vec_len s.locks ≤ 8) × (vec_len s.wards ≡ 0) × (vec_len s.locks ≤ vec_capacity s.wards)
         × (vec_len s.emptied ≡ 0) × (vec_len s.locks ≤ vec_capacity s.emptied) × AreOf (vec_len s.locks) s.locks.items
-        × AreNumbersOf J.opening s.numbers.entries };
+        × AreNumbersOf J.opening s.numbers.entries × (vec_len s.sides ≡ 0) × (vec_len s.locks ≤ vec_capacity s.sides) };
 }
 
 impl<R: Records, J: Naming> Shards<R, J> {
@@ -87,11 +89,13 @@ impl<R: Records, J: Naming> Shards<R, J> {
         ensures count { IfOk result (λ locked. locked.count ≡ length shards.items) }
         ensures back { IfErr result (λ back. back.items ≡ shards.items) }
     {
-        let Ok((identity, numbers, locks, wards)) = room_for(alloc, identity, &shards, hasher)
-        else {
+        let Ok((identity, numbers, locks, wards, sides)) = room_for(
+            alloc, identity, &shards, hasher,
+        ) else {
             return Err(shards);
         };
-        let (wards, emptied) = warded(wards, shards);
+        let sides = own_sides(alloc, hasher, sides, shards.len());
+        let (wards, emptied, sides) = warded(wards, shards, sides);
         let (locks, wards) = locked(locks, wards);
         Ok(Shards {
             terms: *terms,
@@ -100,6 +104,7 @@ impl<R: Records, J: Naming> Shards<R, J> {
             locks,
             wards,
             emptied,
+            sides,
             hasher,
             of: PhantomData,
         })
@@ -154,6 +159,17 @@ impl<R: Records, J: Naming> Shards<R, J> {
         look.look(shard, self.locks[shard].lock_as(rt, shard).shard())
     }
 
+    /// The number of a subscriber's acts at opening.
+    pub(crate) fn number_at_opening(&self, sub: &Sub) -> usize
+        ensures { result ≡ length (J.opening sub.now) }
+    {
+        same_subscribers_are_equal();
+        match self.numbers.get(sub) {
+            Some(number) => *number,
+            None => 0,
+        }
+    }
+
     /// The number of shards.
     pub fn count(&self) -> usize
         ensures { result ≡ self.now.count }
@@ -190,13 +206,22 @@ impl<R: Records, J: Naming> Shards<R, J> {
     }
 }
 
-/// All that is taken of memory for shards under locks: a copy of the names, the numbers of the acts, and room for the locks and the wards.
+/// All that is taken of memory for shards under locks: a copy of the names, the numbers of the acts, and room for the locks, the wards and their sides.
 fn room_for<R: Records + Drop, J: Naming>(
     alloc: Global,
     identity: &Identity,
     shards: &[Shard<R>],
     hasher: RandomState,
-) -> Result<(Identity, Numbers, Vec<Lock<R, J>>, Vec<Ward<R, J>>), AllocError>
+) -> Result<
+    (
+        Identity,
+        Numbers,
+        Vec<Lock<R, J>>,
+        Vec<Ward<R, J>>,
+        Vec<Side>,
+    ),
+    AllocError,
+>
     requires some { 1 ≤ length shards.now }
     requires placed { (i : ℕ) (none : StoredView R) (sub : Sub) → i < length shards.now
         → held (slice_index_or shards.now i none).shard sub ≢ [] → shard_of sub (length shards.now) ≡ i }
@@ -206,6 +231,8 @@ fn room_for<R: Records + Drop, J: Naming>(
     ensures locks { IfOk result (λ room. length shards.now ≤ vec_capacity room.2) }
     ensures no_wards { IfOk result (λ room. vec_len room.3 ≡ 0) }
     ensures wards { IfOk result (λ room. length shards.now ≤ vec_capacity room.3) }
+    ensures no_sides { IfOk result (λ room. vec_len room.4 ≡ 0) }
+    ensures sides { IfOk result (λ room. length shards.now ≤ vec_capacity room.4) }
 {
     let identity = identity.copy()?;
     let Ok(numbers) = counted(alloc, shards, hasher) else {
@@ -221,30 +248,60 @@ fn room_for<R: Records + Drop, J: Naming>(
         drop((identity, numbers, locks));
         return Err(AllocError);
     };
-    Ok((identity, numbers, locks, wards))
+    let Ok(sides) = Vec::with_capacity(alloc, shards.len()) else {
+        drop((identity, numbers, locks, wards));
+        return Err(AllocError);
+    };
+    Ok((identity, numbers, locks, wards, sides))
 }
 
-/// Gives each shard its place, in order, and gives what held the shards back, emptied. It takes no memory. The condition: the acts of each shard begin
-/// with the acts at opening.
-fn warded<R: Records, J: Naming>(
+/// The sides of so many shards, in order, without receipts, put into an empty list with room for them. It takes no memory.
+fn own_sides(alloc: Global, hasher: RandomState, sides: Vec<Side>, count: usize) -> Vec<Side>
+    requires none { vec_len sides ≡ 0 }
+    requires room { count ≤ vec_capacity sides }
+    ensures own { HaveOwnPlaces result.items }
+    ensures untold { (i : ℕ) (none : Side) → i < length result.items → (slice_index_or result.items i none).told ≡ [] }
+    ensures count { vec_len result ≡ count }
+    ensures room { count ≤ vec_capacity result }
+{
+    let mut sides = sides;
+    while sides.len() < count {
+        let index = sides.len();
+        sides.push_reserved(Side {
+            place: Place { index, count },
+            told: Told::new(alloc, hasher),
+        });
+    }
+    sides
+}
+
+/// Each shard with its side, in order, and the lists of the shards and of the sides, emptied. It takes no memory. The condition: the acts of each
+/// shard begin with the acts at opening, at its place, and its audited receipts are true.
+pub(crate) fn warded<R: Records, J: Naming>(
     wards: Vec<Ward<R, J>>,
     shards: Vec<Shard<R>>,
-) -> (Vec<Ward<R, J>>, Vec<Shard<R>>)
+    sides: Vec<Side>,
+) -> (Vec<Ward<R, J>>, Vec<Shard<R>>, Vec<Side>)
     requires none { vec_len wards ≡ 0 }
     requires room { vec_len shards ≤ vec_capacity wards }
-    requires begun { AreBegun J.opening (length shards.items) shards.items }
-    ensures shards { result.0.items ≡ shards.items }
+    requires begun { AreBeside J.opening sides.items shards.items }
+    requires each { vec_len sides ≡ vec_len shards }
+    ensures shards { map shard_in result.0.items ≡ shards.items }
+    ensures sides { map side_in result.0.items ≡ sides.items }
+    ensures count { vec_len result.0 ≡ vec_len shards }
     ensures emptied { vec_len result.1 ≡ 0 }
     ensures room { vec_len shards ≤ vec_capacity result.1 }
+    ensures no_sides { vec_len result.2 ≡ 0 }
+    ensures room_for_sides { vec_len shards ≤ vec_capacity result.2 }
 {
     let mut wards = wards;
     let mut shards = shards;
-    let count = shards.len();
+    let mut sides = sides;
     while shards.len() > 0 {
-        let index = wards.len();
-        wards.push_reserved(Ward::new(Place { index, count }, shards.remove(0)));
+        let side = sides.remove(0);
+        wards.push_reserved(Ward::new(side, shards.remove(0)));
     }
-    (wards, shards)
+    (wards, shards, sides)
 }
 
 /// Puts each shard under a lock, in order, and gives what held them back, emptied. It takes no memory.

@@ -1,81 +1,113 @@
 //! A shard under its lock.
 
-ghost use Rattle.std.specs.Prelude.{◌≡◌, ◌≤◌, [], true, is_some, length, map, vec_capacity};
+ghost use Rattle.std.specs.Prelude.{◌≡◌, ◌≤◌, ◌++◌, ◌∷◌, ◌⊎◌, [], true, false, is_some, length, map, vec_capacity, IfOk, OnErr};
 ghost use Rattle.std.specs.List.{AllByRecursion, list_all};
 ghost use Rattle.dcc_answer.specs.declared.answer.TheConstants.{MAX_ANSWER};
 ghost use Rattle.dcc_model.specs.Keys.{request_key};
 ghost use Rattle.dcc_shard.specs.Answers.{IsAnswer, IsExpired, IsTold, IsToldApart, expiry_act, is_judged, is_judged_expiry, is_judged_top_up, octets_of, top_up_act};
 ghost use Rattle.dcc_shard.specs.Batches.{AreReplies, IsBatch, IsReplyBounded, IsReplyToldApart, has_request_act, sub_of};
-ghost use Rattle.dcc_shard.specs.Shards.{IsStep, are_apart};
-ghost use Rattle.dcc_running.specs.inner.Wards.{BatchesGrow, IsBegun, StepsGrow};
+ghost use Rattle.dcc_shard.specs.Shards.{IsStep, are_apart, held};
+ghost use Rattle.dcc_receipts.specs.Audit.{own, times};
+ghost use Rattle.dcc_receipts.specs.Stretches.{TrueStayTrue};
+ghost use Rattle.dcc_running.specs.Audited.{is_true};
+ghost use Rattle.dcc_running.specs.inner.Wards.{BatchesGrow, IsBeside, StepsGrow, shard_in, side_in};
 
-use crate::lock::Place;
+use crate::audit::is_true_in;
+use crate::lock::{Place, Side};
 use crate::naming::Naming;
+use crate::told::Told;
 use dcc_act::{Act, Moment, Sub, same_subscribers_are_equal};
 use dcc_answer::Proxies;
 use dcc_message::Header;
 use dcc_model::{leaving_out_changes_nothing, one_more_act};
+use dcc_receipts::{Receipt, true_receipts_stay_true};
 use dcc_shard::{Call, ExpiryAnswer, Reply, RequestAnswer, Shard, TopUpAnswer};
 use dcc_store::Records;
-use std::alloc::Global;
+use std::alloc::{AllocError, Global};
 use std::marker::{Model, PhantomData};
 
-/// A shard, and the place of its lock. Its acts begin with the acts at opening, whichever calls were made since. Contracts see it as the shard.
+/// A shard, and the place of its lock. Its acts begin with the acts at opening, whichever calls were made since.
 #[derive(Drop)]
 pub(crate) struct Ward<R: Records, J: Naming> {
     place: Place,
     shard: Shard<R>,
+    /// The receipts of this shard that were audited.
+    told: Told,
     of: PhantomData<J>,
 }
 
 impl<R: Records, J: Naming> Model for Ward<R, J> {
-    ghost use Rattle.dcc_running.specs.inner.Wards.{IsBegun};
-    ghost use Rattle.dcc_shard.specs.Stored.{StoredView};
+    ghost use Rattle.dcc_running.specs.inner.Wards.{AreTold, IsBegun, WardView};
 
-    ghost Value = { StoredView R };
+    ghost Value = { WardView R };
 
-    ghost view = { λ w. w.shard };
+    ghost view = { λ w. record { shard = w.shard.shard; records = w.shard.records; place = w.place; told = w.told } };
 
-    ghost invariant = { λ w. IsBegun J.opening w.place w.shard };
+    ghost invariant = { λ w. IsBegun J.opening w.place w.shard × AreTold J.opening w.shard w.told };
 }
 
 impl<R: Records, J: Naming> Ward<R, J> {
-    /// A shard at this place. The condition: its acts begin with the acts at opening.
-    pub(crate) fn new(place: Place, shard: Shard<R>) -> Ward<R, J>
-        requires { IsBegun J.opening place shard }
-        ensures { result ≡ shard }
+    /// A shard at this place, and the receipts that were audited. The conditions: its acts begin with the acts at opening, and the receipts are true.
+    pub(crate) fn new(side: Side, shard: Shard<R>) -> Ward<R, J>
+        requires { IsBeside J.opening side shard }
+        ensures side { side_in result ≡ side }
+        ensures shard { shard_in result ≡ shard }
     {
+        let Side { place, told } = side;
         Ward {
             place,
             shard,
+            told,
             of: PhantomData,
         }
     }
 
     /// The shard.
     pub(crate) fn shard(&self) -> &Shard<R>
-        ensures { result.now ≡ self.now }
+        ensures { result.now ≡ shard_in self.now }
     {
         &self.shard
     }
 
-    /// Whether this is its place.
-    pub(crate) fn is_at(&self, place: Place) -> bool
-        ensures { result ≡ true → IsBegun J.opening place self.now }
-    {
-        self.place.index == place.index && self.place.count == place.count
-    }
-
-    /// The shard, moved out.
-    pub(crate) fn into_shard(self) -> Shard<R>
-        ensures { result ≡ self }
+    /// The place, the shard and the audited receipts, moved out.
+    pub(crate) fn into_parts(self) -> (Side, Shard<R>)
+        ensures side { result.0 ≡ side_in self }
+        ensures shard { result.1 ≡ shard_in self }
+        ensures beside { IsBeside J.opening result.0 result.1 }
     {
         let Ward {
-            place: _,
+            place,
             shard,
+            told,
             of: _,
         } = self;
-        shard
+        (Side { place, told }, shard)
+    }
+
+    /// Compares a receipt with the acts of its subscriber, of which so many were there at opening, and keeps its place. It returns whether the receipt is
+    /// true, and its place has no other fresh receipt. The only error is want of memory. Neither an error nor such a receipt changes anything.
+    pub(crate) fn tell(
+        &mut self,
+        alloc: Global,
+        opened: usize,
+        receipt: &Receipt,
+    ) -> Result<bool, AllocError>
+        requires { opened ≡ length (J.opening receipt.now.sub) }
+        ensures told { IfOk result (λ told. told ≡ true → self.new.told ≡ self.old.told ++ receipt.now ∷ []) }
+        ensures was { IfOk result (λ told. told ≡ true
+            → is_true self.old.shard.identity self.old.shard.terms J.opening (held self.old.shard) receipt.now ≡ true) }
+        ensures refused { IfOk result (λ told. told ≡ false → self.new.told ≡ self.old.told) }
+        ensures reason { IfOk result (λ told. told ≡ false
+            → (is_true self.old.shard.identity self.old.shard.terms J.opening (held self.old.shard) receipt.now ≡ false)
+            ⊎ ((receipt.now.fresh ≡ true) × (times receipt.now.place (own receipt.now.sub self.old.told) ≡ 1))) }
+        ensures err { OnErr result (self.new.told ≡ self.old.told) }
+        ensures shard { (self.new.shard ≡ self.old.shard) × (self.new.records ≡ self.old.records) }
+        ensures place { self.new.place ≡ self.old.place }
+    {
+        if !is_true_in(alloc, &self.shard, opened, receipt)? {
+            return Ok(false);
+        }
+        self.told.add(receipt)
     }
 
     /// Makes a request's act and answers the request, as [`Shard::step`] does.
@@ -90,6 +122,8 @@ impl<R: Records, J: Naming> Ward<R, J> {
         requires { is_some (request_key act.kind) ≡ true }
         ensures answer { IsAnswer self.old.shard sub act header.now proxies.now result }
         ensures step { IsStep self.old.shard self.new.shard (is_judged result) sub act }
+        ensures place { self.new.place ≡ self.old.place }
+        ensures told { self.new.told ≡ self.old.told }
         ensures apart { IsToldApart result }
         ensures bounded { length (octets_of result) ≤ MAX_ANSWER }
     {
@@ -108,6 +142,8 @@ impl<R: Records, J: Naming> Ward<R, J> {
     ) -> TopUpAnswer
         ensures answer { IsTold self.old.shard sub moment ticket amount result }
         ensures step { IsStep self.old.shard self.new.shard (is_judged_top_up result) sub (top_up_act moment ticket amount) }
+        ensures place { self.new.place ≡ self.old.place }
+        ensures told { self.new.told ≡ self.old.told }
     {
         acts_grow(&self.shard);
         self.shard.top_up(alloc, sub, moment, ticket, amount)
@@ -117,6 +153,8 @@ impl<R: Records, J: Naming> Ward<R, J> {
     pub(crate) fn expire(&mut self, alloc: Global, sub: Sub, moment: Moment) -> ExpiryAnswer
         ensures answer { IsExpired self.old.shard sub moment result }
         ensures step { IsStep self.old.shard self.new.shard (is_judged_expiry result) sub (expiry_act moment) }
+        ensures place { self.new.place ≡ self.old.place }
+        ensures told { self.new.told ≡ self.old.told }
     {
         acts_grow(&self.shard);
         self.shard.expire(alloc, sub, moment)
@@ -130,6 +168,8 @@ impl<R: Records, J: Naming> Ward<R, J> {
         requires room { length calls.items ≤ vec_capacity replies.old }
         ensures replies { AreReplies self.old.shard calls.items replies.new.items }
         ensures batch { IsBatch self.old.shard self.new.shard calls.items replies.new.items }
+        ensures place { self.new.place ≡ self.old.place }
+        ensures told { self.new.told ≡ self.old.told }
         ensures apart { AllByRecursion IsReplyToldApart replies.new.items }
         ensures bounded { AllByRecursion IsReplyBounded replies.new.items }
     {
@@ -142,7 +182,9 @@ impl<R: Records, J: Naming> Ward<R, J> {
 fn acts_grow<R: Records>(shard: &Shard<R>)
     ensures steps { StepsGrow shard.now.shard }
     ensures batches { BatchesGrow shard.now.shard }
+    ensures stay { TrueStayTrue }
 {
+    true_receipts_stay_true();
     same_subscribers_are_equal();
     one_more_act();
     leaving_out_changes_nothing();

@@ -1,10 +1,14 @@
 -- Shards under locks begin with the acts at opening, and their acts only grow.
-use Rattle.std.specs.Prelude.{◌≡◌, ℕ, ◌<◌, Bool, List, length, slice_index_or}
+use Rattle.std.specs.Prelude.{◌≡◌, ℕ, ◌<◌, Bool, true, List, length, slice_index_or}
+use Rattle.std.specs.List.{AllZip, list_all}
 use Rattle.dcc_act.specs.declared.act.Act.{Act}
 use Rattle.dcc_act.specs.declared.sub.Sub.{Sub}
 use Rattle.dcc_store.specs.Books.{Held}
+use Rattle.dcc_receipts.specs.declared.receipt.Receipt.{Receipt}
+use Rattle.dcc_running.specs.Audited.{is_true}
 use Rattle.dcc_running.specs.Books.{BeginWith}
 use Rattle.dcc_running.specs.declared.lock.Place.{Place}
+use Rattle.dcc_running.specs.declared.lock.Side.{Side}
 use Rattle.dcc_shard.specs.Batches.{IsBatch}
 use Rattle.dcc_shard.specs.Routes.{shard_of}
 use Rattle.dcc_shard.specs.Shards.{IsStep, ShardView, held}
@@ -12,21 +16,50 @@ use Rattle.dcc_shard.specs.Stored.{StoredView}
 use Rattle.dcc_shard.specs.declared.call.Call.{Call}
 use Rattle.dcc_shard.specs.declared.call.Reply.{Reply}
 
+-- a shard under its lock, and the place of the lock under which it was put
+pub record WardView (R : Type 0) : Type 0 where
+  pub shard : ShardView
+  pub records : R
+  pub place : Place
+  pub told : List Receipt
+
+-- the shard alone
+abbrev pub shard_in : {R : Type 0} → WardView R → StoredView R
+shard_in ward = record { shard = ward.shard; records = ward.records }
+
+abbrev pub side_in : {R : Type 0} → WardView R → Side
+side_in ward = record { place = ward.place; told = ward.told }
+
+-- these receipts agree with the acts that the shard holds, and have the answers by the outcomes of their acts
+abbrev pub AreTold : {R : Type 0} → Held → StoredView R → List Receipt → Type 0
+AreTold opening part told = list_all (is_true part.shard.identity part.shard.terms opening (held part.shard)) told ≡ true
+
 -- the acts that the shard holds of each subscriber of this place begin with the subscriber's acts at opening
 abbrev pub IsBegun : {R : Type 0} → Held → Place → StoredView R → Type 0
 IsBegun opening place part = (sub : Sub) → shard_of sub place.count ≡ place.index → BeginWith (opening sub) (held part.shard sub)
+
+-- a shard begins with the acts at opening at its place, and the audited receipts are true of it
+abbrev pub IsBeside : {R : Type 0} → Held → Side → StoredView R → Type 0
+IsBeside opening side part = IsBegun opening side.place part × AreTold opening part side.told
+
+abbrev pub AreBeside : {R : Type 0} → Held → List Side → List (StoredView R) → Type 0
+AreBeside opening sides parts = AllZip (IsBeside opening) sides parts
 
 -- the same for each of these shards, at the place of its index among so many
 abbrev pub AreBegun : {R : Type 0} → Held → ℕ → List (StoredView R) → Type 0
 AreBegun {R} opening count parts =
     (i : ℕ) (none : StoredView R) → i < length parts → IsBegun opening (record { index = i; count = count }) (slice_index_or parts i none)
 
--- each act that is judged next only adds to the acts that the shard holds of a subscriber
-abbrev pub StepsGrow : ShardView → Type 0
-StepsGrow old = (new : ShardView) (is_judged : Bool) (one : Sub) (act : Act) → IsStep old new is_judged one act
-    → (sub : Sub) → BeginWith (held old sub) (held new sub)
+-- acts were only added to those that a shard held of a subscriber, under the same terms and for the same server
+pub record Grows (old new : ShardView) : Type 0 where
+  pub acts : (sub : Sub) → BeginWith (held old sub) (held new sub)
+  pub terms : new.terms ≡ old.terms
+  pub identity : new.identity ≡ old.identity
 
--- each batch that is made next only adds to the acts that the shard holds of a subscriber
+-- each act that is judged next only adds acts
+abbrev pub StepsGrow : ShardView → Type 0
+StepsGrow old = (new : ShardView) (is_judged : Bool) (one : Sub) (act : Act) → IsStep old new is_judged one act → Grows old new
+
+-- each batch that is made next only adds acts
 abbrev pub BatchesGrow : ShardView → Type 0
-BatchesGrow old = (new : ShardView) (calls : List Call) (replies : List Reply) → IsBatch old new calls replies
-    → (sub : Sub) → BeginWith (held old sub) (held new sub)
+BatchesGrow old = (new : ShardView) (calls : List Call) (replies : List Reply) → IsBatch old new calls replies → Grows old new

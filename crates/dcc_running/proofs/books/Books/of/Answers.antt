@@ -1,18 +1,18 @@
-use Rattle.std.proofs.Common.{List, length, subst, arith}
-use Rattle.dcc_shard.specs.Stored.{StoredView}
-use Rattle.dcc_running.specs.inner.Wards.{AreBegun}
+use Rattle.std.proofs.Common.{arith}
 use Rattle.dcc_running.proofs.books.Books.of.Goals as goal
 
 pub invariant_of-result : goal.invariant_of-result
 invariant_of-result g c =
     let out = c.unlocked-locks.ensures in
+    let part = c.parted-wards.ensures in
     let was = c.shards.invariant in (
-      omega (arith, was.0, out.count),
-      omega (arith, was.1, out.count),
+      omega (arith, was.0, out.count, part.count),
+      omega (arith, was.1, out.count, part.count),
       out.emptied,
-      omega (arith, out.count, out.room),
-      was.4,
-      omega (arith, was.5, out.count),
+      omega (arith, out.count, out.room, part.count),
+      part.emptied,
+      omega (arith, part.count, part.room),
       was.7,
-      λ own. subst (λ (parts : List (StoredView g.row.R.Denot)). AreBegun g.J.Naming.opening (length parts) parts) c.deref.ensures.value (c.are_own-are_own.ensures own),
+      omega (arith, part.count, part.each),
+      part.begun,
     )

@@ -7,14 +7,13 @@ use Rattle.dcc_running.proofs.books.Books.records_are_kept.Goals as goal
 
 pub returns : goal.returns
 returns g c = λ i none below.
-    let parts = c.deref-ward-items.ensures.value ∙ ap (λ v. v.parts) c.self.view_is in
+    let parts = c.deref-shard-items.ensures.value ∙ ap (λ v. v.parts) c.self.view_is in
     let P = λ (items : List (StoredView g.row.R.Denot)). IsKeptBy g.R.Records.is_stopped g.R.Records.may_leave (get_or items i none) in
     let many = ap length parts in
-    subst P parts (c.loop-ward.invariant i none (omega (arith, below, many, c.loop-ward-test.false)))
+    subst P parts (c.loop-shard.invariant i none (omega (arith, below, many, c.loop-shard-test.false)))
 
-pub loop-ward-preserved : goal.loop-ward-preserved
-loop-ward-preserved g c =
-    one_more (IsKeptBy g.R.Records.is_stopped g.R.Records.may_leave) c.deref-ward-items.result.now c.loop-ward.ward-index c.ward-item.result c.loop-ward-test.true c.ward-item.is c.loop-ward.invariant
-    (subst (λ (part : StoredView g.row.R.Denot). IsKeptBy g.R.Records.is_stopped g.R.Records.may_leave part) (c.shard.ensures)
-    (kept_by g.R.Records.is_stopped g.R.Records.may_leave c.shard.result.now c.records-records.result.now c.records-records.ensures.value c.records-records.ensures.kept
-    c.records-records.ensures.beyond c.records-records.ensures.left))
+pub loop-shard-preserved : goal.loop-shard-preserved
+loop-shard-preserved g c =
+    one_more (IsKeptBy g.R.Records.is_stopped g.R.Records.may_leave) c.deref-shard-items.result.now c.loop-shard.shard-index c.shard-item.result c.loop-shard-test.true c.shard-item.is c.loop-shard.invariant
+    (kept_by g.R.Records.is_stopped g.R.Records.may_leave c.shard-item.result c.records-records.result.now c.records-records.ensures.value c.records-records.ensures.kept
+    c.records-records.ensures.beyond c.records-records.ensures.left)

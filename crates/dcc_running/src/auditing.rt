@@ -1,0 +1,67 @@
+//! An audit while the shards are under locks.
+
+ghost use Rattle.std.specs.Prelude.{◌≡◌, ◌≤◌, ◌++◌, ◌∷◌, List, [], drop, length, vec_len, IfOk, OnOk};
+ghost use Rattle.dcc_receipts.specs.declared.receipt.Receipt.{Receipt};
+ghost use Rattle.dcc_running.specs.Audited.{AreOrdered, WasTrue, WereTrue};
+
+use crate::naming::Naming;
+use crate::seat::Seat;
+use crate::shards::Shards;
+use dcc_receipts::{CloseFault, Receipt, each_in_order};
+use dcc_store::Records;
+use std::alloc::Global;
+use std::sync::Wait;
+
+impl<R: Records, J: Naming> Shards<R, J> {
+    /// Compares the receipts of a seat, in order, with the acts that their shards hold, each under its shard's lock, and takes them out of the seat. The
+    /// shards keep the places of the fresh ones, and `close` counts these. It returns the number of the receipts. It waits for the lock of each receipt's
+    /// shard, one at a time.
+    ///
+    /// Errors, which leave the receipt that fails in the seat, and all behind it: [`CloseFault::Memory`]; [`CloseFault::ReceiptStray`], the receipt isn't of
+    /// these acts or has another answer than its act came to, or its place has another fresh receipt; [`CloseFault::OutOfOrder`], the seat has a receipt
+    /// after one of the same subscriber that comes later: all stay.
+    pub fn audit<W: Wait>(
+        &self,
+        rt: &W,
+        alloc: Global,
+        seat: &mut Seat,
+    ) -> Result<usize, CloseFault>
+        ensures empty { IfOk result (λ count. (seat.new ≡ []) × (count ≡ length seat.old)) }
+        ensures told { (told : List Receipt) × (seat.old ≡ told ++ seat.new) × WereTrue J.opening told }
+        ensures ordered { IfOk result (λ count. AreOrdered (seat.old ∷ [])) }
+    {
+        if !each_in_order(alloc, self.hasher, &seat.receipts)? {
+            return Err(CloseFault::OutOfOrder);
+        }
+        let count = seat.receipts.len();
+        for at in 0..count {
+            if let Err(fault) = self.tell(rt, alloc, &seat.receipts[at]) {
+                forget_first(&mut seat.receipts, at);
+                return Err(fault);
+            }
+        }
+        forget_first(&mut seat.receipts, count);
+        Ok(count)
+    }
+
+    /// Compares a receipt with the acts that its subscriber's shard holds, under the shard's lock, and lets the shard keep its place. The errors are those of
+    /// [`Shards::audit`].
+    fn tell<W: Wait>(&self, rt: &W, alloc: Global, receipt: &Receipt) -> Result<(), CloseFault>
+        ensures { OnOk result (WasTrue J.opening receipt.now) }
+    {
+        let opened = self.number_at_opening(&receipt.sub);
+        match self.lock_of(rt, &receipt.sub).tell(alloc, opened, receipt)? {
+            true => Ok(()),
+            false => Err(CloseFault::ReceiptStray),
+        }
+    }
+}
+
+/// Lets the first of these receipts go. It takes no memory.
+fn forget_first(receipts: &mut Vec<Receipt>, count: usize)
+    requires { count ≤ vec_len receipts.old }
+    ensures { receipts.new.items ≡ drop count receipts.old.items }
+{
+    receipts.rotate_left(count);
+    receipts.truncate(receipts.len() - count);
+}
