@@ -24,6 +24,9 @@ name_of families.Sweeps = codes "dcc_sweeps_total"
 name_of families.SessionsEnded = codes "dcc_sessions_ended_total"
 name_of families.Batches = codes "dcc_batches_total"
 name_of families.LaneItems = codes "dcc_lane_items"
+name_of families.Audits = codes "dcc_audits_total"
+name_of families.AuditedReceipts = codes "dcc_audited_receipts_total"
+name_of families.AuditSeconds = codes "dcc_audit_seconds_total"
 name_of families.Seconds = codes "dcc_answer_seconds"
 
 unfoldable pub help_of : Family → List ℕ
@@ -40,6 +43,9 @@ help_of families.Sweeps = codes "Sweeps that a shard was asked for."
 help_of families.SessionsEnded = codes "Sessions that sweeps ended."
 help_of families.Batches = codes "Batches of items that a worker took."
 help_of families.LaneItems = codes "Items that a worker took last together."
+help_of families.Audits = codes "Audits of the receipts of a shard."
+help_of families.AuditedReceipts = codes "Receipts of a shard that were audited."
+help_of families.AuditSeconds = codes "Time that audits took."
 help_of families.Seconds = codes "Time from the reading of a request to its answer."
 
 unfoldable pub type_of : Family → List ℕ
@@ -56,6 +62,9 @@ type_of families.Sweeps = codes "counter"
 type_of families.SessionsEnded = codes "counter"
 type_of families.Batches = codes "counter"
 type_of families.LaneItems = codes "gauge"
+type_of families.Audits = codes "counter"
+type_of families.AuditedReceipts = codes "counter"
+type_of families.AuditSeconds = codes "counter"
 type_of families.Seconds = codes "histogram"
 
 -- what the numbers of a family are of
@@ -73,6 +82,9 @@ labels_of families.Sweeps = labels.Shard
 labels_of families.SessionsEnded = labels.Shard
 labels_of families.Batches = labels.Shard
 labels_of families.LaneItems = labels.Shard
+labels_of families.Audits = labels.Shard
+labels_of families.AuditedReceipts = labels.Shard
+labels_of families.AuditSeconds = labels.Server
 labels_of families.Seconds = labels.Bound
 
 abbrev pub command_of : RequestKind → List ℕ

@@ -1,9 +1,10 @@
 -- What a page says of a server: some counts, since no contract says which number a counter has.
 use Rattle.std.specs.Prelude.{◌≡◌, ℕ, ◌+◌, List, [], ◌++◌, length}
 use Rattle.dcc_metrics.specs.Hosts.{hosts_text}
-use Rattle.dcc_metrics.specs.Pages.{acts_text, server_text, times_text, work_text}
+use Rattle.dcc_metrics.specs.Pages.{acts_text, audits_text, server_text, times_text, work_text}
 use Rattle.dcc_metrics.specs.declared.bounds.TheConstants.{BOUNDS}
 use Rattle.dcc_metrics.specs.declared.counts.ActCounts.{ActCounts}
+use Rattle.dcc_metrics.specs.declared.counts.AuditCounts.{AuditCounts}
 use Rattle.dcc_metrics.specs.declared.counts.ServerCounts.{ServerCounts}
 use Rattle.dcc_metrics.specs.declared.counts.TimeCounts.{TimeCounts}
 use Rattle.dcc_metrics.specs.declared.counts.WorkCounts.{WorkCounts}
@@ -31,6 +32,10 @@ AddsWork shards old new =
     (counts : WorkCounts) × (length counts.sweeps.items ≡ shards) × (length counts.ended.items ≡ shards) × (length counts.batches.items ≡ shards)
     × (length counts.items.items ≡ shards) × (new ≡ old ++ work_text counts)
 
+abbrev pub AddsAudits : ℕ → (old new : List ℕ) → Type 0
+AddsAudits shards old new =
+    (counts : AuditCounts) × (length counts.audits.items ≡ shards) × (length counts.receipts.items ≡ shards) × (new ≡ old ++ audits_text counts)
+
 -- a number for each bucket
 abbrev pub AddsTimes : (old new : List ℕ) → Type 0
 AddsTimes old new = (counts : TimeCounts) × (length counts.buckets.items ≡ length BOUNDS + 1) × (new ≡ old ++ times_text counts)
@@ -38,5 +43,5 @@ AddsTimes old new = (counts : TimeCounts) × (length counts.buckets.items ≡ le
 -- a page of a server with so many shards: the families, one after another
 abbrev pub IsPage : ℕ → List ℕ → Type 0
 IsPage shards page =
-    (server : List ℕ) × (hosts : List ℕ) × (acts : List ℕ) × (work : List ℕ) × AddsServer [] server × AddsHosts server hosts × AddsActs shards hosts acts
-    × AddsWork shards acts work × AddsTimes work page
+    (server : List ℕ) × (hosts : List ℕ) × (acts : List ℕ) × (work : List ℕ) × (audits : List ℕ) × AddsServer [] server × AddsHosts server hosts
+    × AddsActs shards hosts acts × AddsWork shards acts work × AddsAudits shards work audits × AddsTimes audits page

@@ -5,6 +5,7 @@ use Rattle.dcc_metrics.specs.Families.{help_of, labels_of, name_of, tail_of, typ
 use Rattle.dcc_metrics.specs.Times.{cumulated, seconds_text}
 use Rattle.dcc_metrics.specs.declared.bounds.TheConstants.{BOUNDS}
 use Rattle.dcc_metrics.specs.declared.counts.ActCounts.{ActCounts}
+use Rattle.dcc_metrics.specs.declared.counts.AuditCounts.{AuditCounts}
 use Rattle.dcc_metrics.specs.declared.counts.ServerCounts.{ServerCounts}
 use Rattle.dcc_metrics.specs.declared.counts.TimeCounts.{TimeCounts}
 use Rattle.dcc_metrics.specs.declared.counts.WorkCounts.{WorkCounts}
@@ -47,6 +48,12 @@ unfoldable pub work_text : WorkCounts → List ℕ
 work_text counts =
     family_text families.Sweeps counts.sweeps.items ++ family_text families.SessionsEnded counts.ended.items
     ++ family_text families.Batches counts.batches.items ++ family_text families.LaneItems counts.items.items
+
+-- the families of audits: two by shard, and the time of all of them in seconds
+unfoldable pub audits_text : AuditCounts → List ℕ
+audits_text counts =
+    family_text families.Audits counts.audits.items ++ family_text families.AuditedReceipts counts.receipts.items
+    ++ head_of families.AuditSeconds ++ line_of families.AuditSeconds [] (seconds_text counts.micros)
 
 -- the histogram of times: each bucket with all before it, the sum of the times in seconds, and their number, which the last bucket has
 unfoldable pub times_text : TimeCounts → List ℕ

@@ -33,6 +33,17 @@ pub(crate) struct WorkCounts {
     pub items: Vec<u64>,
 }
 
+/// The counts of audits.
+#[derive(Debug, Drop)]
+pub(crate) struct AuditCounts {
+    /// By shard.
+    pub audits: Vec<u64>,
+    /// The receipts that were audited, by shard.
+    pub receipts: Vec<u64>,
+    /// The sum of the times of all audits, in microseconds.
+    pub micros: u64,
+}
+
 /// The counts of times.
 #[derive(Debug, Drop)]
 pub(crate) struct TimeCounts {

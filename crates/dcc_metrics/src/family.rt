@@ -23,6 +23,9 @@ pub(crate) enum Family {
     SessionsEnded,
     Batches,
     LaneItems,
+    Audits,
+    AuditedReceipts,
+    AuditSeconds,
     Seconds,
 }
 
@@ -61,6 +64,9 @@ impl Family {
             Family::SessionsEnded => "dcc_sessions_ended_total",
             Family::Batches => "dcc_batches_total",
             Family::LaneItems => "dcc_lane_items",
+            Family::Audits => "dcc_audits_total",
+            Family::AuditedReceipts => "dcc_audited_receipts_total",
+            Family::AuditSeconds => "dcc_audit_seconds_total",
             Family::Seconds => "dcc_answer_seconds",
         }
     }
@@ -84,6 +90,9 @@ impl Family {
             Family::SessionsEnded => "Sessions that sweeps ended.",
             Family::Batches => "Batches of items that a worker took.",
             Family::LaneItems => "Items that a worker took last together.",
+            Family::Audits => "Audits of the receipts of a shard.",
+            Family::AuditedReceipts => "Receipts of a shard that were audited.",
+            Family::AuditSeconds => "Time that audits took.",
             Family::Seconds => "Time from the reading of a request to its answer.",
         }
     }
@@ -105,7 +114,10 @@ impl Family {
             | Family::Busy
             | Family::Sweeps
             | Family::SessionsEnded
-            | Family::Batches => "counter",
+            | Family::Batches
+            | Family::Audits
+            | Family::AuditedReceipts
+            | Family::AuditSeconds => "counter",
         }
     }
 
@@ -114,7 +126,8 @@ impl Family {
         ensures { result ≡ labels_of self }
     {
         match self {
-            Family::Gateways | Family::GatewaysTotal | Family::GatewayInfo => Labels::Server,
+            Family::Gateways | Family::GatewaysTotal | Family::GatewayInfo | Family::AuditSeconds =>
+                Labels::Server,
             Family::Requests => Labels::Kind,
             Family::Answers => Labels::Result,
             Family::Seconds => Labels::Bound,
@@ -125,7 +138,9 @@ impl Family {
             | Family::Sweeps
             | Family::SessionsEnded
             | Family::Batches
-            | Family::LaneItems => Labels::Shard,
+            | Family::LaneItems
+            | Family::Audits
+            | Family::AuditedReceipts => Labels::Shard,
         }
     }
 }

@@ -1,15 +1,15 @@
 //! The counters of a server.
 
 ghost use Rattle.std.specs.Prelude.{◌≡◌, IfOk, OnOk};
-ghost use Rattle.dcc_metrics.specs.Meters.{AddsActs, AddsHosts, AddsServer, AddsTimes, AddsWork, IsPage};
+ghost use Rattle.dcc_metrics.specs.Meters.{AddsActs, AddsAudits, AddsHosts, AddsServer, AddsTimes, AddsWork, IsPage};
 
-use crate::counts::{ActCounts, ServerCounts, TimeCounts, WorkCounts};
+use crate::counts::{ActCounts, AuditCounts, ServerCounts, TimeCounts, WorkCounts};
 use crate::hosts::Hosts;
-use crate::page::{put_acts, put_server, put_times, put_work};
+use crate::page::{put_acts, put_audits, put_server, put_times, put_work};
 use crate::requests::{KINDS, kind_of};
 use crate::results::{RESULTS, TOO_BUSY, index_of_result, result_of};
 use crate::row::Row;
-use crate::shard::{Count, ShardMeters, answers_of, buckets_of, column, micros_of};
+use crate::shard::{Count, ShardMeters, answers_of, buckets_of, column, sum_of};
 use dcc_octets::OctetString;
 use std::alloc::{AllocError, Global};
 use std::marker::Model;
@@ -147,6 +147,15 @@ impl Meters {
         }
     }
 
+    /// Counts an audit of a shard's receipts: it compared so many receipts with the books, and took so many microseconds.
+    pub fn audited(&self, shard: usize, receipts: usize, micros: u64) {
+        if let Some(meters) = self.shards.get(shard) {
+            meters.add(Count::Audits, 1);
+            meters.add(Count::AuditedReceipts, receipts as u64);
+            meters.add(Count::AuditMicros, micros);
+        }
+    }
+
     /// Counts a sweep that a shard was asked for.
     pub fn swept(&self, shard: usize) {
         self.count(shard, Count::Sweeps, 1);
@@ -157,6 +166,14 @@ impl Meters {
         self.count(shard, Count::Acts, 1);
         if place == 1 {
             self.count(shard, Count::Subscribers, 1);
+        }
+    }
+
+    /// The acts of a shard that are counted now: those at its opening, and those since. 0 at an index outside.
+    pub fn acts(&self, shard: usize) -> u64 {
+        match self.shards.get(shard) {
+            Some(meters) => meters.at(Count::Acts),
+            None => 0,
         }
     }
 
@@ -186,6 +203,7 @@ impl Meters {
         self.put_hosts(rt, alloc, &mut page)?;
         self.put_acts(alloc, &mut page)?;
         self.put_work(alloc, &mut page)?;
+        self.put_audits(alloc, &mut page)?;
         self.put_times(alloc, &mut page)?;
         Ok(page)
     }
@@ -257,6 +275,21 @@ impl Meters {
         put_work(alloc, page, &counts)
     }
 
+    /// Appends the families of audits.
+    fn put_audits(&self, alloc: Global, page: &mut Vec<u8>) -> Result<(), AllocError>
+        ensures { OnOk result (AddsAudits self.now page.old.items page.new.items) }
+    {
+        let shards = self.shards.as_slice();
+        let audits = column(alloc, shards, Count::Audits)?;
+        let receipts = column(alloc, shards, Count::AuditedReceipts)?;
+        let counts = AuditCounts {
+            audits,
+            receipts,
+            micros: sum_of(shards, Count::AuditMicros),
+        };
+        put_audits(alloc, page, &counts)
+    }
+
     /// Appends the histogram of times.
     fn put_times(&self, alloc: Global, page: &mut Vec<u8>) -> Result<(), AllocError>
         ensures { OnOk result (AddsTimes page.old.items page.new.items) }
@@ -264,7 +297,7 @@ impl Meters {
         let shards = self.shards.as_slice();
         let counts = TimeCounts {
             buckets: buckets_of(alloc, shards)?,
-            micros: micros_of(shards),
+            micros: sum_of(shards, Count::Micros),
         };
         put_times(alloc, page, &counts)
     }

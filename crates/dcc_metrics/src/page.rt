@@ -3,11 +3,11 @@
 ghost use Rattle.std.specs.Prelude.{◌≡◌, ◌+◌, ◌++◌, length, string_bytes, IfOk, OnOk};
 ghost use Rattle.std.specs.Fmt.{decimal};
 ghost use Rattle.dcc_metrics.specs.Families.{labels_of, tail_of};
-ghost use Rattle.dcc_metrics.specs.Pages.{acts_text, family_text, head_of, head_text, line_of, lines_of, server_text, times_text, work_text};
+ghost use Rattle.dcc_metrics.specs.Pages.{acts_text, audits_text, family_text, head_of, head_text, line_of, lines_of, server_text, times_text, work_text};
 ghost use Rattle.dcc_metrics.specs.Times.{cumulated, seconds_text, three_digits};
 
 use crate::bounds::BOUNDS;
-use crate::counts::{ActCounts, ServerCounts, TimeCounts, WorkCounts};
+use crate::counts::{ActCounts, AuditCounts, ServerCounts, TimeCounts, WorkCounts};
 use crate::family::{Family, put_tail};
 use std::alloc::{AllocError, Global};
 
@@ -59,6 +59,27 @@ pub(crate) fn put_work(
     put_family(alloc, page, Family::SessionsEnded, counts.ended.as_slice())?;
     put_family(alloc, page, Family::Batches, counts.batches.as_slice())?;
     put_family(alloc, page, Family::LaneItems, counts.items.as_slice())
+}
+
+/// Appends the families of audits.
+#[tactic(auto, unfolding(crate::specs::Pages::audits_text))]
+pub(crate) fn put_audits(
+    alloc: Global,
+    page: &mut Vec<u8>,
+    counts: &AuditCounts,
+) -> Result<(), AllocError>
+    ensures { OnOk result (page.new.items ≡ page.old.items ++ audits_text counts.now) }
+{
+    put_family(alloc, page, Family::Audits, counts.audits.as_slice())?;
+    put_family(
+        alloc,
+        page,
+        Family::AuditedReceipts,
+        counts.receipts.as_slice(),
+    )?;
+    put_head(alloc, page, Family::AuditSeconds)?;
+    let seconds = seconds_text(alloc, counts.micros)?;
+    put_line(page, Family::AuditSeconds, b"", seconds.as_slice())
 }
 
 /// Appends the histogram of times.

@@ -20,10 +20,15 @@ pub(crate) enum Count {
     Items,
     /// The sum of the times of its answers, in microseconds.
     Micros,
+    Audits,
+    /// The receipts that audits compared.
+    AuditedReceipts,
+    /// The sum of the times of its audits, in microseconds.
+    AuditMicros,
 }
 
 /// How many of these there are.
-const COUNTS: usize = 9;
+const COUNTS: usize = 12;
 
 impl Count {
     /// The index of its counter.
@@ -38,6 +43,9 @@ impl Count {
             Count::Batches => 6,
             Count::Items => 7,
             Count::Micros => 8,
+            Count::Audits => 9,
+            Count::AuditedReceipts => 10,
+            Count::AuditMicros => 11,
         }
     }
 }
@@ -76,7 +84,7 @@ impl ShardMeters {
     }
 
     /// What is counted now.
-    fn at(&self, count: Count) -> u64 {
+    pub fn at(&self, count: Count) -> u64 {
         self.counts.at(count.index())
     }
 
@@ -137,11 +145,11 @@ pub(crate) fn buckets_of(alloc: Global, shards: &[ShardMeters]) -> Result<Vec<u6
     Ok(numbers)
 }
 
-/// The sum of the times of all workers' answers, in microseconds.
-pub(crate) fn micros_of(shards: &[ShardMeters]) -> u64 {
+/// The sum of a count of all shards.
+pub(crate) fn sum_of(shards: &[ShardMeters], count: Count) -> u64 {
     let mut sum = 0u64;
     for shard in shards {
-        sum = sum.saturating_add(shard.at(Count::Micros));
+        sum = sum.saturating_add(shard.at(count));
     }
     sum
 }

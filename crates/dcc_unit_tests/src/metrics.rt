@@ -53,6 +53,11 @@ fn count_work(meters: &Meters) {
         meters.repeat(1);
     }
     meters.ended(1, 4);
+    meters.audited(0, 900, 1_250_000);
+    meters.audited(1, 30, 7);
+    meters.audited(1, 4, 90);
+    // No shard has this index.
+    meters.audited(2, 5_000, 6_000_000);
 }
 
 fn counted<R: Wait>(rt: &R, alloc: Global) -> Result<Vec<u8>, Fail> {
@@ -66,6 +71,19 @@ fn counted<R: Wait>(rt: &R, alloc: Global) -> Result<Vec<u8>, Fail> {
 fn each_event_is_counted(rt: HostRuntime) -> Result<(), Fail> {
     let page = counted(&rt, rt.alloc())?;
     assert!(rt; page.as_slice() == PAGE.as_bytes());
+    Ok(())
+}
+
+#[test]
+fn acts_are_those_at_opening_and_those_since(rt: HostRuntime) -> Result<(), Fail> {
+    let meters = Meters::new(rt.alloc(), 3, 0)?;
+    count_work(&meters);
+    assert!(rt; meters.acts(0) == 72);
+    assert!(rt; meters.acts(1) == 80);
+    // It is not open yet.
+    assert!(rt; meters.acts(2) == 0);
+    // No shard has this index.
+    assert!(rt; meters.acts(3) == 0);
     Ok(())
 }
 
@@ -146,6 +164,17 @@ dcc_batches_total{shard=\"1\"} 1\n\
 # TYPE dcc_lane_items gauge\n\
 dcc_lane_items{shard=\"0\"} 15\n\
 dcc_lane_items{shard=\"1\"} 1\n\
+# HELP dcc_audits_total Audits of the receipts of a shard.\n\
+# TYPE dcc_audits_total counter\n\
+dcc_audits_total{shard=\"0\"} 1\n\
+dcc_audits_total{shard=\"1\"} 2\n\
+# HELP dcc_audited_receipts_total Receipts of a shard that were audited.\n\
+# TYPE dcc_audited_receipts_total counter\n\
+dcc_audited_receipts_total{shard=\"0\"} 900\n\
+dcc_audited_receipts_total{shard=\"1\"} 34\n\
+# HELP dcc_audit_seconds_total Time that audits took.\n\
+# TYPE dcc_audit_seconds_total counter\n\
+dcc_audit_seconds_total 1.250097\n\
 # HELP dcc_answer_seconds Time from the reading of a request to its answer.\n\
 # TYPE dcc_answer_seconds histogram\n\
 dcc_answer_seconds_bucket{le=\"0.0001\"} 1\n\

@@ -7,9 +7,11 @@ returns g c =
       c.put_hosts.new.page.items,
       c.put_acts.new.page.items,
       c.put_work.new.page.items,
+      c.put_audits.new.page.items,
       server,
       c.in_ok-put_hosts.ensures,
       c.in_ok-put_acts.ensures,
       c.in_ok-put_work.ensures,
+      c.in_ok-put_audits.ensures,
       c.in_ok-put_times.ensures,
     )
