@@ -24,6 +24,7 @@ use Rattle.dcc_message.specs.Streams.{messages}
 use Rattle.dcc_message.specs.declared.header.HeaderFault.{HeaderFault}
 use Rattle.dcc_running.specs.Calls.{IsAnswerTo}
 use Rattle.dcc_running.specs.declared.job.Job.{Job}
+use Rattle.dcc_store.specs.Books.{Held}
 use Rattle.dcc_rounds.specs.Answering.{IsAnswerOf}
 use Rattle.dcc_rounds.specs.Handing.{AsksSweep, Ends, HandsUnder, IsDispatched, IsSettledBy, job_of, Passes, Reading, is_due, reading_of, replies}
 use Rattle.dcc_rounds.specs.Lanes.{put_all, put_into}
@@ -243,13 +244,16 @@ does_on works q work.Over v was h octets i =
     let t = was octets (subst (IsAmong (Octets octets)) h.1 i) in
     (t.0, in_left (work.Request t.0) works (work.Over ∷ []) t.1, t.2)
 
-step_on : (shard : ℕ) (steps : List (Option Work)) (q : Doing) (step : Option Work) (v : Doing) → Answered (works_in steps) q → DoesCounted shard q step v
-    → Answered (works_in (steps ++ step ∷ [])) v
+step_on : (opening : Held) (shard : ℕ) (steps : List (Option Work)) (q : Doing) (step : Option Work) (v : Doing) → Answered (works_in steps) q
+    → DoesCounted opening shard q step v → Answered (works_in (steps ++ step ∷ [])) v
 unfolding Answered
-step_on shard steps q None v was h =
-    subst (λ works. Answered works v) (sym (works_both steps (None ∷ []) ∙ append-nil (works_in steps))) (λ octets i. was octets (subst (IsAmong (Octets octets)) h.0.4 i))
-step_on shard steps q (Some one) v was h = subst (λ works. Answered works v) (sym (works_both steps (Some one ∷ []))) (does_on (works_in steps) q one v was h.0)
+step_on opening shard steps q None v was h =
+    let put : v.put ≡ q.put = elim h.0 [ inl piece ↦ piece.4 | inr audit ↦ audit.3 ] in
+    subst (λ works. Answered works v) (sym (works_both steps (None ∷ []) ∙ append-nil (works_in steps))) (λ octets i. was octets (subst (IsAmong (Octets octets)) put i))
+step_on opening shard steps q (Some one) v was h =
+    subst (λ works. Answered works v) (sym (works_both steps (Some one ∷ []))) (does_on (works_in steps) q one v was h.0)
 
-pub done_answers : (shard : ℕ) (steps : List (Option Work)) (p q : Doing) → Answered [] p → FoldsTo (DoesCounted shard) p steps q → Answered (works_in steps) q
-done_answers shard steps p q was all =
-    chained_keeps (DoesCounted shard) (λ (xs : List (Option Work)) (d : Doing). Answered (works_in xs) d) (step_on shard) steps p q was all
+pub done_answers : (opening : Held) (shard : ℕ) (steps : List (Option Work)) (p q : Doing) → Answered [] p → FoldsTo (DoesCounted opening shard) p steps q
+    → Answered (works_in steps) q
+done_answers opening shard steps p q was all =
+    chained_keeps (DoesCounted opening shard) (λ (xs : List (Option Work)) (d : Doing). Answered (works_in xs) d) (step_on opening shard) steps p q was all

@@ -8,6 +8,7 @@ use Rattle.dcc_connect.specs.Writing.{items_of}
 use Rattle.dcc_lane.specs.Ends.{IsSameReceiver, taken_of, TakesOne}
 use Rattle.dcc_lane.specs.declared.receiver.Receiver.{Receiver}
 use Rattle.dcc_lane.specs.declared.rule.Tagged.{Tagged}
+use Rattle.dcc_store.specs.Books.{Held}
 use Rattle.dcc_rounds.specs.Lanes.{lanes_of}
 use Rattle.dcc_rounds.specs.Working.{CountsFor, Does, DoesCounted, Goes, IsCounted, doing_of, is_over, left_of, works_in}
 use Rattle.dcc_rounds.specs.declared.counter.SweepCounter.{SweepCounter}
@@ -30,14 +31,14 @@ left_counted counter rest is = let many = length-drop rest.asked rest.subs.items
 pub none_listed : (rest : Rest) → rest.subs.items ≡ [] → left_of rest ≡ []
 none_listed rest is = let none = ap (λ subs. length subs) is in drop_all rest.asked rest.subs.items (omega (arith, none))
 
-pub no_step : (w v : Worker) (rest : Rest) → v ≡ w → Goes w v rest rest 0
-no_step w v rest is = subst (λ (u : Worker). Goes w u rest rest 0) (sym is)
+pub no_step : (opening : Held) (w v : Worker) (rest : Rest) → v ≡ w → Goes opening w v rest rest 0
+no_step opening w v rest is = subst (λ (u : Worker). Goes opening w u rest rest 0) (sym is)
     (record { steps = []; taken = sym (append-nil (items_of (taken_of w.from))); done = refl; ended_are = refl; same = (refl, refl); lanes = refl; shard = refl })
 
-pub one_step : (w v : Worker) (first last : Rest) (step : Option Work) (n : ℕ) → items_of (taken_of v.from) ≡ items_of (taken_of w.from) ++ works_in (step ∷ [])
-    → Does (doing_of w first) step (doing_of v last) → CountsFor w.shard w.counter step v.counter → IsCounted v.counter last → count_by is_over (works_in (step ∷ [])) ≡ n
-    → IsSameReceiver w.from v.from → lanes_of v.writers.items ≡ lanes_of w.writers.items → v.shard ≡ w.shard → Goes w v first last n
-one_step w v first last step n taken does counts left overs same lanes shard = record {
+pub one_step : (opening : Held) (w v : Worker) (first last : Rest) (step : Option Work) (n : ℕ) → items_of (taken_of v.from) ≡ items_of (taken_of w.from) ++ works_in (step ∷ [])
+    → Does opening (doing_of w first) step (doing_of v last) → CountsFor w.shard w.counter step v.counter → IsCounted v.counter last → count_by is_over (works_in (step ∷ [])) ≡ n
+    → IsSameReceiver w.from v.from → lanes_of v.writers.items ≡ lanes_of w.writers.items → v.shard ≡ w.shard → Goes opening w v first last n
+one_step opening w v first last step n taken does counts left overs same lanes shard = record {
   steps = step ∷ [];
   taken = taken;
   done = (doing_of v last, (does, counts, left_counted v.counter last left), refl);
@@ -60,13 +61,14 @@ overs_both : (a b : List Work) → count_by is_over (a ++ b) ≡ count_by is_ove
 overs_both a b = grind (arith, common_steps)
 
 -- steps behind steps
-pub goes_on : (a b c : Worker) (first mid last : Rest) (n m : ℕ) → Goes a b first mid n → Goes b c mid last m → Goes a c first last (n + m)
-goes_on a b c first mid last n m h k = record {
+pub goes_on : (opening : Held) (a b c : Worker) (first mid last : Rest) (n m : ℕ) → Goes opening a b first mid n → Goes opening b c mid last m
+    → Goes opening a c first last (n + m)
+goes_on opening a b c first mid last n m h k = record {
   steps = h.steps ++ k.steps;
   taken = k.taken ∙ ap (λ items. items ++ works_in k.steps) h.taken ∙ append_assoc (items_of (taken_of a.from)) (works_in h.steps) (works_in k.steps)
       ∙ ap (λ works. items_of (taken_of a.from) ++ works) (sym (works_both h.steps k.steps));
-  done = folds_both (DoesCounted a.shard) (doing_of a first) h.steps (doing_of b mid) k.steps (doing_of c last) h.done
-      (subst (λ (shard : ℕ). FoldsTo (DoesCounted shard) (doing_of b mid) k.steps (doing_of c last)) h.shard k.done);
+  done = folds_both (DoesCounted opening a.shard) (doing_of a first) h.steps (doing_of b mid) k.steps (doing_of c last) h.done
+      (subst (λ (shard : ℕ). FoldsTo (DoesCounted opening shard) (doing_of b mid) k.steps (doing_of c last)) h.shard k.done);
   ended_are = ap (λ works. count_by is_over works) (works_both h.steps k.steps) ∙ overs_both (works_in h.steps) (works_in k.steps)
       ∙ ap (λ i. i + count_by is_over (works_in k.steps)) h.ended_are ∙ ap (λ i. n + i) k.ended_are;
   same = (k.same.0 ∙ h.same.0, k.same.1 ∙ h.same.1);
@@ -74,6 +76,6 @@ goes_on a b c first mid last n m h k = record {
   shard = k.shard ∙ h.shard;
 }
 
-pub same_end : (a b c : Worker) (first mid last : Rest) (n m : ℕ) → c ≡ b → last ≡ mid → m ≡ n → Goes a b first mid n → Goes a c first last m
-same_end a b c first mid last n m self rest ended h =
-    subst (λ (v : Worker). Goes a v first last m) (sym self) (subst (λ (r : Rest). Goes a b first r m) (sym rest) (subst (λ k. Goes a b first mid k) (sym ended) h))
+pub same_end : (opening : Held) (a b c : Worker) (first mid last : Rest) (n m : ℕ) → c ≡ b → last ≡ mid → m ≡ n → Goes opening a b first mid n → Goes opening a c first last m
+same_end opening a b c first mid last n m self rest ended h =
+    subst (λ (v : Worker). Goes opening a v first last m) (sym self) (subst (λ (r : Rest). Goes opening a b first r m) (sym rest) (subst (λ k. Goes opening a b first mid k) (sym ended) h))

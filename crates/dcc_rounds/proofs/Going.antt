@@ -19,6 +19,7 @@ use Rattle.dcc_lane.specs.declared.rule.Tagged.{Tagged}
 use Rattle.dcc_lane.specs.declared.sender.Sender.{Sender}
 use Rattle.dcc_message.specs.Streams.{messages}
 use Rattle.dcc_receipts.specs.declared.receipt.Receipt.{Receipt}
+use Rattle.dcc_store.specs.Books.{Held}
 use Rattle.dcc_running.specs.Calls.{IsAnswerTo}
 use Rattle.dcc_rounds.specs.Answering.{AllAnswer, AmongVisits, AnswersAll, CameIn, CameTo, HasRead, IsAnswerOf, WritesAnswers}
 use Rattle.dcc_rounds.specs.Finishing.{AreFinished, answers_of, asks_of, items_in, reply_of, work_in}
@@ -164,14 +165,14 @@ goes_begun (Some (fault.Header f)) items out h = absurd h
 goes_begun (Some fault.Memory) items out h = absurd h
 
 module _ {I O C : Type 0} (remaining : I → Option (List ℕ)) (contents : O → Option (List ℕ)) (tells : C → ℕ → C → Type 0) (closed : Type 0)
-    (attends : List Receipt → List Receipt → Type 0) (clock : C) (setting : Setting) (count : ℕ) where
+    (attends : List Receipt → List Receipt → Type 0) (clock : C) (setting : Setting) (opening : Held) (count : ℕ) where
   -- threads ran, one by one
   abbrev AllTwo : List (Task I O) → List (Task I O) → Type 0
   AllTwo [] news = news ≡ []
   AllTwo (t ∷ ts) [] = ⊥
-  AllTwo (t ∷ ts) (u ∷ us) = Runs remaining contents tells closed attends clock setting count t u × AllTwo ts us
+  AllTwo (t ∷ ts) (u ∷ us) = Runs remaining contents tells closed attends clock setting opening count t u × AllTwo ts us
 
-  all_two : (olds news : List (Task I O)) → AllRun remaining contents tells closed attends clock setting count olds news → length news ≡ length olds → AllTwo olds news
+  all_two : (olds news : List (Task I O)) → AllRun remaining contents tells closed attends clock setting opening count olds news → length news ≡ length olds → AllTwo olds news
   all_two [] [] ran same = refl
   all_two [] (u ∷ us) ran same = absurd (omega arith)
   all_two (t ∷ ts) [] ran same = absurd (omega arith)
@@ -272,7 +273,7 @@ module _ {I O C : Type 0} (remaining : I → Option (List ℕ)) (contents : O �
       × ((octets : List ℕ) → IsAmong (Octets octets) (all_put (filter_map reply_of (u ∷ []))) → AnsweredBy (CameOf t u) octets)
 
   -- a thread put what comes of the messages that were read of its gateways
-  task_came : (t u : Task I O) → Fresh count t → Runs remaining contents tells closed attends clock setting count t u → PutBy t u
+  task_came : (t u : Task I O) → Fresh count t → Runs remaining contents tells closed attends clock setting opening count t u → PutBy t u
   unfolding Fresh
   task_came (Work worker) u fresh h = subst (PutBy (Work worker)) (sym h.1) (λ request n. absurd n, λ octets n. absurd n)
   task_came (Time timer) u fresh h =
@@ -338,7 +339,7 @@ module _ {I O C : Type 0} (remaining : I → Option (List ℕ)) (contents : O �
   later_work from None rs i = i
   later_work from (Some r) rs i = inr i
 
-  worker_took : (t u : Task I O) (us : List (Task I O)) (octets : List ℕ) → Fresh count t → Runs remaining contents tells closed attends clock setting count t u
+  worker_took : (t u : Task I O) (us : List (Task I O)) (octets : List ℕ) → Fresh count t → Runs remaining contents tells closed attends clock setting opening count t u
       → SomePut (Octets octets) (lists_of (cons_option (answers_of u) [])) → Taken (u ∷ us) octets
   unfolding Fresh Answered
   worker_took (Time timer) u us octets fresh h i =
@@ -351,7 +352,7 @@ module _ {I O C : Type 0} (remaining : I → Option (List ℕ)) (contents : O �
       let done = h.0 in
       let d = h.2 fresh.2 in
       let steps = d.goes.steps in
-      let all = done_answers worker.shard steps (doing_of (counting worker) d.first) (doing_of done d.last) (λ o j. absurd (none_put (Octets o) worker.writers.items fresh.1 j)) d.goes.done in
+      let all = done_answers opening worker.shard steps (doing_of (counting worker) d.first) (doing_of done d.last) (λ o j. absurd (none_put (Octets o) worker.writers.items fresh.1 j)) d.goes.done in
       let took : items_of (taken_of done.from) ≡ works_in steps = d.goes.taken ∙ ap (λ ts. items_of ts ++ works_in steps) fresh.0 in
       subst (λ (v : Task I O). Taken (v ∷ us) octets) (sym h.1)
       (elim (subst (λ (v : Task I O). SomePut (Octets octets) (lists_of (cons_option (answers_of v) []))) h.1 i) [
@@ -455,7 +456,7 @@ module _ {I O C : Type 0} (remaining : I → Option (List ℕ)) (contents : O �
   TakenAnswers came u = (r : Receiver Item) → IsIn r (filter_map items_in (u ∷ [])) → (octets : List ℕ) → IsIn (Octets octets) (items_of (taken_of r)) → AnsweredBy came octets
 
   -- so it is of a thread
-  task_answers : (came : List ℕ → Type 0) (t u : Task I O) → Runs remaining contents tells closed attends clock setting count t u → TakenAnswers came u
+  task_answers : (came : List ℕ → Type 0) (t u : Task I O) → Runs remaining contents tells closed attends clock setting opening count t u → TakenAnswers came u
       → AnswersAll remaining contents tells closed clock setting count came t u
   task_answers came (Work worker) u h all = tt
   task_answers came (Time timer) u h all = tt
@@ -489,7 +490,7 @@ module _ {I O C : Type 0} (remaining : I → Option (List ℕ)) (contents : O �
   )
 
   -- what goes out of a round answers what came in
-  pub round_answers : (rounds : RoundsView) (olds news : List (Task I O)) → AreGathered count rounds olds → AllRun remaining contents tells closed attends clock setting count olds news
+  pub round_answers : (rounds : RoundsView) (olds news : List (Task I O)) → AreGathered count rounds olds → AllRun remaining contents tells closed attends clock setting opening count olds news
       → length news ≡ length olds → AreFinished news
       → AllAnswer remaining contents tells closed clock setting count (CameIn remaining contents tells closed clock setting count olds news) olds news
   round_answers rounds olds news gathered ran same finished =

@@ -14,6 +14,7 @@ use Rattle.dcc_lane.specs.Ends.{IsOfLane, lane_of, lane_of_sender}
 use Rattle.dcc_lane.specs.declared.receiver.Receiver.{Receiver}
 use Rattle.dcc_lane.specs.declared.sender.Sender.{Sender}
 use Rattle.dcc_receipts.specs.declared.receipt.Receipt.{Receipt}
+use Rattle.dcc_store.specs.Books.{Held}
 use Rattle.dcc_rounds.specs.Counting.{seat_in}
 use Rattle.dcc_rounds.specs.Finishing.{AddsTask, AreFinished, ArePartsOf, AreTied, Ends, answers_of, asks_of, ends_in, items_in, reply_of, with, work_in}
 use Rattle.dcc_rounds.specs.Gathering.{AreGathered, attendants_of, places_from, timer_of, workers_from}
@@ -217,7 +218,7 @@ module _ {I O : Type 0} where
       (dealt_lanes g.items.receivers.items (g.replies ∷ g.answers) all)))
 
 module _ {I O C : Type 0} (remaining : I → Option (List ℕ)) (contents : O → Option (List ℕ)) (tells : C → ℕ → C → Type 0) (closed : Type 0)
-    (attends : List Receipt → List Receipt → Type 0) (clock : C) (setting : Setting) (count : ℕ) where
+    (attends : List Receipt → List Receipt → Type 0) (clock : C) (setting : Setting) (opening : Held) (count : ℕ) where
   -- the ends of lanes that a place has
   abbrev AtPlace : places.Place I O → places.Place I O → Type 0
   AtPlace old new = IsSameReader old.reader new.reader × (lane_of new.from ≡ lane_of old.from)
@@ -232,7 +233,7 @@ module _ {I O C : Type 0} (remaining : I → Option (List ℕ)) (contents : O �
       (same_on old.reader mid.reader last.reader here more.0, more.1 ∙ h.1.writes.1.0)
 
   -- a thread keeps its lanes
-  ends_same : (t u : Task I O) → Runs remaining contents tells closed attends clock setting count t u → ends_in u ≡ ends_in t
+  ends_same : (t u : Task I O) → Runs remaining contents tells closed attends clock setting opening count t u → ends_in u ≡ ends_in t
   ends_same (Work worker) u h = elim (cases_lt worker.shard count) [
     | inl there ↦ (let d = h.2 there in ap ends_in h.1 ∙ (λ i. record { work = Some (d.goes.same.0 i); asks = None; items = None; reply = None; answers = Some (d.goes.lanes i) }))
     | inr past ↦ ap ends_in h.1 ∙ ap (λ w. ends_in {I = I} {O = O} (Work w)) (h.3 past)
@@ -246,7 +247,7 @@ module _ {I O C : Type 0} (remaining : I → Option (List ℕ)) (contents : O �
       ap ends_in h.1 ∙ (λ i. record { work = None; asks = Some (reader.workers i); items = Some (from i); reply = Some (reader.writer i); answers = None })
   ends_same (Attend attendant) u h = ap ends_in h.1
 
-  all_same : (old new : List (Task I O)) → AllRun remaining contents tells closed attends clock setting count old new → length new ≡ length old → map ends_in new ≡ map ends_in old
+  all_same : (old new : List (Task I O)) → AllRun remaining contents tells closed attends clock setting opening count old new → length new ≡ length old → map ends_in new ≡ map ends_in old
   all_same [] [] ran same = refl
   all_same [] (u ∷ us) ran same = absurd (omega arith)
   all_same (t ∷ ts) [] ran same = absurd (omega arith)
@@ -254,7 +255,7 @@ module _ {I O C : Type 0} (remaining : I → Option (List ℕ)) (contents : O �
       ap₂ (λ e es. e ∷ es) (ends_same t u (ran 0 t (omega arith))) (all_same ts us (λ i none l. ran (suc i) none (omega arith)) (omega arith))
 
   -- so its threads are tied when they have ended
-  pub ended_tied : (rounds : RoundsView) (begun ended : List (Task I O)) → AreGathered count rounds begun → AllRun remaining contents tells closed attends clock setting count begun ended
+  pub ended_tied : (rounds : RoundsView) (begun ended : List (Task I O)) → AreGathered count rounds begun → AllRun remaining contents tells closed attends clock setting opening count begun ended
       → length ended ≡ length begun → AreTied (map ends_in ended)
   ended_tied rounds begun ended g ran same = subst AreTied (sym (all_same begun ended ran same)) (gathered_tied count rounds begun g)
 

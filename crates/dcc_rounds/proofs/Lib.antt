@@ -16,3 +16,4 @@ pub mod Coming
 pub mod Going
 pub mod Ends
 pub mod Settling
+pub mod Sharing

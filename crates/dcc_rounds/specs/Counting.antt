@@ -1,18 +1,19 @@
 -- The counts and the seats that the threads of a round leave.
-use Rattle.std.specs.Prelude.{ℕ, ◌+◌, ◌-◌, ◌^◌, min, List, Option, Some, None, sum_by, count_by}
+use Rattle.std.specs.Prelude.{ℕ, ◌+◌, ◌-◌, ◌^◌, min, List, Option, Some, None, sum_by}
 use Rattle.dcc_connect.specs.declared.writing.WriteEnd.{WriteEnd}
 use Rattle.dcc_receipts.specs.declared.receipt.Receipt.{Receipt}
+use Rattle.dcc_running.specs.Acts.{acts_of}
 use Rattle.dcc_rounds.specs.declared.line.Counts.{Counts}
 use Rattle.dcc_rounds.specs.declared.tasks.Task.{Task}
 use Rattle.dcc_rounds.specs.declared.tasks.Task.TheVariants.{Work, Time, Place, Attend}
 
--- the number of acts of these receipts: each act has one fresh receipt
-abbrev pub acts_of : List Receipt → ℕ
-acts_of receipts = count_by (λ (receipt : Receipt). receipt.fresh) receipts
-
 -- a count that stops at the most that is reported
 abbrev pub at_most : ℕ → ℕ
 at_most count = min count (2 ^ 64 - 1)
+
+-- the counts of a round, with the acts of the receipts that were audited before its end
+abbrev pub with_acts : Counts → ℕ → Counts
+with_acts counts acts = record counts { acts = at_most (counts.acts + acts) }
 
 -- the number of answers that went out whole, with those of one more gateway
 abbrev pub with_answers : ℕ → WriteEnd → ℕ
@@ -33,7 +34,7 @@ module _ {I O : Type 0} where
   answers_in (Place place) = place.answers
   answers_in (Attend attendant) = 0
 
-  -- the number of acts that a thread made
+  -- the number of acts of the receipts that a thread keeps
   abbrev pub acts_in : Task I O → ℕ
   acts_in (Work worker) = acts_of worker.seat
   acts_in (Time timer) = 0
@@ -47,7 +48,7 @@ module _ {I O : Type 0} where
   seat_in (Place place) = None
   seat_in (Attend attendant) = Some attendant.seat
 
-  -- the counts of a round: the sums over its threads
+  -- the counts of the threads of a round: the sums over them
   abbrev pub counts_in : List (Task I O) → Counts
   counts_in tasks = record {
     requests = at_most (sum_by requests_in tasks);

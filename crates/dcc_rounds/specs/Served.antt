@@ -8,8 +8,8 @@ use Rattle.dcc_receipts.specs.Faults.{fault_number}
 use Rattle.dcc_receipts.specs.declared.fault.CloseFault.{CloseFault}
 use Rattle.dcc_receipts.specs.declared.receipt.Receipt.{Receipt}
 use Rattle.dcc_running.specs.Audited.{AreCovered, AreOrdered, AreOwn, AreTrue, IsFault}
-use Rattle.dcc_running.specs.Books.{AreKept, AreLeft, BooksView, book}
-use Rattle.dcc_rounds.specs.Counting.{counts_in, seat_in}
+use Rattle.dcc_running.specs.Books.{AreKept, AreLeft, BooksView, acts_told, book}
+use Rattle.dcc_rounds.specs.Counting.{counts_in, seat_in, with_acts}
 use Rattle.dcc_rounds.specs.Finishing.{AreFinished}
 use Rattle.dcc_rounds.specs.Gathering.{AreGathered}
 use Rattle.dcc_rounds.specs.Lines.{round_line, round_lines}
@@ -53,10 +53,10 @@ module _ {I O C : Type 0} (remaining : I → Option (List ℕ)) (contents : O �
     pub ended : List (Task I O)
     pub books : BooksView R
     pub gathered : AreGathered (length old) rounds begun
-    pub ran : AllRun remaining contents tells closed attends clock setting (length old) begun ended
+    pub ran : AllRun remaining contents tells closed attends clock setting (book old) (length old) begun ended
     pub all : length ended ≡ length begun
     pub finished : AreFinished ended
-    pub counted : counts ≡ counts_in ended
+    pub counted : counts ≡ with_acts (counts_in ended) (acts_told books.sides)
     pub audited : AreTrue (book old) books (filter_map seat_in ended) × AreCovered (book old) books (filter_map seat_in ended) × AreOrdered (filter_map seat_in ended)
     pub own : AreOwn books
     pub left : new ≡ books.parts
@@ -75,7 +75,7 @@ module _ {I O C : Type 0} (remaining : I → Option (List ℕ)) (contents : O �
     pub books : BooksView R
     pub fault : CloseFault
     pub gathered : AreGathered (length old) rounds begun
-    pub ran : AllRun remaining contents tells closed attends clock setting (length old) begun ended
+    pub ran : AllRun remaining contents tells closed attends clock setting (book old) (length old) begun ended
     pub all : length ended ≡ length begun
     pub finished : AreFinished ended
     pub fails : IsFault fault (book old) books (filter_map seat_in ended)

@@ -8,7 +8,8 @@ use Rattle.dcc_connect.specs.declared.writing.Item.{Item}
 use Rattle.dcc_connect.specs.declared.writing.Item.TheVariants.{Octets, End}
 use Rattle.dcc_lane.specs.Ends.{IsSameReceiver, taken_of}
 use Rattle.dcc_receipts.specs.declared.receipt.Receipt.{Receipt}
-use Rattle.dcc_store.specs.Books.{sub_order}
+use Rattle.dcc_store.specs.Books.{Held, sub_order}
+use Rattle.dcc_running.specs.Audited.{WereTrue}
 use Rattle.dcc_running.specs.Calls.{AreSubs, IsAnswerTo, IsEndOf, receipts_of, expiry_receipts}
 use Rattle.dcc_shard.specs.Answers.{IsToldApart}
 use Rattle.dcc_shard.specs.declared.answers.ExpiryAnswer.{ExpiryAnswer}
@@ -99,12 +100,18 @@ DoesItem old (work.Sweep moment) new = Sweeps moment old new
 DoesItem old (work.End gate) new = (new.told ≡ old.told) × (new.put ≡ put_into gate End old.put) × KeepsSweep old new
 DoesItem old work.Over new = (new.told ≡ old.told) × (new.put ≡ old.put) × KeepsSweep old new
 
--- a step of a worker: an item that it took, or a piece of its sweep
-abbrev pub Does : Doing → Option Work → Doing → Type 0
-Does old (Some one) new = DoesItem old one new
-Does old None new = AsksPiece old new
+-- An audit: the first so many of the receipts that the worker keeps were true of the acts that their subscribers' shards held then, and the worker keeps
+-- the others. `opening` has the acts at the opening of the shards.
+abbrev pub Audits : Held → Doing → Doing → Type 0
+Audits opening old new =
+    (told : List Receipt) × (old.told ≡ told ++ new.told) × WereTrue opening told × (new.put ≡ old.put) × KeepsSweep old new
 
--- For a sweep the subscribers of the worker's shard are listed once more. No other item, and no piece, lists any.
+-- a step of a worker: an item that it took; or a piece of its sweep, or an audit
+abbrev pub Does : Held → Doing → Option Work → Doing → Type 0
+Does opening old (Some one) new = DoesItem old one new
+Does opening old None new = AsksPiece old new ⊎ Audits opening old new
+
+-- For a sweep the subscribers of the worker's shard are listed once more. No other item, no piece and no audit lists any.
 abbrev pub CountsItem : ℕ → SweepCounter → Work → SweepCounter → Type 0
 CountsItem shard old (work.Request request) new = (new.lists ≡ old.lists) × (new.shard ≡ old.shard)
 CountsItem shard old (work.Sweep moment) new = (new.lists ≡ one_more old.lists) × (new.shard ≡ shard)
@@ -116,8 +123,8 @@ CountsFor shard old (Some one) new = CountsItem shard old one new
 CountsFor shard old None new = (new.lists ≡ old.lists) × (new.shard ≡ old.shard)
 
 -- a step, with the calls of it counted: behind it the counter says how many subscribers are left to be asked
-abbrev pub DoesCounted : ℕ → Doing → Option Work → Doing → Type 0
-DoesCounted shard old step new = Does old step new × CountsFor shard old.counter step new.counter × (new.counter.left ≡ length new.left)
+abbrev pub DoesCounted : Held → ℕ → Doing → Option Work → Doing → Type 0
+DoesCounted opening shard old step new = Does opening old step new × CountsFor shard old.counter step new.counter × (new.counter.left ≡ length new.left)
 
 -- the items that were taken in these steps
 abbrev pub works_in : List (Option Work) → List Work
@@ -131,11 +138,11 @@ is_over (work.End gate) = false
 is_over work.Over = true
 
 -- A worker went some steps: it took items, until so many senders more put nothing more, and did each in its turn. Between the items it asked pieces
--- of its sweep.
-pub record Goes (old new : Worker) (first last : Rest) (ended : ℕ) : Type 0 where
+-- of its sweep, and audited its receipts.
+pub record Goes (opening : Held) (old new : Worker) (first last : Rest) (ended : ℕ) : Type 0 where
   pub steps : List (Option Work)
   pub taken : items_of (taken_of new.from) ≡ items_of (taken_of old.from) ++ works_in steps
-  pub done : FoldsTo (DoesCounted old.shard) (doing_of old first) steps (doing_of new last)
+  pub done : FoldsTo (DoesCounted opening old.shard) (doing_of old first) steps (doing_of new last)
   pub ended_are : count_by is_over (works_in steps) ≡ ended
   pub same : IsSameReceiver old.from new.from
   pub lanes : lanes_of new.writers.items ≡ lanes_of old.writers.items
@@ -153,8 +160,8 @@ counting worker = record {
 
 -- A worker went steps until so many of its senders put nothing more, with no subscriber left to be asked at the beginning or at the end. So each of
 -- its sweeps asked every subscriber of its shard that was listed, once and in order.
-pub record HasDone (old new : Worker) (ended : ℕ) : Type 0 where
+pub record HasDone (opening : Held) (old new : Worker) (ended : ℕ) : Type 0 where
   pub first : Rest
   pub last : Rest
   pub nothing_left : (left_of first ≡ []) × (left_of last ≡ [])
-  pub goes : Goes (counting old) new first last ended
+  pub goes : Goes opening (counting old) new first last ended

@@ -38,6 +38,11 @@ impl SweepCounter {
         }
     }
 
+    /// How often subscribers were listed.
+    pub fn lists(&self) -> u64 {
+        self.lists
+    }
+
     /// The subscribers of a shard that have acts, each once, in order. None if memory is short for the list. The condition: of an earlier
     /// list none is left to be asked.
     pub fn list<W: Wait, R: Records, J: Naming>(
@@ -81,6 +86,7 @@ impl SweepCounter {
         self.left -= 1;
         shards.expire(rt, alloc, seat, sub, moment)
     }
+
     /// Asks the expiries of these subscribers together, in order. The conditions: so many are left to be asked; they are different, and of one
     /// shard.
     pub fn ask_all<W: Wait, R: Records, J: Naming>(

@@ -1,11 +1,13 @@
 //! Events that are counted.
 
 use crate::batch::BATCH;
-use crate::face::{Event, Notices};
+use crate::face::{Event, Notice, Notices};
 use crate::work::Request;
+use dcc_receipts::CloseFault;
 use dcc_running::{Naming, Seat, Shards};
 use dcc_shard::RequestAnswer;
 use dcc_store::Records;
+use std::sync::Wait;
 
 /// Counts the receipts of a seat behind its first `counted` receipts, and returns the number of all its receipts. It takes no memory.
 pub fn count_receipts<R: Records, J: Naming, N: Notices>(
@@ -50,6 +52,26 @@ impl<N: Notices> Events<'_, N> {
             self.notices.count(Event::Receipt { shard, receipt });
         }
         receipts.len()
+    }
+
+    /// Reports an audit of the worker's receipts that began at this tick. An audit for which memory was short isn't reported.
+    pub fn audited<W: Wait>(&self, rt: &W, audited: Result<usize, CloseFault>, begun: u64) {
+        let shard = self.shard;
+        match audited {
+            Ok(receipts) => {
+                let micros = self.notices.ticks().saturating_sub(begun);
+                self.notices.tell(
+                    rt,
+                    Notice::Audited {
+                        shard,
+                        receipts,
+                        micros,
+                    },
+                );
+            }
+            Err(CloseFault::Memory) => {}
+            Err(fault) => self.notices.tell(rt, Notice::Disagrees { shard, fault }),
+        }
     }
 
     /// Counts an answer to a request that was read at this tick.

@@ -6,7 +6,7 @@ ghost use Rattle.dcc_rounds.specs.declared.face.Tick.TheVariants as end;
 
 use dcc_connect::{Clock, ConnectionEnd, WriteEnd};
 use dcc_octets::OctetString;
-use dcc_receipts::Receipt;
+use dcc_receipts::{CloseFault, Receipt};
 use dcc_running::{Naming, Seat, Shards};
 use dcc_store::Records;
 use std::alloc::Global;
@@ -92,15 +92,40 @@ pub trait Shut: Write {
 #[derive(Clone, Copy, Debug)]
 pub enum Notice<'a> {
     /// A gateway came from here.
-    Came { gate: usize, name: &'a [u8] },
+    Came {
+        gate: usize,
+        name: &'a [u8],
+    },
     /// Its host has this name.
-    Host { gate: usize, host: &'a [u8] },
+    Host {
+        gate: usize,
+        host: &'a [u8],
+    },
     /// Nothing more is read of it.
-    Read { gate: usize, end: ConnectionEnd },
+    Read {
+        gate: usize,
+        end: ConnectionEnd,
+    },
     /// Nothing more is written to it.
-    Written { gate: usize, end: WriteEnd },
+    Written {
+        gate: usize,
+        end: WriteEnd,
+    },
     /// The records of a shard failed, and it answers busy from then on.
-    Stopped { shard: usize },
+    Stopped {
+        shard: usize,
+    },
+    /// So many receipts of a shard's worker agree with the books. They were compared in so many microseconds, while the shard went on.
+    Audited {
+        shard: usize,
+        receipts: usize,
+        micros: u64,
+    },
+    /// A receipt of a shard's worker disagrees with the books. The round goes on: who hears of it may end it, and its end reports the fault.
+    Disagrees {
+        shard: usize,
+        fault: CloseFault,
+    },
 }
 
 /// What is counted while a server runs. Shards are counted from 0.

@@ -107,9 +107,11 @@ impl<I: Read + Send + Drop, O: Shut + Send + Drop> Place<I, O> {
         self.reader.peer = Peer::Wait;
         let reader = &mut self.reader;
         let from = &mut self.from;
+        // Each by itself, so that the writer's thread takes nothing else of what is shared.
+        let (alloc, notices) = (shared.alloc, shared.notices);
         let mut write = || -> WriteEnd
             ensures { WritesOut result from.entry.now from.exit.now (O.contents ending.entry.output) (O.contents ending.exit.output) }
-        { write_gate(rt, shared.alloc, shared.notices, gate, &mut ending, from) };
+        { write_gate(rt, alloc, notices, gate, &mut ending, from) };
         let mut read = || -> ConnectionEnd
             ensures { ReadsOut C.tells shared.entry.now.clock.now (record { plan = shared.entry.now.plan.now; identity = shared.entry.now.identity.now })
                 shared.entry.now.count result (I.remaining input.entry) (I.remaining input.exit) reader.entry.now reader.exit.now }

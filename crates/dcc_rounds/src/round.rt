@@ -2,7 +2,7 @@
 
 ghost use Rattle.std.specs.Prelude.{◌≡◌, ◌≢◌, ◌<◌, ◌≤◌, ◌+◌, ◌++◌, ℕ, false, [], length, slice_index_or, IfOk, IfErr, OnOk};
 ghost use Rattle.dcc_running.specs.Books.{AreShards, book};
-ghost use Rattle.dcc_rounds.specs.Counting.{counts_in};
+ghost use Rattle.dcc_rounds.specs.Counting.{counts_in, with_acts};
 ghost use Rattle.dcc_rounds.specs.Gathering.{AddsPlaces, AreGathered, HasCome, attendants_of, place_of, workers_from};
 ghost use Rattle.dcc_rounds.specs.Lanes.{AreLanes};
 ghost use Rattle.dcc_rounds.specs.Lines.{is_numbered};
@@ -145,7 +145,10 @@ fn serve_over<
         }
     };
     match locked.close(alloc, seats) {
-        Ok(books) => Ok((counts, books.into_shards())),
+        Ok(books) => {
+            let counts = with_acts(counts, books.acts_told());
+            Ok((counts, books.into_shards()))
+        }
         Err(unclosed) => {
             let fault = of_close(unclosed.fault);
             drop(unclosed);
@@ -438,7 +441,7 @@ fn serve_all<
 )
     requires { count ≡ locked.now.count }
     ensures { AllRun I.remaining O.contents C.tells L.is_closed L.attends service.now.clock.now (record { plan = service.now.plan.now; identity = service.now.identity.now })
-        count tasks.old tasks.new }
+        J.opening count tasks.old tasks.new }
 {
     let threads = tasks.len().max(1);
     let shared = Shared {
@@ -460,7 +463,18 @@ fn serve_all<
     );
 }
 
-/// The counts of a round.
+/// The counts of a round, with the acts of the receipts that were audited before its end.
+fn with_acts(counts: Counts, acts: u64) -> Counts
+    ensures { result ≡ with_acts counts acts }
+{
+    Counts {
+        requests: counts.requests,
+        answers: counts.answers,
+        acts: counts.acts.saturating_add(acts),
+    }
+}
+
+/// The counts of the threads of a round.
 fn counted<I, O>(tasks: &[Task<I, O>]) -> Counts
     ensures { result ≡ counts_in tasks.now }
 {

@@ -2,7 +2,8 @@
 
 ghost use Rattle.std.specs.Prelude.{◌≡◌};
 ghost use Rattle.dcc_rounds.specs.Tasks.{Runs};
-ghost use Rattle.dcc_rounds.specs.Counting.{requests_in, answers_in, acts_in, acts_of};
+ghost use Rattle.dcc_rounds.specs.Counting.{requests_in, answers_in, acts_in};
+ghost use Rattle.dcc_running.specs.Acts.{acts_of};
 
 use crate::attendant::Attendant;
 use crate::face::{Listener, Notices, Shut};
@@ -56,7 +57,7 @@ impl<I: Read + Send + Drop, O: Shut + Send + Drop> Task<I, O> {
         N: Notices + Sync,
     >(&mut self, rt: &W, shared: &Shared<'_, R, J, L, C, N>)
         ensures { Runs I.remaining O.contents C.tells L.is_closed L.attends shared.now.clock.now (record { plan = shared.now.plan.now; identity = shared.now.identity.now })
-            shared.now.count self.old self.new }
+            J.opening shared.now.count self.old self.new }
     {
         shared.listener.begin(rt, shared.threads);
         match self {
@@ -93,7 +94,7 @@ impl<I, O> Task<I, O> {
         }
     }
 
-    /// How many acts it made.
+    /// How many acts the receipts are of that it keeps.
     pub fn acts(&self) -> u64
         ensures { result ≡ acts_in self.now }
     {

@@ -4,7 +4,7 @@ ghost use Rattle.std.specs.Prelude.{◌≡◌, ◌<◌, ◌≤◌, ◌+◌, ◌�
 ghost use Rattle.dcc_lane.specs.Ends.{IsSameReceiver, TakesOne, senders_of, taken_of};
 ghost use Rattle.dcc_rounds.specs.Handing.{one_more};
 ghost use Rattle.dcc_rounds.specs.Lanes.{all_put, lanes_of};
-ghost use Rattle.dcc_rounds.specs.Working.{Answers, AreListed, CountsFor, Does, ExpiresEach, Goes, HasDone, IsCounted, doing_of, is_over, left_of, octets_in};
+ghost use Rattle.dcc_rounds.specs.Working.{Answers, AreListed, CountsFor, DoesItem, ExpiresEach, Goes, HasDone, IsCounted, doing_of, is_over, left_of, octets_in};
 ghost use Rattle.dcc_rounds.specs.inner.Batches.{AnswersTaken};
 
 use crate::batch::{BATCH, answer_batch, gather, leave_answer};
@@ -31,6 +31,9 @@ const BUSY: u32 = 32;
 /// The most subscribers that are asked of a sweep before the lane is looked at again.
 const PIECE: usize = 64;
 
+/// The most receipts that a worker keeps before it audits them.
+const STRETCH: usize = 65_536;
+
 /// A worker's ends of lanes, and its seat.
 #[derive(Drop)]
 pub(crate) struct Worker {
@@ -44,9 +47,18 @@ pub(crate) struct Worker {
     pub writers: Vec<Sender<Item>>,
 }
 
+/// When the next audit of a worker's receipts is due.
+#[derive(Clone, Copy)]
+struct Due {
+    /// It keeps so many receipts.
+    receipts: usize,
+    /// Or subscribers were listed for a sweep, once more than so often.
+    lists: u64,
+}
+
 impl Worker {
     /// Does what its lane asks for, and goes on with its sweep in between, until none of its senders puts anything more and no subscriber is left
-    /// to be asked.
+    /// to be asked. Each time that it keeps [`STRETCH`] receipts, and behind each sweep's list, it audits them.
     pub fn run<W: Wait, R: Records, J: Naming, N: Notices>(
         &mut self,
         rt: &W,
@@ -55,12 +67,16 @@ impl Worker {
         notices: &N,
     )
         requires { self.old.shard < shards.now.count }
-        ensures { HasDone self.old self.new (senders_of self.old.from) }
+        ensures { HasDone J.opening self.old self.new (senders_of self.old.from) }
     {
         self.counter = SweepCounter::new(self.shard);
         let shard = self.shard;
         let events = Events { notices, shard };
         let mut counted = self.seat.receipts().len();
+        let mut due = Due {
+            receipts: STRETCH,
+            lists: self.counter.lists(),
+        };
         let mut rest = Rest::new(alloc);
         let mut batch = Vec::new(alloc);
         let senders = self.from.senders();
@@ -80,9 +96,42 @@ impl Worker {
                 return;
             }
             self.ask_piece(rt, alloc, shards, &mut rest);
-            counted = events.told(&self.seat, counted);
+            counted = self.tell_receipts(rt, alloc, shards, &events, &rest, &mut due, counted);
         }
         unreachable!()
+    }
+
+    /// Counts the receipts of its seat behind the first `counted`, and audits all of them if that is due. It reports how the audit ended, and returns how
+    /// many receipts it keeps. If memory was short, or receipts and books disagree, the receipts that were not compared stay, and are compared again at
+    /// the next audit.
+    fn tell_receipts<W: Wait, R: Records, J: Naming, N: Notices>(
+        &mut self,
+        rt: &W,
+        alloc: Global,
+        shards: &Shards<R, J>,
+        events: &Events<'_, N>,
+        rest: &Rest,
+        due: &mut Due,
+        counted: usize,
+    ) -> usize
+        requires { IsCounted self.old.counter rest.now }
+        ensures goes { Goes J.opening self.old self.new rest.now rest.now 0 }
+        ensures counted { IsCounted self.new.counter rest.now }
+    {
+        let counted = events.told(&self.seat, counted);
+        let lists = self.counter.lists();
+        if counted < due.receipts && lists == due.lists {
+            return counted;
+        }
+        let begun = events.notices.ticks();
+        let audited = shards.audit(rt, alloc, &mut self.seat);
+        events.audited(rt, audited, begun);
+        let kept = self.seat.receipts().len();
+        *due = Due {
+            receipts: kept.saturating_add(STRETCH),
+            lists,
+        };
+        kept
     }
 
     /// Takes requests and answers them, and then does the item behind them, if it took one. If a subscriber is left to be asked, it waits for no item.
@@ -100,7 +149,7 @@ impl Worker {
         requires shard { self.old.shard < shards.now.count }
         requires counted { IsCounted self.old.counter rest.old }
         requires empty { batch.old.items ≡ [] }
-        ensures goes { Goes self.old self.new rest.old rest.new (if result then 1 else 0) }
+        ensures goes { Goes J.opening self.old self.new rest.old rest.new (if result then 1 else 0) }
         ensures counted { IsCounted self.new.counter rest.new }
         ensures empty { batch.new.items ≡ [] }
     {
@@ -163,7 +212,7 @@ impl Worker {
     ) -> bool
         requires shard { self.old.shard < shards.now.count }
         requires counted { IsCounted self.old.counter rest.old }
-        ensures does { Does (doing_of self.old rest.old) (Some work) (doing_of self.new rest.new) }
+        ensures does { DoesItem (doing_of self.old rest.old) work (doing_of self.new rest.new) }
         ensures calls { CountsFor self.old.shard self.old.counter (Some work) self.new.counter }
         ensures counted { IsCounted self.new.counter rest.new }
         ensures over { count_by is_over (work ∷ []) ≡ (if result then 1 else 0) }
@@ -201,7 +250,7 @@ impl Worker {
         rest: &mut Rest,
     )
         requires { IsCounted self.old.counter rest.old }
-        ensures goes { Goes self.old self.new rest.old rest.new 0 }
+        ensures goes { Goes J.opening self.old self.new rest.old rest.new 0 }
         ensures counted { IsCounted self.new.counter rest.new }
     {
         let count = rest.count().min(PIECE);

@@ -1,11 +1,12 @@
-use Rattle.std.proofs.Common.{◌≡◌, ℕ, List, length, map, refl, inl, inr, ◌++◌, take, ◌∙◌, sym, ap, subst, arith}
+use Rattle.std.proofs.Common.{◌≡◌, ℕ, List, length, map, refl, inl, inr, ◌++◌, take, ◌∙◌, sym, ap, ap₂, subst, arith}
 use Rattle.std.proofs.Math.Seq.{take-append_seam}
 use Rattle.std.specs.List.{filter_map}
 use Rattle.dcc_receipts.specs.declared.receipt.Receipt.{Receipt}
 use Rattle.dcc_receipts.specs.Faults.{fault_number}
 use Rattle.dcc_running.specs.Audited.{AreCovered, AreOrdered, AreTrue, IsFault}
 use Rattle.dcc_store.specs.Books.{Held}
-use Rattle.dcc_rounds.specs.Counting.{seat_in}
+use Rattle.dcc_running.specs.Books.{book}
+use Rattle.dcc_rounds.specs.Counting.{seat_in, with_acts}
 use Rattle.dcc_dispatch.specs.Settings.{Setting}
 use Rattle.dcc_rounds.specs.Finishing.{AreFinished, AreTied, ends_in}
 use Rattle.dcc_rounds.specs.Gathering.{AreGathered}
@@ -42,11 +43,13 @@ returns-in-Ok-close-clause-round g c =
       books = books;
       gathered = subst (λ (n : ℕ). AreGathered n rounds begun) count c.in-Ok-gather.ensures.tasks;
       ran = said_of (AllRun g.I.Read.remaining g.O.Write.contents g.C.Clock.tells g.L.Listener.is_closed g.L.Listener.attends c.args.service.now.clock.now
-          (record { plan = c.args.service.now.plan.now; identity = c.args.service.now.identity.now })) c.len-count.result (length c.args.shards.items)
-          c.as_mut_slice.result.now begun c.serve_all.new.tasks ended count first last c.serve_all.ensures;
+          (record { plan = c.args.service.now.plan.now; identity = c.args.service.now.identity.now }) (book c.args.shards.items)) c.len-count.result (length c.args.shards.items)
+          c.as_mut_slice.result.now begun c.serve_all.new.tasks ended count first last
+          (subst (λ (opening : Held). AllRun g.I.Read.remaining g.O.Write.contents g.C.Clock.tells g.L.Listener.is_closed g.L.Listener.attends c.args.service.now.clock.now
+          (record { plan = c.args.service.now.plan.now; identity = c.args.service.now.identity.now }) opening c.len-count.result c.as_mut_slice.result.now c.serve_all.new.tasks) c.requires.opening c.serve_all.ensures);
       all = sym (ap length last) ∙ same;
       finished = subst (λ (ts : List (Task g.row.I.Denot g.row.O.Denot)). AreFinished ts) (sym c.as_slice.ensures.value) c.in-Ok-finished.ensures.finished;
-      counted = c.counted-counts.ensures;
+      counted = c.with_acts-counts.ensures ∙ ap₂ with_acts c.counted-counts.ensures c.acts_told.ensures;
       audited = subst (λ (opening : Held). AreTrue opening books (filter_map seat_in ended) × AreCovered opening books (filter_map seat_in ended)
           × AreOrdered (filter_map seat_in ended)) c.requires.opening
           (subst (λ (all : List (List Receipt)). AreTrue g.J.Naming.opening books all × AreCovered g.J.Naming.opening books all × AreOrdered all) seats
@@ -67,9 +70,9 @@ finished-requires g c =
     let last : c.serve_all.new.tasks ≡ ended = sym (c.as_slice.ensures.value ∙ front_is c.in-Ok-gather.tasks.len c.serve_all.new.tasks _ long) in
     let setting : Setting = record { plan = c.args.service.now.plan.now; identity = c.args.service.now.identity.now } in
     subst (λ (ts : List (Task g.row.I.Denot g.row.O.Denot)). AreTied (map ends_in ts)) c.as_slice.ensures.value
-    (ended_tied g.I.Read.remaining g.O.Write.contents g.C.Clock.tells g.L.Listener.is_closed g.L.Listener.attends c.args.service.now.clock.now setting c.len-count.result c.args.rounds.now begun ended
+    (ended_tied g.I.Read.remaining g.O.Write.contents g.C.Clock.tells g.L.Listener.is_closed g.L.Listener.attends c.args.service.now.clock.now setting g.J.Naming.opening c.len-count.result c.args.rounds.now begun ended
     c.in-Ok-gather.ensures.tasks
-    (said_of (AllRun g.I.Read.remaining g.O.Write.contents g.C.Clock.tells g.L.Listener.is_closed g.L.Listener.attends c.args.service.now.clock.now setting) c.len-count.result c.len-count.result c.as_mut_slice.result.now begun
+    (said_of (AllRun g.I.Read.remaining g.O.Write.contents g.C.Clock.tells g.L.Listener.is_closed g.L.Listener.attends c.args.service.now.clock.now setting g.J.Naming.opening) c.len-count.result c.len-count.result c.as_mut_slice.result.now begun
     c.serve_all.new.tasks ended refl first last c.serve_all.ensures)
     (sym (ap length last) ∙ same))
 
@@ -100,8 +103,10 @@ returns-in-Err-close-clause-ends g c =
       books = c.in-Err-close.unclosed.books;
       fault = c.in-Err-close.unclosed.fault;
       gathered = subst (λ (n : ℕ). AreGathered n rounds begun) count c.in-Ok-gather.ensures.tasks;
-      ran = said_of (AllRun g.I.Read.remaining g.O.Write.contents g.C.Clock.tells g.L.Listener.is_closed g.L.Listener.attends c.args.service.now.clock.now setting) c.len-count.result (length c.args.shards.items)
-          c.as_mut_slice.result.now begun c.serve_all.new.tasks ended count first last c.serve_all.ensures;
+      ran = said_of (AllRun g.I.Read.remaining g.O.Write.contents g.C.Clock.tells g.L.Listener.is_closed g.L.Listener.attends c.args.service.now.clock.now setting (book c.args.shards.items)) c.len-count.result (length c.args.shards.items)
+          c.as_mut_slice.result.now begun c.serve_all.new.tasks ended count first last
+          (subst (λ (opening : Held). AllRun g.I.Read.remaining g.O.Write.contents g.C.Clock.tells g.L.Listener.is_closed g.L.Listener.attends c.args.service.now.clock.now
+          setting opening c.len-count.result c.as_mut_slice.result.now c.serve_all.new.tasks) c.requires.opening c.serve_all.ensures);
       all = sym (ap length last) ∙ same;
       finished = subst (λ (ts : List (Task g.row.I.Denot g.row.O.Denot)). AreFinished ts) (sym c.as_slice.ensures.value) c.in-Ok-finished.ensures.finished;
       fails = subst (λ (opening : Held). IsFault c.in-Err-close.unclosed.fault opening c.in-Err-close.unclosed.books (filter_map seat_in ended)) c.requires.opening

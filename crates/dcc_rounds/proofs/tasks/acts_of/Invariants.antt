@@ -1,5 +1,5 @@
 use Rattle.std.proofs.Common.{◌≡◌, ◌≤◌, take}
-use Rattle.dcc_rounds.specs.Counting.{acts_of}
+use Rattle.dcc_running.specs.Acts.{acts_of}
 use Rattle.dcc_rounds.proofs.tasks.acts_of.Given as goal
 
 abbrev pub invariant-loop-receipt : goal.invariant-loop-receipt

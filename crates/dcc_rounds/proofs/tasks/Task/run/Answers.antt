@@ -9,7 +9,7 @@ returns-then-worker-shared g c =
     let shared = c.args.shared.now in
     subst
     (λ (old : Task g.row.I.Denot g.row.O.Denot). Runs g.I.Read.remaining g.O.Write.contents g.C.Clock.tells g.L.Listener.is_closed g.L.Listener.attends shared.clock.now
-    (record { plan = shared.plan.now; identity = shared.identity.now }) shared.count old (task.Work c.run.new.self))
+    (record { plan = shared.plan.now; identity = shared.identity.now }) g.J.Naming.opening shared.count old (task.Work c.run.new.self))
     (sym c.in-Work.is) (c.run.new.self, refl, λ there. c.run.ensures, λ past. absurd (omega (arith, past, c.if-worker-shared.true)))
 
 pub returns-else-worker-shared : goal.returns-else-worker-shared
@@ -17,7 +17,7 @@ returns-else-worker-shared g c =
     let shared = c.args.shared.now in
     subst
     (λ (old : Task g.row.I.Denot g.row.O.Denot). Runs g.I.Read.remaining g.O.Write.contents g.C.Clock.tells g.L.Listener.is_closed g.L.Listener.attends shared.clock.now
-    (record { plan = shared.plan.now; identity = shared.identity.now }) shared.count old (task.Work c.in-Work.worker))
+    (record { plan = shared.plan.now; identity = shared.identity.now }) g.J.Naming.opening shared.count old (task.Work c.in-Work.worker))
     (sym c.in-Work.is) (c.in-Work.worker, refl, λ there. absurd (omega (arith, there, c.if-worker-shared.false)), λ past. refl)
 
 pub returns-in-Time : goal.returns-in-Time
@@ -25,7 +25,7 @@ returns-in-Time g c =
     let shared = c.args.shared.now in
     subst
     (λ (old : Task g.row.I.Denot g.row.O.Denot). Runs g.I.Read.remaining g.O.Write.contents g.C.Clock.tells g.L.Listener.is_closed g.L.Listener.attends shared.clock.now
-    (record { plan = shared.plan.now; identity = shared.identity.now }) shared.count old (task.Time c.run-in-Time.new.self))
+    (record { plan = shared.plan.now; identity = shared.identity.now }) g.J.Naming.opening shared.count old (task.Time c.run-in-Time.new.self))
     (sym c.in-Time.is) (c.run-in-Time.new.self, refl, c.run-in-Time.ensures)
 
 pub returns-in-Place : goal.returns-in-Place
@@ -33,7 +33,7 @@ returns-in-Place g c =
     let shared = c.args.shared.now in
     subst
     (λ (old : Task g.row.I.Denot g.row.O.Denot). Runs g.I.Read.remaining g.O.Write.contents g.C.Clock.tells g.L.Listener.is_closed g.L.Listener.attends shared.clock.now
-    (record { plan = shared.plan.now; identity = shared.identity.now }) shared.count old (task.Place c.run-in-Place.new.self))
+    (record { plan = shared.plan.now; identity = shared.identity.now }) g.J.Naming.opening shared.count old (task.Place c.run-in-Place.new.self))
     (sym c.in-Place.is) (c.run-in-Place.new.self, refl, c.run-in-Place.ensures)
 
 pub returns-in-Attend : goal.returns-in-Attend
@@ -41,5 +41,5 @@ returns-in-Attend g c =
     let shared = c.args.shared.now in
     subst
     (λ (old : Task g.row.I.Denot g.row.O.Denot). Runs g.I.Read.remaining g.O.Write.contents g.C.Clock.tells g.L.Listener.is_closed g.L.Listener.attends shared.clock.now
-    (record { plan = shared.plan.now; identity = shared.identity.now }) shared.count old (task.Attend c.run-in-Attend.new.self))
+    (record { plan = shared.plan.now; identity = shared.identity.now }) g.J.Naming.opening shared.count old (task.Attend c.run-in-Attend.new.self))
     (sym c.in-Attend.is) (c.run-in-Attend.new.self, refl, c.run-in-Attend.ensures)

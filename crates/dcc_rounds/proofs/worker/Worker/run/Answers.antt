@@ -20,7 +20,7 @@ loop-init g c =
       done = (
         c.new-rest.result,
         none_listed c.new-rest.result rest.0,
-        no_step (counting old) (record old { counter = c.new-self.result }) c.new-rest.result
+        no_step g.J.Naming.opening (counting old) (record old { counter = c.new-self.result }) c.new-rest.result
             (ap (λ (k : SweepCounter). record old { counter = k }) counter),
       );
       counted = omega (arith, left, none, first);
@@ -39,7 +39,7 @@ returns-then-count-eq0 g c =
       first = h.0;
       last = rest;
       nothing_left = (h.1, drop_all rest.asked rest.subs.items (omega (arith, c.count.ensures, c.if-count-eq0.true)));
-      goes = subst (λ k. Goes (counting c.args.self.now) c.loop.self h.0 rest k) (all ∙ c.loop.invariant.all) h.2;
+      goes = subst (λ k. Goes g.J.Naming.opening (counting c.args.self.now) c.loop.self h.0 rest k) (all ∙ c.loop.invariant.all) h.2;
     }
 
 pub loop-preserved : goal.loop-preserved
@@ -49,16 +49,16 @@ loop-preserved g c =
     let h = i.done in
     let taken = c.if-ended-senders in
     let none : c.loop.ended ≡ c.loop.ended + 0 = omega arith in
-    let on : Goes (counting old) taken.self h.0 taken.rest taken.ended = elim taken.branch [
+    let on : Goes g.J.Naming.opening (counting old) taken.self h.0 taken.rest taken.ended = elim taken.branch [
       | then-ended-senders+then-take_some w ↦
-          same_end (counting old) w.take_some.new.self taken.self h.0 w.take_some.new.rest taken.rest (c.loop.ended + (if w.take_some.result then 1 else 0)) taken.ended w.self-is w.rest-is
+          same_end g.J.Naming.opening (counting old) w.take_some.new.self taken.self h.0 w.take_some.new.rest taken.rest (c.loop.ended + (if w.take_some.result then 1 else 0)) taken.ended w.self-is w.rest-is
           (w.ended-is ∙ ap (λ ended. c.loop.ended + (if ended then 1 else 0)) (sym w.if-take_some.true))
-          (goes_on (counting old) c.loop.self w.take_some.new.self h.0 c.loop.rest w.take_some.new.rest c.loop.ended (if w.take_some.result then 1 else 0) h.2 w.take_some.ensures.goes)
+          (goes_on g.J.Naming.opening (counting old) c.loop.self w.take_some.new.self h.0 c.loop.rest w.take_some.new.rest c.loop.ended (if w.take_some.result then 1 else 0) h.2 w.take_some.ensures.goes)
       | then-ended-senders+else-take_some w ↦
-          same_end (counting old) w.take_some.new.self taken.self h.0 w.take_some.new.rest taken.rest (c.loop.ended + (if w.take_some.result then 1 else 0)) taken.ended w.self-is w.rest-is
+          same_end g.J.Naming.opening (counting old) w.take_some.new.self taken.self h.0 w.take_some.new.rest taken.rest (c.loop.ended + (if w.take_some.result then 1 else 0)) taken.ended w.self-is w.rest-is
           (w.ended-is ∙ none ∙ ap (λ ended. c.loop.ended + (if ended then 1 else 0)) (sym w.if-take_some.false))
-          (goes_on (counting old) c.loop.self w.take_some.new.self h.0 c.loop.rest w.take_some.new.rest c.loop.ended (if w.take_some.result then 1 else 0) h.2 w.take_some.ensures.goes)
-      | else-ended-senders+else-count-eq0 w ↦ same_end (counting old) c.loop.self taken.self h.0 c.loop.rest taken.rest c.loop.ended taken.ended w.self-is w.rest-is w.ended-is h.2
+          (goes_on g.J.Naming.opening (counting old) c.loop.self w.take_some.new.self h.0 c.loop.rest w.take_some.new.rest c.loop.ended (if w.take_some.result then 1 else 0) h.2 w.take_some.ensures.goes)
+      | else-ended-senders+else-count-eq0 w ↦ same_end g.J.Naming.opening (counting old) c.loop.self taken.self h.0 c.loop.rest taken.rest c.loop.ended taken.ended w.self-is w.rest-is w.ended-is h.2
     ] in
     let few : taken.ended ≤ c.senders-senders.result = elim taken.branch [
       | then-ended-senders+then-take_some w ↦ omega (arith, w.if-ended-senders.true, w.ended-is)
@@ -71,16 +71,20 @@ loop-preserved g c =
       | else-ended-senders+else-count-eq0 w ↦ ap (λ (batch : Vec Request). batch.items) w.batch-is ∙ i.empty
     ] in
     let same : taken.ended ≡ taken.ended + 0 = omega arith in
+    let asked : Goes g.J.Naming.opening (counting old) c.ask_piece.new.self h.0 c.ask_piece.new.rest taken.ended =
+    subst (λ k. Goes g.J.Naming.opening (counting old) c.ask_piece.new.self h.0 c.ask_piece.new.rest k) (sym same)
+    (goes_on g.J.Naming.opening (counting old) taken.self c.ask_piece.new.self h.0 taken.rest c.ask_piece.new.rest taken.ended 0 on c.ask_piece.ensures.goes) in
     record {
       done = (
         h.0,
         h.1,
-        subst (λ k. Goes (counting old) c.ask_piece.new.self h.0 c.ask_piece.new.rest k) (sym same)
-            (goes_on (counting old) taken.self c.ask_piece.new.self h.0 taken.rest c.ask_piece.new.rest taken.ended 0 on c.ask_piece.ensures.goes),
+        subst (λ k. Goes g.J.Naming.opening (counting old) c.tell_receipts-counted.new.self h.0 c.ask_piece.new.rest k) (sym same)
+            (goes_on g.J.Naming.opening (counting old) c.ask_piece.new.self c.tell_receipts-counted.new.self h.0 c.ask_piece.new.rest c.ask_piece.new.rest taken.ended 0 asked
+            c.tell_receipts-counted.ensures.goes),
       );
-      counted = c.ask_piece.ensures.counted;
+      counted = c.tell_receipts-counted.ensures.counted;
       few = few;
-      shard = c.ask_piece.ensures.goes.shard ∙ on.shard;
+      shard = c.tell_receipts-counted.ensures.goes.shard ∙ c.ask_piece.ensures.goes.shard ∙ on.shard;
       empty = empty;
       all = i.all;
     }

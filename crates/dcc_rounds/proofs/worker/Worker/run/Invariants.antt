@@ -6,7 +6,7 @@ use Rattle.dcc_rounds.proofs.worker.Worker.run.Given as goal
 
 abbrev pub invariant-loop : goal.invariant-loop
 invariant-loop g l = record {
-  done : (first : Rest) × (left_of first ≡ []) × Goes (counting l.fn.self) l.self first l.rest l.ended;
+  done : (first : Rest) × (left_of first ≡ []) × Goes g.J.Naming.opening (counting l.fn.self) l.self first l.rest l.ended;
   counted : IsCounted l.self.counter l.rest;
   few : l.ended ≤ l.senders;
   shard : l.self.shard ≡ l.fn.self.shard;
