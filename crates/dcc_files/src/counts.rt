@@ -1,4 +1,5 @@
-//! The count file of a store, `shard-N.acts`, which says how many acts the store had at its last quiet end.
+//! The count file of a store, `shard-N.acts`, which says how many acts the store had when it was written: at the store's last quiet end, or later, while
+//! its process went on.
 //!
 //! Acts only grow, so a store with fewer acts has lost some: its log was cut, or its files are older ones.
 
@@ -17,7 +18,7 @@ use std::{fs, str};
 /// What the count file of a store says.
 #[derive(Clone, Copy, Debug, PartialEq, Eq)]
 pub enum Count {
-    /// There is no such file, as beside a store that no server has served to a quiet end.
+    /// There is no such file, as beside a store of which no server has kept a number yet.
     Missing,
     /// So many acts.
     Acts(u64),
@@ -163,6 +164,15 @@ pub(crate) fn keep(rt: &HostRuntime, folder: &str, shard: usize) -> Option<()> {
     write_count(rt, folder, shard, acts?).ok()
 }
 
+/// Writes the count file of a shard's store, unless it has this number already, or a greater one. A file without a number is replaced, as at a quiet end:
+/// an opening refuses such a file, so the file lost its number later. The store may be open.
+pub(crate) fn note(rt: &HostRuntime, folder: &str, shard: usize, acts: u64) -> io::Result<()> {
+    match count_of(rt, folder, shard)? {
+        Count::Acts(kept) if kept >= acts => Ok(()),
+        Count::Acts(_) | Count::Missing | Count::Unread => write_count(rt, folder, shard, acts),
+    }
+}
+
 /// Writes the count file of a shard's store under another name, and renames it once the disk has it: a stop leaves the file before or this one, whole.
 fn write_count(rt: &HostRuntime, folder: &str, shard: usize, acts: u64) -> io::Result<()> {
     let alloc = rt.alloc();
@@ -176,7 +186,7 @@ fn write_count(rt: &HostRuntime, folder: &str, shard: usize, acts: u64) -> io::R
 /// Writes a count file at a path, and waits until the disk has it.
 fn write_new(rt: &HostRuntime, path: &str, acts: u64) -> io::Result<()> {
     let text = format!(in rt.alloc(); "{acts}\n")?;
-    // One that an earlier end left unfinished.
+    // One that an earlier call left unfinished.
     drop(fs::remove_file(rt, path));
     let file = new_file(rt, path)?;
     file.write_all_at(text.as_bytes(), 0)?;

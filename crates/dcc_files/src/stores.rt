@@ -10,7 +10,7 @@ ghost use Rattle.dcc_sqlite_store.specs.Tables.{no_schema};
 ghost use Rattle.dcc_sqlite_store.specs.Trees.{IsUndone};
 
 use crate::counts::{
-    Count, acts_in, count_of, is_settled, keep, log_of, log_path_of, make_file, put_back,
+    Count, acts_in, count_of, is_settled, keep, log_of, log_path_of, make_file, note, put_back,
     remove_count,
 };
 use crate::file_records::FileRecords;
@@ -166,6 +166,13 @@ impl Counts for FileStores<'_> {
         match keep(self.rt, folder, shard) {
             Some(()) => Ok(()),
             None => Err(CountFault),
+        }
+    }
+
+    fn note_acts(&self, folder: &str, shard: usize, acts: u64) -> Result<(), CountFault> {
+        match note(self.rt, folder, shard, acts) {
+            Ok(()) => Ok(()),
+            Err(_) => Err(CountFault),
         }
     }
 

@@ -60,10 +60,10 @@ pub(crate) fn counted<S: Alter>(
     }
 }
 
-/// What is said of a store with fewer acts than at its last quiet end.
+/// What is said of a store with fewer acts than it had.
 pub(crate) fn lost_words(alloc: Global, acts: u64, least: u64) -> Result<String, AllocError> {
     let noun = if acts == 1 { "act is" } else { "acts are" };
     format!(in alloc;
-        "{acts} {noun} there, and {least} were at the last quiet end; restore a back-up, or accept the loss by dcc serve --accept-loss"
+        "{acts} {noun} there, and {least} were there before; restore a back-up, or accept the loss by dcc serve --accept-loss"
     )
 }

@@ -3,6 +3,7 @@
 ghost use Rattle.std.specs.Prelude.{◌≡◌, Some, None, IfOk};
 ghost use Rattle.dcc_sqlite_store.specs.Faults.{open_number};
 
+use crate::counting::counted;
 use crate::damage::{damage_words, disagreement_words};
 use crate::settings::setting_words;
 use crate::subs::stray_words;
@@ -14,8 +15,32 @@ use sqlite::{Alter, Connection};
 use std::alloc::{AllocError, Global};
 use std::hash::RandomState;
 
+/// What is found of a database as the store of a shard, in which there have to be so many acts at least.
+pub(crate) fn judged<S: Alter + Drop>(
+    alloc: Global,
+    conn: Connection<S>,
+    plan: &Plan,
+    shard: usize,
+    least: u64,
+    hasher: RandomState,
+) -> Result<StoreNote, AllocError> {
+    let mut conn = conn;
+    match counted(alloc, &mut conn, least) {
+        Ok(None) => note_over(alloc, conn, plan, shard, hasher),
+        Ok(Some(note)) => {
+            // By a call: a connection that is let go in place is proved part by part.
+            drop(conn);
+            Ok(note)
+        }
+        Err(AllocError) => {
+            drop(conn);
+            Err(AllocError)
+        }
+    }
+}
+
 /// What is found of a database as the store of a shard. It is a copy: a store of layout 1 is upgraded in it, as an opening does.
-pub(crate) fn note_over<S: Alter + Drop>(
+fn note_over<S: Alter + Drop>(
     alloc: Global,
     conn: Connection<S>,
     plan: &Plan,

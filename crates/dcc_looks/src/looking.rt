@@ -1,8 +1,8 @@
 //! Looks at stores in files.
 
 use crate::copies::{Copies, connected, copies_of};
-use crate::counting::{Least, counted, least_of, lost_words};
-use crate::judging::note_over;
+use crate::counting::{Least, least_of, lost_words};
+use crate::judging::judged;
 use dcc_explain::{Looks, StoreNote};
 use dcc_files::path_of;
 use dcc_tariff::{MAX_SHARDS, Plan};
@@ -129,21 +129,7 @@ fn over(
     hasher: RandomState,
 ) -> Result<StoreNote, AllocError> {
     match connected(alloc, db, log, hasher.hash_one(&0u8)) {
-        Ok(conn) => {
-            let mut conn = conn;
-            match counted(alloc, &mut conn, least) {
-                Ok(None) => note_over(alloc, conn, plan, shard, hasher),
-                Ok(Some(note)) => {
-                    // By a call: a connection that is let go in place is proved part by part.
-                    drop(conn);
-                    Ok(note)
-                }
-                Err(error) => {
-                    drop(conn);
-                    Err(error)
-                }
-            }
-        }
+        Ok(conn) => judged(alloc, conn, plan, shard, least, hasher),
         Err(Error::SqliteFailure(ErrorCode::OutOfMemory)) => Err(AllocError),
         Err(error) => Ok(StoreNote {
             fault: Some(51),

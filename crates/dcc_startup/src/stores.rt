@@ -19,7 +19,8 @@ use std::hash::RandomState;
 use thiserror::Error;
 
 /// Why a store can't be used, by its number: 50 want of memory, 51 it failed, 52 it is stopped, 53 its tables or its setting are others,
-/// 54 its rows aren't those of acts of its subscribers, 55 a row can't be read, 56 it has no tables, 57 it has fewer acts than at its last quiet end.
+/// 54 its rows aren't those of acts of its subscribers, 55 a row can't be read, 56 it has no tables, 57 it has fewer acts than the number that is kept
+/// beside it.
 #[derive(Clone, Copy, Debug, PartialEq, Eq, Error)]
 #[error("store fault {0}")]
 pub struct StoreRefusal(pub u8);
@@ -67,13 +68,19 @@ pub trait Copies {
 #[derive(Clone, Copy, Debug, PartialEq, Eq)]
 pub struct CountFault;
 
-/// The numbers of acts that stores had at their last quiet end, kept beside them. An opening refuses a store that has fewer, by fault 57. No clause says
-/// which number is kept.
+/// Numbers of acts that stores had, kept beside them: at their last quiet end, or later, while their process went on. An opening refuses a store that has
+/// fewer acts, by fault 57. No clause says which number is kept.
 pub trait Counts {
     /// Copies the log of a shard's store into its database, and keeps the number of its acts. No process may have the store open.
     ///
     /// Error: [`CountFault`]. The number that was kept before is still there, or the new one.
     fn keep_count(&self, folder: &str, shard: usize) -> Result<(), CountFault>;
+
+    /// Keeps a number of acts that a shard's store has for certain, while its process goes on. An opening refuses a store with fewer acts, by fault 57. If
+    /// the number that was kept before is greater, it stays. Any thread may call this; calls for one shard come one after another.
+    ///
+    /// Error: [`CountFault`]. The number that was kept before is still there, or the new one.
+    fn note_acts(&self, folder: &str, shard: usize, acts: u64) -> Result<(), CountFault>;
 
     /// Forgets the number that is kept for a shard's store if the store has fewer acts, or if it is no number, and reports that on standard error.
     fn accept_loss(&self, folder: &str, shard: usize);
