@@ -7,8 +7,10 @@ use crate::closing::Closing;
 use crate::door::TURN_SECONDS;
 use crate::notices::NoticeLines;
 use crate::options::wait_for_connections;
+use crate::trouble::{Trouble, tell};
 use dcc_metrics::Meters;
 use dcc_port::serve_calls;
+use dcc_receipts::CloseFault;
 use dcc_rounds::count_receipts;
 use dcc_running::{Naming, Seat, Shards};
 use dcc_startup::Copies;
@@ -23,6 +25,9 @@ use std::time::{Clock, Duration, Instant};
 
 /// For so many seconds in all the server waits for the octets of an operator's connection, and for so many it waits until octets are taken there.
 pub const CALL_SECONDS: u64 = 10;
+
+/// Behind a connection, an attendant audits its receipts if it keeps so many.
+const STRETCH: usize = 65_536;
 
 /// What an operator's call reaches beside the shards: the counters of the server, and the stores of its shards.
 #[derive(Drop)]
@@ -69,10 +74,12 @@ impl<'r, S: Copies> Calls<'r, S> {
     }
 }
 
-/// Answers the calls of one connection, until it ends or has waited as long as it may.
+/// Answers the calls of one connection, until it ends or has waited as long as it may. Then it counts the receipts of these calls, and audits the seat if
+/// the seat has many.
 ///
 /// Errors: those of the connection, and want of memory.
 pub(crate) fn answer_calls<
+    'r,
     R: Clock + Eprint,
     W: Wait,
     S: Records,
@@ -80,13 +87,13 @@ pub(crate) fn answer_calls<
     K: Copies,
     C: dcc_connect::Clock + Copy,
 >(
-    clocks: &R,
+    clocks: &'r R,
     rt: &W,
     alloc: Global,
     shards: &Shards<S, J>,
     clock: C,
     seat: &mut Seat,
-    calls: &Calls<'_, K>,
+    calls: &Calls<'r, K>,
     stream: TcpStream,
     closing: &Closing,
 ) -> io::Result<()> {
@@ -112,7 +119,30 @@ pub(crate) fn answer_calls<
     );
     let meters = NoticeLines::new(clocks, calls.backing.meters);
     count_receipts(&meters, shards, seat, counted);
+    audit_many(clocks, rt, alloc, shards, seat, closing);
     served
+}
+
+/// Audits the receipts of a seat if there are at least [`STRETCH`]. If they disagree with the books, a line reports this, and the server is to end. If memory was
+/// short, the receipts that were not compared stay for the next audit.
+fn audit_many<R: Eprint, W: Wait, S: Records, J: Naming>(
+    print: &R,
+    rt: &W,
+    alloc: Global,
+    shards: &Shards<S, J>,
+    seat: &mut Seat,
+    closing: &Closing,
+) {
+    if seat.receipts().len() < STRETCH {
+        return;
+    }
+    match shards.audit(rt, alloc, seat) {
+        Ok(_) | Err(CloseFault::Memory) => {}
+        Err(fault) => {
+            tell(print, Trouble::Disagrees { fault });
+            closing.tell();
+        }
+    }
 }
 
 /// One half of an operator's connection: it is read from, or written to, and waits for [`CALL_SECONDS`] in all.

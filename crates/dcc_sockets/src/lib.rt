@@ -9,6 +9,7 @@
 #![tactic(auto)]
 
 mod around;
+mod audits;
 mod begun;
 mod calling;
 mod calls;
@@ -25,6 +26,7 @@ mod silence;
 mod trouble;
 mod waiting;
 
+pub use audits::AUDIT_LINE_MICROS;
 pub use begun::BEGIN_MILLIS;
 pub use calling::{ANSWER_SECONDS, CallerHalf, connect};
 pub use calls::{Backing, CALL_SECONDS, Calls};

@@ -1,5 +1,6 @@
 //! What happened, as lines on standard error and in counters.
 
+use crate::audits::{AuditReports, Audits, Disagreement};
 use dcc_connect::{ConnectFault, ConnectionEnd, WriteEnd};
 use dcc_metrics::Meters;
 use dcc_octets::{FIRST_VISIBLE, LAST_VISIBLE};
@@ -11,13 +12,14 @@ use std::sync::Wait;
 use std::time::{Clock, Instant};
 
 /// Writes each notice as a line to standard error, whatever octets a peer's name has: all but `!` to `~`, and the backslash, stand as `\xNN`.
-/// A line that can't be written is left out. It counts notices, events and signs.
-#[derive(Clone, Copy)]
+/// A line that can't be written is left out. It counts notices, events and signs. Audits have a line together, at most once a minute.
+#[derive(Drop)]
 pub struct NoticeLines<'r, P: Eprint> {
     print: &'r P,
     meters: &'r Meters,
     /// The moment from which the microseconds of events are counted. None if the system has no clock: then all are 0.
     begun: Option<Instant>,
+    audits: AuditReports,
 }
 
 impl<'r, P: Eprint + Clock> NoticeLines<'r, P> {
@@ -27,6 +29,21 @@ impl<'r, P: Eprint + Clock> NoticeLines<'r, P> {
             print,
             meters,
             begun: Instant::now(print).ok(),
+            audits: AuditReports::new(),
+        }
+    }
+}
+
+impl<P: Eprint + Clock> NoticeLines<'_, P> {
+    /// Counts an audit of a shard's receipts, and writes the line of audits if it is due. Without a receipt it does nothing.
+    fn audited<W: Wait>(&self, rt: &W, shard: usize, receipts: usize, micros: u64) {
+        if receipts == 0 {
+            return;
+        }
+        self.meters.audited(shard, receipts, micros);
+        let audit = Audits::one(receipts, micros);
+        if let Some(audits) = self.audits.add(rt, audit, self.ticks()) {
+            let _lost = self.print.eprintln(audits);
         }
     }
 }
@@ -37,7 +54,15 @@ impl<P: Eprint + Clock> Notices for NoticeLines<'_, P> {
             Notice::Came { .. } => self.meters.came(),
             Notice::Host { gate, host } => self.meters.host(rt, gate, host),
             Notice::Written { gate, .. } => self.meters.went(rt, gate),
-            Notice::Read { .. } | Notice::Stopped { .. } => {}
+            Notice::Audited {
+                shard,
+                receipts,
+                micros,
+            } => {
+                self.audited(rt, shard, receipts, micros);
+                return;
+            }
+            Notice::Read { .. } | Notice::Stopped { .. } | Notice::Disagrees { .. } => {}
         }
         let line = NoticeLine { notice };
         let _lost = self.print.eprintln(line);
@@ -126,6 +151,18 @@ impl fmt::Display for NoticeLine<'_> {
                 }
             }
             Notice::Stopped { shard } => write!(f, "dcc: shard {shard} stopped: store fault 51"),
+            Notice::Audited {
+                receipts,
+                micros,
+                ..
+            } => {
+                let audits = Audits::one(receipts, micros);
+                write!(f, "{audits}")
+            }
+            Notice::Disagrees { shard, fault } => {
+                let disagreement = Disagreement(fault);
+                write!(f, "dcc: shard {shard}: {disagreement}")
+            }
         }
     }
 }

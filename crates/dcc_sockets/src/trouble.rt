@@ -1,11 +1,13 @@
-//! What a socket alone knows of a connection's trouble, as lines on standard error.
+//! The trouble of connections, as lines on standard error: what a socket alone knows of it, and what an audit behind an operator's connection finds.
 
+use crate::audits::Disagreement;
 use crate::waiting::{LOOK_MILLIS, WRITE_SECONDS};
+use dcc_receipts::CloseFault;
 use std::io::Eprint;
 use std::net::SocketAddr;
 use std::{fmt, io};
 
-/// What happened to a connection, which has no number of a gateway here: it is named by the address that it came from.
+/// What happened to a connection, which has no number of a gateway here: it is named by the address that it came from, if by anything.
 #[derive(Clone, Copy)]
 pub(crate) enum Trouble {
     /// It sent nothing for so many seconds, and is dropped.
@@ -30,6 +32,8 @@ pub(crate) enum Trouble {
     Unheard { error: io::Error },
     /// The system gave fewer threads than these.
     Threads { threads: usize },
+    /// A receipt of an operator's call disagrees with the books.
+    Disagrees { fault: CloseFault },
 }
 
 impl fmt::Display for Trouble {
@@ -74,6 +78,10 @@ impl fmt::Display for Trouble {
                     f,
                     "dcc: the system gives too few threads: {threads} are needed"
                 )
+            }
+            Trouble::Disagrees { fault } => {
+                let disagreement = Disagreement(*fault);
+                write!(f, "dcc: {disagreement}")
             }
         }
     }
