@@ -387,8 +387,7 @@ fn store_words(number: u8) -> &'static str {
         54 =>
             "the acts, entries and accounts of a store disagree, or it has a subscriber of another shard",
         55 => "a row of a store can't be read",
-        57 =>
-            "a store has fewer acts than at its last quiet end, or the number of its acts is lost",
+        57 => "a store has fewer acts than it had, or the number of its acts is lost",
         _ => "a store has no tables",
     }
 }

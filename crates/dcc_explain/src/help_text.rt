@@ -45,14 +45,21 @@ pub fn help_of(alloc: Global, help: &str, name: &str) -> Result<Option<String>, 
     if usages.is_empty() {
         return Ok(None);
     }
-    let mut shown = String::new(alloc);
-    for (at, usage) in usages.iter().enumerate() {
-        let front = if at == 0 { FIRST } else { OTHER };
-        write!(shown, "{front}{usage}\n")?;
-    }
-    shown.push_str("\n")?;
+    let mut shown = list_of(alloc, usages.as_slice())?;
     push_parts(&mut shown, help, name)?;
     Ok(Some(shown))
+}
+
+/// The list of these command lines, and an empty line behind it.
+fn list_of(alloc: Global, usages: &[&str]) -> Result<String, AllocError> {
+    let mut shown = String::new(alloc);
+    let mut front = FIRST;
+    for usage in usages {
+        write!(shown, "{front}{usage}\n")?;
+        front = OTHER;
+    }
+    shown.push_str("\n")?;
+    Ok(shown)
 }
 
 /// Adds the part of a command and the parts that belong to every command.

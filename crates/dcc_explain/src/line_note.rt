@@ -28,6 +28,9 @@ pub struct LineNote {
 /// A line whose first word is empty.
 const LEADING_SPACE: &str = "the line begins with a space";
 
+/// The slip of an empty last word.
+const LAST_SPACE: &str = "the line ends with a space";
+
 /// The forms of a script's lines, and those of a line of top-ups, which have no verb.
 #[derive(Clone, Copy)]
 enum Form {
@@ -241,18 +244,24 @@ fn words_of_misfit(
         Some(word) => *word,
         None => b"".as_slice(),
     };
-    if word.is_empty() && misfit.at == 0 {
-        return format!(in alloc; "{LEADING_SPACE}; its form is: {text}");
-    }
-    if word.is_empty() && misfit.at.saturating_add(1) == words.len() {
-        return format!(in alloc; "the line ends with a space; its form is: {text}");
-    }
-    let (shown, wanted) = (quoted(alloc, word)?, misfit.kind.wanted());
+    let is_first = misfit.at == 0;
+    let is_last = misfit.at.saturating_add(1) == words.len();
+    let mut words = if word.is_empty() && (is_first || is_last) {
+        String::from_str(alloc, if is_first { LEADING_SPACE } else { LAST_SPACE })?
+    } else {
+        words_of_kind(alloc, word, misfit.kind)?
+    };
+    write!(words, "; its form is: {text}")?;
+    Ok(words)
+}
+
+/// What is wrong with a word that is not of this kind.
+fn words_of_kind(alloc: Global, word: &[u8], kind: Kind) -> Result<String, AllocError> {
+    let (shown, wanted) = (quoted(alloc, word)?, kind.wanted());
     let mut words = format!(in alloc; "{shown} has to be {wanted}")?;
-    if misfit.kind == Kind::Message {
+    if kind == Kind::Message {
         push_slip(alloc, &mut words, word)?;
     }
-    write!(words, "; its form is: {text}")?;
     Ok(words)
 }
 

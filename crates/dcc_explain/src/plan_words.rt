@@ -195,14 +195,19 @@ fn words_of_key(
         return format!(in alloc; "{name} is missing; it has to be {kind}, {wanted}");
     };
     let found = found(alloc, value)?;
-    let mut words = if fault == PlanFault::MissingKey {
-        format!(in alloc; "{name} is {found}; it has to be {kind}, {wanted}")?
+    let (kind, comma) = if fault == PlanFault::MissingKey {
+        (kind, ", ")
     } else {
-        format!(in alloc; "{name} is {found}; it has to be {wanted}")?
+        ("", "")
     };
-    if let Value::Float(_) = value {
-        words.push_str(", without a point and without an exponent")?;
-    }
+    let without = if let Value::Float(_) = value {
+        ", without a point and without an exponent"
+    } else {
+        ""
+    };
+    let mut words = format!(in alloc;
+        "{name} is {found}; it has to be {kind}{comma}{wanted}{without}"
+    )?;
     push_line(&mut words, line)?;
     Ok(words)
 }

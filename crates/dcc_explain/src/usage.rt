@@ -361,6 +361,14 @@ impl Reading {
                     }
                 }
             }
+            // The first `--explain` is not among these words.
+            _ if name == "--explain" => {
+                let slip = match value {
+                    Some(_) => "--explain has no value",
+                    None => "--explain stands twice",
+                };
+                Ok(Some(format!(in alloc; "{slip}")?))
+            }
             _ => {
                 let shown = quoted(alloc, name.as_bytes())?;
                 let mut slip = format!(in alloc; "{shown} is no option of this command")?;

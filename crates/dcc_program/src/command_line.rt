@@ -65,7 +65,7 @@ pub struct ServeAsk<'a> {
     pub sweep: Option<u64>,
     /// Where operators call a server that stays: an address of this machine alone.
     pub operator: Option<SocketAddrV4>,
-    /// Whether stores are opened that have fewer acts than at their last quiet end.
+    /// Whether stores are opened that have fewer acts than they had.
     pub accepts_loss: bool,
 }
 
