@@ -127,8 +127,8 @@ class Server:
         return os.pread(self.lines.fileno(), os.fstat(self.lines.fileno()).st_size, 0).decode()
 
     def said(self):
-        """What it has said until now, but for the lines of its opening."""
-        return behind_opening(self.all_said())
+        """What it has said until now, but for the lines of its opening, and those of audits, which come by the clock."""
+        return re.sub(r"^dcc: audits .*\n", "", behind_opening(self.all_said()), flags=re.MULTILINE)
 
     def kill(self):
         """Ends it, if it hasn't ended."""

@@ -193,6 +193,63 @@ fn reach_the_ceiling<W: Wait + Abort + AllocGlobal, R: Records>(
     assert_eq!(rt; caller.seat.receipts().len(), 5);
 }
 
+/// The end of an audit: its fault, 0 for none, and how many receipts it took out of the seat, and left there.
+type Audited = (u8, usize, usize);
+
+/// Audits the seat, and asserts how that ended.
+fn audit<W: Wait + Abort + AllocGlobal, R: Records>(
+    rt: &W,
+    shards: &Shards<R, Brand>,
+    caller: &mut Caller,
+    wanted: Audited,
+) {
+    let (number, taken) = match shards.audit(rt, rt.alloc(), &mut caller.seat) {
+        Ok(taken) => (0, taken),
+        Err(fault) => (fault.number().unwrap_or(1), 0),
+    };
+    assert_eq!(rt; (number, taken, caller.seat.receipts().len()), wanted);
+}
+
+/// Top-ups behind [`make_each`] and an audit: a new one, and the first again.
+const TWO_MORE: &[ToldTopUp] = &[
+    (
+        3,
+        10,
+        TopUpAnswer::Done {
+            place: 4,
+            fresh: true,
+        },
+    ),
+    (1, 5, ADDED_BEFORE),
+];
+
+/// The last top-up, which isn't audited.
+const LAST: &[ToldTopUp] = &[(
+    4,
+    10,
+    TopUpAnswer::Done {
+        place: 5,
+        fresh: true,
+    },
+)];
+
+/// Makes calls, and audits their receipts in two stretches. The receipt of the last call stays.
+fn audit_twice<W: Wait + Abort + AllocGlobal, R: Records>(
+    rt: &W,
+    shards: &Shards<R, Brand>,
+    caller: &mut Caller,
+) -> Result<(), Fail>
+    requires { 0 < shards.now.count }
+{
+    make_each(rt, shards, caller)?;
+    audit(rt, shards, caller, (0, 4, 0));
+    top_up_each(rt, shards, caller, TWO_MORE);
+    audit(rt, shards, caller, (0, 2, 0));
+    audit(rt, shards, caller, (0, 0, 0));
+    top_up_each(rt, shards, caller, LAST);
+    Ok(())
+}
+
 /// What was done at the seat with which shards are closed.
 #[derive(Clone, Copy)]
 enum Seated {
@@ -201,6 +258,9 @@ enum Seated {
     /// The last receipt is of an act before one that was reported as unknown.
     UnknownBetween,
     AtTheCeiling,
+    Audited,
+    AuditedOfOthers,
+    AuditedOutOfOrder,
 }
 
 /// Does so at this caller's seat.
@@ -221,6 +281,18 @@ fn act_at<W: Wait + Abort + AllocGlobal + RandomSource, R: Records>(
         }
         Seated::AtTheCeiling => {
             reach_the_ceiling(rt, shards, caller);
+            Ok(())
+        }
+        Seated::Audited => audit_twice(rt, shards, caller),
+        Seated::AuditedOfOthers => {
+            top_up_others(rt, caller)?;
+            audit(rt, shards, caller, (60, 0, 2));
+            Ok(())
+        }
+        Seated::AuditedOutOfOrder => {
+            top_up_each(rt, shards, caller, THREE_TOP_UPS);
+            ask_others(rt, caller)?;
+            audit(rt, shards, caller, (62, 0, 3));
             Ok(())
         }
     }
@@ -340,5 +412,18 @@ fn receipts_are_out_of_order(rt: HostRuntime) -> Result<(), Fail> {
 #[test]
 fn nothing_is_added_at_the_ceiling(rt: HostRuntime) -> Result<(), Fail> {
     assert_eq!(&rt; faults(&rt, Seated::AtTheCeiling)?, (61, 0));
+    Ok(())
+}
+
+#[test]
+fn receipts_are_audited_in_stretches(rt: HostRuntime) -> Result<(), Fail> {
+    assert_eq!(&rt; faults(&rt, Seated::Audited)?, (61, 0));
+    Ok(())
+}
+
+#[test]
+fn an_audit_leaves_what_disagrees(rt: HostRuntime) -> Result<(), Fail> {
+    assert_eq!(&rt; faults(&rt, Seated::AuditedOfOthers)?, (0, 60));
+    assert_eq!(&rt; faults(&rt, Seated::AuditedOutOfOrder)?.1, 62);
     Ok(())
 }
