@@ -12,3 +12,4 @@ pub mod Telling
 pub mod TopUps
 pub mod Walks
 pub mod Resolved
+pub mod Sharing
