@@ -17,7 +17,7 @@ use std::sync::atomic::{AtomicU64, Ordering};
 use std::sync::{Mutex, Wait};
 
 /// The counters of a server, by which many threads count at once. Contracts see the number of its shards, and not what it has counted. The counters of
-/// writers and of full lanes are on no page: the connection of a gateway reads them.
+/// writers, of full lanes and of disagreements are on no page: the server itself reads them.
 #[derive(Drop)]
 pub struct Meters {
     alloc: Global,
@@ -32,6 +32,8 @@ pub struct Meters {
     writers: Row,
     /// By place: how often the lane to its writer was full.
     fillings: Row,
+    /// Of all shards.
+    disagreements: AtomicU64,
 }
 
 impl Model for Meters {
@@ -66,7 +68,15 @@ impl Meters {
             hosts: Mutex::new(hosts),
             writers,
             fillings,
+            disagreements: AtomicU64::new(0),
         })
+    }
+
+    /// The number of shards.
+    pub fn shards(&self) -> usize
+        ensures { result ≡ self.now }
+    {
+        self.shards.len()
     }
 
     /// Sets what a shard holds as it is opened.
@@ -156,6 +166,16 @@ impl Meters {
         }
     }
 
+    /// Counts an audit whose receipts disagree with the books.
+    pub fn disagreed(&self) {
+        self.disagreements.fetch_add(1, Ordering::SeqCst);
+    }
+
+    /// The number of audits whose receipts disagreed with the books.
+    pub fn disagreements(&self) -> u64 {
+        self.disagreements.load(Ordering::SeqCst)
+    }
+
     /// Counts a sweep that a shard was asked for.
     pub fn swept(&self, shard: usize) {
         self.count(shard, Count::Sweeps, 1);
@@ -175,6 +195,17 @@ impl Meters {
             Some(meters) => meters.at(Count::Acts),
             None => 0,
         }
+    }
+
+    /// The acts of a shard, as of [`Meters::acts`], if it was audited since the last call for it; else none. Calls for one shard come one after another.
+    pub fn acts_audited(&self, shard: usize) -> Option<u64> {
+        let meters = self.shards.get(shard)?;
+        let audits = meters.at(Count::Audits);
+        if audits == meters.at(Count::AuditsSeen) {
+            return None;
+        }
+        meters.set(Count::AuditsSeen, audits);
+        Some(meters.at(Count::Acts))
     }
 
     /// Counts a call that repeated an act of a shard.

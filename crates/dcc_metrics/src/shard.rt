@@ -25,10 +25,12 @@ pub(crate) enum Count {
     AuditedReceipts,
     /// The sum of the times of its audits, in microseconds.
     AuditMicros,
+    /// Its audits when its acts were read last, behind an audit. It is on no page.
+    AuditsSeen,
 }
 
 /// How many of these there are.
-const COUNTS: usize = 12;
+const COUNTS: usize = 13;
 
 impl Count {
     /// The index of its counter.
@@ -46,6 +48,7 @@ impl Count {
             Count::Audits => 9,
             Count::AuditedReceipts => 10,
             Count::AuditMicros => 11,
+            Count::AuditsSeen => 12,
         }
     }
 }

@@ -206,13 +206,12 @@ fn open_door<'r, N: Net<Listener = TcpListener, Stream = TcpStream> + Eprint, S:
     ensures whole { OnOk result ((address : SocketAddr) × Appends (W.contents output.old) (W.contents output.new) (listening_line address)) }
     ensures part { IfErr result (IsTellingBegun (W.contents output.old) (W.contents output.new)) }
 {
-    let meters = backing.meters;
     let calls = match ask.operator {
-        Some(address) => Some(open_calls(rt, address, hasher, backing)?),
+        Some(address) => Some(open_calls(rt, address, hasher)?),
         None => None,
     };
     // No `?`: it is not proved if a value holds a reference beside a struct with a model.
-    let door = match Door::bind(rt, alloc, ask.address, meters, ask.silence, staying, calls) {
+    let door = match Door::bind(rt, alloc, ask.address, backing, ask.silence, staying, calls) {
         Ok(door) => door,
         Err(error) => return Err(Failure::from(error)),
     };
@@ -227,13 +226,12 @@ fn open_door<'r, N: Net<Listener = TcpListener, Stream = TcpStream> + Eprint, S:
 }
 
 /// Listens for operators at an address, and reports it on standard error. A line that cannot be written is left out.
-fn open_calls<'r, N: Net<Listener = TcpListener, Stream = TcpStream> + Eprint, S: Stores>(
+fn open_calls<N: Net<Listener = TcpListener, Stream = TcpStream> + Eprint>(
     rt: &N,
     address: SocketAddrV4,
     hasher: RandomState,
-    backing: Backing<'r, S>,
-) -> io::Result<Calls<'r, S>> {
-    let calls = Calls::bind(rt, address, hasher, backing)?;
+) -> io::Result<Calls> {
+    let calls = Calls::bind(rt, address, hasher)?;
     let found = calls.address()?;
     let _lost = rt.eprintln(format_args!("dcc: operators at {found}"));
     Ok(calls)

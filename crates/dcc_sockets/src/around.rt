@@ -2,7 +2,7 @@
 
 ghost use Rattle.dcc_port.specs.Servers.{Rules};
 
-use crate::calls::Backing;
+use crate::backing::Backing;
 use crate::closing::Closing;
 use dcc_port::{CopyFault, Server};
 use dcc_shard::Shard;

@@ -3,12 +3,12 @@
 ghost use Rattle.std.specs.Prelude.{◌≤◌, IfOk, IfSome, length};
 
 use crate::around::Around;
+use crate::backing::Backing;
 use crate::closing::Closing;
 use crate::door::TURN_SECONDS;
 use crate::notices::NoticeLines;
 use crate::options::wait_for_connections;
 use crate::trouble::{Trouble, tell};
-use dcc_metrics::Meters;
 use dcc_port::serve_calls;
 use dcc_receipts::CloseFault;
 use dcc_rounds::count_receipts;
@@ -29,25 +29,15 @@ pub const CALL_SECONDS: u64 = 10;
 /// Behind a connection, an attendant audits its receipts if it keeps so many.
 const STRETCH: usize = 65_536;
 
-/// What an operator's call reaches beside the shards: the counters of the server, and the stores of its shards.
-#[derive(Drop)]
-pub struct Backing<'r, S: Copies> {
-    pub meters: &'r Meters,
-    pub stores: &'r S,
-    /// The folder of the stores.
-    pub folder: &'r str,
-}
-
 /// Where operators call the server.
 #[derive(Drop)]
-pub struct Calls<'r, S: Copies> {
+pub struct Calls {
     pub(crate) listener: TcpListener,
     /// By which the fields of a call are found.
     pub(crate) keys: RandomState,
-    pub(crate) backing: Backing<'r, S>,
 }
 
-impl<'r, S: Copies> Calls<'r, S> {
+impl Calls {
     /// Listens at an address for operators. Port 0 takes a port that is free. The fields of a call are found by hashes under these keys.
     ///
     /// Error: the system refuses the address, for instance if it is taken or isn't one of this machine.
@@ -55,15 +45,10 @@ impl<'r, S: Copies> Calls<'r, S> {
         rt: &R,
         address: SocketAddrV4,
         keys: RandomState,
-        backing: Backing<'r, S>,
-    ) -> io::Result<Calls<'r, S>> {
+    ) -> io::Result<Calls> {
         let listener = rt.bind(SocketAddr::V4(address))?;
         wait_for_connections(&listener, TURN_SECONDS)?;
-        Ok(Calls {
-            listener,
-            keys,
-            backing,
-        })
+        Ok(Calls { listener, keys })
     }
 
     /// The address that is listened at, with its port.
@@ -93,7 +78,8 @@ pub(crate) fn answer_calls<
     shards: &Shards<S, J>,
     clock: C,
     seat: &mut Seat,
-    calls: &Calls<'r, K>,
+    calls: &Calls,
+    backing: &Backing<'r, K>,
     stream: TcpStream,
     closing: &Closing,
 ) -> io::Result<()> {
@@ -102,7 +88,7 @@ pub(crate) fn answer_calls<
     let mut around = Around {
         rt,
         closing,
-        backing: &calls.backing,
+        backing,
     };
     let counted = seat.receipts().len();
     let served = serve_calls(
@@ -117,7 +103,7 @@ pub(crate) fn answer_calls<
         &mut input,
         &mut output,
     );
-    let meters = NoticeLines::new(clocks, calls.backing.meters);
+    let meters = NoticeLines::new(clocks, backing.meters);
     count_receipts(&meters, shards, seat, counted);
     audit_many(clocks, rt, alloc, shards, seat, closing);
     served

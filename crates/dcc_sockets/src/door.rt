@@ -1,5 +1,6 @@
 //! Where gateways connect.
 
+use crate::backing::Backing;
 use crate::begun::{BEGIN_MILLIS, Begun};
 use crate::calls::{Calls, answer_calls};
 use crate::closing::{Staying, remove_stop};
@@ -9,11 +10,10 @@ use crate::place::Place;
 use crate::refusal::{Refusal, meaning_of};
 use crate::silence::Silence;
 use crate::trouble::{Trouble, tell};
-use dcc_metrics::Meters;
 use dcc_octets::OctetString;
 use dcc_rounds::{Connection, Listener, Tick};
 use dcc_running::{Naming, Seat, Shards};
-use dcc_startup::Copies;
+use dcc_startup::{Copies, Counts};
 use dcc_store::Records;
 use std::alloc::Global;
 use std::io::{Eprint, ErrorKind};
@@ -34,10 +34,10 @@ pub struct Door<'r, R, K: Copies> {
     rt: &'r R,
     alloc: Global,
     listener: TcpListener,
-    /// By which the halves of a connection hear of the signs of its place.
-    meters: &'r Meters,
+    /// By its counters the halves of a connection hear of the signs of its place.
+    backing: Backing<'r, K>,
     /// Where operators call a server that stays.
-    calls: Option<Calls<'r, K>>,
+    calls: Option<Calls>,
     silence: Silence,
     /// Of a server that stays: when it ends, and how often it sweeps.
     staying: Option<Staying<'r>>,
@@ -52,17 +52,17 @@ pub struct Door<'r, R, K: Copies> {
 
 impl<'r, R: Net<Listener = TcpListener, Stream = TcpStream>, K: Copies> Door<'r, R, K> {
     /// Listens at an address, for gateways that may be silent so long, and for places that are taken again if the server stays. The signs of the places
-    /// are counted by these counters. A server that stays may also take calls of operators. Port 0 takes a port that is free.
+    /// are counted by its counters. A server that stays may also take calls of operators. Port 0 takes a port that is free.
     ///
     /// Error: the system refuses the address, for instance if it is taken or isn't one of this machine.
     pub fn bind(
         rt: &'r R,
         alloc: Global,
         address: SocketAddrV4,
-        meters: &'r Meters,
+        backing: Backing<'r, K>,
         silence: Silence,
         staying: Option<Staying<'r>>,
-        calls: Option<Calls<'r, K>>,
+        calls: Option<Calls>,
     ) -> io::Result<Door<'r, R, K>> {
         let listener = rt.bind(SocketAddr::V4(address))?;
         if staying.is_some() {
@@ -72,7 +72,7 @@ impl<'r, R: Net<Listener = TcpListener, Stream = TcpStream>, K: Copies> Door<'r,
             rt,
             alloc,
             listener,
-            meters,
+            backing,
             calls,
             silence,
             staying,
@@ -115,7 +115,7 @@ impl<'r, R, K: Copies> Door<'r, R, K> {
             None => None,
         };
         let place = Place {
-            meters: self.meters,
+            meters: self.backing.meters,
             gate,
         };
         let (input, output) = halves(self.rt, stream, from, place, self.silence, closing)?;
@@ -175,7 +175,25 @@ impl<'r, R: Clock + Eprint, K: Copies> Door<'r, R, K> {
     }
 }
 
-impl<'r, R: Clock + Eprint, K: Copies> Listener<Input<'r, R>, Output<'r, R>> for Door<'r, R, K> {
+impl<R: Eprint, K: Copies + Counts> Door<'_, R, K> {
+    /// Writes the number of acts of each shard beside its store, if the shard was audited since the last call. A line reports a number that isn't written.
+    fn keep_acts(&self) {
+        let backing = &self.backing;
+        for shard in 0..backing.meters.shards() {
+            if let Some(acts) = backing.meters.acts_audited(shard)
+                && backing
+                    .stores
+                    .note_acts(backing.folder, shard, acts)
+                    .is_err()
+            {
+                tell(self.rt, Trouble::Uncounted { shard });
+            }
+        }
+    }
+}
+
+impl<'r, R: Clock + Eprint, K: Copies + Counts> Listener<Input<'r, R>, Output<'r, R>>
+    for Door<'r, R, K> {
     // No clause says what a listener of the system does.
     ghost is_closed = { Unit {0} };
 
@@ -243,7 +261,8 @@ impl<'r, R: Clock + Eprint, K: Copies> Listener<Input<'r, R>, Output<'r, R>> for
         unreachable!()
     }
 
-    /// Waits a second, and looks whether the server is to end. It removes the file whose presence says so.
+    /// Waits a second, and looks whether the server is to end. It removes the file whose presence says so. If receipts disagree with the books, the server is
+    /// to end. Else it keeps the number of acts of each shard that was audited meanwhile.
     fn tick<W: Wait>(&self, rt: &W) -> Tick {
         let Some(staying) = self.staying else {
             return Tick::End;
@@ -252,9 +271,13 @@ impl<'r, R: Clock + Eprint, K: Copies> Listener<Input<'r, R>, Output<'r, R>> for
         if remove_stop(staying.stop) {
             staying.closing.tell();
         }
+        if self.backing.meters.disagreements() > 0 {
+            staying.closing.tell();
+        }
         if staying.closing.is_told() {
             return Tick::End;
         }
+        self.keep_acts();
         let mut since = self.since_sweep.lock(rt);
         *since = since.saturating_add(TURN_SECONDS);
         if staying.sweep > 0 && *since >= staying.sweep {
@@ -293,6 +316,7 @@ impl<'r, R: Clock + Eprint, K: Copies> Listener<Input<'r, R>, Output<'r, R>> for
                         clock,
                         seat,
                         calls,
+                        &self.backing,
                         stream,
                         staying.closing,
                     );

@@ -10,6 +10,7 @@
 
 mod around;
 mod audits;
+mod backing;
 mod begun;
 mod calling;
 mod calls;
@@ -27,9 +28,10 @@ mod trouble;
 mod waiting;
 
 pub use audits::AUDIT_LINE_MICROS;
+pub use backing::Backing;
 pub use begun::BEGIN_MILLIS;
 pub use calling::{ANSWER_SECONDS, CallerHalf, connect};
-pub use calls::{Backing, CALL_SECONDS, Calls};
+pub use calls::{CALL_SECONDS, Calls};
 pub use clock::SystemClock;
 pub use closing::{Closing, Staying, remove_stop};
 pub use door::{Door, SHORT_SECONDS, TURN_SECONDS};

@@ -62,7 +62,13 @@ impl<P: Eprint + Clock> Notices for NoticeLines<'_, P> {
                 self.audited(rt, shard, receipts, micros);
                 return;
             }
-            Notice::Read { .. } | Notice::Stopped { .. } | Notice::Disagrees { .. } => {}
+            Notice::Disagrees { fault, .. } => {
+                // Without a number nothing was compared: memory was short.
+                if fault.number().is_some() {
+                    self.meters.disagreed();
+                }
+            }
+            Notice::Read { .. } | Notice::Stopped { .. } => {}
         }
         let line = NoticeLine { notice };
         let _lost = self.print.eprintln(line);

@@ -34,6 +34,8 @@ pub(crate) enum Trouble {
     Threads { threads: usize },
     /// A receipt of an operator's call disagrees with the books.
     Disagrees { fault: CloseFault },
+    /// The number of a shard's acts was not written beside its store.
+    Uncounted { shard: usize },
 }
 
 impl fmt::Display for Trouble {
@@ -82,6 +84,9 @@ impl fmt::Display for Trouble {
             Trouble::Disagrees { fault } => {
                 let disagreement = Disagreement(*fault);
                 write!(f, "dcc: {disagreement}")
+            }
+            Trouble::Uncounted { shard } => {
+                write!(f, "dcc: shard {shard}: the number of its acts was not kept")
             }
         }
     }

@@ -87,6 +87,33 @@ fn acts_are_those_at_opening_and_those_since(rt: HostRuntime) -> Result<(), Fail
     Ok(())
 }
 
+#[test]
+fn acts_are_due_behind_an_audit(rt: HostRuntime) -> Result<(), Fail> {
+    let meters = Meters::new(rt.alloc(), 2, 0)?;
+    meters.open(1, 6, 70);
+    assert_eq!(&rt; meters.acts_audited(1), None);
+    meters.audited(1, 34, 97);
+    meters.act(1, 1);
+    assert_eq!(&rt; meters.acts_audited(1), Some(71));
+    meters.act(1, 2);
+    assert_eq!(&rt; meters.acts_audited(1), None);
+    meters.audited(1, 1, 0);
+    assert_eq!(&rt; meters.acts_audited(1), Some(72));
+    assert_eq!(&rt; meters.acts_audited(0), None);
+    // No shard has this index.
+    assert_eq!(&rt; meters.acts_audited(2), None);
+    Ok(())
+}
+
+#[test]
+fn disagreements_are_counted(rt: HostRuntime) -> Result<(), Fail> {
+    let meters = Meters::new(rt.alloc(), 1, 0)?;
+    assert!(rt; meters.disagreements() == 0);
+    meters.disagreed();
+    assert!(rt; meters.disagreements() == 1);
+    Ok(())
+}
+
 /// The page behind these events.
 const PAGE: &str = "\
 # HELP dcc_gateways Gateways that are connected.\n\
