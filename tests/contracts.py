@@ -9,7 +9,7 @@ What is left out can't change a verdict above, since the kit gives it to no crat
   which stay. Constants are computed where they stand, and so stay whole, as do `const fn`, and functions of a trait with their bodies.
 - **Functions that aren't public**, outside traits and their impls: no interface has them, unless definitions of the crate name contracts, in which case the crate counts whole.
 - **The attribute `tactic` of a function**: it says by what the function's own goals are tried.
-- **Proofs**, unless a crate above names them: there they count whole.
+- **Proofs**, unless a crate above names them: there they count whole. `TheSendSync` of a type is not in their files: it follows from the type's fields.
 - **Comments** that fill a line, and blanks between Rust's tokens.
 
 A source is read in the layout of `rt fmt`, to which the kit's gate holds it. One that isn't surely read so counts whole.
