@@ -189,23 +189,19 @@ impl Meters {
         }
     }
 
-    /// The acts of a shard that are counted now: those at its opening, and those since. 0 at an index outside.
-    pub fn acts(&self, shard: usize) -> u64 {
-        match self.shards.get(shard) {
-            Some(meters) => meters.at(Count::Acts),
-            None => 0,
-        }
-    }
-
-    /// The acts of a shard, as of [`Meters::acts`], if it was audited since the last call for it; else none. Calls for one shard come one after another.
-    pub fn acts_audited(&self, shard: usize) -> Option<u64> {
+    /// The acts of a shard, those at its opening and those since, if they have grown since the last call that returned them, and if either the call is due or the
+    /// shard was audited since then; else none. Calls for one shard come one after another.
+    pub fn acts_to_keep(&self, shard: usize, is_due: bool) -> Option<u64> {
         let meters = self.shards.get(shard)?;
+        let acts = meters.at(Count::Acts);
         let audits = meters.at(Count::Audits);
-        if audits == meters.at(Count::AuditsSeen) {
+        let is_audited = audits != meters.at(Count::AuditsSeen);
+        if acts == meters.at(Count::ActsSeen) || !(is_due || is_audited) {
             return None;
         }
         meters.set(Count::AuditsSeen, audits);
-        Some(meters.at(Count::Acts))
+        meters.set(Count::ActsSeen, acts);
+        Some(acts)
     }
 
     /// Counts a call that repeated an act of a shard.

@@ -8,7 +8,7 @@ use crate::row::Row;
 use std::alloc::{AllocError, Global};
 
 /// What is counted of a shard as one number.
-#[derive(Clone, Copy, Debug)]
+#[derive(Clone, Copy)]
 pub(crate) enum Count {
     Acts,
     Repeats,
@@ -25,12 +25,14 @@ pub(crate) enum Count {
     AuditedReceipts,
     /// The sum of the times of its audits, in microseconds.
     AuditMicros,
-    /// Its audits when its acts were read last, behind an audit. It is on no page.
+    /// Its audits when `Meters::acts_to_keep` last returned its acts. It is on no page.
     AuditsSeen,
+    /// The acts that `Meters::acts_to_keep` last returned. They are on no page.
+    ActsSeen,
 }
 
 /// How many of these there are.
-const COUNTS: usize = 13;
+const COUNTS: usize = 14;
 
 impl Count {
     /// The index of its counter.
@@ -49,6 +51,7 @@ impl Count {
             Count::AuditedReceipts => 10,
             Count::AuditMicros => 11,
             Count::AuditsSeen => 12,
+            Count::ActsSeen => 13,
         }
     }
 }

@@ -28,6 +28,9 @@ pub const SHORT_SECONDS: u64 = 1;
 /// So many seconds a server that stays waits at most before it looks whether it is to end.
 pub const TURN_SECONDS: u64 = 1;
 
+/// A server that sweeps by no clock keeps the number of acts of its shards once in so many seconds.
+pub const KEEP_SECONDS: u64 = 60;
+
 /// A listener that is bound to an address of this machine.
 #[derive(Drop)]
 pub struct Door<'r, R, K: Copies> {
@@ -45,8 +48,8 @@ pub struct Door<'r, R, K: Copies> {
     is_short: bool,
     /// The same for the threads of places, one of which accepts at a time.
     turn: Mutex<bool>,
-    /// So many seconds have passed since the last sweep.
-    since_sweep: Mutex<u64>,
+    /// So many seconds have passed since the last sweep, or, without sweeps, since the numbers of acts were due.
+    since: Mutex<u64>,
     begun: Begun,
 }
 
@@ -78,7 +81,7 @@ impl<'r, R: Net<Listener = TcpListener, Stream = TcpStream>, K: Copies> Door<'r,
             staying,
             is_short: false,
             turn: Mutex::new(false),
-            since_sweep: Mutex::new(0),
+            since: Mutex::new(0),
             begun: Begun::new(),
         })
     }
@@ -91,6 +94,17 @@ impl<'r, R, K: Copies> Door<'r, R, K> {
             Some(staying) => staying.closing.is_told(),
             None => false,
         }
+    }
+
+    /// Counts one turn more, and returns whether so many seconds have passed. Then it counts anew.
+    fn has_passed<W: Wait>(&self, rt: &W, seconds: u64) -> bool {
+        let mut since = self.since.lock(rt);
+        *since = since.saturating_add(TURN_SECONDS);
+        let has_passed = *since >= seconds;
+        if has_passed {
+            *since = 0;
+        }
+        has_passed
     }
 
     /// The address that is listened at, with its port.
@@ -176,11 +190,12 @@ impl<'r, R: Clock + Eprint, K: Copies> Door<'r, R, K> {
 }
 
 impl<R: Eprint, K: Copies + Counts> Door<'_, R, K> {
-    /// Writes the number of acts of each shard beside its store, if the shard was audited since the last call. A line reports a number that isn't written.
-    fn keep_acts(&self) {
+    /// Writes the number of acts of each shard beside its store, if it has grown, and if the call is due or the shard was audited since the last number. A line
+    /// reports a number that isn't written.
+    fn keep_acts(&self, is_due: bool) {
         let backing = &self.backing;
         for shard in 0..backing.meters.shards() {
-            if let Some(acts) = backing.meters.acts_audited(shard)
+            if let Some(acts) = backing.meters.acts_to_keep(shard, is_due)
                 && backing
                     .stores
                     .note_acts(backing.folder, shard, acts)
@@ -262,7 +277,7 @@ impl<'r, R: Clock + Eprint, K: Copies + Counts> Listener<Input<'r, R>, Output<'r
     }
 
     /// Waits a second, and looks whether the server is to end. It removes the file whose presence says so. If receipts disagree with the books, the server is
-    /// to end. Else it keeps the number of acts of each shard that was audited meanwhile.
+    /// to end. Else it keeps the number of acts of each shard that was audited meanwhile, and before a sweep that of each shard.
     fn tick<W: Wait>(&self, rt: &W) -> Tick {
         let Some(staying) = self.staying else {
             return Tick::End;
@@ -277,11 +292,14 @@ impl<'r, R: Clock + Eprint, K: Copies + Counts> Listener<Input<'r, R>, Output<'r
         if staying.closing.is_told() {
             return Tick::End;
         }
-        self.keep_acts();
-        let mut since = self.since_sweep.lock(rt);
-        *since = since.saturating_add(TURN_SECONDS);
-        if staying.sweep > 0 && *since >= staying.sweep {
-            *since = 0;
+        let every = if staying.sweep > 0 {
+            staying.sweep
+        } else {
+            KEEP_SECONDS
+        };
+        let is_due = self.has_passed(rt, every);
+        self.keep_acts(is_due);
+        if is_due && staying.sweep > 0 {
             return Tick::Sweep;
         }
         Tick::Nothing

@@ -75,33 +75,23 @@ fn each_event_is_counted(rt: HostRuntime) -> Result<(), Fail> {
 }
 
 #[test]
-fn acts_are_those_at_opening_and_those_since(rt: HostRuntime) -> Result<(), Fail> {
-    let meters = Meters::new(rt.alloc(), 3, 0)?;
-    count_work(&meters);
-    assert!(rt; meters.acts(0) == 72);
-    assert!(rt; meters.acts(1) == 80);
-    // It is not open yet.
-    assert!(rt; meters.acts(2) == 0);
-    // No shard has this index.
-    assert!(rt; meters.acts(3) == 0);
-    Ok(())
-}
-
-#[test]
-fn acts_are_due_behind_an_audit(rt: HostRuntime) -> Result<(), Fail> {
+fn acts_are_due_if_they_have_grown(rt: HostRuntime) -> Result<(), Fail> {
     let meters = Meters::new(rt.alloc(), 2, 0)?;
+    assert_eq!(&rt; meters.acts_to_keep(0, true), None);
     meters.open(1, 6, 70);
-    assert_eq!(&rt; meters.acts_audited(1), None);
+    assert_eq!(&rt; meters.acts_to_keep(1, false), None);
+    assert_eq!(&rt; meters.acts_to_keep(1, true), Some(70));
+    assert_eq!(&rt; meters.acts_to_keep(1, true), None);
     meters.audited(1, 34, 97);
+    assert_eq!(&rt; meters.acts_to_keep(1, false), None);
     meters.act(1, 1);
-    assert_eq!(&rt; meters.acts_audited(1), Some(71));
+    assert_eq!(&rt; meters.acts_to_keep(1, false), Some(71));
     meters.act(1, 2);
-    assert_eq!(&rt; meters.acts_audited(1), None);
+    assert_eq!(&rt; meters.acts_to_keep(1, false), None);
     meters.audited(1, 1, 0);
-    assert_eq!(&rt; meters.acts_audited(1), Some(72));
-    assert_eq!(&rt; meters.acts_audited(0), None);
+    assert_eq!(&rt; meters.acts_to_keep(1, false), Some(72));
     // No shard has this index.
-    assert_eq!(&rt; meters.acts_audited(2), None);
+    assert_eq!(&rt; meters.acts_to_keep(2, true), None);
     Ok(())
 }
 
