@@ -7,7 +7,7 @@ use dcc_words::{any_u64, hex_octets, host, moment, peer, sub};
 use std::alloc::{AllocError, Global};
 
 /// What a word of a script or of a command line is to be read as.
-#[derive(Clone, Copy, Debug, PartialEq, Eq)]
+#[derive(Clone, Copy, PartialEq, Eq)]
 pub enum Kind {
     Peer,
     Host,

@@ -5,7 +5,7 @@ use std::alloc::AllocError;
 use std::hash::RandomState;
 
 /// What a look finds of the store of a shard.
-#[derive(Debug, Drop)]
+#[derive(Drop)]
 pub struct StoreNote {
     /// The number of the fault for which a server would not open the store, if it would not.
     pub fault: Option<u8>,

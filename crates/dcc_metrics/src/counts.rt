@@ -1,7 +1,7 @@
 //! What the counters had when they were read.
 
 /// The counts of a server and of its messages.
-#[derive(Debug, Drop)]
+#[derive(Drop)]
 pub(crate) struct ServerCounts {
     /// Gateways that are connected.
     pub gateways: u64,
@@ -14,7 +14,7 @@ pub(crate) struct ServerCounts {
 }
 
 /// The counts of acts, by shard.
-#[derive(Debug, Drop)]
+#[derive(Drop)]
 pub(crate) struct ActCounts {
     pub acts: Vec<u64>,
     pub repeats: Vec<u64>,
@@ -23,7 +23,7 @@ pub(crate) struct ActCounts {
 }
 
 /// The counts of the work of shards, by shard.
-#[derive(Debug, Drop)]
+#[derive(Drop)]
 pub(crate) struct WorkCounts {
     pub sweeps: Vec<u64>,
     /// Sessions that sweeps ended.
@@ -34,7 +34,7 @@ pub(crate) struct WorkCounts {
 }
 
 /// The counts of audits.
-#[derive(Debug, Drop)]
+#[derive(Drop)]
 pub(crate) struct AuditCounts {
     /// By shard.
     pub audits: Vec<u64>,
@@ -45,7 +45,7 @@ pub(crate) struct AuditCounts {
 }
 
 /// The counts of times.
-#[derive(Debug, Drop)]
+#[derive(Drop)]
 pub(crate) struct TimeCounts {
     /// By bucket, each without those before it.
     pub buckets: Vec<u64>,

@@ -8,7 +8,7 @@ use crate::results::RESULTS;
 use std::alloc::{AllocError, Global};
 
 /// The families of numbers of a page.
-#[derive(Clone, Copy, Debug)]
+#[derive(Clone, Copy)]
 pub(crate) enum Family {
     Gateways,
     GatewaysTotal,
@@ -30,7 +30,7 @@ pub(crate) enum Family {
 }
 
 /// What the numbers of a family are of.
-#[derive(Clone, Copy, Debug)]
+#[derive(Clone, Copy)]
 pub(crate) enum Labels {
     /// Of the server: it has one number.
     Server,

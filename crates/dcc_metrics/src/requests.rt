@@ -7,7 +7,7 @@ use crate::numbers::number_of;
 use dcc_octets::u24_at;
 
 /// What is counted apart: a command (RFC 6733, section 3.1), and of a Credit-Control-Request its CC-Request-Type (RFC 8506, section 8.3).
-#[derive(Clone, Copy, Debug, PartialEq, Eq)]
+#[derive(Clone, Copy)]
 pub enum RequestKind {
     /// Capabilities-Exchange-Request.
     Capabilities,

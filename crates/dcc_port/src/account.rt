@@ -12,7 +12,7 @@ use dcc_tariff::UnitKind;
 use std::alloc::{AllocError, Global};
 
 /// The money of an account, in minor units, and the number of its acts.
-#[derive(Clone, Copy, Debug)]
+#[derive(Clone, Copy)]
 pub(crate) struct Money {
     pub funds: i128,
     pub reserved: i128,

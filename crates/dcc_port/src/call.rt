@@ -8,7 +8,7 @@ use std::alloc::{AllocError, Global};
 use std::marker::Model;
 
 /// A call of an operator, by its method, its path and its body; or the refusal of a request that is no call.
-#[derive(Debug, Drop)]
+#[derive(Drop)]
 pub enum Call {
     /// `GET /health`: whether no shard has stopped.
     Health,
@@ -33,7 +33,7 @@ pub enum Call {
 }
 
 /// One of many top-ups, once by its ticket, of an amount in minor units.
-#[derive(Clone, Copy, Debug)]
+#[derive(Clone, Copy)]
 pub struct Ask {
     pub sub: Sub,
     pub ticket: u64,
@@ -41,7 +41,7 @@ pub struct Ask {
 }
 
 /// Top-ups, in order.
-#[derive(Debug, Drop)]
+#[derive(Drop)]
 pub struct Asks {
     items: Vec<Ask>,
 }
@@ -82,14 +82,14 @@ impl Asks {
 }
 
 /// The methods of calls.
-#[derive(Clone, Copy, Debug, PartialEq, Eq)]
+#[derive(Clone, Copy)]
 pub enum Verb {
     Get,
     Post,
 }
 
 /// The reason for which a request is no call.
-#[derive(Clone, Copy, Debug, PartialEq, Eq)]
+#[derive(Clone, Copy)]
 pub enum Flaw {
     /// There is no such path.
     Path,
@@ -110,14 +110,14 @@ pub enum Flaw {
 }
 
 /// The members of a top-up's body.
-#[derive(Clone, Copy, Debug, PartialEq, Eq)]
+#[derive(Clone, Copy)]
 pub enum Member {
     Ticket,
     Amount,
 }
 
 /// The first slip of a top-up's body.
-#[derive(Clone, Copy, Debug, PartialEq, Eq)]
+#[derive(Clone, Copy)]
 pub enum BodySlip {
     /// The body is no JSON in ASCII.
     NoJson,
@@ -128,7 +128,7 @@ pub enum BodySlip {
 }
 
 /// The first slip of a line of top-ups.
-#[derive(Clone, Copy, Debug, PartialEq, Eq)]
+#[derive(Clone, Copy)]
 pub enum LineSlip {
     /// The line has not three words.
     Count,

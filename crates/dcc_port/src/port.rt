@@ -18,7 +18,7 @@ pub(crate) struct Port<'a, R: Records, J: Naming> {
 }
 
 /// The reason for which a copy was not made.
-#[derive(Clone, Copy, Debug, PartialEq, Eq)]
+#[derive(Clone, Copy)]
 pub enum CopyFault {
     /// There is something of this name already.
     There,

@@ -16,7 +16,7 @@ use std::sync::Wait;
 pub(crate) const MOST_AT_ONCE: usize = 64;
 
 /// What a sweep came to.
-#[derive(Clone, Copy, Debug)]
+#[derive(Clone, Copy)]
 pub(crate) struct Swept {
     pub tally: Tally,
     /// Whether no subscriber was left out.

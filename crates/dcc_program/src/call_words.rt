@@ -9,7 +9,7 @@ use std::alloc::{AllocError, Global};
 use std::net::SocketAddrV4;
 
 /// A call of a server that is asked for.
-#[derive(Clone, Copy, Debug)]
+#[derive(Clone, Copy)]
 pub struct CallAsk {
     /// Where the server listens for operators: an address of this machine alone.
     pub address: SocketAddrV4,

@@ -21,7 +21,7 @@ use std::net::{Net, TcpListener, TcpStream};
 use std::time::Clock;
 
 /// Why the answer to a call was not printed.
-#[derive(Clone, Copy, Debug)]
+#[derive(Clone, Copy)]
 pub enum CallFailure {
     /// No connection to the server came about, for this reason.
     Connect(io::Error),

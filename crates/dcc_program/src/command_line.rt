@@ -21,14 +21,14 @@ use std::rt::Env;
 use std::{env, io};
 
 /// Where a command finds the plan's file, and the folder with the stores of the shards.
-#[derive(Clone, Copy, Debug, PartialEq, Eq)]
+#[derive(Clone, Copy)]
 pub struct Place<'a> {
     pub plan: &'a str,
     pub folder: &'a str,
 }
 
 /// The task that a command line asks for.
-#[derive(Clone, Copy, Debug, PartialEq, Eq)]
+#[derive(Clone, Copy)]
 pub enum Task<'a> {
     /// To replay a script under the plan of the file at this path.
     Replay(&'a str),
@@ -45,7 +45,7 @@ pub enum Task<'a> {
 }
 
 /// The top-ups of a file that are asked for.
-#[derive(Clone, Copy, Debug, PartialEq, Eq)]
+#[derive(Clone, Copy)]
 pub struct TopUpsAsk<'a> {
     pub place: Place<'a>,
     /// The path of the file, or `-` for the standard input.

@@ -8,7 +8,7 @@ use crate::failure::Failure;
 use std::io::Write;
 
 /// How the program ended.
-#[derive(Clone, Copy, Debug, PartialEq, Eq)]
+#[derive(Clone, Copy)]
 pub struct Ending {
     /// The exit status: 0, or that of the failure.
     pub status: u8,

@@ -17,7 +17,7 @@ use std::alloc::{AllocError, AllocFailed};
 use std::{fmt, io};
 
 /// Why the program could not do its work.
-#[derive(Clone, Copy, Debug, PartialEq, Eq)]
+#[derive(Clone, Copy)]
 pub enum Failure {
     /// The command line is none of the program's.
     Usage,

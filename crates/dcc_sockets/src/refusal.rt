@@ -8,7 +8,7 @@ use std::io;
 use std::io::ErrorKind;
 
 /// What it means that the system gives no connection.
-#[derive(Clone, Copy, Debug, PartialEq, Eq)]
+#[derive(Clone, Copy)]
 pub enum Refusal {
     /// No connection came in time.
     Nobody,

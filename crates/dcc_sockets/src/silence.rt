@@ -12,7 +12,7 @@ pub const MOST_SILENT_SECONDS: u64 = 86_400;
 pub const FIRST_SECONDS: u64 = 10;
 
 /// For how many seconds a gateway may send nothing: 1 to 86,400, or 0, which is for ever.
-#[derive(Clone, Copy, Debug, PartialEq, Eq)]
+#[derive(Clone, Copy)]
 pub struct Silence {
     seconds: u64,
 }
