@@ -193,8 +193,9 @@ impl Meters {
     /// shard was audited since then; else none. Calls for one shard come one after another.
     pub fn acts_to_keep(&self, shard: usize, is_due: bool) -> Option<u64> {
         let meters = self.shards.get(shard)?;
-        let acts = meters.at(Count::Acts);
+        // The audits first, so that the number has the acts of each audit that is seen here.
         let audits = meters.at(Count::Audits);
+        let acts = meters.at(Count::Acts);
         let is_audited = audits != meters.at(Count::AuditsSeen);
         if acts == meters.at(Count::ActsSeen) || !(is_due || is_audited) {
             return None;

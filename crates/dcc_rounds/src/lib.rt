@@ -45,3 +45,4 @@ pub use fault::ServeFault;
 pub use laws::{answers_are_to_what_came, numbers_are_given};
 pub use rounds::Rounds;
 pub use run::{Service, serve_run};
+pub use worker::STRETCH;

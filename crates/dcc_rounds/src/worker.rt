@@ -31,8 +31,8 @@ const BUSY: u32 = 32;
 /// The most subscribers that are asked of a sweep before the lane is looked at again.
 const PIECE: usize = 64;
 
-/// The most receipts that a worker keeps before it audits them.
-const STRETCH: usize = 65_536;
+/// The most receipts that a worker or an attendant keeps before it audits them.
+pub const STRETCH: usize = 65_536;
 
 /// A worker's ends of lanes, and its seat.
 #[derive(Drop)]

@@ -1,6 +1,7 @@
 //! The threads of a round, which begin together.
 
 use std::sync::{Mutex, Wait};
+use std::time::{Clock, Duration, Instant};
 
 /// The threads of a round wait so many milliseconds at most for one another.
 pub const BEGIN_MILLIS: u64 = 10_000;
@@ -49,5 +50,16 @@ impl Begun {
         let is_first = !count.is_told;
         count.is_told = true;
         is_first
+    }
+}
+
+/// Whether threads that have waited since a moment have waited as long as they may; not known without a clock.
+pub(crate) fn is_late<R: Clock>(rt: &R, since: Option<Instant>) -> bool {
+    let Some(since) = since else {
+        return false;
+    };
+    match since.elapsed(rt) {
+        Ok(waited) => waited >= Duration::from_millis(BEGIN_MILLIS),
+        Err(_) => false,
     }
 }

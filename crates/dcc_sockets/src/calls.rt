@@ -11,7 +11,7 @@ use crate::options::wait_for_connections;
 use crate::trouble::{Trouble, tell};
 use dcc_port::serve_calls;
 use dcc_receipts::CloseFault;
-use dcc_rounds::count_receipts;
+use dcc_rounds::{STRETCH, count_receipts};
 use dcc_running::{Naming, Seat, Shards};
 use dcc_startup::Copies;
 use dcc_store::Records;
@@ -25,9 +25,6 @@ use std::time::{Clock, Duration, Instant};
 
 /// For so many seconds in all the server waits for the octets of an operator's connection, and for so many it waits until octets are taken there.
 pub const CALL_SECONDS: u64 = 10;
-
-/// Behind a connection, an attendant audits its receipts if it keeps so many.
-const STRETCH: usize = 65_536;
 
 /// Where operators call the server.
 #[derive(Drop)]

@@ -1,7 +1,7 @@
 //! Where gateways connect.
 
 use crate::backing::Backing;
-use crate::begun::{BEGIN_MILLIS, Begun};
+use crate::begun::{BEGIN_MILLIS, Begun, is_late};
 use crate::calls::{Calls, answer_calls};
 use crate::closing::{Staying, remove_stop};
 use crate::gateway::{Input, Output, halves};
@@ -19,7 +19,7 @@ use std::alloc::Global;
 use std::io::{Eprint, ErrorKind};
 use std::net::{Net, SocketAddr, SocketAddrV4, TcpListener, TcpStream};
 use std::sync::{Mutex, Wait};
-use std::time::{Clock, Duration};
+use std::time::{Clock, Duration, Instant};
 use std::{fs, io};
 
 /// So many seconds pass before the next try if there is nothing to take a connection in with.
@@ -29,7 +29,7 @@ pub const SHORT_SECONDS: u64 = 1;
 pub const TURN_SECONDS: u64 = 1;
 
 /// A server that sweeps by no clock keeps the number of acts of its shards once in so many seconds.
-pub const KEEP_SECONDS: u64 = 60;
+const KEEP_SECONDS: u64 = 60;
 
 /// A listener that is bound to an address of this machine.
 #[derive(Drop)]
@@ -217,9 +217,14 @@ impl<'r, R: Clock + Eprint, K: Copies + Counts> Listener<Input<'r, R>, Output<'r
     /// If the threads don't all come within [`BEGIN_MILLIS`] milliseconds, the system gave too few. A line reports this, and a server that stays is to end.
     fn begin<W: Wait>(&self, rt: &W, threads: usize) {
         let all = self.begun.enter(rt, threads);
+        let since = Instant::now(self.rt).ok();
+        // A sleep may last longer than it should; without a clock the sleeps are counted.
         for _ in 0..BEGIN_MILLIS {
             if self.begun.have(rt, all) || self.is_told() {
                 return;
+            }
+            if is_late(self.rt, since) {
+                break;
             }
             self.rt.sleep(Duration::from_millis(1));
         }
