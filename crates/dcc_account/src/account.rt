@@ -1,6 +1,6 @@
 //! Accounts.
 
-ghost use Rattle.std.specs.Prelude.{◌≡◌, [], ◌∷◌, ◌++◌, reverse, pos, neg_ℤ, ◌+◌, ◌+ℤ◌, ◌<◌, ◌^◌, ◌≤ℤ◌, ◌≤◌, if◌then◌else◌, IfOk};
+ghost use Rattle.std.specs.Prelude.{◌≡◌, [], ◌∷◌, ◌++◌, reverse, pos, neg_ℤ, ◌+◌, ◌+ℤ◌, ◌<◌, ◌^◌, ◌≤ℤ◌, ◌≤◌, if◌then◌else◌, true, length, IfOk};
 ghost use Rattle.std.specs.Option.{option_copied};
 ghost use Rattle.dcc_model.specs.Outcomes.{history, acts, standing, funds, overrun, free, kept};
 ghost use Rattle.dcc_model.specs.Entries.{entries};
@@ -74,6 +74,7 @@ impl Account {
     ghost use Rattle.dcc_account.specs.Fits.{Fits};
     ghost use Rattle.dcc_account.specs.Prepared.{IsPrepared, IsJudged, in_view};
     ghost use Rattle.dcc_account.specs.inner.Brought.{IsEmpty, space_of};
+    ghost use Rattle.dcc_account.specs.inner.Indexed.{AreKeysOf};
     ghost use Rattle.dcc_state.specs.Known.{IsKnown, IsWithin};
 
     /// An account without acts, whose indexes hash by `hasher`. It takes no memory.
@@ -189,15 +190,28 @@ impl Account {
         // The call is made for its clause alone: the acts are those that their own list makes.
         self.acts();
         let mut looks = Looks::new();
+        let judgement = match self.judged(&act, &mut looks) {
+            Ok(judgement) => judgement,
+            Err(error) => {
+                // By a call, here and below: values that are let go in place are proved part by part.
+                drop(act);
+                return Err(error);
+            }
+        };
+        let (larger, keys) = match self.brought(&act, &judgement) {
+            Ok(brought) => brought,
+            Err(error) => {
+                drop((act, judgement));
+                return Err(error);
+            }
+        };
         let Judgement {
             outcome,
             is_new,
             place,
             entries,
             change,
-        } = self.judged(&act, &mut looks)?;
-        let larger = self.larger(usize::from(is_new), entries.len())?;
-        let keys = NewKeys::of(&act.kind, &outcome)?;
+        } = judgement;
         Ok(Step {
             larger,
             keys,
@@ -209,6 +223,23 @@ impl Account {
             change,
             looks: looks.count(),
         })
+    }
+
+    /// The memory and the keys that the step of this judgement of an act brings. The only error is want of memory.
+    fn brought(&self, act: &Act, judgement: &Judgement) -> Result<(Larger, NewKeys), AllocError>
+        ensures empty { IfOk result (λ brought. IsEmpty brought.0) }
+        ensures fits { IfOk result (λ brought. judgement.now.is_new ≡ true
+            → Fits self.now (space_of brought.0) (length judgement.now.entries.items)) }
+        ensures keys { IfOk result (λ brought. AreKeysOf act.now.kind judgement.now.outcome brought.1) }
+    {
+        let larger = self.larger(usize::from(judgement.is_new), judgement.entries.len())?;
+        match NewKeys::of(&act.kind, &judgement.outcome) {
+            Ok(keys) => Ok((larger, keys)),
+            Err(error) => {
+                drop(larger);
+                Err(error)
+            }
+        }
     }
 
     /// Memory for so many more acts, 0 or 1, for so many entries and for a session, if the account has no room for them. The only error
@@ -237,24 +268,35 @@ impl Account {
         ensures acts { self.new.acts ≡ acts self.old.terms (self.old.acts ++ step.act ∷ []) }
     {
         one_more_act();
-        if step.is_new {
-            keys_are_apart(&step.act);
-            sessions_hold_what_is_reserved();
-            grow_journal(&mut self.acts, step.larger.acts);
-            grow(&mut self.outcomes, step.larger.outcomes);
-            grow(&mut self.entries, step.larger.entries);
-            grow(&mut self.sessions, step.larger.sessions);
-            self.due.grow(step.larger.due);
-            self.indexes.grow(step.larger.indexes);
-            self.indexes.add(step.keys, self.acts.len() as u64 + 1);
-            self.acts.push(step.act);
-            self.outcomes.push_reserved(step.outcome);
-            append(&mut self.entries, step.entries);
-            let overrun = step
-                .change
-                .apply(&mut self.sessions, &mut self.due, &mut self.pool);
-            self.overrun += i128::from(overrun);
+        if !step.is_new {
+            // The call is made for its clause alone, as in `prepare`.
+            self.acts();
+            drop(step);
+            return;
         }
+        keys_are_apart(&step.act);
+        sessions_hold_what_is_reserved();
+        let Step {
+            larger,
+            keys,
+            act,
+            outcome,
+            entries,
+            change,
+            ..
+        } = step;
+        grow_journal(&mut self.acts, larger.acts);
+        grow(&mut self.outcomes, larger.outcomes);
+        grow(&mut self.entries, larger.entries);
+        grow(&mut self.sessions, larger.sessions);
+        self.due.grow(larger.due);
+        self.indexes.grow(larger.indexes);
+        self.indexes.add(keys, self.acts.len() as u64 + 1);
+        self.acts.push(act);
+        self.outcomes.push_reserved(outcome);
+        append(&mut self.entries, entries);
+        let overrun = change.apply(&mut self.sessions, &mut self.due, &mut self.pool);
+        self.overrun += i128::from(overrun);
     }
 
     /// The outcome of an act after the acts that were made, and the change that it makes. The only error is want of memory.
