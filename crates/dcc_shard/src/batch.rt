@@ -114,20 +114,26 @@ fn plan_act<R: Records>(
 {
     // The act is gone once it is prepared, and a refusal needs its session.
     let Ok(session) = copied(session_of_act(&act)) else {
-        return Plan::Refused {
-            reply: refusal(alloc, identity, session_of_act(&act), &way),
-        };
+        let reply = refusal(alloc, identity, session_of_act(&act), &way);
+        // By a call, here and below: values that are let go in place are proved part by part.
+        drop((act, way));
+        return Plan::Refused { reply };
     };
     match plan_step(kept, alloc, identity, number, &sub, act, &way) {
-        Ok((ready, reply)) => Plan::Step {
-            sub,
-            ready,
-            way,
-            reply,
-        },
-        Err(_) => Plan::Refused {
-            reply: refusal(alloc, identity, session.as_ref(), &way),
-        },
+        Ok((ready, reply)) => {
+            drop(session);
+            Plan::Step {
+                sub,
+                ready,
+                way,
+                reply,
+            }
+        }
+        Err(_) => {
+            let reply = refusal(alloc, identity, session.as_ref(), &way);
+            drop((session, way));
+            Plan::Refused { reply }
+        }
     }
 }
 
@@ -212,7 +218,9 @@ fn refuse_call(alloc: Global, identity: &Identity, call: Call) -> Reply
             ..
         } => {
             let way = Way::Request { header, proxies };
-            refusal(alloc, identity, session_of_act(&act), &way)
+            let reply = refusal(alloc, identity, session_of_act(&act), &way);
+            drop((act, way));
+            reply
         }
         Call::TopUp { ticket, amount, .. } => match TopUp::new(ticket, amount) {
             Some(_) => Reply::TopUp(TopUpAnswer::Refused),

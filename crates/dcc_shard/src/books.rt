@@ -146,12 +146,15 @@ impl Books {
             let step = account.prepare(act)?;
             return Ok(Pending::Known { step });
         }
-        self.accounts.reserve(1)?;
+        if let Err(error) = self.accounts.reserve(1) {
+            // By a call, here and below: values that are let go in place are proved part by part.
+            drop(act);
+            return Err(error);
+        }
         let account = Account::new(alloc, &self.terms, *self.accounts.hasher());
         let step = match account.prepare(act) {
             Ok(step) => step,
             Err(error) => {
-                // By a call: an account that is let go in place is proved part by part.
                 drop(account);
                 return Err(error);
             }
@@ -204,5 +207,6 @@ fn add(accounts: &mut IndexMap<Sub, Account, RandomState>, sub: Sub, account: Ac
         ≡ (if same_sub sub other then Some account else account_in accounts.old.entries other) }
     ensures room { spare accounts.old ≤ spare accounts.new + 1 }
 {
-    accounts.insert(sub, account).unwrap();
+    // By a call: an account that is let go in place is proved part by part.
+    drop(accounts.insert(sub, account).unwrap());
 }

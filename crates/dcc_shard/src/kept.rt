@@ -151,6 +151,8 @@ impl<R: Records> KeptBooks<R> {
         ensures records { self.new.records ≡ self.old.records }
     {
         if self.records.is_stopped() {
+            // By a call: an act that is let go in place is proved part by part.
+            drop(act);
             return Err(StoreFault::Stopped);
         }
         let ready = self.books.prepare(alloc, sub, act, number)?;

@@ -16,4 +16,4 @@ pub returns-clause-pending : goal.returns-clause-pending
 returns-clause-pending c =
     pending_first _ c.args.sub.now c.new-account.result c.args.act c.in-Ok.step
     (ap (λ (rows : List (Sub × Account)). account_in rows c.args.sub.now) c.reserve.ensures.entries ∙ sym c.in_default.ensures.value)
-    c.new-account.ensures.terms c.new-account.ensures.acts (omega (arith, c.in_ok-reserve.ensures.ok)) c.in-Ok.ensures.act c.in-Ok.ensures.prepared
+    c.new-account.ensures.terms c.new-account.ensures.acts (omega (arith, c.in_default-reserve.ensures.ok)) c.in-Ok.ensures.act c.in-Ok.ensures.prepared
