@@ -11,7 +11,7 @@ use Rattle.dcc_lane.specs.declared.rule.Tagged.{Tagged}
 use Rattle.dcc_store.specs.Books.{Held}
 use Rattle.dcc_rounds.specs.Lanes.{lanes_of}
 use Rattle.dcc_rounds.specs.Working.{CountsFor, Does, DoesCounted, Goes, IsCounted, doing_of, is_over, left_of, works_in}
-use Rattle.dcc_rounds.specs.declared.counter.SweepCounter.{SweepCounter}
+use Rattle.dcc_rounds.specs.declared.counter.CallCounter.{CallCounter}
 use Rattle.dcc_rounds.specs.declared.rest.Rest.{Rest}
 use Rattle.dcc_rounds.specs.declared.work.Work.{Work}
 use Rattle.dcc_rounds.specs.declared.worker.Worker.{Worker}
@@ -24,7 +24,7 @@ pub taken_one : {T : Type 0} (old new : Receiver T) (it item : T) → TakesOne o
 taken_one old new it item t is = ap items_of t.2 ∙ one_item (taken_of old) t.0 it ∙ ap (λ one. items_of (taken_of old) ++ one ∷ []) is
 
 -- the counter has the number of those that are left
-pub left_counted : (counter : SweepCounter) (rest : Rest) → IsCounted counter rest → counter.left ≡ length (left_of rest)
+pub left_counted : (counter : CallCounter) (rest : Rest) → IsCounted counter rest → counter.left ≡ length (left_of rest)
 left_counted counter rest is = let many = length-drop rest.asked rest.subs.items in omega (arith, is, many)
 
 -- none is left of an empty list

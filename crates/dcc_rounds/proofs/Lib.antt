@@ -3,6 +3,7 @@ pub mod Taking
 pub mod Putting
 pub mod Resting
 pub mod Doings
+pub mod Auditing
 pub mod Handings
 pub mod Tellings
 pub mod Counts
@@ -11,6 +12,7 @@ pub mod Dealing
 pub mod Gathers
 pub mod Placing
 pub mod Timings
+pub mod Watching
 pub mod LaneEnds
 pub mod Coming
 pub mod Going

@@ -10,7 +10,7 @@ use Rattle.dcc_receipts.specs.declared.receipt.Receipt.{Receipt}
 use Rattle.dcc_store.specs.Books.{Held}
 use Rattle.dcc_rounds.specs.Lanes.{all_put, lanes_of}
 use Rattle.dcc_rounds.specs.Working.{CountsFor, DoesCounted, DoesItem, Doing, Goes, IsCounted, doing_of, is_over, works_in}
-use Rattle.dcc_rounds.specs.declared.counter.SweepCounter.{SweepCounter}
+use Rattle.dcc_rounds.specs.declared.counter.CallCounter.{CallCounter}
 use Rattle.dcc_rounds.specs.declared.rest.Rest.{Rest}
 use Rattle.dcc_rounds.specs.declared.work.Request.{Request}
 use Rattle.dcc_rounds.specs.declared.work.Work.{Work}
@@ -36,13 +36,13 @@ batch_done : (opening : Held) (shard : ℕ) (requests : List Request) (old : Doi
 batch_done opening shard [] old new counted h = ap (λ (both : Told). record old { told = both.0; put = both.1 }) h
 batch_done opening shard (request ∷ requests) old new counted h =
     let mid = record old { told = h.0.0; put = h.0.1 } in
-    (mid, ((h.1, (refl, refl)), (refl, refl), counted), batch_done opening shard requests mid new counted h.2)
+    (mid, ((h.1, (refl, refl)), ((refl, refl), refl), counted), batch_done opening shard requests mid new counted h.2)
 
 answered_steps : (opening : Held) (w v : Worker) (rest : Rest) (behind : Option Work) (h : AnswersTaken w v behind) → IsCounted w.counter rest
     → FoldsTo (DoesCounted opening w.shard) (doing_of w rest) (steps_of h.requests) (doing_of v rest)
 answered_steps opening w v rest behind h counted =
-    let end = λ (counter : SweepCounter). record (doing_of w rest) { told = v.seat; put = all_put v.writers.items; counter = counter } in
-    subst (λ (counter : SweepCounter). FoldsTo (DoesCounted opening w.shard) (doing_of w rest) (steps_of h.requests) (end counter)) (sym h.counter)
+    let end = λ (counter : CallCounter). record (doing_of w rest) { told = v.seat; put = all_put v.writers.items; counter = counter } in
+    subst (λ (counter : CallCounter). FoldsTo (DoesCounted opening w.shard) (doing_of w rest) (steps_of h.requests) (end counter)) (sym h.counter)
     (batch_done opening w.shard h.requests (doing_of w rest) (v.seat, all_put v.writers.items) (left_counted w.counter rest counted) h.answered)
 
 -- requests were taken and answered, and no item behind them was taken

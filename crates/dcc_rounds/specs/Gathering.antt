@@ -15,12 +15,12 @@ use Rattle.dcc_rounds.specs.declared.tasks.Task.TheVariants as task
 use Rattle.dcc_rounds.specs.declared.work.Work.{Work}
 
 module _ {I O : Type 0} where
-  -- the workers of the shards from this one on: each takes from its own lane, has its own senders to the writers, and has no receipt and no sweep yet
+  -- the workers of the shards from this one on: each takes from its own lane, has its own senders to the writers, and has no receipt, no sweep and no audit yet
   abbrev pub workers_from : ℕ → List (Receiver Work) → List (Vec (Sender Item)) → List (Task I O)
   workers_from shard [] senders = []
   workers_from shard (from ∷ receivers) [] = []
   workers_from shard (from ∷ receivers) (writers ∷ senders) =
-      task.Work (record { shard = shard; seat = []; counter = record { lists = 0; shard = shard; left = 0 }; from = from; writers = writers }) ∷ workers_from (shard + 1) receivers senders
+      task.Work (record { shard = shard; seat = []; counter = record { lists = 0; shard = shard; left = 0; audits = 0 }; from = from; writers = writers }) ∷ workers_from (shard + 1) receivers senders
 
   -- a place has its own senders to the workers and one to its own writer; it has served nobody
   abbrev pub place_of : (stays : Bool) → (every gate : ℕ) → Option (Connection I O) → Receiver Item → Vec (Sender Work) → Sender Item → Task I O

@@ -1,5 +1,5 @@
 -- The work of a shard's worker.
-use Rattle.std.specs.Prelude.{◌≡◌, ℕ, ◌+◌, Bool, true, false, List, [], ◌++◌, ◌⊎◌, count_by, drop, filter_map, length, take, Option, Some, None}
+use Rattle.std.specs.Prelude.{◌≡◌, ℕ, ◌+◌, ◌≤◌, Bool, true, false, List, [], ◌++◌, ◌⊎◌, count_by, drop, filter_map, length, take, Option, Some, None}
 use Rattle.std.specs.List.{FoldsTo}
 use Rattle.std.specs.List.Sorted.{IsStrictlySortedBy}
 use Rattle.dcc_act.specs.declared.sub.Sub.{Sub}
@@ -17,7 +17,7 @@ use Rattle.dcc_shard.specs.declared.answers.RequestAnswer.{RequestAnswer}
 use Rattle.dcc_shard.specs.declared.answers.RequestAnswer.TheVariants as answers
 use Rattle.dcc_rounds.specs.Handing.{one_more}
 use Rattle.dcc_rounds.specs.Lanes.{all_put, lanes_of, put_into}
-use Rattle.dcc_rounds.specs.declared.counter.SweepCounter.{SweepCounter}
+use Rattle.dcc_rounds.specs.declared.counter.CallCounter.{CallCounter}
 use Rattle.dcc_rounds.specs.declared.rest.Rest.{Rest}
 use Rattle.dcc_rounds.specs.declared.work.Request.{Request}
 use Rattle.dcc_rounds.specs.declared.work.Work.{Work}
@@ -25,20 +25,20 @@ use Rattle.dcc_rounds.specs.declared.work.Work.TheVariants as work
 use Rattle.dcc_rounds.specs.declared.worker.Worker.{Worker}
 
 -- the receipts that a worker keeps, the items that it put for each gateway, the moment of its last sweep, the subscribers that this sweep has still
--- to ask, and the counter of its sweeps' calls
+-- to ask, and the counter of its calls
 pub record Doing : Type 0 where
   pub told : List Receipt
   pub put : List (List Item)
   pub moment : ℕ
   pub left : List Sub
-  pub counter : SweepCounter
+  pub counter : CallCounter
 
 -- the listed subscribers that are not asked yet
 abbrev pub left_of : Rest → List Sub
 left_of rest = drop rest.asked rest.subs.items
 
 -- the counter says how many subscribers are left
-abbrev pub IsCounted : SweepCounter → Rest → Type 0
+abbrev pub IsCounted : CallCounter → Rest → Type 0
 IsCounted counter rest = counter.left + rest.asked ≡ length rest.subs.items
 
 abbrev pub doing_of : Worker → Rest → Doing
@@ -88,7 +88,7 @@ Sweeps moment old new = ExpiresEach old.moment old.left old.told new.told × (ne
 abbrev pub AsksPiece : Doing → Doing → Type 0
 AsksPiece old new =
     (count : ℕ) × ExpiresEach old.moment (take count old.left) old.told new.told × (new.left ≡ drop count old.left) × (new.moment ≡ old.moment)
-    × (new.put ≡ old.put)
+    × (new.put ≡ old.put) × (new.counter.audits ≡ old.counter.audits)
 
 -- the sweep stays as it is
 abbrev pub KeepsSweep : Doing → Doing → Type 0
@@ -101,24 +101,29 @@ DoesItem old (work.End gate) new = (new.told ≡ old.told) × (new.put ≡ put_i
 DoesItem old work.Over new = (new.told ≡ old.told) × (new.put ≡ old.put) × KeepsSweep old new
 
 -- An audit: the first so many of the receipts that the worker keeps were true of the acts that their subscribers' shards held then, and the worker keeps
--- the others. `opening` has the acts at the opening of the shards.
+-- the others. The counter has one audit more. `opening` has the acts at the opening of the shards.
 abbrev pub Audits : Held → Doing → Doing → Type 0
 Audits opening old new =
     (told : List Receipt) × (old.told ≡ told ++ new.told) × WereTrue opening told × (new.put ≡ old.put) × KeepsSweep old new
+    × (new.counter.audits ≡ one_more old.counter.audits)
 
 -- a step of a worker: an item that it took; or a piece of its sweep, or an audit
 abbrev pub Does : Held → Doing → Option Work → Doing → Type 0
 Does opening old (Some one) new = DoesItem old one new
 Does opening old None new = AsksPiece old new ⊎ Audits opening old new
 
--- For a sweep the subscribers of the worker's shard are listed once more. No other item, no piece and no audit lists any.
-abbrev pub CountsItem : ℕ → SweepCounter → Work → SweepCounter → Type 0
-CountsItem shard old (work.Request request) new = (new.lists ≡ old.lists) × (new.shard ≡ old.shard)
-CountsItem shard old (work.Sweep moment) new = (new.lists ≡ one_more old.lists) × (new.shard ≡ shard)
-CountsItem shard old (work.End gate) new = (new.lists ≡ old.lists) × (new.shard ≡ old.shard)
-CountsItem shard old work.Over new = (new.lists ≡ old.lists) × (new.shard ≡ old.shard)
+-- no list is made and nothing is audited
+abbrev pub KeepsCalls : CallCounter → CallCounter → Type 0
+KeepsCalls old new = (new.lists ≡ old.lists) × (new.audits ≡ old.audits)
 
-abbrev pub CountsFor : ℕ → SweepCounter → Option Work → SweepCounter → Type 0
+-- For a sweep the subscribers of the worker's shard are listed once more. No other item, no piece and no audit lists any. No item is an audit.
+abbrev pub CountsItem : ℕ → CallCounter → Work → CallCounter → Type 0
+CountsItem shard old (work.Request request) new = KeepsCalls old new × (new.shard ≡ old.shard)
+CountsItem shard old (work.Sweep moment) new = (new.lists ≡ one_more old.lists) × (new.shard ≡ shard) × (new.audits ≡ old.audits)
+CountsItem shard old (work.End gate) new = KeepsCalls old new × (new.shard ≡ old.shard)
+CountsItem shard old work.Over new = KeepsCalls old new × (new.shard ≡ old.shard)
+
+abbrev pub CountsFor : ℕ → CallCounter → Option Work → CallCounter → Type 0
 CountsFor shard old (Some one) new = CountsItem shard old one new
 CountsFor shard old None new = (new.lists ≡ old.lists) × (new.shard ≡ old.shard)
 
@@ -148,20 +153,21 @@ pub record Goes (opening : Held) (old new : Worker) (first last : Rest) (ended :
   pub lanes : lanes_of new.writers.items ≡ lanes_of old.writers.items
   pub shard : new.shard ≡ old.shard
 
--- a worker that counts the calls of its sweeps from none on
+-- a worker that counts its calls from none on
 abbrev pub counting : Worker → Worker
 counting worker = record {
   shard = worker.shard;
   seat = worker.seat;
-  counter = record { lists = 0; shard = worker.shard; left = 0 };
+  counter = record { lists = 0; shard = worker.shard; left = 0; audits = 0 };
   from = worker.from;
   writers = worker.writers;
 }
 
 -- A worker went steps until so many of its senders put nothing more, with no subscriber left to be asked at the beginning or at the end. So each of
--- its sweeps asked every subscriber of its shard that was listed, once and in order.
+-- its sweeps asked every subscriber of its shard that was listed, once and in order. It audited its receipts at least as often as it listed subscribers.
 pub record HasDone (opening : Held) (old new : Worker) (ended : ℕ) : Type 0 where
   pub first : Rest
   pub last : Rest
   pub nothing_left : (left_of first ≡ []) × (left_of last ≡ [])
   pub goes : Goes opening (counting old) new first last ended
+  pub audited : new.counter.lists ≤ new.counter.audits

@@ -1,1 +1,3 @@
+pub mod Auditing
 pub mod Batches
+pub mod Watching

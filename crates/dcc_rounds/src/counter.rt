@@ -1,45 +1,52 @@
-//! The calls of a worker's sweeps, counted. A refused expiry leaves nothing that a clause can see, so that no clause of a seat shows that
-//! each subscriber was asked.
+//! The calls of a worker's sweeps and audits, counted. A refused expiry and an audit that fails leave nothing that a clause can see, so that no clause of
+//! a seat shows that each subscriber was asked, or that receipts were audited.
 
-ghost use Rattle.std.specs.Prelude.{◌≡◌, ◌<◌, ◌≤◌, ◌+◌, true, length, IfNone, IfSome};
+ghost use Rattle.std.specs.Prelude.{◌≡◌, ◌<◌, ◌≤◌, ◌+◌, ◌++◌, true, List, [], length, IfNone, IfOk, IfSome};
 ghost use Rattle.std.specs.List.Sorted.{IsStrictlySortedBy};
 ghost use Rattle.dcc_store.specs.Books.{sub_order};
+ghost use Rattle.dcc_receipts.specs.declared.receipt.Receipt.{Receipt};
+ghost use Rattle.dcc_running.specs.Audited.{WereTrue};
 ghost use Rattle.dcc_running.specs.Batches.{are_of_one_shard};
 ghost use Rattle.dcc_running.specs.Calls.{AreSubs};
 ghost use Rattle.dcc_shard.specs.Shards.{are_apart};
 ghost use Rattle.dcc_rounds.specs.Handing.{one_more};
-ghost use Rattle.dcc_rounds.specs.Working.{Expires, ExpiresEach};
+ghost use Rattle.dcc_rounds.specs.Working.{Expires, ExpiresEach, KeepsCalls};
 
 use dcc_act::{Moment, Sub};
+use dcc_receipts::CloseFault;
 use dcc_running::{Naming, Seat, Shards};
 use dcc_shard::ExpiryAnswer;
 use dcc_store::Records;
 use std::alloc::Global;
 use std::sync::Wait;
 
-/// How often the subscribers of a shard were listed, of which shard last, and how many of these are not asked yet. Only
-/// [`SweepCounter::list`], [`SweepCounter::ask`] and [`SweepCounter::ask_all`] change it.
+/// How often the subscribers of a shard were listed, of which shard last, and how many of these are not asked yet; and how often receipts were audited.
+/// Only [`CallCounter::list`], [`CallCounter::ask`], [`CallCounter::ask_all`] and [`CallCounter::audit`] change it.
 #[derive(Drop)]
-pub(crate) struct SweepCounter {
+pub(crate) struct CallCounter {
     lists: u64,
     shard: usize,
     left: usize,
+    audits: u64,
 }
 
-impl SweepCounter {
-    /// The counter of a worker of this shard: nothing was listed.
-    pub fn new(shard: usize) -> SweepCounter
-        ensures { result ≡ record { lists = 0; shard = shard; left = 0 } }
+impl CallCounter {
+    /// The counter of a worker of this shard: nothing was listed or audited.
+    pub fn new(shard: usize) -> CallCounter
+        ensures { result ≡ record { lists = 0; shard = shard; left = 0; audits = 0 } }
     {
-        SweepCounter {
+        CallCounter {
             lists: 0,
             shard,
             left: 0,
+            audits: 0,
         }
     }
 
     /// How often subscribers were listed.
-    pub fn lists(&self) -> u64 {
+    pub fn lists(&self) -> u64
+        ensures { result ≡ self.now.lists }
+    {
         self.lists
     }
 
@@ -54,8 +61,8 @@ impl SweepCounter {
     ) -> Option<Vec<Sub>>
         requires shard { shard < shards.now.count }
         requires none_left { self.old.left ≡ 0 }
-        ensures listed { IfSome result (λ subs. self.new ≡ record { lists = one_more self.old.lists; shard = shard; left = length subs.items }) }
-        ensures short { IfNone result (self.new ≡ record { lists = one_more self.old.lists; shard = shard; left = 0 }) }
+        ensures listed { IfSome result (λ subs. self.new ≡ record { lists = one_more self.old.lists; shard = shard; left = length subs.items; audits = self.old.audits }) }
+        ensures short { IfNone result (self.new ≡ record { lists = one_more self.old.lists; shard = shard; left = 0; audits = self.old.audits }) }
         ensures order { IfSome result (λ subs. IsStrictlySortedBy sub_order subs.items) }
         ensures held { IfSome result (λ subs. AreSubs subs.items) }
     {
@@ -80,7 +87,7 @@ impl SweepCounter {
     ) -> ExpiryAnswer
         requires { 0 < self.old.left }
         ensures asked { self.new.left + 1 ≡ self.old.left }
-        ensures same { (self.new.lists ≡ self.old.lists) × (self.new.shard ≡ self.old.shard) }
+        ensures calls { KeepsCalls self.old self.new × (self.new.shard ≡ self.old.shard) }
         ensures expires { Expires moment seat.old sub seat.new }
     {
         self.left -= 1;
@@ -102,10 +109,26 @@ impl SweepCounter {
         requires apart { are_apart subs.now ≡ true }
         requires shard { are_of_one_shard shards.now.count subs.now ≡ true }
         ensures asked { self.new.left + length subs.now ≡ self.old.left }
-        ensures same { (self.new.lists ≡ self.old.lists) × (self.new.shard ≡ self.old.shard) }
+        ensures calls { KeepsCalls self.old self.new × (self.new.shard ≡ self.old.shard) }
         ensures expires { ExpiresEach moment subs.now seat.old seat.new }
     {
         self.left -= subs.len();
         shards.expire_all(rt, alloc, seat, subs, moment);
+    }
+
+    /// Audits the receipts of a seat, by [`Shards::audit`].
+    pub fn audit<W: Wait, R: Records, J: Naming>(
+        &mut self,
+        rt: &W,
+        alloc: Global,
+        shards: &Shards<R, J>,
+        seat: &mut Seat,
+    ) -> Result<usize, CloseFault>
+        ensures counted { self.new ≡ record self.old { audits = one_more self.old.audits } }
+        ensures empty { IfOk result (λ count. (seat.new ≡ []) × (count ≡ length seat.old)) }
+        ensures told { (told : List Receipt) × (seat.old ≡ told ++ seat.new) × WereTrue J.opening told }
+    {
+        self.audits = self.audits.saturating_add(1);
+        shards.audit(rt, alloc, seat)
     }
 }

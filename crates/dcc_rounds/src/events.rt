@@ -1,5 +1,7 @@
 //! Events that are counted.
 
+ghost use Rattle.std.specs.Prelude.{◌≡◌, length};
+
 use crate::batch::BATCH;
 use crate::face::{Event, Notice, Notices};
 use crate::work::Request;
@@ -45,7 +47,9 @@ impl<N: Notices> Events<'_, N> {
     }
 
     /// Counts the receipts of the worker's seat behind its first `counted` receipts, and returns the number of all its receipts.
-    pub fn told(&self, seat: &Seat, counted: usize) -> usize {
+    pub fn told(&self, seat: &Seat, counted: usize) -> usize
+        ensures { result ≡ length seat.now }
+    {
         let shard = self.shard;
         let receipts = seat.receipts();
         for receipt in receipts.get(counted..).unwrap_or(&[]) {

@@ -1,6 +1,6 @@
 //! What the server is given from outside: the source of its connections, and the receiver of its notices.
 
-ghost use Rattle.std.specs.Prelude.{◌≡◌, List, IfNone};
+ghost use Rattle.std.specs.Prelude.{◌≡◌, ℕ, List, IfNone};
 ghost use Rattle.dcc_receipts.specs.declared.receipt.Receipt.{Receipt};
 ghost use Rattle.dcc_rounds.specs.declared.face.Tick.TheVariants as end;
 
@@ -89,7 +89,7 @@ pub trait Shut: Write {
 }
 
 /// What happened to a gateway or a shard. Gateways are counted from 1 in each round, shards from 0.
-#[derive(Clone, Copy, Debug)]
+#[derive(Clone, Copy)]
 pub enum Notice<'a> {
     /// A gateway came from here.
     Came {
@@ -111,10 +111,6 @@ pub enum Notice<'a> {
         gate: usize,
         end: WriteEnd,
     },
-    /// The records of a shard failed, and it answers busy from then on.
-    Stopped {
-        shard: usize,
-    },
     /// So many receipts of a shard's worker agree with the books. They were compared in so many microseconds, while the shard went on.
     Audited {
         shard: usize,
@@ -129,7 +125,7 @@ pub enum Notice<'a> {
 }
 
 /// What is counted while a server runs. Shards are counted from 0.
-#[derive(Clone, Copy, Debug)]
+#[derive(Clone, Copy)]
 pub enum Event<'a> {
     /// A message of a gateway was read.
     Read {
@@ -172,8 +168,15 @@ pub enum Sign {
 
 /// The receiver of notices of what happened, and of events that are counted, from several threads at once.
 pub trait Notices {
+    /// That it was told of the stop of this shard, counted from 0.
+    ghost has_told: { ℕ → Type 0 };
+
     /// Takes a notice. It may wait.
     fn tell<W: Wait>(&self, rt: &W, notice: Notice<'_>);
+
+    /// Takes the notice that the records of this shard failed, so that it answers busy from then on. It may wait.
+    fn tell_stop<W: Wait>(&self, rt: &W, shard: usize)
+        ensures { has_told shard };
 
     /// The number of microseconds since a moment in the past. It takes no memory.
     fn ticks(&self) -> u64;

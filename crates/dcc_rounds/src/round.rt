@@ -10,7 +10,7 @@ ghost use Rattle.dcc_rounds.specs.Served.{EndsRound, IsRound};
 ghost use Rattle.dcc_rounds.specs.Tasks.{AllRun};
 
 use crate::attendant::Attendant;
-use crate::counter::SweepCounter;
+use crate::counter::CallCounter;
 use crate::face::{Connection, Listener, Notices, Shut};
 use crate::fault::{ServeFault, of_close};
 use crate::finishing::finished;
@@ -304,7 +304,7 @@ fn add_workers<R: Records, J: Naming, I: Drop, O: Drop>(
         tasks.push_reserved(Task::Work(Worker {
             shard,
             seat,
-            counter: SweepCounter::new(shard),
+            counter: CallCounter::new(shard),
             from,
             writers,
         }));

@@ -6,7 +6,7 @@ ghost use Rattle.dcc_rounds.specs.Lines.{AreTold, EndsWith};
 ghost use Rattle.dcc_rounds.specs.Served.{AreServed, EndsServing, IsGoodRound, is_any_stopped};
 ghost use Rattle.dcc_shard.specs.Stored.{StoredView};
 
-use crate::face::{Listener, Notice, Notices, Shut};
+use crate::face::{Listener, Notices, Shut};
 use crate::fault::ServeFault;
 use crate::line::write_line;
 use crate::round::serve_round;
@@ -111,7 +111,7 @@ fn tell_stopped<W: Wait, R: Records, N: Notices>(rt: &W, notices: &N, shards: &[
     let mut stopped = false;
     for shard in 0..shards.len() {
         if shards[shard].records().is_stopped() {
-            notices.tell(rt, Notice::Stopped { shard });
+            notices.tell_stop(rt, shard);
             stopped = true;
         }
     }

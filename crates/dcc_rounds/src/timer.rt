@@ -1,9 +1,11 @@
 //! Sweeps by time.
 
-ghost use Rattle.std.specs.Prelude.{◌≡◌, true};
+ghost use Rattle.std.specs.Prelude.{◌≡◌, ◌<◌, ◌⊎◌, true, false};
+ghost use Rattle.dcc_running.specs.Calls.{IsToldStopped};
 ghost use Rattle.dcc_rounds.specs.Timing.{Times, TimesSweeps};
+ghost use Rattle.dcc_rounds.specs.inner.Watching.{AreMarked, AreWatched};
 
-use crate::face::{Listener, Notice, Notices, Tick};
+use crate::face::{Listener, Notices, Tick};
 use crate::lanes::{ask_all_to_sweep, leave_all};
 use crate::tasks::Shared;
 use crate::work::Work;
@@ -37,7 +39,8 @@ impl SweepTimer {
         C: Clock + Copy,
         N: Notices,
     >(&mut self, rt: &W, shared: &Shared<'_, R, J, L, C, N>)
-        ensures { Times C.tells L.is_closed shared.now.clock.now self.old self.new }
+        ensures timed { Times C.tells L.is_closed shared.now.clock.now self.old self.new }
+        ensures watched { self.old.stays ≡ true → AreWatched R.is_stopped N.has_told shared.now.count }
     {
         if self.stays {
             let mut clock = *shared.clock;
@@ -56,6 +59,7 @@ impl SweepTimer {
         ensures swept { TimesSweeps C.tells self.old clock.old self.new clock.new }
         ensures closed { L.is_closed }
         ensures stays { self.new.stays ≡ self.old.stays }
+        ensures watched { AreWatched R.is_stopped N.has_told shared.now.count }
     {
         let mut told = [false; MOST_SHARDS];
         for _ in rt.forever() {
@@ -75,11 +79,31 @@ fn tell_stopped<W: Wait, R: Records, J: Naming, L, C, N: Notices>(
     rt: &W,
     shared: &Shared<'_, R, J, L, C, N>,
     told: &mut [bool; MOST_SHARDS],
-) {
+)
+    requires { AreMarked N.has_told 0 told.old }
+    ensures told { AreMarked N.has_told 0 told.new }
+    ensures watched { AreWatched R.is_stopped N.has_told shared.now.count }
+{
     for shard in 0..shared.count.min(MOST_SHARDS) {
-        if !told[shard] && shared.shards.is_stopped(rt, shard) {
-            told[shard] = true;
-            shared.notices.tell(rt, Notice::Stopped { shard });
-        }
+        tell_once(rt, shared, shard, &mut told[shard]);
     }
+}
+
+/// Reports a shard if its records have failed, once.
+fn tell_once<W: Wait, R: Records, J: Naming, L, C, N: Notices>(
+    rt: &W,
+    shared: &Shared<'_, R, J, L, C, N>,
+    shard: usize,
+    told: &mut bool,
+)
+    requires shard { shard < shared.now.count }
+    requires told { told.old ≡ true → N.has_told shard }
+    ensures told { told.new ≡ true → N.has_told shard }
+    ensures watched { N.has_told shard ⊎ IsToldStopped R.is_stopped false }
+{
+    if *told || !shared.shards.is_stopped(rt, shard) {
+        return;
+    }
+    shared.notices.tell_stop(rt, shard);
+    *told = true;
 }

@@ -4,11 +4,12 @@ ghost use Rattle.std.specs.Prelude.{◌≡◌, ◌<◌, ◌≤◌, ◌+◌, ◌�
 ghost use Rattle.dcc_lane.specs.Ends.{IsSameReceiver, TakesOne, senders_of, taken_of};
 ghost use Rattle.dcc_rounds.specs.Handing.{one_more};
 ghost use Rattle.dcc_rounds.specs.Lanes.{all_put, lanes_of};
-ghost use Rattle.dcc_rounds.specs.Working.{Answers, AreListed, CountsFor, DoesItem, ExpiresEach, Goes, HasDone, IsCounted, doing_of, is_over, left_of, octets_in};
+ghost use Rattle.dcc_rounds.specs.Working.{Answers, AreListed, CountsFor, DoesItem, ExpiresEach, Goes, HasDone, IsCounted, KeepsCalls, doing_of, is_over, left_of, octets_in};
+ghost use Rattle.dcc_rounds.specs.inner.Auditing.{AuditsIfDue, ListsOnce};
 ghost use Rattle.dcc_rounds.specs.inner.Batches.{AnswersTaken};
 
 use crate::batch::{BATCH, answer_batch, gather, leave_answer};
-use crate::counter::SweepCounter;
+use crate::counter::CallCounter;
 use crate::events::Events;
 use crate::face::Notices;
 use crate::lanes::{leave_in, ring_all};
@@ -40,8 +41,8 @@ pub(crate) struct Worker {
     /// The index of its shard.
     pub shard: usize,
     pub seat: Seat,
-    /// Counts the calls of its sweeps, from none on in each run.
-    pub counter: SweepCounter,
+    /// Counts the calls of its sweeps and audits, from none on in each run.
+    pub counter: CallCounter,
     pub from: Receiver<Work>,
     /// One for each place's writer, by its index.
     pub writers: Vec<Sender<Item>>,
@@ -69,7 +70,7 @@ impl Worker {
         requires { self.old.shard < shards.now.count }
         ensures { HasDone J.opening self.old self.new (senders_of self.old.from) }
     {
-        self.counter = SweepCounter::new(self.shard);
+        self.counter = CallCounter::new(self.shard);
         let shard = self.shard;
         let events = Events { notices, shard };
         let mut counted = self.seat.receipts().len();
@@ -117,6 +118,8 @@ impl Worker {
         requires { IsCounted self.old.counter rest.now }
         ensures goes { Goes J.opening self.old self.new rest.now rest.now 0 }
         ensures counted { IsCounted self.new.counter rest.now }
+        ensures audited { AuditsIfDue due.old (length self.old.seat) self.old.counter self.new.counter }
+        ensures due { due.new.lists ≡ self.new.counter.lists }
     {
         let counted = events.told(&self.seat, counted);
         let lists = self.counter.lists();
@@ -124,7 +127,7 @@ impl Worker {
             return counted;
         }
         let begun = events.notices.ticks();
-        let audited = shards.audit(rt, alloc, &mut self.seat);
+        let audited = self.counter.audit(rt, alloc, shards, &mut self.seat);
         events.audited(rt, audited, begun);
         let kept = self.seat.receipts().len();
         *due = Due {
@@ -151,6 +154,7 @@ impl Worker {
         requires empty { batch.old.items ≡ [] }
         ensures goes { Goes J.opening self.old self.new rest.old rest.new (if result then 1 else 0) }
         ensures counted { IsCounted self.new.counter rest.new }
+        ensures lists { ListsOnce self.old.counter self.new.counter }
         ensures empty { batch.new.items ≡ [] }
     {
         let waits = rest.count() == 0;
@@ -252,6 +256,7 @@ impl Worker {
         requires { IsCounted self.old.counter rest.old }
         ensures goes { Goes J.opening self.old self.new rest.old rest.new 0 }
         ensures counted { IsCounted self.new.counter rest.new }
+        ensures calls { KeepsCalls self.old.counter self.new.counter }
     {
         let count = rest.count().min(PIECE);
         if count == 0 {
@@ -359,7 +364,7 @@ fn sweep<W: Wait, R: Records, J: Naming>(
     shards: &Shards<R, J>,
     shard: usize,
     seat: &mut Seat,
-    counter: &mut SweepCounter,
+    counter: &mut CallCounter,
     rest: &mut Rest,
     moment: Moment,
 )
@@ -368,7 +373,7 @@ fn sweep<W: Wait, R: Records, J: Naming>(
     ensures asked { ExpiresEach rest.old.moment (left_of rest.old) seat.old seat.new }
     ensures listed { AreListed (left_of rest.new) }
     ensures moment { rest.new.moment ≡ moment }
-    ensures calls { (counter.new.lists ≡ one_more counter.old.lists) × (counter.new.shard ≡ shard) }
+    ensures calls { (counter.new.lists ≡ one_more counter.old.lists) × (counter.new.shard ≡ shard) × (counter.new.audits ≡ counter.old.audits) }
     ensures counted { IsCounted counter.new rest.new }
 {
     let left = rest.count();
@@ -390,7 +395,7 @@ fn ask_next<W: Wait, R: Records, J: Naming>(
     alloc: Global,
     shards: &Shards<R, J>,
     seat: &mut Seat,
-    counter: &mut SweepCounter,
+    counter: &mut CallCounter,
     rest: &mut Rest,
     count: usize,
 )
@@ -400,7 +405,7 @@ fn ask_next<W: Wait, R: Records, J: Naming>(
     ensures left { left_of rest.new ≡ drop count (left_of rest.old) }
     ensures fewer { counter.new.left + count ≡ counter.old.left }
     ensures moment { rest.new.moment ≡ rest.old.moment }
-    ensures calls { (counter.new.lists ≡ counter.old.lists) × (counter.new.shard ≡ counter.old.shard) }
+    ensures calls { KeepsCalls counter.old counter.new × (counter.new.shard ≡ counter.old.shard) }
     ensures counted { IsCounted counter.new rest.new }
 {
     let end = rest.asked + count;
@@ -422,14 +427,14 @@ fn expire_pieces<W: Wait, R: Records, J: Naming>(
     alloc: Global,
     shards: &Shards<R, J>,
     seat: &mut Seat,
-    counter: &mut SweepCounter,
+    counter: &mut CallCounter,
     subs: &[Sub],
     moment: Moment,
 )
     requires { length subs.now ≤ counter.old.left }
     ensures expired { ExpiresEach moment subs.now seat.old seat.new }
     ensures asked { counter.new.left + length subs.now ≡ counter.old.left }
-    ensures calls { (counter.new.lists ≡ counter.old.lists) × (counter.new.shard ≡ counter.old.shard) }
+    ensures calls { KeepsCalls counter.old counter.new × (counter.new.shard ≡ counter.old.shard) }
 {
     let mut left = subs;
     while !left.is_empty() {
@@ -445,14 +450,14 @@ fn expire_piece<W: Wait, R: Records, J: Naming>(
     alloc: Global,
     shards: &Shards<R, J>,
     seat: &mut Seat,
-    counter: &mut SweepCounter,
+    counter: &mut CallCounter,
     subs: &[Sub],
     moment: Moment,
 )
     requires { length subs.now ≤ counter.old.left }
     ensures expired { ExpiresEach moment subs.now seat.old seat.new }
     ensures asked { counter.new.left + length subs.now ≡ counter.old.left }
-    ensures calls { (counter.new.lists ≡ counter.old.lists) × (counter.new.shard ≡ counter.old.shard) }
+    ensures calls { KeepsCalls counter.old counter.new × (counter.new.shard ≡ counter.old.shard) }
 {
     if shards.is_one_batch(subs) {
         counter.ask_all(rt, alloc, shards, seat, subs, moment);
@@ -467,14 +472,14 @@ fn expire_each<W: Wait, R: Records, J: Naming>(
     alloc: Global,
     shards: &Shards<R, J>,
     seat: &mut Seat,
-    counter: &mut SweepCounter,
+    counter: &mut CallCounter,
     subs: &[Sub],
     moment: Moment,
 )
     requires { length subs.now ≤ counter.old.left }
     ensures expired { ExpiresEach moment subs.now seat.old seat.new }
     ensures asked { counter.new.left + length subs.now ≡ counter.old.left }
-    ensures calls { (counter.new.lists ≡ counter.old.lists) × (counter.new.shard ≡ counter.old.shard) }
+    ensures calls { KeepsCalls counter.old counter.new × (counter.new.shard ≡ counter.old.shard) }
 {
     for sub in subs {
         let _answer = counter.ask(rt, alloc, shards, seat, *sub, moment);

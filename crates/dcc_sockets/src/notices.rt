@@ -49,6 +49,14 @@ impl<P: Eprint + Clock> NoticeLines<'_, P> {
 }
 
 impl<P: Eprint + Clock> Notices for NoticeLines<'_, P> {
+    ghost has_told = { λ _. Unit {0} };
+
+    fn tell_stop<W: Wait>(&self, _rt: &W, shard: usize) {
+        let _lost = self
+            .print
+            .eprintln(format_args!("dcc: shard {shard} stopped: store fault 51"));
+    }
+
     fn tell<W: Wait>(&self, rt: &W, notice: Notice<'_>) {
         match notice {
             Notice::Came { .. } => self.meters.came(),
@@ -68,7 +76,7 @@ impl<P: Eprint + Clock> Notices for NoticeLines<'_, P> {
                     self.meters.disagreed();
                 }
             }
-            Notice::Read { .. } | Notice::Stopped { .. } => {}
+            Notice::Read { .. } => {}
         }
         let line = NoticeLine { notice };
         let _lost = self.print.eprintln(line);
@@ -156,7 +164,6 @@ impl fmt::Display for NoticeLine<'_> {
                     }
                 }
             }
-            Notice::Stopped { shard } => write!(f, "dcc: shard {shard} stopped: store fault 51"),
             Notice::Audited {
                 receipts,
                 micros,

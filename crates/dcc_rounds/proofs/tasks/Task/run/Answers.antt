@@ -26,7 +26,7 @@ returns-in-Time g c =
     subst
     (λ (old : Task g.row.I.Denot g.row.O.Denot). Runs g.I.Read.remaining g.O.Write.contents g.C.Clock.tells g.L.Listener.is_closed g.L.Listener.attends shared.clock.now
     (record { plan = shared.plan.now; identity = shared.identity.now }) g.J.Naming.opening shared.count old (task.Time c.run-in-Time.new.self))
-    (sym c.in-Time.is) (c.run-in-Time.new.self, refl, c.run-in-Time.ensures)
+    (sym c.in-Time.is) (c.run-in-Time.new.self, refl, c.run-in-Time.ensures.timed)
 
 pub returns-in-Place : goal.returns-in-Place
 returns-in-Place g c =

@@ -6,8 +6,8 @@ use Rattle.dcc_rounds.proofs.Timings.{times_of}
 use Rattle.dcc_rounds.proofs.timer.SweepTimer.run.Goals as goal
 use Rattle.dcc_rounds.proofs.timer.SweepTimer.run.Goals.{else-self, then-self}
 
-pub returns : goal.returns
-returns g c =
+pub returns-clause-timed : goal.returns-clause-timed
+returns-clause-timed g c =
     let old = c.args.self.now in
     let new : SweepTimer = record { stays = c.if-self.self.stays; workers = c.leave_all.new.workers } in
     let clock = c.args.shared.now.clock.now in
@@ -23,3 +23,9 @@ returns g c =
           (c.leave_all.ensures.put ∙ ap (λ (t : SweepTimer). put_all work.Over (all_put t.workers.items)) w.self-is)
           (c.leave_all.ensures.lanes ∙ ap (λ (t : SweepTimer). lanes_of t.workers.items) w.self-is)
     ]
+
+pub returns-clause-watched : goal.returns-clause-watched
+returns-clause-watched g c on = elim c.if-self.branch [
+  | then-self w ↦ w.sweep_on_time.ensures.watched
+  | else-self w ↦ absurd (true≢false (sym on ∙ w.if-self.false))
+]

@@ -2,6 +2,7 @@ use Rattle.std.proofs.Common.{[], ◌∷◌, ◌++◌, refl, ◌∙◌}
 use Rattle.std.proofs.lemmas.Fn.{FoldsTo-push}
 use Rattle.dcc_rounds.specs.Lanes.{all_put}
 use Rattle.dcc_rounds.specs.Timing.{AsksAt}
+use Rattle.dcc_rounds.proofs.Watching.{none_marked}
 use Rattle.dcc_rounds.proofs.timer.SweepTimer.sweep_on_time.Goals as goal
 
 pub loop-preserved : goal.loop-preserved
@@ -14,7 +15,8 @@ loop-preserved g c =
         c.ask_all_to_sweep.ensures.lanes ∙ was.0.2,
       ),
       was.1,
+      c.tell_stopped.ensures.told,
     )
 
 pub loop-init : goal.loop-init
-loop-init g c = (([], refl, refl), refl)
+loop-init g c = (([], refl, refl), refl, none_marked g.N.Notices.has_told 0)

@@ -1,9 +1,12 @@
-use Rattle.std.proofs.Common.{◌≡◌, ◌≤◌, ◌+◌, ◌∙◌, [], refl, sym, ap, subst, length, if◌then◌else◌, arith}
+use Rattle.std.proofs.Common.{◌≡◌, ◌≤◌, ◌+◌, ◌∙◌, [], inl, refl, sym, ap, subst, length, if◌then◌else◌, arith}
 use Rattle.std.proofs.lemmas.List.{drop_all}
 use Rattle.std.specs.Global.{Vec}
 use Rattle.dcc_rounds.specs.Working.{Goes, counting}
-use Rattle.dcc_rounds.specs.declared.counter.SweepCounter.{SweepCounter}
+use Rattle.dcc_rounds.specs.declared.counter.CallCounter.{CallCounter}
 use Rattle.dcc_rounds.specs.declared.work.Request.{Request}
+use Rattle.dcc_rounds.specs.declared.worker.Worker.{Worker}
+use Rattle.dcc_rounds.specs.inner.Auditing.{ListsOnce}
+use Rattle.dcc_rounds.proofs.Auditing.{audited_on}
 use Rattle.dcc_rounds.proofs.Doings.{goes_on, no_step, none_listed, same_end}
 use Rattle.dcc_rounds.proofs.worker.Worker.run.Goals as goal
 use Rattle.dcc_rounds.proofs.worker.Worker.run.Goals.{then-ended-senders+then-take_some, then-ended-senders+else-take_some, else-ended-senders+else-count-eq0}
@@ -13,7 +16,9 @@ loop-init g c =
     let old = c.args.self.now in
     let counter = c.new-self.ensures in
     let rest = c.new-rest.ensures in
-    let left = ap (λ (k : SweepCounter). k.left) counter in
+    let left = ap (λ (k : CallCounter). k.left) counter in
+    let lists = ap (λ (k : CallCounter). k.lists) counter in
+    let audits = ap (λ (k : CallCounter). k.audits) counter in
     let none = ap (λ subs. length subs) rest.0 in
     let first = rest.1 in
     record {
@@ -21,9 +26,12 @@ loop-init g c =
         c.new-rest.result,
         none_listed c.new-rest.result rest.0,
         no_step g.J.Naming.opening (counting old) (record old { counter = c.new-self.result }) c.new-rest.result
-            (ap (λ (k : SweepCounter). record old { counter = k }) counter),
+            (ap (λ (k : CallCounter). record old { counter = k }) counter),
       );
       counted = omega (arith, left, none, first);
+      audited = omega (arith, lists, audits);
+      most = omega (arith, audits);
+      due = c.lists.ensures;
       few = omega arith;
       shard = refl;
       empty = c.new-batch.ensures.items;
@@ -40,6 +48,7 @@ returns-then-count-eq0 g c =
       last = rest;
       nothing_left = (h.1, drop_all rest.asked rest.subs.items (omega (arith, c.count.ensures, c.if-count-eq0.true)));
       goes = subst (λ k. Goes g.J.Naming.opening (counting c.args.self.now) c.loop.self h.0 rest k) (all ∙ c.loop.invariant.all) h.2;
+      audited = c.loop.invariant.audited;
     }
 
 pub loop-preserved : goal.loop-preserved
@@ -70,6 +79,16 @@ loop-preserved g c =
       | then-ended-senders+else-take_some w ↦ ap (λ (batch : Vec Request). batch.items) w.batch-is ∙ w.take_some.ensures.empty
       | else-ended-senders+else-count-eq0 w ↦ ap (λ (batch : Vec Request). batch.items) w.batch-is ∙ i.empty
     ] in
+    let once : ListsOnce c.loop.self.counter taken.self.counter = elim taken.branch [
+      | then-ended-senders+then-take_some w ↦
+          subst (λ (v : Worker). ListsOnce c.loop.self.counter v.counter) (sym w.self-is) w.take_some.ensures.lists
+      | then-ended-senders+else-take_some w ↦
+          subst (λ (v : Worker). ListsOnce c.loop.self.counter v.counter) (sym w.self-is) w.take_some.ensures.lists
+      | else-ended-senders+else-count-eq0 w ↦ subst (λ (v : Worker). ListsOnce c.loop.self.counter v.counter) (sym w.self-is) (inl refl, refl)
+    ] in
+    let told = c.tell_receipts-counted.ensures in
+    let kept = audited_on c.loop.self.counter taken.self.counter c.ask_piece.new.self.counter c.tell_receipts-counted.new.self.counter c.loop.due
+    (length c.ask_piece.new.self.seat) once c.ask_piece.ensures.calls told.audited i.due i.audited i.most in
     let same : taken.ended ≡ taken.ended + 0 = omega arith in
     let asked : Goes g.J.Naming.opening (counting old) c.ask_piece.new.self h.0 c.ask_piece.new.rest taken.ended =
     subst (λ k. Goes g.J.Naming.opening (counting old) c.ask_piece.new.self h.0 c.ask_piece.new.rest k) (sym same)
@@ -83,6 +102,9 @@ loop-preserved g c =
             c.tell_receipts-counted.ensures.goes),
       );
       counted = c.tell_receipts-counted.ensures.counted;
+      audited = kept.0;
+      most = kept.1;
+      due = told.due;
       few = few;
       shard = c.tell_receipts-counted.ensures.goes.shard ∙ c.ask_piece.ensures.goes.shard ∙ on.shard;
       empty = empty;

@@ -1,4 +1,4 @@
-use Rattle.std.proofs.Common.{◌≡◌, ◌≤◌, []}
+use Rattle.std.proofs.Common.{◌≡◌, ◌≤◌, ◌<◌, ◌^◌, []}
 use Rattle.dcc_lane.specs.Ends.{senders_of}
 use Rattle.dcc_rounds.specs.Working.{Goes, IsCounted, counting, left_of}
 use Rattle.dcc_rounds.specs.declared.rest.Rest.{Rest}
@@ -8,6 +8,9 @@ abbrev pub invariant-loop : goal.invariant-loop
 invariant-loop g l = record {
   done : (first : Rest) × (left_of first ≡ []) × Goes g.J.Naming.opening (counting l.fn.self) l.self first l.rest l.ended;
   counted : IsCounted l.self.counter l.rest;
+  audited : l.self.counter.lists ≤ l.self.counter.audits;
+  most : l.self.counter.audits < 2 ^ 64;
+  due : l.due.lists ≡ l.self.counter.lists;
   few : l.ended ≤ l.senders;
   shard : l.self.shard ≡ l.fn.self.shard;
   empty : l.batch.items ≡ [];
