@@ -2,6 +2,7 @@
 
 use dcc_metrics::Meters;
 use std::alloc::Global;
+use std::process::Abort;
 use std::sync::Wait;
 use std::test::Fail;
 
@@ -64,7 +65,10 @@ fn counted<R: Wait>(rt: &R, alloc: Global) -> Result<Vec<u8>, Fail> {
     let meters = Meters::new(alloc, 2, 3)?;
     count_messages(rt, &meters);
     count_work(&meters);
-    Ok(meters.page(rt, alloc)?)
+    let page = meters.page(rt, alloc);
+    // By a call, here and below: counters that are let go in place are proved part by part.
+    drop(meters);
+    Ok(page?)
 }
 
 #[test]
@@ -74,33 +78,41 @@ fn each_event_is_counted(rt: HostRuntime) -> Result<(), Fail> {
     Ok(())
 }
 
+/// Counts acts and audits, and looks at the acts that are due behind each.
+fn check_acts(rt: &impl Abort, meters: &Meters) {
+    assert_eq!(rt; meters.acts_to_keep(0, true), None);
+    meters.open(1, 6, 70);
+    assert_eq!(rt; meters.acts_to_keep(1, false), None);
+    assert_eq!(rt; meters.acts_to_keep(1, true), Some(70));
+    assert_eq!(rt; meters.acts_to_keep(1, true), None);
+    meters.audited(1, 34, 97);
+    assert_eq!(rt; meters.acts_to_keep(1, false), None);
+    meters.act(1, 1);
+    assert_eq!(rt; meters.acts_to_keep(1, false), Some(71));
+    meters.act(1, 2);
+    assert_eq!(rt; meters.acts_to_keep(1, false), None);
+    meters.audited(1, 1, 0);
+    assert_eq!(rt; meters.acts_to_keep(1, false), Some(72));
+    // No shard has this index.
+    assert_eq!(rt; meters.acts_to_keep(2, true), None);
+}
+
 #[test]
 fn acts_are_due_if_they_have_grown(rt: HostRuntime) -> Result<(), Fail> {
     let meters = Meters::new(rt.alloc(), 2, 0)?;
-    assert_eq!(&rt; meters.acts_to_keep(0, true), None);
-    meters.open(1, 6, 70);
-    assert_eq!(&rt; meters.acts_to_keep(1, false), None);
-    assert_eq!(&rt; meters.acts_to_keep(1, true), Some(70));
-    assert_eq!(&rt; meters.acts_to_keep(1, true), None);
-    meters.audited(1, 34, 97);
-    assert_eq!(&rt; meters.acts_to_keep(1, false), None);
-    meters.act(1, 1);
-    assert_eq!(&rt; meters.acts_to_keep(1, false), Some(71));
-    meters.act(1, 2);
-    assert_eq!(&rt; meters.acts_to_keep(1, false), None);
-    meters.audited(1, 1, 0);
-    assert_eq!(&rt; meters.acts_to_keep(1, false), Some(72));
-    // No shard has this index.
-    assert_eq!(&rt; meters.acts_to_keep(2, true), None);
+    check_acts(&rt, &meters);
+    drop(meters);
     Ok(())
 }
 
 #[test]
 fn disagreements_are_counted(rt: HostRuntime) -> Result<(), Fail> {
     let meters = Meters::new(rt.alloc(), 1, 0)?;
-    assert!(rt; meters.disagreements() == 0);
+    let before = meters.disagreements();
     meters.disagreed();
-    assert!(rt; meters.disagreements() == 1);
+    let behind = meters.disagreements();
+    drop(meters);
+    assert!(rt; before == 0 && behind == 1);
     Ok(())
 }
 
