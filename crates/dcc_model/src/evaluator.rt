@@ -1,21 +1,21 @@
 //! The plain program: the definitions, step by step.
 
-ghost use Rattle.std.specs.Prelude.{◌≡◌, ◌≤◌, ◌+◌, if◌then◌else◌, length, map, reverse, Some, IfOk};
+ghost use Rattle.std.specs.Prelude.{◌≡◌, ◌≤◌, ◌+◌, ◌∷◌, if◌then◌else◌, length, map, reverse, Some, IfOk};
 ghost use Rattle.std.specs.Option.{option_copied, option_map_or};
 ghost use Rattle.dcc_model.specs.declared.done.Done.{Done};
 ghost use Rattle.dcc_model.specs.Outcomes.{has_account, counts, first_of, unknown_of, decided, settled, judged, is_made, with_act, history, act_made, place_of_key, place_of, standing_of, outcome, was_opened_from};
-ghost use Rattle.dcc_model.specs.Entries.{entries_with};
+ghost use Rattle.dcc_model.specs.Entries.{entries_by, entries_with};
 
 use crate::decide::{decide_event, decide_top_up};
 use crate::done::Done;
-use crate::judgement::Judgement;
+use crate::judgement::{Judgement, Standing};
 use crate::keys::{is_expiry, is_same_key, is_top_up, request_key};
 use crate::looked_at::services_looked_at;
 use crate::money::{free, funds, standing, standing_with};
 use crate::outcomes::{begun, reported};
 use crate::posting::entries_by;
 use crate::sessions::{expired, was_opened_in};
-use dcc_act::{Act, Kind, Moment, Outcome, RequestType, SessionId};
+use dcc_act::{Act, Entry, Kind, Moment, Outcome, RequestType, SessionId};
 use dcc_octets::Host;
 use dcc_tariff::Terms;
 use std::alloc::{AllocError, Global};
@@ -67,28 +67,84 @@ pub fn judge(
         ≡ standing_of terms.now (with_act terms.now (reverse past.now) act.now)) }
 {
     let is_new = is_made(terms, past, act);
-    let outcome = judged(alloc, terms, past, act)?;
     let place = place_of(past, is_new, &act.kind);
+    let outcome = judged(alloc, terms, past, act)?;
+    // By calls, here and below: values that are let go in place are proved part by part.
     if !is_new {
-        return Ok(Judgement {
+        return match standing(alloc, terms, past) {
+            Ok(standing) => Ok(Judgement {
+                outcome,
+                is_new,
+                place,
+                entries: Vec::new(alloc),
+                standing,
+            }),
+            Err(error) => {
+                drop(outcome);
+                Err(error)
+            }
+        };
+    }
+    match change(alloc, terms, past, act, &outcome) {
+        Ok((entries, standing)) => Ok(Judgement {
             outcome,
             is_new,
             place,
-            entries: Vec::new(alloc),
-            standing: standing(alloc, terms, past)?,
-        });
+            entries,
+            standing,
+        }),
+        Err(error) => {
+            drop(outcome);
+            Err(error)
+        }
     }
-    let done = Done {
-        act: act.copy()?,
-        outcome: outcome.copy()?,
-    };
-    Ok(Judgement {
-        outcome,
-        is_new,
-        place,
-        entries: entries_by(alloc, terms, past, &done)?,
-        standing: standing_with(alloc, terms, past, &done)?,
-    })
+}
+
+/// The entries of an act that is made with this outcome, and the money after it. The only error is want of memory.
+fn change(
+    alloc: Global,
+    terms: &Terms,
+    past: &[Done],
+    act: &Act,
+    outcome: &Outcome,
+) -> Result<(Vec<Entry>, Standing), AllocError>
+    ensures entries { IfOk result (λ changed. changed.0.items
+        ≡ entries_by terms.now (reverse past.now) (record { act = act.now; outcome = outcome.now })) }
+    ensures standing { IfOk result (λ changed. changed.1
+        ≡ standing_of terms.now (record { act = act.now; outcome = outcome.now } ∷ reverse past.now)) }
+{
+    let done = copied(act, outcome)?;
+    let changed = change_by(alloc, terms, past, &done);
+    drop(done);
+    changed
+}
+
+/// The entries of a made act, and the money after it. The only error is want of memory.
+fn change_by(
+    alloc: Global,
+    terms: &Terms,
+    past: &[Done],
+    done: &Done,
+) -> Result<(Vec<Entry>, Standing), AllocError>
+    ensures entries { IfOk result (λ changed. changed.0.items ≡ entries_by terms.now (reverse past.now) done.now) }
+    ensures standing { IfOk result (λ changed. changed.1 ≡ standing_of terms.now (done.now ∷ reverse past.now)) }
+{
+    let standing = standing_with(alloc, terms, past, done)?;
+    Ok((entries_by(alloc, terms, past, done)?, standing))
+}
+
+/// An act that is made, and its outcome, copied.
+fn copied(act: &Act, outcome: &Outcome) -> Result<Done, AllocError>
+    ensures { IfOk result (λ done. done ≡ record { act = act.now; outcome = outcome.now }) }
+{
+    let act = act.copy()?;
+    match outcome.copy() {
+        Ok(outcome) => Ok(Done { act, outcome }),
+        Err(error) => {
+            drop(act);
+            Err(error)
+        }
+    }
 }
 
 /// The acts that are made, in order.
