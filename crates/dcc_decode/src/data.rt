@@ -5,7 +5,7 @@ use dcc_avp::{Avp, AvpFault, DataFormat, known};
 use dcc_octets::are_visible;
 use jiff::Timestamp;
 use std::alloc::{AllocError, Global};
-use std::fmt::Write;
+use std::fmt::{Display, Write};
 use std::net::{Ipv4Addr, Ipv6Addr};
 use std::str;
 
@@ -37,20 +37,16 @@ pub(crate) fn put_data(text: &mut String, alloc: Global, avp: &Avp<'_>) -> Resul
         DataFormat::Unsigned32 | DataFormat::Enumerated => {
             put_value(text, avp.code(), avp.as_u32()?)?
         }
-        DataFormat::Unsigned64 => {
-            let number = avp.as_u64()?;
-            write!(text, "{number}")?
-        }
-        DataFormat::Integer32 => {
-            let number = avp.as_i32()?;
-            write!(text, "{number}")?
-        }
-        DataFormat::Integer64 => {
-            let number = avp.as_i64()?;
-            write!(text, "{number}")?
-        }
+        DataFormat::Unsigned64 => put_number(text, avp.as_u64()?)?,
+        DataFormat::Integer32 => put_number(text, avp.as_i32()?)?,
+        DataFormat::Integer64 => put_number(text, avp.as_i64()?)?,
     }
     Ok(())
+}
+
+/// Appends a number in decimal.
+fn put_number<N: Display + Drop>(text: &mut String, number: N) -> Result<(), AllocError> {
+    write!(text, "{number}")
 }
 
 /// Appends octets in hex.

@@ -79,14 +79,29 @@ fn put_header(text: &mut String, header: &Header) -> Result<(), AllocError> {
         hop,
         end_to_end,
     } = *header;
+    put_front(text, length, flags)?;
+    put_application(text, app)?;
+    put_identifiers(text, hop, end_to_end)
+}
+
+/// Appends the lines of a header's length and flags.
+fn put_front(text: &mut String, length: u32, flags: u8) -> Result<(), AllocError> {
     writeln!(text, "  Message-Length: {length}")?;
     text.push_str("  Command-Flags: ")?;
     put_flags(text, flags)?;
-    text.push('\n')?;
+    text.push('\n')
+}
+
+/// Appends the line of a header's application.
+fn put_application(text: &mut String, app: u32) -> Result<(), AllocError> {
     match application_name(app) {
-        Some(name) => writeln!(text, "  Application-Id: {app} ({name})")?,
-        None => writeln!(text, "  Application-Id: {app}")?,
+        Some(name) => writeln!(text, "  Application-Id: {app} ({name})"),
+        None => writeln!(text, "  Application-Id: {app}"),
     }
+}
+
+/// Appends the lines of a header's identifiers.
+fn put_identifiers(text: &mut String, hop: u32, end_to_end: u32) -> Result<(), AllocError> {
     writeln!(text, "  Hop-by-Hop-Identifier: 0x{hop:08x}")?;
     writeln!(text, "  End-to-End-Identifier: 0x{end_to_end:08x}")
 }
