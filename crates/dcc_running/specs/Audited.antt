@@ -1,5 +1,5 @@
 -- The tests of the receipts of all seats against the books.
-use Rattle.std.specs.Prelude.{◌≡◌, ℕ, ◌<◌, ◌≤◌, Bool, true, ◌&&◌, List, [], ◌++◌, length}
+use Rattle.std.specs.Prelude.{◌≡◌, ℕ, ◌<◌, ◌≤◌, Bool, true, false, ◌&&◌, ◌⊎◌, List, [], ◌∷◌, ◌++◌, length}
 use Rattle.std.specs.List.{AllByRecursion, list_all, sum_by}
 use Rattle.dcc_tariff.specs.Terms.{TermsView}
 use Rattle.dcc_message.specs.declared.identity.Identity.{Identity}
@@ -44,6 +44,12 @@ WasTrue opening r = (shard : ShardView) × (is_true shard.identity shard.terms o
 abbrev pub WereTrue : Held → List Receipt → Type 0
 WereTrue opening receipts = AllByRecursion (WasTrue opening) receipts
 
+-- A receipt was not true of the acts of some shard, or its place had one fresh receipt among some receipts. Of a locked shard contracts know the type alone, so
+-- shard and receipts may be any: this refuses no body that reports a true receipt. `Ward::tell` (reason) speaks of the locked shard.
+abbrev pub WasStray : Held → Receipt → Type 0
+WasStray opening r = (shard : ShardView) × (told : List Receipt)
+    × ((is_true shard.identity shard.terms opening (held shard) r ≡ false) ⊎ ((r.fresh ≡ true) × (times r.place (own r.sub told) ≡ 1)))
+
 -- each act since opening has exactly one fresh receipt
 abbrev pub AreCovered : {R : Type 0} → (opening : Held) → BooksView R → List (List Receipt) → Type 0
 AreCovered opening books seats = (sub : Sub) (place : ℕ) → length (opening sub) < place → place ≤ length (book books.parts sub)
@@ -52,6 +58,14 @@ AreCovered opening books seats = (sub : Sub) (place : ℕ) → length (opening s
 -- each receipt of a seat is after all earlier receipts of the same subscriber in the seat
 abbrev pub AreOrdered : List (List Receipt) → Type 0
 AreOrdered seats = (sub : Sub) → list_all (λ receipts. in_order [] (own sub receipts)) seats ≡ true
+
+-- The reason for which an audit of a seat fails, by the receipts before and after it. 60: the receipts are in order, some stay, and of the first that stays WasStray
+-- holds. 62: the receipts are not in order, and all stay. An audit never reports 61. Nothing is said if memory was short.
+abbrev pub IsAuditFault : CloseFault → Held → List Receipt → List Receipt → Type 0
+IsAuditFault Memory opening before after = Unit {0}
+IsAuditFault ReceiptStray opening before after = AreOrdered (before ∷ []) × ((r : Receipt) × (behind : List Receipt) × (after ≡ r ∷ behind) × WasStray opening r)
+IsAuditFault ActWithoutReceipt opening before after = ⊥
+IsAuditFault OutOfOrder opening before after = (after ≡ before) × (AreOrdered (before ∷ []) → ⊥)
 
 -- the reason for which the comparison fails: its first test that doesn't hold; nothing is said if memory was short
 abbrev pub IsFault : {R : Type 0} → CloseFault → (opening : Held) → BooksView R → List (List Receipt) → Type 0

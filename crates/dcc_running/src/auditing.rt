@@ -1,15 +1,15 @@
 //! An audit while the shards are under locks.
 
-ghost use Rattle.std.specs.Prelude.{◌≡◌, ◌≤◌, ◌++◌, ◌∷◌, List, [], drop, length, vec_len, IfOk, OnOk};
+ghost use Rattle.std.specs.Prelude.{◌≡◌, ◌≤◌, ◌++◌, ◌∷◌, List, [], true, false, drop, length, vec_len, IfOk, IfErr};
 ghost use Rattle.dcc_receipts.specs.declared.receipt.Receipt.{Receipt};
-ghost use Rattle.dcc_running.specs.Audited.{AreOrdered, WasTrue, WereTrue};
+ghost use Rattle.dcc_running.specs.Audited.{AreOrdered, IsAuditFault, WasStray, WasTrue, WereTrue};
 
 use crate::naming::Naming;
 use crate::seat::Seat;
 use crate::shards::Shards;
 use dcc_receipts::{CloseFault, Receipt, each_in_order};
 use dcc_store::Records;
-use std::alloc::Global;
+use std::alloc::{AllocError, Global};
 use std::sync::Wait;
 
 impl<R: Records, J: Naming> Shards<R, J> {
@@ -29,31 +29,37 @@ impl<R: Records, J: Naming> Shards<R, J> {
         ensures empty { IfOk result (λ count. (seat.new ≡ []) × (count ≡ length seat.old)) }
         ensures told { (told : List Receipt) × (seat.old ≡ told ++ seat.new) × WereTrue J.opening told }
         ensures ordered { IfOk result (λ count. AreOrdered (seat.old ∷ [])) }
+        ensures reason { IfErr result (λ fault. IsAuditFault fault J.opening seat.old seat.new) }
     {
         if !each_in_order(alloc, self.hasher, &seat.receipts)? {
             return Err(CloseFault::OutOfOrder);
         }
         let count = seat.receipts.len();
         for at in 0..count {
-            if let Err(fault) = self.tell(rt, alloc, &seat.receipts[at]) {
-                forget_first(&mut seat.receipts, at);
-                return Err(fault);
+            match self.tell(rt, alloc, &seat.receipts[at]) {
+                Ok(true) => {}
+                Ok(false) => {
+                    forget_first(&mut seat.receipts, at);
+                    return Err(CloseFault::ReceiptStray);
+                }
+                Err(error) => {
+                    forget_first(&mut seat.receipts, at);
+                    return Err(CloseFault::from(error));
+                }
             }
         }
         forget_first(&mut seat.receipts, count);
         Ok(count)
     }
 
-    /// Compares a receipt with the acts that its subscriber's shard holds, under the shard's lock, and lets the shard keep its place. The errors are those of
-    /// [`Shards::audit`].
-    fn tell<W: Wait>(&self, rt: &W, alloc: Global, receipt: &Receipt) -> Result<(), CloseFault>
-        ensures { OnOk result (WasTrue J.opening receipt.now) }
+    /// Compares a receipt with the acts that its subscriber's shard holds, under the shard's lock, and lets the shard keep its place. It returns whether the
+    /// receipt is true, and its place has no other fresh receipt. The only error is want of memory.
+    fn tell<W: Wait>(&self, rt: &W, alloc: Global, receipt: &Receipt) -> Result<bool, AllocError>
+        ensures told { IfOk result (λ told. told ≡ true → WasTrue J.opening receipt.now) }
+        ensures stray { IfOk result (λ told. told ≡ false → WasStray J.opening receipt.now) }
     {
         let opened = self.number_at_opening(&receipt.sub);
-        match self.lock_of(rt, &receipt.sub).tell(alloc, opened, receipt)? {
-            true => Ok(()),
-            false => Err(CloseFault::ReceiptStray),
-        }
+        self.lock_of(rt, &receipt.sub).tell(alloc, opened, receipt)
     }
 }
 
