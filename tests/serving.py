@@ -29,6 +29,8 @@ NAMED = [it for it in sys.argv[1:] if not it.startswith("--")]
 PROGRAM = os.path.abspath(NAMED[0]) if NAMED else f"{TOP}/crates/dcc_server/out/dcc_server"
 PLAN, MOMENT = f"{HERE}/rows/rows.toml", "1748736000"
 A, C = "0:491700000001", "0:491700000002"
+# A thread audits its receipts once it has so many.
+STRETCH = 65_536
 # In the paths of calls, percent-encoded or not.
 NAMES = {A: "0:491700000001", C: "0%3A491700000002"}
 OPEN, OPENED = "cer/app", "cea/2001/"
@@ -289,6 +291,14 @@ class Gateway:
         """Closes without a farewell: what is on its way is lost."""
         self.socket.setsockopt(socket.SOL_SOCKET, socket.SO_LINGER, struct.pack("ii", 1, 0))
         self.socket.close()
+
+
+def until(holds, seconds):
+    """Waits until something holds, for so many seconds at most, and returns whether it does."""
+    end = time.monotonic() + seconds
+    while not holds() and time.monotonic() < end:
+        time.sleep(0.05)
+    return holds()
 
 
 def shard_of(sub, shards):

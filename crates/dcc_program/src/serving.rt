@@ -16,7 +16,8 @@ use dcc_operator::OperatorFault;
 use dcc_replay::identity_of;
 use dcc_rounds::{Service, serve_run};
 use dcc_sockets::{
-    Backing, Calls, Closing, Door, Input, NoticeLines, Output, Staying, SystemClock, remove_stop,
+    AuditReports, Backing, Calls, Closing, Door, Input, NoticeLines, Output, Staying, SystemClock,
+    remove_stop,
 };
 use dcc_startup::Stores;
 use dcc_streams::write_all;
@@ -106,7 +107,11 @@ fn serve_under<
     );
     let (shards, meters) = match opened {
         Ok(opened) => opened,
-        Err(refusal) => return Err(Failure::from(OperatorFault::from(refusal))),
+        Err(refusal) => {
+            // By a call, here and below: values that are let go in place are proved part by part.
+            drop((identity, stop));
+            return Err(Failure::from(OperatorFault::from(refusal)));
+        }
     };
     let closing = Closing::new();
     let staying = ask.sweep.map(|sweep| Staying {
@@ -115,21 +120,24 @@ fn serve_under<
         sweep,
     });
     forget_stop(ask, stop.as_str());
+    // One value: the borrow checker doesn't cover a door that refers to two values of this function.
+    let counted = (meters, AuditReports::new());
     let backing = Backing {
-        meters: &meters,
+        meters: &counted.0,
+        audits: &counted.1,
         stores,
         folder: ask.place.folder,
     };
     let mut door = match open_door(rt, alloc, ask, staying, backing, hasher, output) {
         Ok(door) => door,
         Err(failure) => {
-            // By a call: shards that are let go in place are proved part by part.
-            drop(shards);
+            drop((shards, counted));
+            drop((identity, stop));
             return Err(failure);
         }
     };
     let clock = SystemClock::new(rt);
-    let notices = NoticeLines::new(rt, &meters);
+    let notices = NoticeLines::new(rt, &counted.0, &counted.1);
     let service = Service {
         plan,
         identity: &identity,
@@ -148,6 +156,8 @@ fn serve_under<
         W,
     >(rt, alloc, &service, shards, &mut door, output, &ask.rounds);
     forget_stop(ask, stop.as_str());
+    drop((door, notices));
+    drop((counted, identity, stop));
     Ok(served?)
 }
 

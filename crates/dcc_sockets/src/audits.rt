@@ -3,9 +3,10 @@
 use dcc_receipts::CloseFault;
 use std::fmt;
 use std::sync::{Mutex, Wait};
+use std::time::{Clock, Instant};
 
-/// Audits have a line at most once in so many microseconds.
-pub const AUDIT_LINE_MICROS: u64 = 60_000_000;
+/// If the system has a clock, audits have a line at most once in so many seconds.
+pub const AUDIT_LINE_SECONDS: u64 = 60;
 
 /// So many audits, of so many receipts together, which took so many microseconds together.
 #[derive(Clone, Copy)]
@@ -58,18 +59,18 @@ impl fmt::Display for Audits {
     }
 }
 
-/// The audits without a line, and what the lines before them reported.
+/// The audits without a line, and the last line.
 #[derive(Clone, Copy)]
 struct Reports {
     /// The audits since the last line on audits.
     audits: Audits,
-    /// The tick of that line.
-    told: Option<u64>,
+    /// When that line was due. None if there was none, or if the system had no clock.
+    told: Option<Instant>,
 }
 
-/// Decides when audits have a line, at the calls of many threads.
+/// Decides when the audits of a server have a line, at the calls of many threads.
 #[derive(Drop)]
-pub(crate) struct AuditReports {
+pub struct AuditReports {
     reports: Mutex<Reports>,
 }
 
@@ -84,21 +85,31 @@ impl AuditReports {
         }
     }
 
-    /// Adds audits at this tick of microseconds. If a line is due, it returns all audits since the last line. It may wait.
-    pub fn add<W: Wait>(&self, rt: &W, audits: Audits, now: u64) -> Option<Audits> {
+    /// Adds audits. If a line is due, it returns all audits since the last line. It may wait.
+    pub(crate) fn add<W: Wait, C: Clock>(
+        &self,
+        rt: &W,
+        clock: &C,
+        audits: Audits,
+    ) -> Option<Audits> {
+        let now = Instant::now(clock).ok();
         let mut reports = self.reports.lock(rt);
         let all = reports.audits.with(audits);
-        let is_due = match reports.told {
-            Some(told) => now.saturating_sub(told) >= AUDIT_LINE_MICROS,
-            None => true,
-        };
-        if !is_due {
+        if !is_due(reports.told, now) {
             reports.audits = all;
             return None;
         }
         reports.audits = Audits::none();
-        reports.told = Some(now);
+        reports.told = now;
         Some(all)
+    }
+}
+
+/// Whether a line of audits is due. It is due if no line came before, if the last line is old enough, or if the system has no clock.
+fn is_due(told: Option<Instant>, now: Option<Instant>) -> bool {
+    match (told, now) {
+        (Some(told), Some(now)) => now.duration_since(told).as_secs() >= AUDIT_LINE_SECONDS,
+        _ => true,
     }
 }
 

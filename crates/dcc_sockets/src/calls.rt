@@ -11,10 +11,11 @@ use crate::options::wait_for_connections;
 use crate::trouble::{Trouble, tell};
 use dcc_port::serve_calls;
 use dcc_receipts::CloseFault;
-use dcc_rounds::{STRETCH, count_receipts};
+use dcc_rounds::{Notices, STRETCH, count_receipts};
 use dcc_running::{Naming, Seat, Shards};
 use dcc_startup::Copies;
 use dcc_store::Records;
+use dcc_tariff::MAX_SHARDS;
 use std::alloc::Global;
 use std::hash::RandomState;
 use std::io;
@@ -25,6 +26,9 @@ use std::time::{Clock, Duration, Instant};
 
 /// For so many seconds in all the server waits for the octets of an operator's connection, and for so many it waits until octets are taken there.
 pub const CALL_SECONDS: u64 = 10;
+
+/// The most shards that a server has.
+const MOST_SHARDS: usize = MAX_SHARDS as usize;
 
 /// Where operators call the server.
 #[derive(Drop)]
@@ -100,15 +104,16 @@ pub(crate) fn answer_calls<
         &mut input,
         &mut output,
     );
-    let meters = NoticeLines::new(clocks, backing.meters);
-    count_receipts(&meters, shards, seat, counted);
-    audit_many(clocks, rt, alloc, shards, seat, closing);
+    let lines = NoticeLines::new(clocks, backing.meters, backing.audits);
+    count_receipts(&lines, shards, seat, counted);
+    audit_many(&lines, clocks, rt, alloc, shards, seat, closing);
     served
 }
 
-/// Audits the receipts of a seat if there are at least [`STRETCH`]. If they disagree with the books, a line reports this, and the server is to end. If memory was
-/// short, the receipts that were not compared stay for the next audit.
-fn audit_many<R: Eprint, W: Wait, S: Records, J: Naming>(
+/// Audits the receipts of a seat if there are at least [`STRETCH`], and counts the audit. If they disagree with the books, a line reports this, and the server is
+/// to end. If memory was short, the receipts that were not compared stay for the next audit, and this audit isn't counted.
+fn audit_many<R: Clock + Eprint, W: Wait, S: Records, J: Naming>(
+    lines: &NoticeLines<'_, R>,
     print: &R,
     rt: &W,
     alloc: Global,
@@ -119,13 +124,29 @@ fn audit_many<R: Eprint, W: Wait, S: Records, J: Naming>(
     if seat.receipts().len() < STRETCH {
         return;
     }
+    let (receipts, begun) = (by_shards(shards, seat), lines.ticks());
     match shards.audit(rt, alloc, seat) {
-        Ok(_) | Err(CloseFault::Memory) => {}
+        Ok(_) => {
+            let micros = lines.ticks().saturating_sub(begun);
+            lines.audited_together(rt, &receipts, micros);
+        }
+        Err(CloseFault::Memory) => {}
         Err(fault) => {
             tell(print, Trouble::Disagrees { fault });
             closing.tell();
         }
     }
+}
+
+/// The numbers of a seat's receipts of each shard.
+fn by_shards<S: Records, J: Naming>(shards: &Shards<S, J>, seat: &Seat) -> [usize; MOST_SHARDS] {
+    let mut receipts = [0usize; MOST_SHARDS];
+    for receipt in seat.receipts() {
+        if let Some(of_shard) = receipts.get_mut(shards.index_of(&receipt.sub)) {
+            *of_shard = of_shard.saturating_add(1);
+        }
+    }
+    receipts
 }
 
 /// One half of an operator's connection: it is read from, or written to, and waits for [`CALL_SECONDS`] in all.

@@ -27,7 +27,7 @@ mod silence;
 mod trouble;
 mod waiting;
 
-pub use audits::AUDIT_LINE_MICROS;
+pub use audits::{AUDIT_LINE_SECONDS, AuditReports};
 pub use backing::Backing;
 pub use begun::BEGIN_MILLIS;
 pub use calling::{ANSWER_SECONDS, CallerHalf, connect};

@@ -12,24 +12,24 @@ use std::sync::Wait;
 use std::time::{Clock, Instant};
 
 /// Writes each notice as a line to standard error, whatever octets a peer's name has: all but `!` to `~`, and the backslash, stand as `\xNN`.
-/// A line that can't be written is left out. It counts notices, events and signs. Audits have a line together, at most once a minute.
+/// A line that can't be written is left out. It counts notices, events and signs. Audits have a line together, at most once a minute if the system has a clock.
 #[derive(Drop)]
 pub struct NoticeLines<'r, P: Eprint> {
     print: &'r P,
     meters: &'r Meters,
     /// The moment from which the microseconds of events are counted. None if the system has no clock: then all are 0.
     begun: Option<Instant>,
-    audits: AuditReports,
+    audits: &'r AuditReports,
 }
 
 impl<'r, P: Eprint + Clock> NoticeLines<'r, P> {
-    /// Lines on the standard error of this runtime, and these counters.
-    pub fn new(print: &'r P, meters: &'r Meters) -> NoticeLines<'r, P> {
+    /// Lines on the standard error of this runtime, these counters, and these audits without a line.
+    pub fn new(print: &'r P, meters: &'r Meters, audits: &'r AuditReports) -> NoticeLines<'r, P> {
         NoticeLines {
             print,
             meters,
             begun: Instant::now(print).ok(),
-            audits: AuditReports::new(),
+            audits,
         }
     }
 }
@@ -41,8 +41,27 @@ impl<P: Eprint + Clock> NoticeLines<'_, P> {
             return;
         }
         self.meters.audited(shard, receipts, micros);
-        let audit = Audits::one(receipts, micros);
-        if let Some(audits) = self.audits.add(rt, audit, self.ticks()) {
+        self.report(rt, Audits::one(receipts, micros));
+    }
+
+    /// Counts one audit of receipts of many shards, so many of each. It counts as an audit of each shard that has some, and its time for the first of these. Then it
+    /// writes the line of audits if it is due.
+    pub(crate) fn audited_together<W: Wait>(&self, rt: &W, receipts: &[usize], micros: u64) {
+        let mut left = micros;
+        let mut all: usize = 0;
+        for (shard, &receipts) in receipts.iter().enumerate() {
+            if receipts > 0 {
+                self.meters.audited(shard, receipts, left);
+                left = 0;
+                all = all.saturating_add(receipts);
+            }
+        }
+        self.report(rt, Audits::one(all, micros));
+    }
+
+    /// Writes the line of audits if it is due.
+    fn report<W: Wait>(&self, rt: &W, audits: Audits) {
+        if let Some(audits) = self.audits.add(rt, self.print, audits) {
             let _lost = self.print.eprintln(audits);
         }
     }
