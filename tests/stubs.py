@@ -4,8 +4,10 @@ For a caller, a check takes a function by its contract alone; and it proves the 
 and they cost more than the body's own. So beside a wrong body all functions that may be stubs are stubs: the body is `unreachable!()`, and the proof is a hole.
 A check with `--allow-holes` takes what has a hole "by its signature, so each declaration that cites it is checked to its end" (`rattle check --help`).
 
-These are no stubs: functions of traits and of their impls, methods that stand in another file than their type, `const fn`, tests, empty bodies, and each function
-of a source that isn't surely read.
+A check names a method by the module of its type, which may be another than the method's (`homes_of`).
+
+These are no stubs: functions of traits and of their impls, methods whose type isn't surely found, `const fn`, tests, empty bodies, and each function of a source
+that isn't surely read.
 """
 
 import functools
@@ -32,9 +34,9 @@ class Function:
 class Functions(contracts.Source):
     """A source, and its functions that have a body."""
 
-    def __init__(self, text, module):
+    def __init__(self, text, module, homes):
         super().__init__(text)
-        self.within, self.start, self.braces, self.functions = list(module), 0, None, []
+        self.within, self.start, self.braces, self.functions, self.homes = list(module), 0, None, [], homes
 
     def item(self, inside):
         self.start = self.at
@@ -49,10 +51,16 @@ class Functions(contracts.Source):
         name, start, self.braces = re.match(r" (\w+)", self.text[found.end() :])[1], self.start, None
         super().function(begin, found, inside, attributes)
         if self.braces:
-            # A check names a method by the module of its type.
-            is_here = inside == "mod" or (inside == "impl" and re.search(rf"\b(?:struct|enum) {self.within[-1]}\b", self.text))
-            is_free = bool(is_here) and not found["const"] and "#[test]" not in attributes
-            self.functions.append(Function("::".join([*self.within, name]), start, *self.braces, is_free))
+            above = self.above(inside)
+            is_free = above is not None and not found["const"] and "#[test]" not in attributes
+            self.functions.append(Function("::".join([*(above or self.within), name]), start, *self.braces, is_free))
+
+    def above(self, inside):
+        """The path in which a check names a function that stands here; none if that isn't sure."""
+        if inside == "mod" or (inside == "impl" and re.search(rf"\b(?:struct|enum) {self.within[-1]}\b", self.text)):
+            return self.within
+        home = self.homes.get(self.within[-1]) if inside == "impl" else None
+        return None if home is None else [*home, self.within[-1]]
 
     def block(self, begin, kind, attributes):
         named = re.match(r"(?:pub(?:\([^)]*\))? )?mod (\w+)|impl(?:<[^{]*?>)? (\w+)", self.text[begin:])
@@ -61,13 +69,25 @@ class Functions(contracts.Source):
         self.within.pop()
 
 
+def module_of(file):
+    """The module of a file of a crate's sources, by its names."""
+    return [] if file == "src/lib.rt" else re.sub(r"/mod$", "", file[len("src/") : -len(".rt")]).split("/")
+
+
+def homes_of(texts):
+    """The types that a crate declares once, outside inline modules, each with its module, by the texts of the crate's sources."""
+    found = [(name, tuple(module_of(file))) for file, text in texts.items() for name in re.findall(r"^(?:pub(?:\([^)]*\))? )?(?:struct|enum) (\w+)", text, re.M)]
+    names = [name for name, _ in found]
+    return frozenset((name, module) for name, module in found if names.count(name) == 1)
+
+
 @functools.cache
-def functions_of(file, text):
-    """The functions of a file of a crate's sources that have a body; none if it isn't surely read."""
-    module = [] if file == "src/lib.rt" else re.sub(r"/mod$", "", file[len("src/") : -len(".rt")]).split("/")
+def functions_of(file, text, homes=frozenset()):
+    """The functions of a file of a crate's sources that have a body, by the crate's `homes_of`; none if it isn't surely read."""
+    module = module_of(file)
     if module[:1] == ["tests"]:
         return []
-    source = Functions(text, module)
+    source = Functions(text, module, dict(homes))
     try:
         source.items("mod")
     except (contracts.Unsure, TypeError):
@@ -75,10 +95,10 @@ def functions_of(file, text):
     return source.functions
 
 
-def with_stubs(file, text, stays):
+def with_stubs(file, text, homes, stays):
     """A file in which all functions are stubs that may be stubs, but for those of which `stays` is true, by path and body; and the paths of the stubs."""
     parts, at, paths = [], 0, []
-    for it in functions_of(file, text):
+    for it in functions_of(file, text, homes):
         body = text[it.opening : it.end]
         if not it.is_free or body == "{}" or stays(it.path, body):
             continue
