@@ -133,7 +133,7 @@ fn change_by(
     Ok((entries_by(alloc, terms, past, done)?, standing))
 }
 
-/// An act that is made, and its outcome, copied.
+/// A copy of an act that is made, and of its outcome. The only error is want of memory.
 fn copied(act: &Act, outcome: &Outcome) -> Result<Done, AllocError>
     ensures { IfOk result (λ done. done ≡ record { act = act.now; outcome = outcome.now }) }
 {

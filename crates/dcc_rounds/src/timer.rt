@@ -13,10 +13,11 @@ use dcc_connect::Clock;
 use dcc_lane::Sender;
 use dcc_running::Naming;
 use dcc_store::Records;
+use dcc_tariff::MAX_SHARDS;
 use std::sync::Wait;
 
 /// The most shards that a server has.
-const MOST_SHARDS: usize = 8;
+const MOST_SHARDS: usize = MAX_SHARDS as usize;
 
 /// Asks each worker for a sweep at the clock's moment when the listener reports that a sweep is due, and reports each shard that has stopped.
 #[derive(Drop)]
