@@ -82,11 +82,62 @@ impl Account {
         ensures terms { result.terms ≡ terms.now }
         ensures acts { result.acts ≡ [] }
     {
+        let journal = Journal::new(alloc);
+        Account::of_lists(
+            alloc,
+            terms,
+            hasher,
+            journal,
+            Vec::new(alloc),
+            Vec::new(alloc),
+        )
+    }
+
+    /// The same, with memory for so many acts and for an entry of each. The only error is want of memory.
+    pub fn with_room(
+        alloc: Global,
+        terms: &Terms,
+        hasher: RandomState,
+        acts: usize,
+    ) -> Result<Account, AllocError>
+        ensures terms { IfOk result (λ account. account.terms ≡ terms.now) }
+        ensures acts { IfOk result (λ account. account.acts ≡ []) }
+        ensures room { IfOk result (λ account. acts ≤ account.room.acts) }
+    {
+        let journal = Journal::with_room(alloc, acts)?;
+        match lists_with_room(alloc, acts) {
+            Ok((outcomes, entries)) => Ok(Account::of_lists(
+                alloc, terms, hasher, journal, outcomes, entries,
+            )),
+            Err(error) => {
+                // By a call: a journal that is let go in place is proved part by part.
+                drop(journal);
+                Err(error)
+            }
+        }
+    }
+
+    /// An account with these lists, which are empty.
+    fn of_lists(
+        alloc: Global,
+        terms: &Terms,
+        hasher: RandomState,
+        journal: Journal,
+        outcomes: Vec<Outcome>,
+        entries: Vec<Entry>,
+    ) -> Account
+        requires acts { journal.acts ≡ [] }
+        requires outcomes { outcomes.items ≡ [] }
+        requires entries { entries.items ≡ [] }
+        ensures terms { result.terms ≡ terms.now }
+        ensures acts { result.acts ≡ [] }
+        ensures room { result.room.acts ≡ journal.spare }
+    {
         Account {
             terms: *terms,
-            acts: Journal::new(alloc),
-            outcomes: Vec::new(alloc),
-            entries: Vec::new(alloc),
+            acts: journal,
+            outcomes,
+            entries,
             pool: Pool::new(POOL),
             overrun: 0,
             sessions: Vec::new(alloc),
@@ -352,5 +403,20 @@ impl Account {
     /// Drops a step, which leaves its account as it is.
     pub fn discard(step: Step) {
         drop(step);
+    }
+}
+
+/// Lists of outcomes and of entries, without items, with memory for so many each. The only error is want of memory.
+fn lists_with_room(alloc: Global, count: usize) -> Result<(Vec<Outcome>, Vec<Entry>), AllocError>
+    ensures outcomes { IfOk result (λ lists. lists.0.items ≡ []) }
+    ensures entries { IfOk result (λ lists. lists.1.items ≡ []) }
+{
+    let outcomes = Vec::with_capacity(alloc, count)?;
+    match Vec::with_capacity(alloc, count) {
+        Ok(entries) => Ok((outcomes, entries)),
+        Err(error) => {
+            drop(outcomes);
+            Err(error)
+        }
     }
 }

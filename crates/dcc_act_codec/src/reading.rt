@@ -261,7 +261,7 @@ fn many_services(
 ) -> Result<(Vec<Service>, &[u8]), RecordFault>
     ensures { Gives (λ x. (x.0.items, x.1.now)) result (many_in service_in count octets.now) }
 {
-    let mut services = Vec::new(alloc);
+    let mut services = Vec::with_capacity(alloc, usize::from(count))?;
     let mut rest = octets;
     for _ in 0..count {
         let (service, behind) = first_service(alloc, rest)?;

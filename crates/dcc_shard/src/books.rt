@@ -129,13 +129,14 @@ impl Books {
         self.accounts.reserve(number)
     }
 
-    /// Prepares an act of a subscriber, who has an account or none. The only error is want of memory. The room stays, also after the
-    /// error.
+    /// Prepares an act of a subscriber, who has an account or none. A new account has memory for this number of acts. The only error is
+    /// want of memory. The room stays, also after the error.
     pub(crate) fn prepare(
         &mut self,
         alloc: Global,
         sub: &Sub,
         act: Act,
+        acts: usize,
     ) -> Result<Pending, AllocError>
         ensures pending { IfOk result (IsPending self.new sub.now act) }
         ensures terms { self.new.terms ≡ self.old.terms }
@@ -151,7 +152,13 @@ impl Books {
             drop(act);
             return Err(error);
         }
-        let account = Account::new(alloc, &self.terms, *self.accounts.hasher());
+        let account = match Account::with_room(alloc, &self.terms, *self.accounts.hasher(), acts) {
+            Ok(account) => account,
+            Err(error) => {
+                drop(act);
+                return Err(error);
+            }
+        };
         let step = match account.prepare(act) {
             Ok(step) => step,
             Err(error) => {

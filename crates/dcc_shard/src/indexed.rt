@@ -113,8 +113,9 @@ impl IndexedBooks {
         ensures page { OnOk result (IsPageOf self.old.books self.new.books sub all.items) }
     {
         leaving_out_changes_nothing();
+        let count = all.len();
         for act in all {
-            let ready = self.prepare(alloc, &sub, act, 1)?;
+            let ready = self.prepare(alloc, &sub, act, 1, count)?;
             self.install(sub, ready);
         }
         Ok(())
@@ -152,14 +153,16 @@ impl IndexedBooks {
         self.books.make_room(number)
     }
 
-    /// Prepares an act of a subscriber, who has an account or none. If the act opens a session from a host, there is then room for this
-    /// number of sessions of the host. The only error is want of memory. All room stays, also after the error.
+    /// Prepares an act of a subscriber, who has an account or none. A new account has memory for so many acts. If the act opens a session
+    /// from a host, there is then room for this number of sessions of the host. The only error is want of memory. All room stays, also
+    /// after the error.
     pub(crate) fn prepare(
         &mut self,
         alloc: Global,
         sub: &Sub,
         act: Act,
         number: usize,
+        acts: usize,
     ) -> Result<Ready, AllocError>
         ensures pending { IfOk result (λ ready. IsPending self.new.books sub.now act ready.pending) }
         ensures ready { IfOk result (λ ready. IsReady self.new.openers number (opening (step_of ready.pending)) ready.opens) }
@@ -168,7 +171,7 @@ impl IndexedBooks {
         ensures room { self.old.books.room ≤ self.new.books.room }
         ensures openers { KeepsRoom self.old.openers self.new.openers }
     {
-        let pending = self.books.prepare(alloc, sub, act)?;
+        let pending = self.books.prepare(alloc, sub, act, acts)?;
         match make_room(&mut self.openers, alloc, pending.step(), number) {
             Ok(opens) => Ok(Ready { pending, opens }),
             Err(error) => {

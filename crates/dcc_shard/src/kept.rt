@@ -155,7 +155,7 @@ impl<R: Records> KeptBooks<R> {
             drop(act);
             return Err(StoreFault::Stopped);
         }
-        let ready = self.books.prepare(alloc, sub, act, number)?;
+        let ready = self.books.prepare(alloc, sub, act, number, 0)?;
         Ok(ready)
     }
 

@@ -6,7 +6,7 @@ use Rattle.dcc_act_codec.proofs.reading.many_services.Goals as goal
 
 pub returns-in_err-service : goal.returns-in_err-service
 returns-in_err-service c =
-    let p = err_from_is_err_and c.from_residual.result c.from_residual.ensures.1 in
+    let p = err_from_is_err_and c.from_residual-in_err-service.result c.from_residual-in_err-service.ensures.1 in
     rw (p.1, p.2) (ends service_in c.in_err-service.field-0.0 c.loop.services.items c.args.count c.loop.counter c.loop.rest.now (many_in service_in c.args.count c.args.octets.now) c.loop-test.true c.in_err-service.ensures c.loop.invariant)
 
 pub loop-preserved : goal.loop-preserved

@@ -14,6 +14,6 @@ returns-in-Some-clause-pending c =
 
 pub returns-clause-pending : goal.returns-clause-pending
 returns-clause-pending c =
-    pending_first _ c.args.sub.now c.new-account.result c.args.act c.in-Ok.step
+    pending_first _ c.args.sub.now c.in-Ok.account c.args.act c.in-Ok-prepare.step
     (ap (λ (rows : List (Sub × Account)). account_in rows c.args.sub.now) c.reserve.ensures.entries ∙ sym c.in_default.ensures.value)
-    c.new-account.ensures.terms c.new-account.ensures.acts (omega (arith, c.in_default-reserve.ensures.ok)) c.in-Ok.ensures.act c.in-Ok.ensures.prepared
+    c.in-Ok.ensures.terms c.in-Ok.ensures.acts (omega (arith, c.in_default-reserve.ensures.ok)) c.in-Ok-prepare.ensures.act c.in-Ok-prepare.ensures.prepared
