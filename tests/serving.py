@@ -354,6 +354,11 @@ def started(does, *words):
     return thread
 
 
+def copied(shards):
+    """The files of a back-up of so many shards, in the order in which the server tells them."""
+    return [f"shard-{it}.db{ending}" for it in range(shards) for ending in ("", "-wal")]
+
+
 def short_plan(room):
     """A plan whose sessions are held for two seconds."""
     plan = f"{room}/short.toml"

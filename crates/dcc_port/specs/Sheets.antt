@@ -155,11 +155,11 @@ gauges index (stopped ∷ told) = gauge_text index (gauge_value stopped) ++ gaug
 abbrev pub metrics_sheet : List ℕ → List Bool → Sheet
 metrics_sheet page told = sheet_of Metrics 200 (page ++ gauge_head ++ gauges 0 told)
 
--- the file of a shard
+-- the files of a shard: its database and the log beside it
 unfoldable pub file_text : ℕ → List ℕ
-file_text index = codes "\"shard-" ++ (decimal index ++ codes ".db\"")
+file_text index = codes "\"shard-" ++ (decimal index ++ (codes ".db\",\"shard-" ++ (decimal index ++ codes ".db-wal\"")))
 
--- a file behind others, with a comma between them
+-- the files of a shard behind others, with a comma between them
 abbrev pub with_file : List ℕ → ℕ → List ℕ
 with_file text index = if length text == 0 then file_text index else text ++ codes "," ++ file_text index
 

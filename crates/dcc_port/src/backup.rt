@@ -137,7 +137,7 @@ fn files(alloc: Global, count: usize) -> Result<Vec<u8>, AllocError>
     Ok(text)
 }
 
-/// Adds the file of a shard to a list of them.
+/// Adds the files of a shard to a list of files.
 fn put_file(alloc: Global, text: &mut Vec<u8>, index: usize) -> Result<(), AllocError>
     ensures { OnOk result (text.new.items ≡ with_file text.old.items index) }
 {
@@ -148,12 +148,12 @@ fn put_file(alloc: Global, text: &mut Vec<u8>, index: usize) -> Result<(), Alloc
     text.extend_from_slice(name.as_bytes())
 }
 
-/// The file of a shard, as text.
+/// The files of a shard, as text: its database, and the log beside it, in which the newest acts stand.
 #[tactic(auto, unfolding(crate::specs::Sheets::file_text))]
 fn file_text(alloc: Global, index: usize) -> Result<String, AllocError>
     ensures { IfOk result (λ text. string_bytes text ≡ file_text index) }
 {
-    let text = format!(in alloc; "\"shard-{index}.db\"")?;
+    let text = format!(in alloc; "\"shard-{index}.db\",\"shard-{index}.db-wal\"")?;
     Ok(text)
 }
 

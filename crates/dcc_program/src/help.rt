@@ -59,7 +59,8 @@ dcc serve         serves gateways over TCP from the stores in the folder DIR, an
                   --sweep S        every S seconds, 0 to 86400, the server ends the sessions behind their deadline; 0 is
                                    never; with --stay alone; default 60
                   --operator ADDR  operators call the server by HTTP at ADDR, an address of 127.0.0.0/8 and a port: for
-                                   top-ups, balances, ledgers, sweeps, its state and its end; with --stay alone
+                                   top-ups, balances, ledgers, sweeps, back-ups, metrics, its state and its end; with
+                                   --stay alone
                   --accept-loss    stores that have fewer acts than they had are opened all the same
 dcc check         judges the plan of the file PLAN and the store of each of its shards in the folder DIR, and prints
                   what is good. It changes and makes nothing, explains each failure, warns of each key of the plan that
