@@ -354,7 +354,7 @@ def started(does, *words):
     return thread
 
 
-def copied(shards):
+def back_up_files(shards):
     """The files of a back-up of so many shards, in the order in which the server tells them."""
     return [f"shard-{it}.db{ending}" for it in range(shards) for ending in ("", "-wal")]
 
