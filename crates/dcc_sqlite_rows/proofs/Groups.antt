@@ -1,13 +1,12 @@
 -- Lines in groups, and the pages whose rows they are.
-use Rattle.std.proofs.Common.{◌≡◌, ◌≢◌, inl, inr, ℕ, suc, ◌+◌, ◌<◌, ◌≤◌, ℤ, pos, Bool, true, false, ◌&&◌, ◌↔◌, All, List, [], ◌∷◌, ◌++◌, length, map, take, get_or, Option, Some, None, IfSome, refl, sym, ap, ap₂, subst, ◌∙◌, arith, append_assoc, append-nil, length-append, rules}
+use Rattle.std.proofs.Common.{◌≡◌, ◌≢◌, inl, inr, ℕ, suc, ◌+◌, ℤ, pos, Bool, true, false, ◌&&◌, ◌↔◌, All, List, [], ◌∷◌, ◌++◌, length, map, Option, Some, None, IfSome, refl, sym, ap, ap₂, subst, ◌∙◌, arith, append_assoc, append-nil, length-append, rules}
 use Rattle.std.specs.Ordering.{is_eq}
 use Rattle.std.specs.declared.cmp.Ordering.TheVariants.{Less}
 use Rattle.std.specs.Cmp.Rules.{comparing}
 use Rattle.std.specs.List.{AllByRecursion}
 use Rattle.std.specs.List.Sorted.{IsStrictlySortedBy}
 use Rattle.std.proofs.lemmas.Bool.{cases_Bool, and_parts, and_from}
-use Rattle.std.proofs.lemmas.List.{take_all, map-append}
-use Rattle.std.proofs.lemmas.Grind.{take_at_read}
+use Rattle.std.proofs.lemmas.List.{map-append}
 use Rattle.sqlite.specs.declared.types.Value.TheVariants.{Int, Blob}
 use Rattle.sqlite.specs.Order.{Row}
 use Rattle.dcc_act.specs.declared.act.Act.{Act}
@@ -217,14 +216,13 @@ open_all P (x ∷ xs) all = (all 0 x (omega arith), open_all P xs (λ i d below.
 stands_so : (line : Line) (place : ℕ) → line_row line ≡ act_row (sub_octets line.sub) place (record_of line.act) → line.place ≡ pos place
 stands_so line place e = let t : line.place ≡ pos place = cc in t
 
-pub fits_more : SameAreEqual → (lines : List Line) (i : ℕ) (line : Line) (pages : List PageView) (fits stands : Bool) → i < length lines → line ≡ get_or lines i line
-    → (fits ≡ true ↔ map line_row (take i lines) ≡ book_act_rows pages) → (stands ≡ true ↔ line.place ≡ pos (before_it line.sub pages + 1))
-    → ((fits && stands) ≡ true ↔ map line_row (take (i + 1) lines) ≡ book_act_rows (put_behind line.sub line.act pages))
-fits_more same lines i line pages fits stands below at so_far next =
+pub fits_more : SameAreEqual → (lines : List Line) (line : Line) (pages : List PageView) (fits stands : Bool)
+    → (fits ≡ true ↔ map line_row lines ≡ book_act_rows pages) → (stands ≡ true ↔ line.place ≡ pos (before_it line.sub pages + 1))
+    → ((fits && stands) ≡ true ↔ map line_row (lines ++ line ∷ []) ≡ book_act_rows (put_behind line.sub line.act pages))
+fits_more same lines line pages fits stands so_far next =
     let row = act_row (sub_octets line.sub) (before_it line.sub pages + 1) (record_of line.act) in
-    let front = map line_row (take i lines) in
-    let lefts : map line_row (take (i + 1) lines) ≡ front ++ line_row line ∷ [] =
-    ap (map line_row) ((take_at_read lines i line below).1 ∙ ap (λ (l : Line). take i lines ++ l ∷ []) (sym at)) ∙ map-append line_row (take i lines) (line ∷ []) in
+    let front = map line_row lines in
+    let lefts : map line_row (lines ++ line ∷ []) ≡ front ++ line_row line ∷ [] = map-append line_row lines (line ∷ []) in
     let rights : book_act_rows (put_behind line.sub line.act pages) ≡ book_act_rows pages ++ row ∷ [] = row_more same line.sub line.act pages in
     rw (lefts, rights) (
       λ both.
@@ -236,26 +234,30 @@ fits_more same lines i line pages fits stands below at so_far next =
           and_from fits stands (so_far.1 parts.0) (next.1 (stands_so line (before_it line.sub pages + 1) parts.1)),
     )
 
-pub grouped_next : (lines : List Line) (i : ℕ) (line : Line) (pages : List PageView) → i < length lines → line ≡ get_or lines i line → pages ≡ grouped [] (take i lines)
-    → put_behind line.sub line.act pages ≡ grouped [] (take (i + 1) lines)
-grouped_next lines i line pages below at so_far =
-    ap (put_behind line.sub line.act) so_far ∙ sym (grouped_more [] (take i lines) line)
-    ∙ ap (grouped []) (sym ((take_at_read lines i line below).1 ∙ ap (λ (l : Line). take i lines ++ l ∷ []) (sym at)))
+pub grouped_next : (lines : List Line) (line : Line) (pages : List PageView) → pages ≡ grouped [] lines → put_behind line.sub line.act pages ≡ grouped [] (lines ++ line ∷ [])
+grouped_next lines line pages so_far = ap (put_behind line.sub line.act) so_far ∙ sym (grouped_more [] lines line)
 
-pub next_valid : (lines : List Line) (i : ℕ) (line : Line) (pages : List PageView) → i < length lines → line ≡ get_or lines i line → All (λ l. IsSub l.sub) lines → All (λ l. IsAct l.act) lines
+-- of items that all have a property, the one behind some of them has it
+one_of : {X : Type 0} (P : X → Type 0) (front rest : List X) (x : X) → AllByRecursion P (front ++ x ∷ rest) → P x
+one_of P [] rest x all = all.0
+one_of P (y ∷ front) rest x all = one_of P front rest x all.1
+
+pub next_valid : (lines front rest : List Line) (line : Line) (pages : List PageView) → front ++ line ∷ rest ≡ lines → All (λ l. IsSub l.sub) lines → All (λ l. IsAct l.act) lines
     → AllByRecursion IsPage pages → AllByRecursion IsPage (put_behind line.sub line.act pages)
-next_valid lines i line pages below at subs fit valid =
-    page_more line.sub line.act pages (subst (λ (l : Line). IsSub l.sub) (sym at) (subs i line below)) (subst (λ (l : Line). IsAct l.act) (sym at) (fit i line below)) valid
+next_valid lines front rest line pages whole subs fit valid =
+    page_more line.sub line.act pages
+    (one_of (λ (l : Line). IsSub l.sub) front rest line (subst (λ (ls : List Line). AllByRecursion (λ (l : Line). IsSub l.sub) ls) (sym whole) (open_all (λ (l : Line). IsSub l.sub) lines subs)))
+    (one_of (λ (l : Line). IsAct l.act) front rest line (subst (λ (ls : List Line). AllByRecursion (λ (l : Line). IsAct l.act) ls) (sym whole) (open_all (λ (l : Line). IsAct l.act) lines fit))) valid
 
 -- what is grouped is the only book that the lines can be of
-pub only_book : Differ → SameAreEqual → (lines : List Line) (n : ℕ) (found pages : List PageView) → length lines ≤ n → All (λ l. IsAct l.act) lines → found ≡ grouped [] (take n lines)
+pub only_book : Differ → SameAreEqual → (lines : List Line) (found pages : List PageView) → All (λ l. IsAct l.act) lines → found ≡ grouped [] lines
     → AllByRecursion IsPage pages → AreInOrder pages → map line_row lines ≡ book_act_rows pages → found ≡ pages
-only_book differ same lines n found pages end fit is valid sorted rows =
-    is ∙ ap (grouped []) (take_all n lines end) ∙ same_pages differ same pages lines (open_all (λ (l : Line). IsAct l.act) lines fit) valid sorted rows
+only_book differ same lines found pages fit is valid sorted rows =
+    is ∙ same_pages differ same pages lines (open_all (λ (l : Line). IsAct l.act) lines fit) valid sorted rows
 
 -- so a book that is found is the only one
-pub found_only : Differ → SameAreEqual → (lines : List Line) (n : ℕ) (pages : List PageView) (found : Option (List PageView)) → length lines ≤ n → All (λ l. IsAct l.act) lines
-    → pages ≡ grouped [] (take n lines) → IfSome found (λ book. book ≡ pages)
+pub found_only : Differ → SameAreEqual → (lines : List Line) (pages : List PageView) (found : Option (List PageView)) → All (λ l. IsAct l.act) lines
+    → pages ≡ grouped [] lines → IfSome found (λ book. book ≡ pages)
     → IfSome found (λ book. (others : List PageView) → AreInOrder others → AllByRecursion IsPage others → map line_row lines ≡ book_act_rows others → others ≡ book)
-found_only differ same lines n pages None end fit is value = tt
-found_only differ same lines n pages (Some book) end fit is value = λ others sorted valid rows. sym (value ∙ only_book differ same lines n pages others end fit is valid sorted rows)
+found_only differ same lines pages None fit is value = tt
+found_only differ same lines pages (Some book) fit is value = λ others sorted valid rows. sym (value ∙ only_book differ same lines pages others fit is valid sorted rows)

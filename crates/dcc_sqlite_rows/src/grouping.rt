@@ -15,24 +15,26 @@ use dcc_store::{Book, Page};
 use std::alloc::{AllocError, Global};
 
 /// The only book whose rows of acts these lines are. None if there is no such book: the place of a line isn't the place of its act, or
-/// the subscribers aren't in order. The conditions: subscribers and acts are within their limits. The only error is want of memory.
-pub fn book_of(alloc: Global, lines: &[Line]) -> Result<Option<Book>, AllocError>
-    requires subs { All (λ line. IsSub line.sub) lines.now }
-    requires fit { All (λ line. IsAct line.act) lines.now }
-    ensures rows { IfOk result (λ found. IfSome found (λ pages. map line_row lines.now ≡ book_act_rows pages)) }
+/// the subscribers aren't in order. The acts of the lines become those of the book: no act is copied. The conditions: subscribers and acts
+/// are within their limits. The only error is want of memory.
+pub fn book_of(alloc: Global, lines: Vec<Line>) -> Result<Option<Book>, AllocError>
+    requires subs { All (λ line. IsSub line.sub) lines.items }
+    requires fit { All (λ line. IsAct line.act) lines.items }
+    ensures rows { IfOk result (λ found. IfSome found (λ pages. map line_row lines.items ≡ book_act_rows pages)) }
     ensures valid { IfOk result (λ found. IfSome found (λ pages. AllByRecursion IsPage pages)) }
     ensures only { IfOk result (λ found. IfSome found (λ pages.
-        (others : List PageView) → AreInOrder others → AllByRecursion IsPage others → map line_row lines.now ≡ book_act_rows others → others ≡ pages)) }
+        (others : List PageView) → AreInOrder others → AllByRecursion IsPage others → map line_row lines.items ≡ book_act_rows others → others ≡ pages)) }
     ensures none { IfOk result (λ found. found ≡ None
-        → (pages : List PageView) → AreInOrder pages → AllByRecursion IsPage pages → map line_row lines.now ≢ book_act_rows pages) }
+        → (pages : List PageView) → AreInOrder pages → AllByRecursion IsPage pages → map line_row lines.items ≢ book_act_rows pages) }
 {
     same_subscribers_are_equal();
     records_differ();
     let mut pages = Vec::new(alloc);
     let mut fits = true;
     for line in lines {
+        let place = line.place;
         let before = put_behind(alloc, &mut pages, line)?;
-        fits &= stands_behind(line, before);
+        fits &= stands_behind(place, before);
     }
     if !fits {
         return Ok(None);
@@ -40,27 +42,31 @@ pub fn book_of(alloc: Global, lines: &[Line]) -> Result<Option<Book>, AllocError
     Ok(Book::from_vec(pages))
 }
 
-/// Whether the place of a line is the next behind so many acts.
-fn stands_behind(line: &Line, before: usize) -> bool
-    ensures { result ≡ true ↔ line.now.place ≡ pos (before + 1) }
+/// Whether a place is the next behind so many acts.
+fn stands_behind(place: i64, before: usize) -> bool
+    ensures { result ≡ true ↔ place ≡ pos (before + 1) }
 {
-    i128::from(line.place) == before as i128 + 1
+    i128::from(place) == before as i128 + 1
 }
 
 /// Puts the act of a line behind the other acts on the last page, if this is the page of its subscriber, and otherwise on a new page.
 /// It returns the number of acts that stand before the act on its page.
-fn put_behind(alloc: Global, pages: &mut Vec<Page>, line: &Line) -> Result<usize, AllocError>
-    ensures pages { OnOk result (pages.new.items ≡ put_behind line.now.sub line.now.act pages.old.items) }
-    ensures before { IfOk result (λ before. before ≡ before_it line.now.sub pages.old.items) }
+fn put_behind(alloc: Global, pages: &mut Vec<Page>, line: Line) -> Result<usize, AllocError>
+    ensures pages { OnOk result (pages.new.items ≡ put_behind line.sub line.act pages.old.items) }
+    ensures before { IfOk result (λ before. before ≡ before_it line.sub pages.old.items) }
 {
-    let act = line.act.copy()?;
+    let Line {
+        sub: own,
+        place: _,
+        act,
+    } = line;
     let Some(page) = pages.pop() else {
-        pages.push(first_page(alloc, line.sub, act)?)?;
+        pages.push(first_page(alloc, own, act)?)?;
         return Ok(0);
     };
-    if page.sub() != line.sub {
+    if page.sub() != own {
         pages.push(page)?;
-        pages.push(first_page(alloc, line.sub, act)?)?;
+        pages.push(first_page(alloc, own, act)?)?;
         return Ok(0);
     }
     let (sub, mut acts) = page.into_parts();
