@@ -24,42 +24,46 @@ use std::hash::RandomState;
 ///
 /// Errors: [`OpenFault::Memory`]; [`OpenFault::Damaged`], a row is no act's, or is of nobody; [`OpenFault::Disagree`], no row
 /// is damaged, and they are not those of a book under these terms.
+///
+/// The rows of acts end once their lines are read, so memory holds no act more than twice.
 pub fn judge_rows(
     alloc: Global,
     terms: &Terms,
     hasher: RandomState,
-    acts: &[Row],
+    acts: Vec<Row>,
     entries: &[Row],
     accounts: &[Row],
 ) -> Result<BTreeMap<Sub, Tally>, OpenFault>
     ensures book { IfOk result (λ tallies. (pages : List PageView)
-        × AreOfBook terms.now pages (record { acts = acts.now; entries = entries.now; accounts = accounts.now })
+        × AreOfBook terms.now pages (record { acts = acts.items; entries = entries.now; accounts = accounts.now })
         × AreTallies terms.now tallies.entries (acts_in pages)) }
-    ensures damaged { result ≡ Err OpenFault.Damaged → IsDamaged (record { acts = acts.now; entries = entries.now; accounts = accounts.now }) }
+    ensures damaged { result ≡ Err OpenFault.Damaged → IsDamaged (record { acts = acts.items; entries = entries.now; accounts = accounts.now }) }
     ensures disagree { result ≡ Err OpenFault.Disagree
-        → (¬ IsDamaged (record { acts = acts.now; entries = entries.now; accounts = accounts.now }))
-        × ((pages : List PageView) → ¬ AreOfBook terms.now pages (record { acts = acts.now; entries = entries.now; accounts = accounts.now })) }
+        → (¬ IsDamaged (record { acts = acts.items; entries = entries.now; accounts = accounts.now }))
+        × ((pages : List PageView) → ¬ AreOfBook terms.now pages (record { acts = acts.items; entries = entries.now; accounts = accounts.now })) }
     ensures faults { OnErr result ((result ≡ Err OpenFault.Memory) ⊎ ((result ≡ Err OpenFault.Damaged) ⊎ (result ≡ Err OpenFault.Disagree))) }
 {
     let lines = lines_in(alloc, acts, entries, accounts)?;
-    judge_lines(alloc, terms, hasher, &lines, entries, accounts)
+    judge_lines(alloc, terms, hasher, lines, entries, accounts)
 }
 
 /// The lines of the rows of acts, where no row is damaged.
 fn lines_in(
     alloc: Global,
-    acts: &[Row],
+    acts: Vec<Row>,
     entries: &[Row],
     accounts: &[Row],
 ) -> Result<Vec<Line>, OpenFault>
-    ensures lines { IfOk result (λ lines. acts.now ≡ map line_row lines.items) }
+    ensures lines { IfOk result (λ lines. acts.items ≡ map line_row lines.items) }
     ensures subs { IfOk result (λ lines. All (λ line. IsSub line.sub) lines.items) }
     ensures fit { IfOk result (λ lines. All (λ line. IsAct line.act) lines.items) }
-    ensures whole { OnOk result (¬ IsDamaged (record { acts = acts.now; entries = entries.now; accounts = accounts.now })) }
-    ensures damaged { result ≡ Err OpenFault.Damaged → IsDamaged (record { acts = acts.now; entries = entries.now; accounts = accounts.now }) }
+    ensures whole { OnOk result (¬ IsDamaged (record { acts = acts.items; entries = entries.now; accounts = accounts.now })) }
+    ensures damaged { result ≡ Err OpenFault.Damaged → IsDamaged (record { acts = acts.items; entries = entries.now; accounts = accounts.now }) }
     ensures faults { OnErr result ((result ≡ Err OpenFault.Memory) ⊎ (result ≡ Err OpenFault.Damaged)) }
 {
-    let lines = match read_lines(alloc, acts) {
+    let read = read_lines(alloc, &acts);
+    drop(acts);
+    let lines = match read {
         Ok(lines) => lines,
         Err(ReadFault::Memory) => return Err(OpenFault::Memory),
         Err(ReadFault::Damaged) => return Err(OpenFault::Damaged),
@@ -78,17 +82,17 @@ fn judge_lines(
     alloc: Global,
     terms: &Terms,
     hasher: RandomState,
-    lines: &[Line],
+    lines: Vec<Line>,
     entries: &[Row],
     accounts: &[Row],
 ) -> Result<BTreeMap<Sub, Tally>, OpenFault>
-    requires subs { All (λ line. IsSub line.sub) lines.now }
-    requires fit { All (λ line. IsAct line.act) lines.now }
+    requires subs { All (λ line. IsSub line.sub) lines.items }
+    requires fit { All (λ line. IsAct line.act) lines.items }
     ensures book { IfOk result (λ tallies. (pages : List PageView)
-        × AreOfBook terms.now pages (record { acts = map line_row lines.now; entries = entries.now; accounts = accounts.now })
+        × AreOfBook terms.now pages (record { acts = map line_row lines.items; entries = entries.now; accounts = accounts.now })
         × AreTallies terms.now tallies.entries (acts_in pages)) }
     ensures disagree { result ≡ Err OpenFault.Disagree
-        → (pages : List PageView) → ¬ AreOfBook terms.now pages (record { acts = map line_row lines.now; entries = entries.now; accounts = accounts.now }) }
+        → (pages : List PageView) → ¬ AreOfBook terms.now pages (record { acts = map line_row lines.items; entries = entries.now; accounts = accounts.now }) }
     ensures faults { OnErr result ((result ≡ Err OpenFault.Memory) ⊎ (result ≡ Err OpenFault.Disagree)) }
 {
     let Some(book) = book_of(alloc, lines)? else {

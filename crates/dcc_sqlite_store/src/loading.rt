@@ -40,29 +40,31 @@ pub fn load_book<S: Alter>(
 {
     pages_hold_their_rows();
     let rows = rows_of(alloc, conn, Part::Acts)?;
-    book_in(alloc, terms, hasher, &rows)
+    book_in(alloc, terms, hasher, rows)
 }
 
-/// The book whose acts these rows are.
+/// The book whose acts these rows are. The rows end once their lines are read, and the acts of the lines become those of the book.
 fn book_in(
     alloc: Global,
     terms: &Terms,
     hasher: RandomState,
-    rows: &[Row],
+    rows: Vec<Row>,
 ) -> Result<Book, StoreFault>
     ensures own { IfOk result (λ book. IsBook terms.now (acts_in book)) }
-    ensures rows { IfOk result (λ book. rows.now ≡ book_act_rows book) }
+    ensures rows { IfOk result (λ book. rows.items ≡ book_act_rows book) }
     ensures valid { IfOk result (λ book. AllByRecursion IsPage book) }
     ensures ordered { IfOk result (λ book. AreInOrder book) }
     ensures fault { OnErr result ((result ≡ Err StoreFault.Memory) ⊎ (result ≡ Err StoreFault.Device)) }
 {
     pages_hold_their_rows();
-    let lines = match read_lines(alloc, rows) {
+    let read = read_lines(alloc, &rows);
+    drop(rows);
+    let lines = match read {
         Ok(lines) => lines,
         Err(ReadFault::Memory) => return Err(StoreFault::Memory),
         Err(ReadFault::Damaged) => return Err(StoreFault::Device),
     };
-    let Some(book) = book_of(alloc, &lines)? else {
+    let Some(book) = book_of(alloc, lines)? else {
         return Err(StoreFault::Device);
     };
     if !are_own(alloc, terms, hasher, book.as_slice())? {

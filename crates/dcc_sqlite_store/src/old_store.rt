@@ -136,7 +136,7 @@ fn judge_old_rows(
 {
     old_lines_are_of_old_pages();
     let lines = old_lines_in(alloc, acts, entries, accounts)?;
-    book_of_lines(alloc, terms, hasher, &lines, entries, accounts)
+    book_of_lines(alloc, terms, hasher, lines, entries, accounts)
 }
 
 /// The lines of the rows of acts, where no row is damaged.
@@ -172,15 +172,15 @@ fn book_of_lines(
     alloc: Global,
     terms: &Terms,
     hasher: RandomState,
-    lines: &[Line],
+    lines: Vec<Line>,
     entries: &[Row],
     accounts: &[Row],
 ) -> Result<Book, OpenFault>
-    requires subs { All (λ line. IsSub line.sub) lines.now }
-    requires fit { All (λ line. IsAct line.act) lines.now }
-    ensures book { IfOk result (λ book. AreOfBook terms.now book (record { acts = map line_row lines.now; entries = entries.now; accounts = accounts.now })) }
+    requires subs { All (λ line. IsSub line.sub) lines.items }
+    requires fit { All (λ line. IsAct line.act) lines.items }
+    ensures book { IfOk result (λ book. AreOfBook terms.now book (record { acts = map line_row lines.items; entries = entries.now; accounts = accounts.now })) }
     ensures disagree { result ≡ Err OpenFault.Disagree
-        → (pages : List PageView) → ¬ AreOfBook terms.now pages (record { acts = map line_row lines.now; entries = entries.now; accounts = accounts.now }) }
+        → (pages : List PageView) → ¬ AreOfBook terms.now pages (record { acts = map line_row lines.items; entries = entries.now; accounts = accounts.now }) }
     ensures faults { OnErr result ((result ≡ Err OpenFault.Memory) ⊎ (result ≡ Err OpenFault.Disagree)) }
 {
     let Some(book) = book_of(alloc, lines)? else {

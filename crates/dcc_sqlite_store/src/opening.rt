@@ -76,7 +76,7 @@ pub fn open_store<S: Alter>(
         Ok(found) => found,
         Err(fault) => return Err(open_fault(fault)),
     };
-    judge_store(alloc, &found, setting, hasher)
+    judge_store(alloc, found, setting, hasher)
 }
 
 /// All that is read of a store. Want of memory leaves a store that may be used.
@@ -134,17 +134,17 @@ fn rows_of_two<S: Alter>(
 /// The tallies of the book whose rows were found.
 fn judge_store(
     alloc: Global,
-    found: &Found,
+    found: Found,
     setting: &Setting<'_>,
     hasher: RandomState,
 ) -> Result<BTreeMap<Sub, Tally>, OpenFault>
-    ensures book { IfOk result (λ tallies. IsOfBook setting.now.terms found.now tallies.entries) }
-    ensures set { IfOk result (λ tallies. found.now.setting.items ≡ setting_row setting.now ∷ []) }
-    ensures other { result ≡ Err OpenFault.Layout → found.now.setting.items ≢ setting_row setting.now ∷ [] }
-    ensures damaged { result ≡ Err OpenFault.Damaged → IsDamaged (rows_in found.now) }
+    ensures book { IfOk result (λ tallies. IsOfBook setting.now.terms found tallies.entries) }
+    ensures set { IfOk result (λ tallies. found.setting.items ≡ setting_row setting.now ∷ []) }
+    ensures other { result ≡ Err OpenFault.Layout → found.setting.items ≢ setting_row setting.now ∷ [] }
+    ensures damaged { result ≡ Err OpenFault.Damaged → IsDamaged (rows_in found) }
     ensures disagree { result ≡ Err OpenFault.Disagree
-        → (¬ IsDamaged (rows_in found.now)) × ((pages : List PageView) → ¬ AreOfBook setting.now.terms pages (rows_in found.now)) }
-    ensures ours { (result ≡ Err OpenFault.Damaged) ⊎ (result ≡ Err OpenFault.Disagree) → found.now.setting.items ≡ setting_row setting.now ∷ [] }
+        → (¬ IsDamaged (rows_in found)) × ((pages : List PageView) → ¬ AreOfBook setting.now.terms pages (rows_in found)) }
+    ensures ours { (result ≡ Err OpenFault.Damaged) ⊎ (result ≡ Err OpenFault.Disagree) → found.setting.items ≡ setting_row setting.now ∷ [] }
     ensures filled { result ≢ Err OpenFault.Empty }
 {
     if !is_setting(&found.setting, setting) {
@@ -153,12 +153,12 @@ fn judge_store(
     if !are_rising(&found.rowids) {
         return Err(OpenFault::Device);
     }
-    judge_rows(
-        alloc,
-        &setting.terms,
-        hasher,
-        &found.acts,
-        &found.entries,
-        &found.accounts,
-    )
+    let Found {
+        setting: _,
+        rowids: _,
+        acts,
+        entries,
+        accounts,
+    } = found;
+    judge_rows(alloc, &setting.terms, hasher, acts, &entries, &accounts)
 }
