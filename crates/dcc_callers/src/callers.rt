@@ -18,11 +18,13 @@ pub struct Caller {
     pub sub: Sub,
     /// The name of its session.
     pub name: &'static [u8],
+    /// The number of its seats.
+    pub number: usize,
     pub seat: Seat,
 }
 
 impl Caller {
-    /// A caller for the end user of this E.164 number, with a seat of these shards.
+    /// A caller for the end user of this E.164 number, with a seat of this number of these shards.
     ///
     /// Errors: the number is none, or want of memory.
     pub fn new<R: Records>(
@@ -30,11 +32,13 @@ impl Caller {
         shards: &Shards<R, Brand>,
         data: &[u8],
         name: &'static [u8],
+        number: usize,
     ) -> Result<Caller, Fail> {
         Ok(Caller {
             sub: Sub::new(0, data).ok_or("a subscriber")?,
             name,
-            seat: shards.seat(alloc)?,
+            number,
+            seat: shards.seat(alloc, number)?,
         })
     }
 
@@ -44,7 +48,7 @@ impl Caller {
         alloc: Global,
         shards: &Shards<R, Brand>,
     ) -> Result<Seat, Fail> {
-        Ok(replace(&mut self.seat, shards.seat(alloc)?))
+        Ok(replace(&mut self.seat, shards.seat(alloc, self.number)?))
     }
 
     /// Submits a job of a debit or an opening. Other jobs get no answer.

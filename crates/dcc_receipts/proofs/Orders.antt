@@ -3,7 +3,7 @@ use Rattle.std.proofs.Common.{◌≡◌, ℕ, Bool, true, false, ◌&&◌, ◌||
 use Rattle.std.specs.List.{list_all}
 use Rattle.std.proofs.lemmas.Grind.{common_steps}
 use Rattle.dcc_receipts.specs.Audit.{is_after, in_order}
-use Rattle.dcc_receipts.specs.inner.Tops.{follows, top_after, in_order_by}
+use Rattle.dcc_receipts.specs.Tops.{follows, top_after, in_order_by}
 use Rattle.dcc_receipts.specs.declared.receipt.Receipt.{Receipt}
 
 -- past one number and past another is past the greater of them

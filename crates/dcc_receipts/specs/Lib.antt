@@ -4,4 +4,5 @@ pub mod Checks
 pub mod Faults
 pub mod Marks
 pub mod Stretches
+pub mod Tops
 pub mod inner

@@ -1,3 +1,2 @@
-pub mod Tops
 pub mod Singles
 pub mod Spots

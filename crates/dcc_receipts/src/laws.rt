@@ -4,6 +4,7 @@ ghost use Rattle.std.specs.Prelude.{◌≡◌, Some};
 ghost use Rattle.dcc_receipts.specs.Acts.{SameActsAreEqual};
 ghost use Rattle.dcc_receipts.specs.Faults.{fault_number};
 ghost use Rattle.dcc_receipts.specs.Stretches.{TrueStayTrue};
+ghost use Rattle.dcc_receipts.specs.Tops.{OrdersAgree};
 ghost use Rattle.dcc_receipts.specs.declared.fault.CloseFault.TheVariants as fault;
 
 use dcc_model::later_acts_change_no_outcome;
@@ -26,3 +27,9 @@ pub fn true_receipts_stay_true()
 {
     later_acts_change_no_outcome();
 }
+
+/// Receipts are in order by the greatest place so far exactly if each is after all before it.
+#[tactic(auto, using(crate::proofs::Orders::by_top))]
+pub fn orders_agree()
+    ensures { OrdersAgree }
+{}

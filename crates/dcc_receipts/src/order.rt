@@ -3,7 +3,7 @@
 ghost use Rattle.std.specs.Prelude.{◌≡◌, [], true, false, None, IfOk};
 ghost use Rattle.dcc_act.specs.declared.sub.Sub.{Sub};
 ghost use Rattle.dcc_receipts.specs.Audit.{own, in_order};
-ghost use Rattle.dcc_receipts.specs.inner.Tops.{follows, top_after, in_order_by};
+ghost use Rattle.dcc_receipts.specs.Tops.{follows, top_after, in_order_by};
 
 use crate::receipt::Receipt;
 use dcc_act::same_subscribers_are_equal;
@@ -33,7 +33,7 @@ fn in_order_by_top(receipts: &[Receipt]) -> bool
 }
 
 /// Whether a receipt is after all receipts before it, of whose places this is the greatest; none if there is no receipt before it.
-fn follows(top: Option<u64>, receipt: &Receipt) -> bool
+pub fn follows(top: Option<u64>, receipt: &Receipt) -> bool
     ensures { result ≡ follows top receipt.now }
 {
     match top {
@@ -49,7 +49,7 @@ fn follows(top: Option<u64>, receipt: &Receipt) -> bool
 }
 
 /// The greatest place of a receipt and of the receipts before it.
-fn top_after(top: Option<u64>, receipt: &Receipt) -> u64
+pub fn top_after(top: Option<u64>, receipt: &Receipt) -> u64
     ensures { result ≡ top_after top receipt.now }
 {
     match top {

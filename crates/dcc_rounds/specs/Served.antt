@@ -57,7 +57,7 @@ module _ {I O C : Type 0} (remaining : I → Option (List ℕ)) (contents : O �
     pub all : length ended ≡ length begun
     pub finished : AreFinished ended
     pub counted : counts ≡ with_acts (counts_in ended) (acts_told books.sides)
-    pub audited : AreTrue (book old) books (filter_map seat_in ended) × AreCovered (book old) books (filter_map seat_in ended) × AreOrdered (filter_map seat_in ended)
+    pub audited : AreTrue (book old) books (filter_map seat_in ended) × AreCovered (book old) books (filter_map seat_in ended) × AreOrdered books.sides (filter_map seat_in ended)
     pub own : AreOwn books
     pub left : new ≡ books.parts
     pub kept : AreKept is_stopped may_leave new

@@ -292,7 +292,7 @@ fn add_workers<R: Records, J: Naming, I: Drop, O: Drop>(
     let count = receivers.len();
     for shard in 0..count {
         tasks.reserve(1)?;
-        let seat = locked.seat(alloc)?;
+        let seat = locked.seat(alloc, shard)?;
         let Some(from) = first_of(receivers) else {
             drop(seat);
             break;
@@ -321,9 +321,11 @@ fn add_attendants<R: Records, J: Naming, I: Drop, O: Drop>(
 ) -> Result<(), AllocError>
     ensures { OnOk result (tasks.new.items ≡ tasks.old.items ++ attendants_of count) }
 {
-    for _added in 0..count {
+    for added in 0..count {
         tasks.reserve(1)?;
-        let seat = locked.seat(alloc)?;
+        // Behind the workers' seats, of which each shard has one.
+        let number = locked.count().saturating_add(added);
+        let seat = locked.seat(alloc, number)?;
         tasks.push_reserved(Task::Attend(Attendant { seat }));
     }
     Ok(())

@@ -9,7 +9,7 @@ use Rattle.dcc_shard.specs.Routes.{shard_of}
 use Rattle.dcc_shard.specs.Shards.{held}
 use Rattle.dcc_shard.specs.Stored.{StoredView}
 use Rattle.dcc_running.specs.Books.{BeginWith, HaveOwnPlaces, book, held_by}
-use Rattle.dcc_receipts.specs.declared.receipt.Receipt.{Receipt}
+use Rattle.dcc_running.specs.Told.{ToldView, none_told}
 use Rattle.dcc_running.specs.declared.lock.Place.{Place}
 use Rattle.dcc_running.specs.declared.lock.Side.{Side}
 use Rattle.dcc_running.specs.inner.Wards.{AreBegun, AreBeside, AreTold, IsBegun, IsBeside}
@@ -41,7 +41,7 @@ begun {R} opening parts some are sub =
 
 -- shards that are begun at the places of a row, and without audited receipts, are beside sides of these places
 zipped : {R : Type 0} (opening : Held) (row : ℕ → Place) (sides : List Side) (parts : List (StoredView R)) → length sides ≡ length parts
-    → ((i : ℕ) (none : Side) → i < length sides → (get_or sides i none).place ≡ row i) → ((i : ℕ) (none : Side) → i < length sides → (get_or sides i none).told ≡ [])
+    → ((i : ℕ) (none : Side) → i < length sides → (get_or sides i none).place ≡ row i) → ((i : ℕ) (none : Side) → i < length sides → (get_or sides i none).told ≡ none_told)
     → ((i : ℕ) (none : StoredView R) → i < length parts → IsBegun opening (row i) (get_or parts i none)) → AreBeside opening sides parts
 zipped opening row [] [] as_many own untold are = tt
 zipped opening row [] (part ∷ parts) as_many own untold are = absurd (omega (arith, as_many))
@@ -49,7 +49,7 @@ zipped opening row (side ∷ sides) [] as_many own untold are = absurd (omega (a
 zipped {R} opening row (side ∷ sides) (part ∷ parts) as_many own untold are = (
   (
     subst (λ (p : Place). IsBegun opening p part) (sym (own zero side (omega arith))) (are zero part (omega arith)),
-    subst (λ (told : List Receipt). AreTold opening part told) (sym (untold zero side (omega arith))) refl,
+    subst (λ (told : ToldView). AreTold opening part told.receipts) (sym (untold zero side (omega arith))) refl,
   ),
   zipped opening (λ i. row (suc i)) sides parts (omega (arith, as_many)) (λ i none within. own (suc i) none (omega (arith, within)))
       (λ i none within. untold (suc i) none (omega (arith, within))) (λ i none within. are (suc i) none (omega (arith, within))),
@@ -72,7 +72,7 @@ row_of count index = record { index = index; count = count }
 
 -- shards that hold exactly the acts at opening are begun at their own places
 pub opened_at : {R : Type 0} (opening : Held) (sides : List Side) (parts : List (StoredView R)) → length sides ≡ length parts → HaveOwnPlaces sides
-    → ((i : ℕ) (none : Side) → i < length sides → (get_or sides i none).told ≡ []) → ((sub : Sub) → opening sub ≡ book parts sub) → AreBeside opening sides parts
+    → ((i : ℕ) (none : Side) → i < length sides → (get_or sides i none).told ≡ none_told) → ((sub : Sub) → opening sub ≡ book parts sub) → AreBeside opening sides parts
 unfolding row_of
 opened_at {R} opening sides parts as_many own untold are =
     zipped opening (row_of (length parts)) sides parts as_many

@@ -9,7 +9,9 @@ pub mod Places
 pub mod Placing
 pub mod Subscribers
 pub mod Telling
+pub mod Tops
 pub mod TopUps
 pub mod Walks
+pub mod Reasons
 pub mod Resolved
 pub mod Sharing

@@ -6,6 +6,8 @@ use denote.Param.Send.{IsSend, IsSync, Frees, sendable}
 use denote.Struct.Declared
 use Rattle.std.specs.contracts.snapshot.Snapshot
 use Rattle.std.specs.contracts.impls.GlobalAllocator.TheImpl.{ghosts}
+use Rattle.dcc_running.specs.contracts.seen.Seen
+use Rattle.dcc_running.specs.contracts.seen.Seen.TheInside as InSeen
 use Rattle.dcc_running.specs.contracts.told.Told
 use Rattle.dcc_running.specs.contracts.told.Told.TheInside as InTold
 use Rattle.dcc_running.specs.contracts.lock.Side
@@ -14,7 +16,6 @@ use Rattle.dcc_running.specs.contracts.ward.Ward
 use Rattle.dcc_running.specs.contracts.ward.Ward.TheInside as InWard
 use Rattle.dcc_running.specs.contracts.shards.Shards
 use Rattle.dcc_running.specs.contracts.shards.Shards.TheInside as InShards
-use Rattle.dcc_receipts.specs.contracts.receipt.Receipt
 use Rattle.dcc_receipts.proofs.marks.Marks.TheSendSync as MarksSent
 use Rattle.dcc_shard.proofs.shard.Shard.TheSendSync as ShardSent
 use Rattle.dcc_tariff.proofs.terms.Terms.TheSendSync as TermsSent
@@ -36,11 +37,25 @@ snapshot_send T = record { owned = λ x vs. ((λ _. (tt, ((λ _. (tt, tt)), tt))
 snapshot_sync : (T : RattleType) → IsSync (Snapshot.the_row T)
 snapshot_sync T = record { shared = λ x b o κ q. Send.whole-keyless _ _ (λ z vs. ((λ _. (tt, ((λ _. (tt, tt)), tt))), tt)) q x b o }
 
+in_seen_send : IsSend InSeen.the_row
+in_seen_send = Send.recorded_send InSeen.the_field.row _ _ InSeen.the_type.to_one (Send.struct_send (Declared.shape InSeen.the_type) (MarksSent.the_send, (search (frees, snapshot_send, VecSent.the_send, GlobalSent.the_send) depth 10, (search sendable, tt))))
+
+in_seen_sync : IsSync InSeen.the_row
+in_seen_sync = Send.recorded_sync InSeen.the_field.row _ _ InSeen.the_type.to_one (Send.struct_sync (Declared.shape InSeen.the_type) (MarksSent.the_sync, (search (frees, snapshot_send, snapshot_sync, VecSent.the_sync, GlobalSent.the_sync, GlobalSent.the_send) depth 10, (search sendable, tt))))
+
+seen_send : IsSend Seen.the_row
+seen_send = Send.view_send InSeen.the_row _ _ _ _ in_seen_send
+
+seen_sync : IsSync Seen.the_row
+seen_sync = Send.view_sync InSeen.the_row _ _ _ _ in_seen_sync
+
 in_told_send : IsSend InTold.the_row
-in_told_send = Send.recorded_send InTold.the_field.row _ _ InTold.the_type.to_one (Send.struct_send (Declared.shape InTold.the_type) (MarksSent.the_send, (search (frees, snapshot_send, VecSent.the_send, GlobalSent.the_send) depth 10, (search sendable, tt))))
+in_told_send = Send.recorded_send InTold.the_field.row _ _ InTold.the_type.to_one (Send.struct_send (Declared.shape InTold.the_type)
+    (seen_send, (search (frees, snapshot_send, VecSent.the_send, GlobalSent.the_send) depth 10, (search (frees, sendable, SubSent.the_send, MapSent.the_send, GlobalSent.the_send) depth 14, tt))))
 
 in_told_sync : IsSync InTold.the_row
-in_told_sync = Send.recorded_sync InTold.the_field.row _ _ InTold.the_type.to_one (Send.struct_sync (Declared.shape InTold.the_type) (MarksSent.the_sync, (search (frees, snapshot_send, snapshot_sync, VecSent.the_sync, GlobalSent.the_sync, GlobalSent.the_send) depth 10, (search sendable, tt))))
+in_told_sync = Send.recorded_sync InTold.the_field.row _ _ InTold.the_type.to_one (Send.struct_sync (Declared.shape InTold.the_type)
+    (seen_sync, (search (frees, snapshot_send, snapshot_sync, VecSent.the_sync, GlobalSent.the_sync, GlobalSent.the_send) depth 10, (search (frees, sendable, SubSent.the_sync, MapSent.the_sync, GlobalSent.the_sync, GlobalSent.the_send) depth 14, tt))))
 
 told_send : IsSend Told.the_row
 told_send = Send.view_send InTold.the_row _ _ _ _ in_told_send

@@ -1,13 +1,12 @@
 -- Receipts that were audited while the shards were under locks, once the shards are out of them.
-use Rattle.std.proofs.Common.{◌≡◌, ◌≢◌, Bool, ℕ, ◌+◌, ◌-◌, ◌^◌, ◌<◌, min, ◌≤◌, ◌⊎◌, zero, suc, take, true, false, ◌&&◌, ◌||◌, ◌==◌, not, List, [], ◌∷◌, ◌++◌, length, get_or, slice_get, refl, sym, ap, subst, ◌∙◌, inl, inr, arith}
+use Rattle.std.proofs.Common.{◌≡◌, ◌≢◌, Bool, ℕ, ◌+◌, ◌-◌, ◌^◌, ◌<◌, min, ◌≤◌, ◌⊎◌, zero, suc, take, true, false, ◌&&◌, ◌==◌, not, List, [], ◌∷◌, ◌++◌, length, get_or, slice_get, refl, sym, ap, subst, ◌∙◌, inl, inr, arith}
 use Rattle.std.proofs.lemmas.Bool.{cases_Bool}
 use Rattle.std.proofs.lemmas.Bool.Decides.{nat_tests}
 use Rattle.std.proofs.lemmas.List.{take_more}
-use Rattle.std.proofs.lemmas.List.Folds.{list_all-append}
 use Rattle.std.proofs.lemmas.List.Sums.{sum_by-append, sum_by-cons, sum_by_more}
 use Rattle.std.proofs.lemmas.Option.{slice_get-get_or}
 use Rattle.std.specs.List.{list_all, sum_by}
-use Rattle.std.specs.Prelude.{Option, Some, None, cond, filter, map, nat_lt}
+use Rattle.std.specs.Prelude.{Option, cond, filter}
 use Rattle.dcc_tariff.specs.Terms.{TermsView}
 use Rattle.dcc_message.specs.declared.identity.Identity.{Identity}
 use Rattle.dcc_act.specs.declared.act.Act.{Act}
@@ -106,19 +105,19 @@ module _ {R : Type 0} (same : SameAreEqual) (opening : Held) (terms : TermsView)
       ]
 
 -- if no side, or one side alone, has a place
-pub told_none : (sub : Sub) (place : ℕ) (sides : List Side) → ((i : ℕ) (none : Side) → i < length sides → times place (own sub (get_or sides i none).told) ≡ 0)
+pub told_none : (sub : Sub) (place : ℕ) (sides : List Side) → ((i : ℕ) (none : Side) → i < length sides → times place (own sub (get_or sides i none).told.receipts) ≡ 0)
     → times_in sub place (told_in sides) ≡ 0
 told_none sub place [] are = refl
 told_none sub place (side ∷ sides) are =
-    let count = sum_by-cons (λ (receipts : List Receipt). times place (own sub receipts)) side.told (told_in sides) in
+    let count = sum_by-cons (λ (receipts : List Receipt). times place (own sub receipts)) side.told.receipts (told_in sides) in
     omega (arith, count, are zero side (omega arith), told_none sub place sides (λ i none within. are (suc i) none (omega (arith, within))))
 
-pub told_once : (sub : Sub) (place r : ℕ) (sides : List Side) → ((i : ℕ) (none : Side) → i < length sides → times place (own sub (get_or sides i none).told) ≤ 1)
-    → ((i : ℕ) (none : Side) → i < length sides → 0 < times place (own sub (get_or sides i none).told) → r ≡ i) → times_in sub place (told_in sides) ≤ 1
+pub told_once : (sub : Sub) (place r : ℕ) (sides : List Side) → ((i : ℕ) (none : Side) → i < length sides → times place (own sub (get_or sides i none).told.receipts) ≤ 1)
+    → ((i : ℕ) (none : Side) → i < length sides → 0 < times place (own sub (get_or sides i none).told.receipts) → r ≡ i) → times_in sub place (told_in sides) ≤ 1
 told_once sub place r [] most only = omega arith
 told_once sub place zero (side ∷ sides) most only =
-    let count = sum_by-cons (λ (receipts : List Receipt). times place (own sub receipts)) side.told (told_in sides) in
-    let none_else = told_none sub place sides (λ i none within. elim (zero_or (times place (own sub (get_or sides i none).told))) [
+    let count = sum_by-cons (λ (receipts : List Receipt). times place (own sub receipts)) side.told.receipts (told_in sides) in
+    let none_else = told_none sub place sides (λ i none within. elim (zero_or (times place (own sub (get_or sides i none).told.receipts))) [
       | inl zero_times ↦ zero_times
       | inr some ↦ absurd (omega (arith, only (suc i) none (omega (arith, within)) some))
     ]) in
@@ -128,10 +127,10 @@ told_once sub place zero (side ∷ sides) most only =
     zero_or zero = inl refl
     zero_or (suc n) = inr (omega arith)
 told_once sub place (suc r) (side ∷ sides) most only =
-    let count = sum_by-cons (λ (receipts : List Receipt). times place (own sub receipts)) side.told (told_in sides) in
+    let count = sum_by-cons (λ (receipts : List Receipt). times place (own sub receipts)) side.told.receipts (told_in sides) in
     let rest = told_once sub place r sides (λ i none within. most (suc i) none (omega (arith, within)))
     (λ i none within some. omega (arith, only (suc i) none (omega (arith, within)) some)) in
-    elim (zero_or (times place (own sub side.told))) [
+    elim (zero_or (times place (own sub side.told.receipts))) [
       | inl zero_times ↦ omega (arith, count, zero_times, rest)
       | inr some ↦ absurd (omega (arith, only zero side (omega arith) some))
     ]
@@ -146,13 +145,13 @@ marked_once true n is = omega (arith, is)
 marked_once false n is = omega (arith, is)
 
 -- a place of one side is a place of all sides
-pub told_some : (sub : Sub) (place : ℕ) (sides : List Side) (i : ℕ) (none : Side) → i < length sides → 0 < times place (own sub (get_or sides i none).told)
+pub told_some : (sub : Sub) (place : ℕ) (sides : List Side) (i : ℕ) (none : Side) → i < length sides → 0 < times place (own sub (get_or sides i none).told.receipts)
     → 0 < times_in sub place (told_in sides)
 told_some sub place [] i none within some = absurd (omega (arith, within))
 told_some sub place (side ∷ sides) zero none within some =
-    let count = sum_by-cons (λ (receipts : List Receipt). times place (own sub receipts)) side.told (told_in sides) in omega (arith, count, some)
+    let count = sum_by-cons (λ (receipts : List Receipt). times place (own sub receipts)) side.told.receipts (told_in sides) in omega (arith, count, some)
 told_some sub place (side ∷ sides) (suc i) none within some =
-    let count = sum_by-cons (λ (receipts : List Receipt). times place (own sub receipts)) side.told (told_in sides) in
+    let count = sum_by-cons (λ (receipts : List Receipt). times place (own sub receipts)) side.told.receipts (told_in sides) in
     omega (arith, count, told_some sub place sides i none (omega (arith, within)) some)
 
 -- the audited receipts of all shards are true of the books
@@ -164,11 +163,11 @@ all_true opening terms identity parts shards [] [] are each = refl
 all_true opening terms identity parts shards [] (part ∷ rest) are each = absurd are
 all_true opening terms identity parts shards (side ∷ sides) [] are each = absurd are
 all_true {R} opening terms identity parts shards (side ∷ sides) (part ∷ rest) are each =
-    rw (each zero part (omega arith) side.told are.0.1)
+    rw (each zero part (omega arith) side.told.receipts are.0.1)
     (all_true opening terms identity parts shards sides rest are.1 (λ i none within. each (suc i) none (omega (arith, within))))
 
 pub told_at : {R : Type 0} (opening : Held) (sides : List Side) (parts : List (StoredView R)) → AreBeside opening sides parts → (i : ℕ) (side : Side) (part : StoredView R)
-    → i < length parts → AreTold opening (get_or parts i part) (get_or sides i side).told
+    → i < length parts → AreTold opening (get_or parts i part) (get_or sides i side).told.receipts
 told_at opening [] [] are i side part within = absurd (omega (arith, within))
 told_at opening [] (p ∷ parts) are i side part within = absurd are
 told_at opening (s ∷ sides) [] are i side part within = absurd are
@@ -178,14 +177,14 @@ told_at {R} opening (s ∷ sides) (p ∷ parts) are (suc i) side part within = t
 -- and no place has two fresh ones
 pub all_once : {R : Type 0} → SameAreEqual → (opening : Held) (terms : TermsView) (identity : Identity) (parts : List (StoredView R)) → AreShards terms identity parts
     → (sides : List Side) → length sides ≡ length parts → AreBeside opening sides parts
-    → ((i : ℕ) (side : Side) → i < length sides → (sub : Sub) (place : ℕ) → times place (own sub (get_or sides i side).told) ≤ 1)
+    → ((i : ℕ) (side : Side) → i < length sides → (sub : Sub) (place : ℕ) → times place (own sub (get_or sides i side).told.receipts) ≤ 1)
     → (sub : Sub) (place : ℕ) → times_in sub place (told_in sides) ≤ 1
 all_once {R} same opening terms identity [] shards sides as_many are most sub place =
     let none : times_in sub place (told_in sides) ≡ 0 = told_none sub place sides (λ i side within. absurd (omega (arith, within, as_many))) in omega (arith, none)
 all_once {R} same opening terms identity (none ∷ others) shards sides as_many are most sub place =
     let parts : List (StoredView R) = none ∷ others in
     told_once sub place (shard_of sub (length parts)) sides (λ i side within. most i side within sub place)
-    (λ i side within some. kept_here same opening terms identity parts shards sub place i none (omega (arith, within, as_many)) (get_or sides i side).told
+    (λ i side within some. kept_here same opening terms identity parts shards sub place i none (omega (arith, within, as_many)) (get_or sides i side).told.receipts
     (told_at opening sides parts are i side none (omega (arith, within, as_many))) some)
 
 filter_more : {X : Type 0} (p : X → Bool) (xs ys : List X) → filter p (xs ++ ys) ≡ filter p xs ++ filter p ys
@@ -269,8 +268,8 @@ saturated sum acts most m n k was one is = omega arith
 
 -- the acts of one list of audited receipts more
 pub told_more : (sides : List Side) (i : ℕ) (side : Side) (m n k : ℕ) → i < length sides → side ≡ get_or sides i side → m ≡ acts_told (take i sides)
-    → n ≡ min (acts_of side.told) (2 ^ 64 - 1) → k ≡ min (m + n) (2 ^ 64 - 1) → k ≡ acts_told (take (i + 1) sides)
+    → n ≡ min (acts_of side.told.receipts) (2 ^ 64 - 1) → k ≡ min (m + n) (2 ^ 64 - 1) → k ≡ acts_told (take (i + 1) sides)
 told_more sides i side m n k within at was one is =
-    let f : Side → ℕ = λ s. acts_of s.told in
+    let f : Side → ℕ = λ s. acts_of s.told.receipts in
     saturated (sum_by f (take i sides)) (f side) (2 ^ 64 - 1) m n k was one is
     ∙ ap (λ sum. min sum (2 ^ 64 - 1)) (ap (λ acts. sum_by f (take i sides) + acts) (ap f at) ∙ sym (sum_by_more f sides i side within))

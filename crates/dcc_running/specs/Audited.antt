@@ -1,5 +1,5 @@
 -- The tests of the receipts of all seats against the books.
-use Rattle.std.specs.Prelude.{◌≡◌, ℕ, ◌<◌, ◌≤◌, Bool, true, false, ◌&&◌, ◌⊎◌, List, [], ◌∷◌, ◌++◌, length}
+use Rattle.std.specs.Prelude.{◌≡◌, ℕ, ◌<◌, ◌≤◌, Bool, true, false, ◌&&◌, ◌⊎◌, List, [], ◌∷◌, ◌++◌, length, slice_index_or}
 use Rattle.std.specs.List.{AllByRecursion, list_all, sum_by}
 use Rattle.dcc_tariff.specs.Terms.{TermsView}
 use Rattle.dcc_message.specs.declared.identity.Identity.{Identity}
@@ -12,6 +12,8 @@ use Rattle.dcc_receipts.specs.declared.receipt.Receipt.{Receipt}
 use Rattle.dcc_shard.specs.Shards.{ShardView, held}
 use Rattle.dcc_store.specs.Books.{Held}
 use Rattle.dcc_running.specs.Books.{BooksView, AreShards, BeginWith, HaveOwnPlaces, book, told_in}
+use Rattle.dcc_running.specs.Told.{ToldView, told_of}
+use Rattle.dcc_running.specs.declared.lock.Side.{Side}
 
 -- a receipt agrees with its subscriber's acts, of which the first were there at opening, and has the answer by the outcome of its act
 abbrev pub is_true : Identity → TermsView → Held → Held → Receipt → Bool
@@ -55,24 +57,48 @@ abbrev pub AreCovered : {R : Type 0} → (opening : Held) → BooksView R → Li
 AreCovered opening books seats = (sub : Sub) (place : ℕ) → length (opening sub) < place → place ≤ length (book books.parts sub)
     → times_in sub place (all_of books seats) ≡ 1
 
--- each receipt of a seat is after all earlier receipts of the same subscriber in the seat
-abbrev pub AreOrdered : List (List Receipt) → Type 0
-AreOrdered seats = (sub : Sub) → list_all (λ receipts. in_order [] (own sub receipts)) seats ≡ true
+-- each of these receipts is after all earlier receipts of the same subscriber
+abbrev pub IsOrdered : List Receipt → Type 0
+IsOrdered receipts = (sub : Sub) → in_order [] (own sub receipts) ≡ true
+
+-- the receipts of each seat: those that a shard's audits took out of it, and behind them those that it has. The number of a seat is its index among the seats.
+abbrev pub IsOrderedIn : ToldView → List (List Receipt) → Type 0
+IsOrderedIn told seats = (seat : ℕ) → IsOrdered (told_of seat told ++ slice_index_or seats seat [])
+
+-- for each shard: each receipt of a seat is after all earlier receipts of the same subscriber in the seat, over all audits and those that are left
+abbrev pub AreOrdered : List Side → List (List Receipt) → Type 0
+AreOrdered sides seats = (i : ℕ) (none : Side) → i < length sides → IsOrderedIn (slice_index_or sides i none).told seats
+
+-- A receipt was not after some receipts of a seat, which may be any, as of WasStray. `Ward::tell` (fault) speaks of the locked shard.
+abbrev pub WasBefore : Receipt → Type 0
+WasBefore r = (told : List Receipt) × (in_order [] (own r.sub (told ++ r ∷ [])) ≡ false)
+
+-- the reason for which a receipt is not taken out of its seat; nothing is said if memory was short
+abbrev pub IsToldFault : CloseFault → Held → Receipt → Type 0
+IsToldFault Memory opening r = Unit {0}
+IsToldFault ReceiptStray opening r = WasStray opening r
+IsToldFault ActWithoutReceipt opening r = ⊥
+IsToldFault OutOfOrder opening r = WasBefore r
+
+-- the first that stays
+abbrev pub FirstStays : (Receipt → Type 0) → List Receipt → Type 0
+FirstStays P after = (r : Receipt) × (behind : List Receipt) × (after ≡ r ∷ behind) × P r
 
 -- The reason for which an audit of a seat fails, by the receipts before and after it. 60: the receipts are in order, some stay, and of the first that stays WasStray
--- holds. 62: the receipts are not in order, and all stay. An audit never reports 61. Nothing is said if memory was short.
+-- holds. 62: the receipts are not in order, and all stay; or they are, some stay, and of the first that stays WasBefore holds. An audit never reports 61.
+-- Nothing is said if memory was short.
 abbrev pub IsAuditFault : CloseFault → Held → List Receipt → List Receipt → Type 0
 IsAuditFault Memory opening before after = Unit {0}
-IsAuditFault ReceiptStray opening before after = AreOrdered (before ∷ []) × ((r : Receipt) × (behind : List Receipt) × (after ≡ r ∷ behind) × WasStray opening r)
+IsAuditFault ReceiptStray opening before after = IsOrdered before × FirstStays (WasStray opening) after
 IsAuditFault ActWithoutReceipt opening before after = ⊥
-IsAuditFault OutOfOrder opening before after = (after ≡ before) × (AreOrdered (before ∷ []) → ⊥)
+IsAuditFault OutOfOrder opening before after = ((after ≡ before) × (IsOrdered before → ⊥)) ⊎ (IsOrdered before × FirstStays WasBefore after)
 
 -- the reason for which the comparison fails: its first test that doesn't hold; nothing is said if memory was short
 abbrev pub IsFault : {R : Type 0} → CloseFault → (opening : Held) → BooksView R → List (List Receipt) → Type 0
 IsFault Memory opening books seats = Unit {0}
 IsFault ReceiptStray opening books seats = AreTrue opening books seats → ⊥
 IsFault ActWithoutReceipt opening books seats = AreTrue opening books seats × (AreCovered opening books seats → ⊥)
-IsFault OutOfOrder opening books seats = AreTrue opening books seats × AreCovered opening books seats × (AreOrdered seats → ⊥)
+IsFault OutOfOrder opening books seats = AreTrue opening books seats × AreCovered opening books seats × (AreOrdered books.sides seats → ⊥)
 
 -- the acts of each subscriber are exactly those that their own list makes
 abbrev pub AreOwn : {R : Type 0} → BooksView R → Type 0

@@ -34,11 +34,11 @@ HaveOwnPlaces sides = (i : ℕ) (none : Side) → i < length sides → (slice_in
 
 -- the receipts of each shard that were audited
 abbrev pub told_in : List Side → List (List Receipt)
-told_in sides = map (λ (s : Side). s.told) sides
+told_in sides = map (λ (s : Side). s.told.receipts) sides
 
 -- the number of acts of the audited receipts, up to 2^64 - 1
 abbrev pub acts_told : List Side → ℕ
-acts_told sides = min (sum_by (λ (s : Side). acts_of s.told) sides) (2 ^ 64 - 1)
+acts_told sides = min (sum_by (λ (s : Side). acts_of s.told.receipts) sides) (2 ^ 64 - 1)
 
 -- these acts begin with the acts at opening
 abbrev pub BeginWith : (opening all : List Act) → Type 0

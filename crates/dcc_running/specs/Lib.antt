@@ -4,4 +4,5 @@ pub mod Audited
 pub mod Calls
 pub mod Batches
 pub mod Tallies
+pub mod Told
 pub mod inner

@@ -3,7 +3,7 @@
 ghost use Rattle.std.specs.Prelude.{◌≡◌, ◌≢◌, ◌≤◌, ◌<◌, ◌↔◌, ◌&&◌, ◌++◌, ℕ, [], true, false, length, IfErr, IfOk, OnOk, IfSome, IfNone};
 ghost use Rattle.std.specs.List.{list_all};
 ghost use Rattle.dcc_act.specs.declared.sub.Sub.{Sub};
-ghost use Rattle.dcc_running.specs.Audited.{all_of, is_true, are_true, times_in, AreTrue, AreCovered, AreOrdered, AreOwn, IsFault};
+ghost use Rattle.dcc_running.specs.Audited.{all_of, is_true, are_true, times_in, AreTrue, AreCovered, AreOrdered, AreOwn, IsFault, IsOrderedIn};
 ghost use Rattle.dcc_running.specs.Books.{AreShards, BeginWith, book, told_in};
 ghost use Rattle.dcc_running.specs.inner.Marked.{AreMarked, IsCovered};
 ghost use Rattle.dcc_account.specs.Accounts.{outcomes};
@@ -17,9 +17,10 @@ use crate::lock::Side;
 use crate::naming::Naming;
 use crate::placed::are_shards;
 use crate::seat::Seat;
+use crate::told::Told;
 use dcc_act::{Journal, Outcome, Sub, same_subscribers_are_equal};
 use dcc_message::Identity;
-use dcc_receipts::{CloseFault, Marks, Receipt, agrees_with, each_in_order, is_answered};
+use dcc_receipts::{CloseFault, Marks, Receipt, agrees_with, is_answered};
 use dcc_shard::Shard;
 use dcc_store::Records;
 use dcc_tariff::Terms;
@@ -32,7 +33,7 @@ pub(crate) fn audit<R: Records, J: Naming>(
     books: &Books<R, J>,
     seats: &[Seat],
 ) -> Result<(), CloseFault>
-    ensures ok { OnOk result (AreTrue J.opening books.now seats.now × AreCovered J.opening books.now seats.now × AreOrdered seats.now × AreOwn books.now) }
+    ensures ok { OnOk result (AreTrue J.opening books.now seats.now × AreCovered J.opening books.now seats.now × AreOrdered books.now.sides seats.now × AreOwn books.now) }
     ensures fault { IfErr result (λ fault. IsFault fault J.opening books.now seats.now) }
 {
     let Some(marks) = true_marks(alloc, books, seats)? else {
@@ -41,7 +42,7 @@ pub(crate) fn audit<R: Records, J: Naming>(
     if !are_covered(alloc, books, &marks, seats)? {
         return Err(CloseFault::ActWithoutReceipt);
     }
-    if !are_ordered(alloc, books.hasher, seats)? {
+    if !are_ordered(alloc, books.hasher, &books.sides, seats)? {
         return Err(CloseFault::OutOfOrder);
     }
     books.acts_are_own();
@@ -289,13 +290,37 @@ fn is_covered<R: Records, J: Naming>(books: &Books<R, J>, marks: &Marks, sub: Su
     true
 }
 
-/// Whether the receipts of each seat are in order.
-fn are_ordered(alloc: Global, hasher: RandomState, seats: &[Seat]) -> Result<bool, AllocError>
-    ensures yes { IfOk result (λ ordered. ordered ≡ true → AreOrdered seats.now) }
-    ensures no { IfOk result (λ ordered. ordered ≡ false → AreOrdered seats.now → ⊥) }
+/// Whether the receipts of each seat are in order behind those that audits took out of it.
+fn are_ordered(
+    alloc: Global,
+    hasher: RandomState,
+    sides: &[Side],
+    seats: &[Seat],
+) -> Result<bool, AllocError>
+    ensures yes { IfOk result (λ ordered. ordered ≡ true → AreOrdered sides.now seats.now) }
+    ensures no { IfOk result (λ ordered. ordered ≡ false → AreOrdered sides.now seats.now → ⊥) }
 {
-    for seat in seats {
-        if !each_in_order(alloc, hasher, &seat.receipts)? {
+    for side in sides {
+        if !are_ordered_in(alloc, hasher, &side.told, seats)? {
+            return Ok(false);
+        }
+    }
+    Ok(true)
+}
+
+/// Whether the receipts of each seat are in order behind those that a shard's audits took out of it.
+fn are_ordered_in(
+    alloc: Global,
+    hasher: RandomState,
+    told: &Told,
+    seats: &[Seat],
+) -> Result<bool, AllocError>
+    ensures yes { IfOk result (λ ordered. ordered ≡ true → IsOrderedIn told.now seats.now) }
+    ensures no { IfOk result (λ ordered. ordered ≡ false → IsOrderedIn told.now seats.now → ⊥) }
+{
+    told.are_in_order();
+    for seat in 0..seats.len() {
+        if !told.is_continued(alloc, hasher, seat, seats[seat].receipts())? {
             return Ok(false);
         }
     }

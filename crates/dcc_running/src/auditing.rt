@@ -1,15 +1,15 @@
 //! An audit while the shards are under locks.
 
-ghost use Rattle.std.specs.Prelude.{◌≡◌, ◌≤◌, ◌++◌, ◌∷◌, List, [], true, false, drop, length, vec_len, IfOk, IfErr};
+ghost use Rattle.std.specs.Prelude.{◌≡◌, ◌≤◌, ◌++◌, ◌∷◌, List, [], drop, length, vec_len, IfOk, IfErr, OnOk};
 ghost use Rattle.dcc_receipts.specs.declared.receipt.Receipt.{Receipt};
-ghost use Rattle.dcc_running.specs.Audited.{AreOrdered, IsAuditFault, WasStray, WasTrue, WereTrue};
+ghost use Rattle.dcc_running.specs.Audited.{IsAuditFault, IsOrdered, IsToldFault, WasTrue, WereTrue};
 
 use crate::naming::Naming;
 use crate::seat::Seat;
 use crate::shards::Shards;
 use dcc_receipts::{CloseFault, Receipt, each_in_order};
 use dcc_store::Records;
-use std::alloc::{AllocError, Global};
+use std::alloc::Global;
 use std::sync::Wait;
 
 impl<R: Records, J: Naming> Shards<R, J> {
@@ -19,7 +19,7 @@ impl<R: Records, J: Naming> Shards<R, J> {
     ///
     /// Errors, which leave the receipt that fails in the seat, and all behind it: [`CloseFault::Memory`]; [`CloseFault::ReceiptStray`], the receipt isn't of
     /// these acts or has another answer than its act came to, or its place has another fresh receipt; [`CloseFault::OutOfOrder`], the seat has a receipt
-    /// after one of the same subscriber that comes later: all stay.
+    /// after one of the same subscriber that comes later: all stay; or the receipt comes before one that an earlier audit took out of the seat.
     pub fn audit<W: Wait>(
         &self,
         rt: &W,
@@ -28,7 +28,7 @@ impl<R: Records, J: Naming> Shards<R, J> {
     ) -> Result<usize, CloseFault>
         ensures empty { IfOk result (λ count. (seat.new ≡ []) × (count ≡ length seat.old)) }
         ensures told { (told : List Receipt) × (seat.old ≡ told ++ seat.new) × WereTrue J.opening told }
-        ensures ordered { IfOk result (λ count. AreOrdered (seat.old ∷ [])) }
+        ensures ordered { IfOk result (λ count. IsOrdered seat.old) }
         ensures reason { IfErr result (λ fault. IsAuditFault fault J.opening seat.old seat.new) }
     {
         if !each_in_order(alloc, self.hasher, &seat.receipts)? {
@@ -36,30 +36,30 @@ impl<R: Records, J: Naming> Shards<R, J> {
         }
         let count = seat.receipts.len();
         for at in 0..count {
-            match self.tell(rt, alloc, &seat.receipts[at]) {
-                Ok(true) => {}
-                Ok(false) => {
-                    forget_first(&mut seat.receipts, at);
-                    return Err(CloseFault::ReceiptStray);
-                }
-                Err(error) => {
-                    forget_first(&mut seat.receipts, at);
-                    return Err(CloseFault::from(error));
-                }
+            if let Err(fault) = self.tell(rt, alloc, seat.number, &seat.receipts[at]) {
+                forget_first(&mut seat.receipts, at);
+                return Err(fault);
             }
         }
         forget_first(&mut seat.receipts, count);
         Ok(count)
     }
 
-    /// Compares a receipt with the acts that its subscriber's shard holds, under the shard's lock, and lets the shard keep its place. It returns whether the
-    /// receipt is true, and its place has no other fresh receipt. The only error is want of memory.
-    fn tell<W: Wait>(&self, rt: &W, alloc: Global, receipt: &Receipt) -> Result<bool, AllocError>
-        ensures told { IfOk result (λ told. told ≡ true → WasTrue J.opening receipt.now) }
-        ensures stray { IfOk result (λ told. told ≡ false → WasStray J.opening receipt.now) }
+    /// Compares a receipt with the acts that its subscriber's shard holds, and with those that its seat had, under the shard's lock, and lets the shard keep
+    /// its place. The errors are those of [`Ward::tell`](crate::ward::Ward::tell).
+    fn tell<W: Wait>(
+        &self,
+        rt: &W,
+        alloc: Global,
+        seat: usize,
+        receipt: &Receipt,
+    ) -> Result<(), CloseFault>
+        ensures told { OnOk result (WasTrue J.opening receipt.now) }
+        ensures fault { IfErr result (λ fault. IsToldFault fault J.opening receipt.now) }
     {
         let opened = self.number_at_opening(&receipt.sub);
-        self.lock_of(rt, &receipt.sub).tell(alloc, opened, receipt)
+        self.lock_of(rt, &receipt.sub)
+            .tell(alloc, opened, seat, receipt)
     }
 }
 

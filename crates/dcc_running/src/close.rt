@@ -28,9 +28,9 @@ impl<R: Records, J: Naming> Shards<R, J> {
     /// Errors, with all handed back, and each of the last three only where none before it holds: [`CloseFault::Memory`], a growth was refused;
     /// [`CloseFault::ReceiptStray`], a shard came out of another's lock, or isn't of these shards, a receipt isn't of these acts or tells another answer than
     /// its act came to, or a place has two fresh receipts; [`CloseFault::ActWithoutReceipt`], an act since opening has no fresh receipt;
-    /// [`CloseFault::OutOfOrder`], a seat had a receipt after one of the same subscriber that comes later.
+    /// [`CloseFault::OutOfOrder`], a seat had a receipt after one of the same subscriber that comes later, those that audits took out of it among them.
     pub fn close(self, alloc: Global, seats: Vec<Seat>) -> Result<Books<R, J>, Unclosed<R, J>>
-        ensures audited { IfOk result (λ books. AreTrue J.opening books seats.items × AreCovered J.opening books seats.items × AreOrdered seats.items × AreOwn books) }
+        ensures audited { IfOk result (λ books. AreTrue J.opening books seats.items × AreCovered J.opening books seats.items × AreOrdered books.sides seats.items × AreOwn books) }
         ensures terms { IfOk result (λ books. books.terms ≡ self.terms) }
         ensures identity { IfOk result (λ books. books.identity ≡ self.identity) }
         ensures count { IfOk result (λ books. length books.parts ≡ self.count) }

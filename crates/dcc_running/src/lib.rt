@@ -28,6 +28,7 @@ mod opening;
 mod placed;
 mod room;
 mod seat;
+mod seen;
 mod shards;
 mod tally;
 mod told;

@@ -11,6 +11,8 @@ use std::marker::Model;
 #[derive(Debug, Drop)]
 pub struct Seat {
     pub(crate) receipts: Vec<Receipt>,
+    /// Its index in the list of seats that `close` gets.
+    pub(crate) number: usize,
     /// Rooms for copies of answers, where memory for them is refused: none before the first call, and one fewer for each that was used up.
     pub(crate) spares: Vec<Spare>,
 }
@@ -29,11 +31,12 @@ const ROOM: usize = 64;
 
 impl Seat {
     /// A seat without receipts. The only error is want of memory.
-    pub(crate) fn new(alloc: Global) -> Result<Seat, AllocError>
+    pub(crate) fn new(alloc: Global, number: usize) -> Result<Seat, AllocError>
         ensures { IfOk result (λ seat. seat ≡ []) }
     {
         Ok(Seat {
             receipts: Vec::with_capacity(alloc, ROOM)?,
+            number,
             spares: Vec::new(alloc),
         })
     }

@@ -6,6 +6,7 @@ ghost use Rattle.dcc_act.specs.declared.sub.Sub.{Sub};
 ghost use Rattle.dcc_store.specs.Books.{sub_order};
 ghost use Rattle.dcc_running.specs.Books.{HaveOwnPlaces, book};
 ghost use Rattle.dcc_running.specs.Calls.{AreSubs, IsReadOf, IsResolved, IsToldStopped};
+ghost use Rattle.dcc_running.specs.Told.{none_told};
 ghost use Rattle.dcc_running.specs.inner.Batches.{AreKeptAt};
 ghost use Rattle.dcc_running.specs.inner.Locks.{AreOf};
 ghost use Rattle.dcc_running.specs.inner.Numbers.{AreNumbersOf};
@@ -110,11 +111,11 @@ impl<R: Records, J: Naming> Shards<R, J> {
         })
     }
 
-    /// A seat without receipts, for one caller. The only error is want of memory.
-    pub fn seat(&self, alloc: Global) -> Result<Seat, AllocError>
+    /// A seat without receipts, for one caller. Its number is its index in the list of seats that [`Shards::close`] gets. The only error is want of memory.
+    pub fn seat(&self, alloc: Global, number: usize) -> Result<Seat, AllocError>
         ensures { IfOk result (λ seat. seat ≡ []) }
     {
-        Seat::new(alloc)
+        Seat::new(alloc, number)
     }
 
     /// The subscribers of the shard of this index that have acts, each once, in their order: by type, and then by the data, octet by
@@ -260,7 +261,7 @@ fn own_sides(alloc: Global, hasher: RandomState, sides: Vec<Side>, count: usize)
     requires none { vec_len sides ≡ 0 }
     requires room { count ≤ vec_capacity sides }
     ensures own { HaveOwnPlaces result.items }
-    ensures untold { (i : ℕ) (none : Side) → i < length result.items → (slice_index_or result.items i none).told ≡ [] }
+    ensures untold { (i : ℕ) (none : Side) → i < length result.items → (slice_index_or result.items i none).told ≡ none_told }
     ensures count { vec_len result ≡ count }
     ensures room { count ≤ vec_capacity result }
 {

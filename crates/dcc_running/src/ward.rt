@@ -1,16 +1,16 @@
 //! A shard under its lock.
 
-ghost use Rattle.std.specs.Prelude.{◌≡◌, ◌≤◌, ◌++◌, ◌∷◌, ◌⊎◌, [], true, false, is_some, length, map, vec_capacity, IfOk, OnErr};
+ghost use Rattle.std.specs.Prelude.{◌≡◌, ◌≤◌, [], true, is_some, length, map, vec_capacity, IfErr, OnErr, OnOk};
 ghost use Rattle.std.specs.List.{AllByRecursion, list_all};
 ghost use Rattle.dcc_answer.specs.declared.answer.TheConstants.{MAX_ANSWER};
 ghost use Rattle.dcc_model.specs.Keys.{request_key};
 ghost use Rattle.dcc_shard.specs.Answers.{IsAnswer, IsExpired, IsTold, IsToldApart, expiry_act, is_judged, is_judged_expiry, is_judged_top_up, octets_of, top_up_act};
 ghost use Rattle.dcc_shard.specs.Batches.{AreReplies, IsBatch, IsReplyBounded, IsReplyToldApart, has_request_act, sub_of};
 ghost use Rattle.dcc_shard.specs.Shards.{IsStep, are_apart, held};
-ghost use Rattle.dcc_receipts.specs.Audit.{own, times};
 ghost use Rattle.dcc_receipts.specs.Stretches.{TrueStayTrue};
 ghost use Rattle.dcc_running.specs.Audited.{is_true};
-ghost use Rattle.dcc_running.specs.inner.Wards.{BatchesGrow, IsBeside, StepsGrow, shard_in, side_in};
+ghost use Rattle.dcc_running.specs.Told.{told_with};
+ghost use Rattle.dcc_running.specs.inner.Wards.{BatchesGrow, IsBeside, IsTellFault, StepsGrow, shard_in, side_in};
 
 use crate::audit::is_true_in;
 use crate::lock::{Place, Side};
@@ -20,10 +20,10 @@ use dcc_act::{Act, Moment, Sub, same_subscribers_are_equal};
 use dcc_answer::Proxies;
 use dcc_message::Header;
 use dcc_model::{leaving_out_changes_nothing, one_more_act};
-use dcc_receipts::{Receipt, true_receipts_stay_true};
+use dcc_receipts::{CloseFault, Receipt, true_receipts_stay_true};
 use dcc_shard::{Call, ExpiryAnswer, Reply, RequestAnswer, Shard, TopUpAnswer};
 use dcc_store::Records;
-use std::alloc::{AllocError, Global};
+use std::alloc::Global;
 use std::marker::{Model, PhantomData};
 
 /// A shard, and the place of its lock. Its acts begin with the acts at opening, whichever calls were made since.
@@ -43,7 +43,7 @@ impl<R: Records, J: Naming> Model for Ward<R, J> {
 
     ghost view = { λ w. record { shard = w.shard.shard; records = w.shard.records; place = w.place; told = w.told } };
 
-    ghost invariant = { λ w. IsBegun J.opening w.place w.shard × AreTold J.opening w.shard w.told };
+    ghost invariant = { λ w. IsBegun J.opening w.place w.shard × AreTold J.opening w.shard w.told.receipts };
 }
 
 impl<R: Records, J: Naming> Ward<R, J> {
@@ -84,30 +84,30 @@ impl<R: Records, J: Naming> Ward<R, J> {
         (Side { place, told }, shard)
     }
 
-    /// Compares a receipt with the acts of its subscriber, of which so many were there at opening, and keeps its place. It returns whether the receipt is
-    /// true, and its place has no other fresh receipt. The only error is want of memory. Neither an error nor such a receipt changes anything.
+    /// Compares a receipt that a seat has with the acts of its subscriber, of which so many were there at opening, and with those that the seat had. It keeps
+    /// the receipt's place.
+    ///
+    /// Errors, which change nothing: [`CloseFault::Memory`]; [`CloseFault::ReceiptStray`], the receipt isn't true, or its place has another fresh receipt;
+    /// [`CloseFault::OutOfOrder`], it is before a receipt of its subscriber that the seat had.
     pub(crate) fn tell(
         &mut self,
         alloc: Global,
         opened: usize,
+        seat: usize,
         receipt: &Receipt,
-    ) -> Result<bool, AllocError>
+    ) -> Result<(), CloseFault>
         requires { opened ≡ length (J.opening receipt.now.sub) }
-        ensures told { IfOk result (λ told. told ≡ true → self.new.told ≡ self.old.told ++ receipt.now ∷ []) }
-        ensures was { IfOk result (λ told. told ≡ true
-            → is_true self.old.shard.identity self.old.shard.terms J.opening (held self.old.shard) receipt.now ≡ true) }
-        ensures refused { IfOk result (λ told. told ≡ false → self.new.told ≡ self.old.told) }
-        ensures reason { IfOk result (λ told. told ≡ false
-            → (is_true self.old.shard.identity self.old.shard.terms J.opening (held self.old.shard) receipt.now ≡ false)
-            ⊎ ((receipt.now.fresh ≡ true) × (times receipt.now.place (own receipt.now.sub self.old.told) ≡ 1))) }
-        ensures err { OnErr result (self.new.told ≡ self.old.told) }
+        ensures told { OnOk result (self.new.told ≡ told_with self.old.told seat receipt.now) }
+        ensures was { OnOk result (is_true self.old.shard.identity self.old.shard.terms J.opening (held self.old.shard) receipt.now ≡ true) }
+        ensures same { OnErr result (self.new.told ≡ self.old.told) }
+        ensures fault { IfErr result (λ fault. IsTellFault fault J.opening self.old.shard self.old.told seat receipt.now) }
         ensures shard { (self.new.shard ≡ self.old.shard) × (self.new.records ≡ self.old.records) }
         ensures place { self.new.place ≡ self.old.place }
     {
         if !is_true_in(alloc, &self.shard, opened, receipt)? {
-            return Ok(false);
+            return Err(CloseFault::ReceiptStray);
         }
-        self.told.add(receipt)
+        self.told.add(seat, receipt)
     }
 
     /// Makes a request's act and answers the request, as [`Shard::step`] does.

@@ -127,7 +127,7 @@ fn debit_at_once<W: Wait + Abort + AllocGlobal, R: Records + Drop>(
     subs: &[Sub],
 ) -> Result<(Vec<RequestAnswer>, Option<usize>), Fail> {
     let alloc = rt.alloc();
-    let mut seat = match shards.seat(alloc) {
+    let mut seat = match shards.seat(alloc, 0) {
         Ok(seat) => seat,
         Err(error) => {
             drop(shards);
@@ -175,7 +175,7 @@ fn debit_alone_at<W: Wait + AllocGlobal, R: Records>(
     shards: &Shards<R, Brand>,
     subs: &[Sub],
 ) -> Result<Vec<RequestAnswer>, Fail> {
-    let mut seat = shards.seat(rt.alloc())?;
+    let mut seat = shards.seat(rt.alloc(), 0)?;
     let answers = debit_each_with_money(rt, rt.alloc(), shards, &mut seat, subs);
     drop(seat);
     answers

@@ -17,7 +17,7 @@ use std::test::Fail;
 
 /// A caller for the subscriber of these tests.
 fn caller<R: Records>(alloc: Global, shards: &Shards<R, Brand>) -> Result<Caller, Fail> {
-    Caller::new(alloc, shards, b"491700000001", b"gw1.example;1;1")
+    Caller::new(alloc, shards, b"491700000001", b"gw1.example;1;1", 0)
 }
 
 /// A seat alone.
@@ -261,6 +261,8 @@ enum Seated {
     Audited,
     AuditedOfOthers,
     AuditedOutOfOrder,
+    /// The receipt of the second audit is of an act before those of the first.
+    OutOfOrderOverAudits,
 }
 
 /// Does so at this caller's seat.
@@ -293,6 +295,13 @@ fn act_at<W: Wait + Abort + AllocGlobal + RandomSource, R: Records>(
             top_up_each(rt, shards, caller, THREE_TOP_UPS);
             ask_others(rt, caller)?;
             audit(rt, shards, caller, (62, 0, 3));
+            Ok(())
+        }
+        Seated::OutOfOrderOverAudits => {
+            top_up_each(rt, shards, caller, THREE_TOP_UPS);
+            audit(rt, shards, caller, (0, 3, 0));
+            ask_others(rt, caller)?;
+            audit(rt, shards, caller, (62, 0, 1));
             Ok(())
         }
     }

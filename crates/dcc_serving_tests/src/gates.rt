@@ -71,8 +71,8 @@ fn call_both<W: Wait + Threads + Abort + Sync + AllocGlobal>(
     shut: &Gate,
 ) -> Result<(), Fail> {
     let alloc = rt.alloc();
-    let mut held = Caller::new(alloc, shards, b"491700000001", b"gw1.example;1;1")?;
-    match Caller::new(alloc, shards, b"491700000002", b"gw2.example;1;1") {
+    let mut held = Caller::new(alloc, shards, b"491700000001", b"gw1.example;1;1", 0)?;
+    match Caller::new(alloc, shards, b"491700000002", b"gw2.example;1;1", 1) {
         Ok(mut beside) => {
             call_at_once(rt, shards, shut, &mut held, &mut beside);
             drop(beside);

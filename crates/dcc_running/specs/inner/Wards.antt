@@ -1,12 +1,17 @@
 -- Shards under locks begin with the acts at opening, and their acts only grow.
-use Rattle.std.specs.Prelude.{◌≡◌, ℕ, ◌<◌, Bool, true, List, length, slice_index_or}
+use Rattle.std.specs.Prelude.{◌≡◌, ℕ, ◌<◌, ◌⊎◌, Bool, true, false, List, length, slice_index_or}
 use Rattle.std.specs.List.{AllZip, list_all}
 use Rattle.dcc_act.specs.declared.act.Act.{Act}
 use Rattle.dcc_act.specs.declared.sub.Sub.{Sub}
 use Rattle.dcc_store.specs.Books.{Held}
+use Rattle.dcc_receipts.specs.Audit.{own, times}
+use Rattle.dcc_receipts.specs.declared.fault.CloseFault.{CloseFault}
+use Rattle.dcc_receipts.specs.declared.fault.CloseFault.TheVariants.{Memory, ReceiptStray, ActWithoutReceipt, OutOfOrder}
 use Rattle.dcc_receipts.specs.declared.receipt.Receipt.{Receipt}
 use Rattle.dcc_running.specs.Audited.{is_true}
 use Rattle.dcc_running.specs.Books.{BeginWith}
+use Rattle.dcc_running.specs.Told.{ToldView}
+use Rattle.dcc_running.specs.inner.Told.{IsBefore}
 use Rattle.dcc_running.specs.declared.lock.Place.{Place}
 use Rattle.dcc_running.specs.declared.lock.Side.{Side}
 use Rattle.dcc_shard.specs.Batches.{IsBatch}
@@ -21,7 +26,7 @@ pub record WardView (R : Type 0) : Type 0 where
   pub shard : ShardView
   pub records : R
   pub place : Place
-  pub told : List Receipt
+  pub told : ToldView
 
 -- the shard alone
 abbrev pub shard_in : {R : Type 0} → WardView R → StoredView R
@@ -40,7 +45,7 @@ IsBegun opening place part = (sub : Sub) → shard_of sub place.count ≡ place.
 
 -- a shard begins with the acts at opening at its place, and the audited receipts are true of it
 abbrev pub IsBeside : {R : Type 0} → Held → Side → StoredView R → Type 0
-IsBeside opening side part = IsBegun opening side.place part × AreTold opening part side.told
+IsBeside opening side part = IsBegun opening side.place part × AreTold opening part side.told.receipts
 
 abbrev pub AreBeside : {R : Type 0} → Held → List Side → List (StoredView R) → Type 0
 AreBeside opening sides parts = AllZip (IsBeside opening) sides parts
@@ -63,3 +68,11 @@ StepsGrow old = (new : ShardView) (is_judged : Bool) (one : Sub) (act : Act) →
 -- each batch that is made next only adds acts
 abbrev pub BatchesGrow : ShardView → Type 0
 BatchesGrow old = (new : ShardView) (calls : List Call) (replies : List Reply) → IsBatch old new calls replies → Grows old new
+
+-- the reason for which a receipt is not told
+abbrev pub IsTellFault : CloseFault → Held → ShardView → ToldView → ℕ → Receipt → Type 0
+IsTellFault Memory opening shard told seat r = Unit {0}
+IsTellFault ReceiptStray opening shard told seat r =
+    (is_true shard.identity shard.terms opening (held shard) r ≡ false) ⊎ ((r.fresh ≡ true) × (times r.place (own r.sub told.receipts) ≡ 1))
+IsTellFault ActWithoutReceipt opening shard told seat r = ⊥
+IsTellFault OutOfOrder opening shard told seat r = IsBefore told seat r

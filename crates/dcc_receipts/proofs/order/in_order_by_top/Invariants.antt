@@ -1,5 +1,5 @@
 use Rattle.std.proofs.Common.{◌≡◌, drop, None}
-use Rattle.dcc_receipts.specs.inner.Tops.{in_order_by}
+use Rattle.dcc_receipts.specs.Tops.{in_order_by}
 use Rattle.dcc_receipts.proofs.order.in_order_by_top.Given as goal
 
 abbrev pub invariant-loop-receipt : goal.invariant-loop-receipt

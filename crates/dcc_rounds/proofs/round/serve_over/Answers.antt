@@ -51,8 +51,8 @@ returns-in-Ok-close-clause-round g c =
       finished = subst (λ (ts : List (Task g.row.I.Denot g.row.O.Denot)). AreFinished ts) (sym c.as_slice.ensures.value) c.in-Ok-finished.ensures.finished;
       counted = c.with_acts-counts.ensures ∙ ap₂ with_acts c.counted-counts.ensures c.acts_told.ensures;
       audited = subst (λ (opening : Held). AreTrue opening books (filter_map seat_in ended) × AreCovered opening books (filter_map seat_in ended)
-          × AreOrdered (filter_map seat_in ended)) c.requires.opening
-          (subst (λ (all : List (List Receipt)). AreTrue g.J.Naming.opening books all × AreCovered g.J.Naming.opening books all × AreOrdered all) seats
+          × AreOrdered books.sides (filter_map seat_in ended)) c.requires.opening
+          (subst (λ (all : List (List Receipt)). AreTrue g.J.Naming.opening books all × AreCovered g.J.Naming.opening books all × AreOrdered books.sides all) seats
           (c.in-Ok-close.ensures.audited.0, c.in-Ok-close.ensures.audited.1, c.in-Ok-close.ensures.audited.2));
       own = c.in-Ok-close.ensures.audited.3;
       left = c.into_shards.ensures.parts;

@@ -1,6 +1,7 @@
-use Rattle.std.proofs.Common.{take}
-use Rattle.dcc_running.specs.Audited.{AreOrdered}
+use Rattle.std.proofs.Common.{ℕ, ◌<◌, get_or}
+use Rattle.dcc_running.specs.Audited.{IsOrderedIn}
+use Rattle.dcc_running.specs.declared.lock.Side.{Side}
 use Rattle.dcc_running.proofs.audit.are_ordered.Given as goal
 
-abbrev pub invariant-loop-seat : goal.invariant-loop-seat
-invariant-loop-seat l = AreOrdered (take l.seat-index l.seats)
+abbrev pub invariant-loop-side : goal.invariant-loop-side
+invariant-loop-side l = (i : ℕ) (none : Side) → i < l.side-index → IsOrderedIn (get_or l.sides i none).told l.seats

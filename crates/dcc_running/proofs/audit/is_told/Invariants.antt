@@ -4,4 +4,4 @@ use Rattle.dcc_running.specs.declared.lock.Side.{Side}
 use Rattle.dcc_running.proofs.audit.is_told.Given as goal
 
 abbrev pub invariant-loop-side : goal.invariant-loop-side
-invariant-loop-side l = (i : ℕ) (none : Side) → i < l.side-index → times l.place (own l.sub (get_or l.sides i none).told) ≡ 0
+invariant-loop-side l = (i : ℕ) (none : Side) → i < l.side-index → times l.place (own l.sub (get_or l.sides i none).told.receipts) ≡ 0

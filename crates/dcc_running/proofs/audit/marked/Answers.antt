@@ -1,4 +1,4 @@
-use Rattle.std.proofs.Common.{◌≡◌, take, List, get_or, sym, ap, ◌∙◌, arith}
+use Rattle.std.proofs.Common.{◌≡◌, List, get_or, sym, ap, ◌∙◌, arith}
 use Rattle.std.proofs.lemmas.List.Sums.{sum_by_more, sum_by_more_le}
 use Rattle.dcc_receipts.specs.Audit.{own, times}
 use Rattle.dcc_receipts.specs.declared.receipt.Receipt.{Receipt}

@@ -8,7 +8,7 @@ pub invariant_of-self : goal.invariant_of-self
 invariant_of-self g c =
     let grows = c.acts_grow.ensures.batches c.step_all.new.self.shard _ _ c.step_all.ensures.batch in (
       still_begun g.J.Naming.opening c.self.inside.place c.self.inside.shard c.step_all.new.self c.self.invariant.0 grows,
-      still_told c.acts_grow.ensures.stay g.J.Naming.opening c.self.inside.shard c.step_all.new.self c.self.inside.told c.self.invariant.1 grows,
+      still_told c.acts_grow.ensures.stay g.J.Naming.opening c.self.inside.shard c.step_all.new.self c.self.inside.told.receipts c.self.invariant.1 grows,
     )
 
 pub returns-clause-replies : goal.returns-clause-replies

@@ -1,5 +1,6 @@
 -- The order of receipts by the greatest place so far.
-use Rattle.std.specs.Prelude.{ℕ, Bool, true, false, ◌&&◌, ◌||◌, ◌==◌, nat_lt, if◌then◌else◌, max, List, [], ◌∷◌, Option, Some, None}
+use Rattle.std.specs.Prelude.{◌≡◌, ℕ, Bool, true, false, ◌&&◌, ◌||◌, ◌==◌, nat_lt, if◌then◌else◌, max, List, [], ◌∷◌, Option, Some, None}
+use Rattle.dcc_receipts.specs.Audit.{in_order}
 use Rattle.dcc_receipts.specs.declared.receipt.Receipt.{Receipt}
 
 -- a receipt is after all receipts before it, of whose places this is the greatest
@@ -14,3 +15,7 @@ top_after (Some top) r = max top r.place
 abbrev pub in_order_by : Option ℕ → List Receipt → Bool
 in_order_by top [] = true
 in_order_by top (r ∷ rest) = follows top r && in_order_by (Some (top_after top r)) rest
+
+-- the order by the greatest place is the order by pairs
+abbrev pub OrdersAgree : Type 0
+OrdersAgree = (receipts : List Receipt) → in_order_by None receipts ≡ in_order [] receipts
