@@ -24,7 +24,7 @@ dcc topup         makes one top-up under the plan of the file PLAN, in the store
                   made, a folder isn't.
                   SUB is a type and data, as 0:491700000001: type 0 a telephone number, 1 an IMSI, 2 a SIP URI, 3 an NAI,
                   4 a private name
-                  TICKET is the top-up's number, 0 to 2^64 - 1; a second top-up with it is a repeat, and adds nothing
+                  TICKET is the top-up's number, 0 to 2^64 - 1. done and ceiling use it: a second top-up with it adds nothing
                   AMOUNT is in minor units, 1 to 10^18, without a point; any other number is bad
                   MOMENT is in seconds since 1970, the clock's if it is missing
                   --from makes the top-ups of FILE, or of standard input if FILE is -: a line for each, SUB TICKET AMOUNT
