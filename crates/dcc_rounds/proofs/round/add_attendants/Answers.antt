@@ -11,6 +11,6 @@ loop-added-init g c = sym (append-nil c.args.tasks.now.items)
 pub loop-added-preserved : goal.loop-added-preserved
 loop-added-preserved g c =
     let one : Task g.row.I.Denot g.row.O.Denot = task.Attend (record { seat = c.in_ok-seat.seat }) in
-    attendants_next c.args.tasks.now.items c.loop-added.tasks.items c.push_reserved.new.self.items c.loop-added._added one c.loop-added.invariant
+    attendants_next c.args.tasks.now.items c.loop-added.tasks.items c.push_reserved.new.self.items c.loop-added.added one c.loop-added.invariant
     (ap (λ (seat : List Receipt). let t : Task g.row.I.Denot g.row.O.Denot = task.Attend (record { seat = seat }) in t) c.in_ok-seat.ensures)
     (c.push_reserved.ensures.items ∙ ap (λ (ts : List (Task g.row.I.Denot g.row.O.Denot)). ts ++ one ∷ []) c.reserve.ensures.items)
