@@ -1,5 +1,5 @@
 -- The order of receipts by the greatest place so far.
-use Rattle.std.specs.Prelude.{◌≡◌, ℕ, Bool, true, false, ◌&&◌, ◌||◌, ◌==◌, nat_lt, if◌then◌else◌, max, List, [], ◌∷◌, Option, Some, None}
+use Rattle.std.specs.Prelude.{◌≡◌, ℕ, Bool, true, ◌&&◌, ◌||◌, ◌==◌, nat_lt, if◌then◌else◌, max, List, [], ◌∷◌, Option, Some, None}
 use Rattle.dcc_receipts.specs.Audit.{in_order}
 use Rattle.dcc_receipts.specs.declared.receipt.Receipt.{Receipt}
 

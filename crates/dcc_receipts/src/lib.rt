@@ -15,6 +15,7 @@ mod order;
 mod own_marks;
 mod receipt;
 mod same;
+mod walk;
 
 pub use agree::agrees_with;
 pub use answers::is_answered;

@@ -1,14 +1,14 @@
 //! The places that have a fresh receipt.
 
-ghost use Rattle.std.specs.Prelude.{◌≡◌, ℕ, ◌+◌, ◌<◌, ◌&&◌, nat_eq, true, false, not, cond, IfOk, OnErr};
+ghost use Rattle.std.specs.Prelude.{◌≡◌, ℕ, ◌+◌, ◌<◌, ◌≤◌, ◌&&◌, nat_eq, true, false, not, cond, IfOk, OnErr};
 ghost use Rattle.dcc_act.specs.declared.sub.Sub.{Sub};
 ghost use Rattle.dcc_act.specs.Subs.{same_sub};
 ghost use Rattle.dcc_receipts.specs.Audit.{own, times};
 ghost use Rattle.dcc_receipts.specs.Marks.{is_marked};
 ghost use Rattle.dcc_receipts.specs.inner.Spots.{is_of};
 
-use crate::own_marks::OwnMarks;
 use crate::receipt::Receipt;
+use crate::walk::Walk;
 use dcc_act::{Sub, same_subscribers_are_equal};
 use std::alloc::{AllocError, Global};
 use std::collections::HashMap;
@@ -20,7 +20,7 @@ use std::marker::Model;
 #[derive(Drop)]
 pub struct Marks {
     alloc: Global,
-    subs: HashMap<Sub, OwnMarks, RandomState>,
+    subs: HashMap<Sub, Walk, RandomState>,
 }
 
 impl Model for Marks {
@@ -52,6 +52,19 @@ impl Marks {
         }
     }
 
+    /// Whether a subscriber's places past `from` are all marked, up to `to`. It looks at each place once, if `from` is the same in each call.
+    pub fn are_marked(&mut self, sub: Sub, from: u64, to: u64) -> bool
+        ensures same { (other : Sub) (place : ℕ) → is_marked self.new other place ≡ is_marked self.old other place }
+        ensures yes { result ≡ true → (place : ℕ) → from < place → place ≤ to → is_marked self.old sub place ≡ true }
+        ensures no { result ≡ false → (place : ℕ) × (from < place) × (place ≤ to) × (is_marked self.old sub place ≡ false) }
+    {
+        same_subscribers_are_equal();
+        match self.subs.get_mut(&sub) {
+            Some(own) => own.are_marked(from, to),
+            None => to <= from,
+        }
+    }
+
     /// Adds a place, and returns whether it is new. The only error is want of memory, which changes no mark.
     fn add(&mut self, sub: Sub, place: u64) -> Result<bool, AllocError>
         ensures added { IfOk result (λ added. added ≡ not (is_marked self.old sub place)) }
@@ -63,7 +76,7 @@ impl Marks {
         if let Some(own) = self.subs.get_mut(&sub) {
             return own.add(place);
         }
-        let mut own = OwnMarks::new(self.alloc);
+        let mut own = Walk::new(self.alloc);
         let added = own.add(place)?;
         self.subs.insert(sub, own)?;
         Ok(added)

@@ -1,5 +1,5 @@
 -- Steps and batches only add acts to those that a shard holds of a subscriber.
-use Rattle.std.proofs.Common.{◌≡◌, Bool, true, false, ◌&&◌, if◌then◌else◌, List, [], ◌∷◌, ◌++◌, length, refl, sym, ap, subst, ◌∙◌, inl, inr, append-nil}
+use Rattle.std.proofs.Common.{◌≡◌, ◌≤◌, Bool, true, false, ◌&&◌, if◌then◌else◌, List, [], ◌∷◌, ◌++◌, length, refl, sym, ap, subst, ◌∙◌, inl, inr, append-nil}
 use Rattle.std.proofs.lemmas.Bool.{cases_Bool}
 use Rattle.std.proofs.lemmas.List.{append_assoc}
 use Rattle.std.specs.List.{list_all}
@@ -11,16 +11,18 @@ use Rattle.dcc_act.specs.Subs.{same_sub, SameAreEqual}
 use Rattle.dcc_model.specs.Laws.{ActsAreActs, OneMoreAct}
 use Rattle.dcc_model.specs.Outcomes.{acts, is_new}
 use Rattle.dcc_store.specs.Books.{Held}
-use Rattle.dcc_shard.specs.Batches.{act_of, held_behind, is_judged_reply, sub_of}
-use Rattle.dcc_shard.specs.Shards.{AreOwn, IsStep, ShardView, held, held_after, held_then}
+use Rattle.dcc_shard.specs.Batches.{BatchesLeaveOthers, IsBatch, act_of, held_behind, is_judged_reply, sub_of}
+use Rattle.dcc_shard.specs.Shards.{AreOwn, IsStep, ShardView, held, held_after, held_then, is_among}
 use Rattle.dcc_shard.specs.declared.call.Call.{Call}
+use Rattle.dcc_shard.specs.declared.call.Reply.{Reply}
 use Rattle.dcc_shard.specs.Stored.{StoredView}
 use Rattle.dcc_receipts.specs.Stretches.{TrueStayTrue}
 use Rattle.dcc_receipts.specs.declared.receipt.Receipt.{Receipt}
 use Rattle.dcc_running.specs.Audited.{is_true}
 use Rattle.dcc_running.specs.Books.{BeginWith}
 use Rattle.dcc_running.specs.declared.lock.Place.{Place}
-use Rattle.dcc_running.specs.inner.Wards.{AreTold, BatchesGrow, Grows, IsBegun, StepsGrow}
+use Rattle.dcc_running.specs.inner.Touches.{Touched, is_touched}
+use Rattle.dcc_running.specs.inner.Wards.{AreSettled, AreTold, BatchesGrow, Grows, IsBegun, StepsGrow}
 
 pub begin_alike : (xs ys : List Act) → ys ≡ xs → BeginWith xs ys
 begin_alike xs ys same = ([], same ∙ sym (append-nil xs))
@@ -47,7 +49,7 @@ pub both_of : (a b : Bool) → (a && b) ≡ true → (a ≡ true) × (b ≡ true
 both_of true b is = (refl, is)
 both_of false b is = absurd cc
 
-not_both : (b : Bool) → b ≡ true → b ≡ false → ⊥
+pub not_both : (b : Bool) → b ≡ true → b ≡ false → ⊥
 not_both true t f = cc
 not_both false t f = cc
 
@@ -126,3 +128,24 @@ each_told stay opening old new grows (r ∷ rest) are =
 pub still_told : {R : Type 0} → TrueStayTrue → (opening : Held) (old new : StoredView R) (told : List Receipt) → AreTold opening old told → Grows old.shard new.shard
     → AreTold opening new told
 still_told {R} stay opening old new told are grows = each_told stay opening old.shard new.shard grows told are
+
+-- what no step changes: the acts of a subscriber of whom no call is counted
+pub still_settled : {R : Type 0} → SameAreEqual → (opening : Held) (place : Place) (old new : StoredView R) (touched : Touched) (told : List Receipt) (judged : Bool) (one : Sub) (act : Act)
+    → AreSettled opening place old touched told → IsStep old.shard new.shard judged one act → is_touched touched one ≡ true → AreSettled opening place new touched told
+still_settled same opening place old new touched told judged one act are step counted sub here untouched at low high =
+    let stays : held new.shard sub ≡ held old.shard sub =
+    step.others sub (λ e. not_both (is_touched touched sub) (ap (λ (s : Sub). is_touched touched s) e ∙ counted) untouched) in
+    are sub here untouched at low (subst (λ (l : List Act). at ≤ length l) stays high)
+
+-- the same of a batch
+pub batch_settled : {R : Type 0} → BatchesLeaveOthers → (opening : Held) (place : Place) (old new : StoredView R) (touched : Touched) (told : List Receipt) (calls : List Call) (replies : List Reply)
+    → AreSettled opening place old touched told → IsBatch old.shard new.shard calls replies
+    → ((sub : Sub) → is_among sub (map sub_of calls) ≡ true → is_touched touched sub ≡ true) → AreSettled opening place new touched told
+batch_settled others opening place old new touched told calls replies are batch counted sub here untouched at low high =
+    elim (cases_Bool (is_among sub (map sub_of calls))) [
+      | inl among ↦ absurd (not_both (is_touched touched sub) (counted sub among) untouched)
+      | inr apart ↦
+          let stays : held new.shard sub ≡ held old.shard sub =
+          batch.acts sub ∙ others old.shard.terms calls (map is_judged_reply replies) (held old.shard) sub apart in
+          are sub here untouched at low (subst (λ (l : List Act). at ≤ length l) stays high)
+    ]

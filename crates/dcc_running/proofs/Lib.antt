@@ -14,4 +14,5 @@ pub mod TopUps
 pub mod Walks
 pub mod Reasons
 pub mod Resolved
+pub mod Settling
 pub mod Sharing

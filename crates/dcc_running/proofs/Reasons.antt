@@ -4,7 +4,8 @@ use Rattle.dcc_store.specs.Books.{Held}
 use Rattle.dcc_receipts.specs.declared.fault.CloseFault.{CloseFault}
 use Rattle.dcc_receipts.specs.declared.fault.CloseFault.TheVariants.{Memory, ReceiptStray, ActWithoutReceipt, OutOfOrder}
 use Rattle.dcc_receipts.specs.declared.receipt.Receipt.{Receipt}
-use Rattle.dcc_running.specs.Audited.{IsAuditFault, IsOrdered, IsToldFault}
+use Rattle.dcc_running.specs.Audited.{IsAuditFault, IsOrdered}
+use Rattle.dcc_running.specs.inner.Wards.{IsToldFault}
 
 -- the receipts were in order, and the first that stays was not told
 pub reason : (fault : CloseFault) (opening : Held) (before after : List Receipt) (r : Receipt) (behind : List Receipt) → IsOrdered before → after ≡ r ∷ behind

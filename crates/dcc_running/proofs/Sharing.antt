@@ -10,6 +10,8 @@ use Rattle.dcc_running.specs.contracts.seen.Seen
 use Rattle.dcc_running.specs.contracts.seen.Seen.TheInside as InSeen
 use Rattle.dcc_running.specs.contracts.told.Told
 use Rattle.dcc_running.specs.contracts.told.Told.TheInside as InTold
+use Rattle.dcc_running.specs.contracts.touches.Touches
+use Rattle.dcc_running.specs.contracts.touches.Touches.TheInside as InTouches
 use Rattle.dcc_running.specs.contracts.lock.Side
 use Rattle.dcc_running.specs.contracts.lock.Lock
 use Rattle.dcc_running.specs.contracts.ward.Ward
@@ -63,16 +65,30 @@ told_send = Send.view_send InTold.the_row _ _ _ _ in_told_send
 told_sync : IsSync Told.the_row
 told_sync = Send.view_sync InTold.the_row _ _ _ _ in_told_sync
 
+in_touches_send : IsSend InTouches.the_row
+in_touches_send = Send.recorded_send InTouches.the_field.row _ _ InTouches.the_type.to_one (Send.struct_send (Declared.shape InTouches.the_type)
+    (search (frees, sendable, SubSent.the_send, MapSent.the_send, GlobalSent.the_send) depth 12, tt))
+
+in_touches_sync : IsSync InTouches.the_row
+in_touches_sync = Send.recorded_sync InTouches.the_field.row _ _ InTouches.the_type.to_one (Send.struct_sync (Declared.shape InTouches.the_type)
+    (search (frees, sendable, SubSent.the_sync, MapSent.the_sync, GlobalSent.the_sync, GlobalSent.the_send) depth 12, tt))
+
+touches_send : IsSend Touches.the_row
+touches_send = Send.view_send InTouches.the_row _ _ _ _ in_touches_send
+
+touches_sync : IsSync Touches.the_row
+touches_sync = Send.view_sync InTouches.the_row _ _ _ _ in_touches_sync
+
 side_send : IsSend Side.the_row
-side_send = Send.recorded_send Side.the_field.row _ _ Side.the_type.to_one (Send.struct_send (Declared.shape Side.the_type) (PlaceSent.the_field_send, (told_send, tt)))
+side_send = Send.recorded_send Side.the_field.row _ _ Side.the_type.to_one (Send.struct_send (Declared.shape Side.the_type) (PlaceSent.the_field_send, (told_send, (touches_send, tt))))
 
 side_sync : IsSync Side.the_row
-side_sync = Send.recorded_sync Side.the_field.row _ _ Side.the_type.to_one (Send.struct_sync (Declared.shape Side.the_type) (PlaceSent.the_field_sync, (told_sync, tt)))
+side_sync = Send.recorded_sync Side.the_field.row _ _ Side.the_type.to_one (Send.struct_sync (Declared.shape Side.the_type) (PlaceSent.the_field_sync, (told_sync, (touches_sync, tt))))
 
 in_ward_send : (R J : RattleType) (records : _) (naming : _) → IsSend R → IsSend J → IsSend (InWard.the_row R J records naming)
 in_ward_send R J records naming r j =
     Send.recorded_send (InWard.the_field R J records naming).row _ _ (InWard.the_type R J records naming).to_one (Send.struct_send (Declared.shape (InWard.the_type R J records naming))
-    (PlaceSent.the_field_send, (ShardSent.the_send R records r, (told_send, (search (sendable, PhantomSent.the_send) depth 6, tt)))))
+    (PlaceSent.the_field_send, (ShardSent.the_send R records r, (told_send, (touches_send, (search (sendable, PhantomSent.the_send) depth 6, tt))))))
 
 ward_send : (R J : RattleType) (records : _) (naming : _) → IsSend R → IsSend J → IsSend (Ward.the_row R J records naming)
 ward_send R J records naming r j = Send.view_send (InWard.the_row R J records naming) _ _ _ _ (in_ward_send R J records naming r j)
@@ -85,7 +101,7 @@ lock_sync R J records naming r j =
 in_ward_sync : (R J : RattleType) (records : _) (naming : _) → IsSync R → IsSync J → IsSync (InWard.the_row R J records naming)
 in_ward_sync R J records naming r j =
     Send.recorded_sync (InWard.the_field R J records naming).row _ _ (InWard.the_type R J records naming).to_one (Send.struct_sync (Declared.shape (InWard.the_type R J records naming))
-    (PlaceSent.the_field_sync, (ShardSent.the_sync R records r, (told_sync, (search (sendable, PhantomSent.the_sync) depth 6, tt)))))
+    (PlaceSent.the_field_sync, (ShardSent.the_sync R records r, (told_sync, (touches_sync, (search (sendable, PhantomSent.the_sync) depth 6, tt))))))
 
 ward_sync : (R J : RattleType) (records : _) (naming : _) → IsSync R → IsSync J → IsSync (Ward.the_row R J records naming)
 ward_sync R J records naming r j = Send.view_sync (InWard.the_row R J records naming) _ _ _ _ (in_ward_sync R J records naming r j)

@@ -47,7 +47,7 @@ abbrev pub WereTrue : Held → List Receipt → Type 0
 WereTrue opening receipts = AllByRecursion (WasTrue opening) receipts
 
 -- A receipt was not true of the acts of some shard, or its place had one fresh receipt among some receipts. Of a locked shard contracts know the type alone, so
--- shard and receipts may be any: this refuses no body that reports a true receipt. `Ward::tell` (reason) speaks of the locked shard.
+-- shard and receipts may be any: this refuses no body that reports a true receipt. `Ward::tell` (fault) speaks of the locked shard.
 abbrev pub WasStray : Held → Receipt → Type 0
 WasStray opening r = (shard : ShardView) × (told : List Receipt)
     × ((is_true shard.identity shard.terms opening (held shard) r ≡ false) ⊎ ((r.fresh ≡ true) × (times r.place (own r.sub told) ≡ 1)))
@@ -73,24 +73,26 @@ AreOrdered sides seats = (i : ℕ) (none : Side) → i < length sides → IsOrde
 abbrev pub WasBefore : Receipt → Type 0
 WasBefore r = (told : List Receipt) × (in_order [] (own r.sub (told ++ r ∷ [])) ≡ false)
 
--- the reason for which a receipt is not taken out of its seat; nothing is said if memory was short
-abbrev pub IsToldFault : CloseFault → Held → Receipt → Type 0
-IsToldFault Memory opening r = Unit {0}
-IsToldFault ReceiptStray opening r = WasStray opening r
-IsToldFault ActWithoutReceipt opening r = ⊥
-IsToldFault OutOfOrder opening r = WasBefore r
+-- an act of the subscriber since opening has no receipt among some receipts
+abbrev pub HasUntold : Held → ShardView → List Receipt → Sub → Type 0
+HasUntold opening shard told sub =
+    (place : ℕ) × (length (opening sub) < place) × (place ≤ length (held shard sub)) × (times place (own sub told) ≡ 0)
+
+-- the same of some shard, some receipts and some subscriber, as of WasStray. `Ward::settle` (untold) speaks of the locked shard.
+abbrev pub WasUntold : Held → Type 0
+WasUntold opening = (shard : ShardView) × (told : List Receipt) × (sub : Sub) × HasUntold opening shard told sub
 
 -- the first that stays
 abbrev pub FirstStays : (Receipt → Type 0) → List Receipt → Type 0
 FirstStays P after = (r : Receipt) × (behind : List Receipt) × (after ≡ r ∷ behind) × P r
 
 -- The reason for which an audit of a seat fails, by the receipts before and after it. 60: the receipts are in order, some stay, and of the first that stays WasStray
--- holds. 62: the receipts are not in order, and all stay; or they are, some stay, and of the first that stays WasBefore holds. An audit never reports 61.
--- Nothing is said if memory was short.
+-- holds. 61: the receipts are in order, none stays, and WasUntold holds. 62: the receipts are not in order, and all stay; or they are, some stay, and of the first
+-- that stays WasBefore holds. Nothing is said if memory was short.
 abbrev pub IsAuditFault : CloseFault → Held → List Receipt → List Receipt → Type 0
 IsAuditFault Memory opening before after = Unit {0}
 IsAuditFault ReceiptStray opening before after = IsOrdered before × FirstStays (WasStray opening) after
-IsAuditFault ActWithoutReceipt opening before after = ⊥
+IsAuditFault ActWithoutReceipt opening before after = IsOrdered before × (after ≡ []) × WasUntold opening
 IsAuditFault OutOfOrder opening before after = ((after ≡ before) × (IsOrdered before → ⊥)) ⊎ (IsOrdered before × FirstStays WasBefore after)
 
 -- the reason for which the comparison fails: its first test that doesn't hold; nothing is said if memory was short

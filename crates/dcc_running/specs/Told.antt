@@ -1,19 +1,11 @@
 -- Receipts that were audited, and the seats that had them.
-use Rattle.std.specs.Prelude.{ℕ, ◌==◌, cond, List, [], ◌∷◌, ◌++◌}
+use Rattle.std.specs.Prelude.{ℕ, ◌==◌, cond, List, [], ◌∷◌}
 use Rattle.dcc_receipts.specs.declared.receipt.Receipt.{Receipt}
 
 -- the receipts of a shard that were audited, in order, and the number of the seat that had each of them
 pub record ToldView : Type 0 where
   pub receipts : List Receipt
   pub seats : List ℕ
-
--- no receipts
-abbrev pub none_told : ToldView
-none_told = record { receipts = []; seats = [] }
-
--- one more, which a seat had
-abbrev pub told_with : ToldView → ℕ → Receipt → ToldView
-told_with told seat r = record { receipts = told.receipts ++ r ∷ []; seats = told.seats ++ seat ∷ [] }
 
 abbrev pub of_seat : ℕ → List ℕ → List Receipt → List Receipt
 of_seat seat [] receipts = []

@@ -6,6 +6,7 @@ ghost use Rattle.dcc_act.specs.declared.sub.Sub.{Sub};
 ghost use Rattle.dcc_running.specs.Audited.{all_of, is_true, are_true, times_in, AreTrue, AreCovered, AreOrdered, AreOwn, IsFault, IsOrderedIn};
 ghost use Rattle.dcc_running.specs.Books.{AreShards, BeginWith, book, told_in};
 ghost use Rattle.dcc_running.specs.inner.Marked.{AreMarked, IsCovered};
+ghost use Rattle.dcc_running.specs.inner.Told.{are_placed};
 ghost use Rattle.dcc_account.specs.Accounts.{outcomes};
 ghost use Rattle.dcc_model.specs.Outcomes.{acts};
 ghost use Rattle.dcc_receipts.specs.Audit.{agrees, is_answered, own, times};
@@ -290,13 +291,14 @@ fn is_covered<R: Records, J: Naming>(books: &Books<R, J>, marks: &Marks, sub: Su
     true
 }
 
-/// Whether the receipts of each seat are in order behind those that audits took out of it.
+/// Whether the receipts of each seat are in order behind those that audits took out of it. The condition: each that is fresh has a place.
 fn are_ordered(
     alloc: Global,
     hasher: RandomState,
     sides: &[Side],
     seats: &[Seat],
 ) -> Result<bool, AllocError>
+    requires placed { list_all are_placed seats.now ≡ true }
     ensures yes { IfOk result (λ ordered. ordered ≡ true → AreOrdered sides.now seats.now) }
     ensures no { IfOk result (λ ordered. ordered ≡ false → AreOrdered sides.now seats.now → ⊥) }
 {
@@ -308,13 +310,14 @@ fn are_ordered(
     Ok(true)
 }
 
-/// Whether the receipts of each seat are in order behind those that a shard's audits took out of it.
+/// Whether the receipts of each seat are in order behind those that a shard's audits took out of it. The condition: each that is fresh has a place.
 fn are_ordered_in(
     alloc: Global,
     hasher: RandomState,
     told: &Told,
     seats: &[Seat],
 ) -> Result<bool, AllocError>
+    requires placed { list_all are_placed seats.now ≡ true }
     ensures yes { IfOk result (λ ordered. ordered ≡ true → IsOrderedIn told.now seats.now) }
     ensures no { IfOk result (λ ordered. ordered ≡ false → IsOrderedIn told.now seats.now → ⊥) }
 {

@@ -1,12 +1,14 @@
 //! An audit while the shards are under locks.
 
-ghost use Rattle.std.specs.Prelude.{◌≡◌, ◌≤◌, ◌++◌, ◌∷◌, List, [], drop, length, vec_len, IfOk, IfErr, OnOk};
+ghost use Rattle.std.specs.Prelude.{◌≡◌, ◌≤◌, ◌++◌, ◌∷◌, List, [], drop, false, length, vec_len, IfOk, IfErr, OnOk};
 ghost use Rattle.dcc_receipts.specs.declared.receipt.Receipt.{Receipt};
-ghost use Rattle.dcc_running.specs.Audited.{IsAuditFault, IsOrdered, IsToldFault, WasTrue, WereTrue};
+ghost use Rattle.dcc_running.specs.Audited.{IsAuditFault, IsOrdered, WasTrue, WasUntold, WereTrue};
+ghost use Rattle.dcc_running.specs.inner.Wards.{IsToldFault};
 
 use crate::naming::Naming;
 use crate::seat::Seat;
 use crate::shards::Shards;
+use dcc_act::Sub;
 use dcc_receipts::{CloseFault, Receipt, each_in_order};
 use dcc_store::Records;
 use std::alloc::Global;
@@ -17,7 +19,9 @@ impl<R: Records, J: Naming> Shards<R, J> {
     /// shards keep the places of the fresh ones, and `close` counts these. It returns the number of the receipts. It waits for the lock of each receipt's
     /// shard, one at a time.
     ///
-    /// Errors, which leave the receipt that fails in the seat, and all behind it: [`CloseFault::Memory`]; [`CloseFault::ReceiptStray`], the receipt isn't of
+    /// Errors, of which all but [`CloseFault::ActWithoutReceipt`] leave the receipt that fails in the seat, and all behind it: [`CloseFault::Memory`];
+    /// [`CloseFault::ActWithoutReceipt`], no receipt is left, and an act since opening has none, of a subscriber of whom no seat has a call that it has not
+    /// audited; [`CloseFault::ReceiptStray`], the receipt isn't of
     /// these acts or has another answer than its act came to, or its place has another fresh receipt; [`CloseFault::OutOfOrder`], the seat has a receipt
     /// after one of the same subscriber that comes later: all stay; or the receipt comes before one that an earlier audit took out of the seat.
     pub fn audit<W: Wait>(
@@ -42,7 +46,31 @@ impl<R: Records, J: Naming> Shards<R, J> {
             }
         }
         forget_first(&mut seat.receipts, count);
+        if !self.settle_all(rt, &mut seat.touched) {
+            return Err(CloseFault::ActWithoutReceipt);
+        }
         Ok(count)
+    }
+
+    /// Takes the calls of these subscribers back, each under the lock of its shard. Behind the last call of a subscriber, each of the subscriber's acts since
+    /// opening has to have an audited receipt: it returns whether this holds, and stops at the first subscriber of whom it doesn't.
+    fn settle_all<W: Wait>(&self, rt: &W, touched: &mut Vec<Sub>) -> bool
+        ensures { result ≡ false → WasUntold J.opening }
+    {
+        while let Some(sub) = touched.pop() {
+            if !self.settle(rt, sub) {
+                return false;
+            }
+        }
+        true
+    }
+
+    /// The same of one call.
+    fn settle<W: Wait>(&self, rt: &W, sub: Sub) -> bool
+        ensures { result ≡ false → WasUntold J.opening }
+    {
+        let opened = self.number_at_opening(&sub);
+        self.lock_of(rt, &sub).settle(opened, sub)
     }
 
     /// Compares a receipt with the acts that its subscriber's shard holds, and with those that its seat had, under the shard's lock, and lets the shard keep

@@ -2,12 +2,14 @@
 
 ghost use Rattle.std.specs.Prelude.{◌≡◌, ◌≤◌, ◌<◌, ◌+◌, ◌++◌, [], true, length, map, vec_len, vec_capacity, IfOk, OnOk};
 ghost use Rattle.std.specs.List.{list_all};
-ghost use Rattle.dcc_shard.specs.Batches.{AreReplies, IsBatch};
-ghost use Rattle.dcc_shard.specs.Shards.{are_apart};
+ghost use Rattle.dcc_act.specs.declared.sub.Sub.{Sub};
+ghost use Rattle.dcc_shard.specs.Batches.{AreReplies, IsBatch, sub_of};
+ghost use Rattle.dcc_shard.specs.Shards.{are_apart, is_among};
+ghost use Rattle.dcc_running.specs.inner.Touches.{is_touched};
 ghost use Rattle.dcc_running.specs.Batches.{AreAnswersOf, AreAnswersTo, CountsEach, EndsEach, all_receipts_of, are_of_one_shard, has_request, sub_of_job};
 ghost use Rattle.dcc_running.specs.inner.Batches.{AreAnswered, AreEnded, all_end_receipts, call_of, end_of, end_receipts, reply_of};
 
-use crate::calls::{keep, plain};
+use crate::calls::{keep, plain, touch};
 use crate::job::Job;
 use crate::naming::Naming;
 use crate::room::{Spare, add_spares};
@@ -15,7 +17,7 @@ use crate::seat::Seat;
 use crate::shards::Shards;
 use crate::tally::{Tally, tallied};
 use crate::ward::Ward;
-use dcc_act::{Act, Kind, Moment, Sub};
+use dcc_act::{Act, Kind, Moment, Sub, same_subscribers_are_equal};
 use dcc_receipts::{Receipt, Told};
 use dcc_shard::{Call, ExpiryAnswer, Reply, RequestAnswer};
 use dcc_store::Records;
@@ -56,10 +58,20 @@ impl<R: Records, J: Naming> Shards<R, J> {
             return;
         };
         let mut shard = self.lock_of_all(rt, &sub, calls.as_slice());
+        let before = (seat.receipts.len(), seat.touched.len());
+        if touch_all(&mut shard, &mut seat.touched, calls.as_slice()).is_err() {
+            // By calls: the lock has to be free, and what is let go in place is proved part by part.
+            drop(shard);
+            drop((calls, replies));
+            self.submit_each(rt, alloc, seat, jobs, answers);
+            return;
+        }
         let (receipts, spares) = (&mut seat.receipts, &mut seat.spares);
         make_all(
             alloc, &mut shard, receipts, spares, jobs, calls, replies, answers,
         );
+        let receipts = seat.receipts.get(before.0..).unwrap_or(&[]);
+        self.ease(&mut shard, &mut seat.touched, receipts, before.1);
     }
 
     /// Submits each job by itself.
@@ -108,6 +120,13 @@ impl<R: Records, J: Naming> Shards<R, J> {
         };
         let mut replies = replies;
         let mut shard = self.lock_of_all(rt, &sub, calls.as_slice());
+        let before = (seat.receipts.len(), seat.touched.len());
+        if touch_all(&mut shard, &mut seat.touched, calls.as_slice()).is_err() {
+            // By calls, as above.
+            drop(shard);
+            drop((calls, replies));
+            return self.expire_each(rt, alloc, seat, subs, moment);
+        }
         let receipts = &mut seat.receipts;
         end_all(
             alloc,
@@ -118,6 +137,8 @@ impl<R: Records, J: Naming> Shards<R, J> {
             calls,
             &mut replies,
         );
+        let receipts = seat.receipts.get(before.0..).unwrap_or(&[]);
+        self.ease(&mut shard, &mut seat.touched, receipts, before.1);
         tallied(Tally::none(), replies.as_slice())
     }
 
@@ -143,6 +164,32 @@ impl<R: Records, J: Naming> Shards<R, J> {
     }
 }
 
+/// Counts these calls, each of which may make an act, in the shard and at the seat. The only error is want of memory.
+fn touch_all<R: Records, J: Naming>(
+    shard: &mut Ward<R, J>,
+    touched: &mut Vec<Sub>,
+    calls: &[Call],
+) -> Result<(), AllocError>
+    ensures touched { OnOk result ((sub : Sub) → is_among sub (map sub_of calls.now) ≡ true → is_touched shard.new.touches sub ≡ true) }
+    ensures shard { (shard.new.shard ≡ shard.old.shard) × (shard.new.records ≡ shard.old.records) }
+{
+    same_subscribers_are_equal();
+    touched.reserve(calls.len())?;
+    for call in calls {
+        touch(shard, touched, sub_of(call))?;
+    }
+    Ok(())
+}
+
+/// The subscriber of a call.
+fn sub_of(call: &Call) -> Sub
+    ensures { result ≡ sub_of call.now }
+{
+    match call {
+        Call::Request { sub, .. } | Call::TopUp { sub, .. } | Call::Expiry { sub, .. } => *sub,
+    }
+}
+
 /// Makes the acts of these jobs in this shard, answers the jobs in order, and adds the receipts of the answers. The conditions: the calls are
 /// those of the jobs, and there is room for replies, answers, receipts and copies of answers.
 fn make_all<R: Records, J: Naming>(
@@ -158,6 +205,7 @@ fn make_all<R: Records, J: Naming>(
     requires requests { list_all has_request jobs.items ≡ true }
     requires apart { are_apart (map sub_of_job jobs.items) ≡ true }
     requires calls { calls.items ≡ map call_of jobs.items }
+    requires touched { (sub : Sub) → is_among sub (map sub_of calls.items) ≡ true → is_touched shard.old.touches sub ≡ true }
     requires none { replies.items ≡ [] }
     requires replies { length jobs.items ≤ vec_capacity replies }
     requires empty { answers.old.items ≡ [] }
@@ -212,6 +260,7 @@ fn end_all<R: Records, J: Naming>(
 )
     requires apart { are_apart subs.now ≡ true }
     requires calls { calls.items ≡ map (end_of moment) subs.now }
+    requires touched { (sub : Sub) → is_among sub (map sub_of calls.items) ≡ true → is_touched shard.old.touches sub ≡ true }
     requires none { replies.old.items ≡ [] }
     requires replies { length subs.now ≤ vec_capacity replies.old }
     requires room { vec_len receipts.old + length subs.now ≤ vec_capacity receipts.old }

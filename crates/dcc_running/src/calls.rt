@@ -5,6 +5,8 @@ ghost use Rattle.dcc_answer.specs.declared.answer.TheConstants.{MAX_ANSWER};
 ghost use Rattle.dcc_model.specs.Keys.{request_key};
 ghost use Rattle.dcc_shard.specs.Answers.{IsAnswer, IsExpired, IsTold, IsToldApart, IsRefusedBy, expiry_act, is_judged, is_judged_expiry, is_judged_top_up, octets_of, session_of_act, top_up_act};
 ghost use Rattle.dcc_shard.specs.Shards.{IsStep};
+ghost use Rattle.dcc_act.specs.declared.sub.Sub.{Sub};
+ghost use Rattle.dcc_running.specs.inner.Touches.{is_touched};
 ghost use Rattle.dcc_running.specs.Calls.{IsAnswerTo, IsToldOf, IsEndOf, receipt, receipts_of, top_up_receipts, told_receipts, expiry_receipts, plain_receipt};
 
 use crate::job::Job;
@@ -13,7 +15,7 @@ use crate::room::{Spare, add_spares, twice};
 use crate::seat::Seat;
 use crate::shards::Shards;
 use crate::ward::Ward;
-use dcc_act::{Act, Kind, Moment, Sub, TopUp};
+use dcc_act::{Act, Kind, Moment, Sub, TopUp, same_subscribers_are_equal};
 use dcc_answer::{Proxies, write_busy};
 use dcc_credit::lend_session;
 use dcc_message::{Header, Identity};
@@ -44,7 +46,8 @@ impl<R: Records, J: Naming> Shards<R, J> {
         ensures apart { IsToldApart result }
         ensures receipt { seat.new ≡ seat.old ++ receipts_of job result }
     {
-        let Ok(act) = room_for(alloc, &mut seat.receipts, &mut seat.spares, &job.act) else {
+        let (receipts, spares) = (&mut seat.receipts, &mut seat.spares);
+        let Ok(act) = room_for(alloc, receipts, spares, &mut seat.touched, &job.act) else {
             let answer = busy(alloc, &self.identity, &job);
             // By a call: a job that is let go in place is proved part by part.
             drop(job);
@@ -52,7 +55,12 @@ impl<R: Records, J: Naming> Shards<R, J> {
         };
         let mut shard = self.lock_of(rt, &job.sub);
         let (receipts, spares) = (&mut seat.receipts, &mut seat.spares);
-        make(alloc, &mut shard, receipts, spares, job, act)
+        let touched = &mut seat.touched;
+        let before = (receipts.len(), touched.len());
+        let answer = make(alloc, &mut shard, receipts, spares, touched, job, act);
+        let receipts = seat.receipts.get(before.0..).unwrap_or(&[]);
+        self.ease(&mut shard, &mut seat.touched, receipts, before.1);
+        answer
     }
 }
 
@@ -76,11 +84,17 @@ impl<R: Records, J: Naming> Shards<R, J> {
             Some(top_up) => top_up,
             None => return TopUpAnswer::BadAmount,
         };
-        let Ok(()) = seat.receipts.reserve(1) else {
+        let (receipts, touched) = (&mut seat.receipts, &mut seat.touched);
+        let Ok(()) = room_for_one(receipts, touched) else {
             return TopUpAnswer::Refused;
         };
         let mut shard = self.lock_of(rt, &sub);
-        add(alloc, &mut shard, &mut seat.receipts, sub, moment, top_up)
+        let (receipts, touched) = (&mut seat.receipts, &mut seat.touched);
+        let before = (receipts.len(), touched.len());
+        let answer = add(alloc, &mut shard, receipts, touched, sub, moment, top_up);
+        let receipts = seat.receipts.get(before.0..).unwrap_or(&[]);
+        self.ease(&mut shard, &mut seat.touched, receipts, before.1);
+        answer
     }
 
     /// Ends the subscriber's sessions that are held until this moment or an earlier one, as its shard does. It waits for the shard's
@@ -96,11 +110,44 @@ impl<R: Records, J: Naming> Shards<R, J> {
         ensures answer { IsEndOf sub moment result }
         ensures receipt { seat.new ≡ seat.old ++ expiry_receipts sub moment result }
     {
-        let Ok(()) = seat.receipts.reserve(1) else {
+        let (receipts, touched) = (&mut seat.receipts, &mut seat.touched);
+        let Ok(()) = room_for_one(receipts, touched) else {
             return ExpiryAnswer::Refused;
         };
         let mut shard = self.lock_of(rt, &sub);
-        end(alloc, &mut shard, &mut seat.receipts, sub, moment)
+        let (receipts, touched) = (&mut seat.receipts, &mut seat.touched);
+        let before = (receipts.len(), touched.len());
+        let answer = end(alloc, &mut shard, receipts, touched, sub, moment);
+        let receipts = seat.receipts.get(before.0..).unwrap_or(&[]);
+        self.ease(&mut shard, &mut seat.touched, receipts, before.1);
+        answer
+    }
+}
+
+impl<R: Records, J: Naming> Shards<R, J> {
+    /// Takes the calls at the seat back, behind its first `before` calls, that were counted in this shard and gave no receipt. The calls that gave one are
+    /// those of these receipts, in order. A call stays that is the last of its subscriber, if an act of the subscriber has no audited receipt: the next audit
+    /// reports this.
+    pub(crate) fn ease(
+        &self,
+        shard: &mut Ward<R, J>,
+        touched: &mut Vec<Sub>,
+        receipts: &[Receipt],
+        before: usize,
+    )
+        ensures shard { (shard.new.shard ≡ shard.old.shard) × (shard.new.records ≡ shard.old.records) }
+    {
+        let mut left = receipts.len();
+        let mut at = touched.len();
+        while at > before {
+            at -= 1;
+            let sub = touched[at];
+            if left > 0 && receipts[left - 1].sub == sub {
+                left -= 1;
+            } else if shard.settle(self.number_at_opening(&sub), sub) {
+                let _sub = touched.swap_remove(at);
+            }
+        }
     }
 }
 
@@ -111,6 +158,7 @@ fn make<R: Records, J: Naming>(
     shard: &mut Ward<R, J>,
     receipts: &mut Vec<Receipt>,
     spares: &mut Vec<Spare>,
+    touched: &mut Vec<Sub>,
     job: Job,
     act: Act,
 ) -> RequestAnswer
@@ -118,11 +166,19 @@ fn make<R: Records, J: Naming>(
     requires act { act ≡ job.act }
     requires room { vec_len receipts.old + 1 ≤ vec_capacity receipts.old }
     requires spare { 0 < length spares.old.items }
+    requires touched { vec_len touched.old + 1 ≤ vec_capacity touched.old }
     ensures answer { IsAnswer shard.old.shard job.sub job.act job.header job.proxies result }
     ensures step { IsStep shard.old.shard shard.new.shard (is_judged result) job.sub job.act }
     ensures apart { IsToldApart result }
     ensures receipt { receipts.new.items ≡ receipts.old.items ++ receipts_of job result }
 {
+    let Ok(()) = touch(shard, touched, job.sub) else {
+        // By a call, here and below: what is let go in place is proved part by part.
+        drop(act);
+        let answer = busy(alloc, shard.shard().identity(), &job);
+        drop(job);
+        return answer;
+    };
     let answer = shard.step(alloc, job.sub, act, &job.header, &job.proxies);
     keep(receipts, spares, job, answer)
 }
@@ -132,16 +188,21 @@ fn add<R: Records, J: Naming>(
     alloc: Global,
     shard: &mut Ward<R, J>,
     receipts: &mut Vec<Receipt>,
+    touched: &mut Vec<Sub>,
     sub: Sub,
     moment: Moment,
     top_up: TopUp,
 ) -> TopUpAnswer
-    requires { vec_len receipts.old + 1 ≤ vec_capacity receipts.old }
+    requires room { vec_len receipts.old + 1 ≤ vec_capacity receipts.old }
+    requires touched { vec_len touched.old + 1 ≤ vec_capacity touched.old }
     ensures answer { IsTold shard.old.shard sub moment top_up.ticket top_up.amount result }
     ensures step { IsStep shard.old.shard shard.new.shard (is_judged_top_up result) sub (top_up_act moment top_up.ticket top_up.amount) }
     ensures receipt { receipts.new.items ≡ receipts.old.items ++ top_up_receipts sub moment top_up.ticket top_up.amount result }
 {
     let (ticket, amount) = (top_up.ticket, top_up.amount);
+    let Ok(()) = touch(shard, touched, sub) else {
+        return TopUpAnswer::Refused;
+    };
     let answer = shard.top_up(alloc, sub, moment, ticket, amount);
     let kind = Kind::TopUp(top_up);
     keep_top_up(alloc, receipts, sub, Act { moment, kind }, answer);
@@ -153,14 +214,19 @@ fn end<R: Records, J: Naming>(
     alloc: Global,
     shard: &mut Ward<R, J>,
     receipts: &mut Vec<Receipt>,
+    touched: &mut Vec<Sub>,
     sub: Sub,
     moment: Moment,
 ) -> ExpiryAnswer
-    requires { vec_len receipts.old + 1 ≤ vec_capacity receipts.old }
+    requires room { vec_len receipts.old + 1 ≤ vec_capacity receipts.old }
+    requires touched { vec_len touched.old + 1 ≤ vec_capacity touched.old }
     ensures answer { IsExpired shard.old.shard sub moment result }
     ensures step { IsStep shard.old.shard shard.new.shard (is_judged_expiry result) sub (expiry_act moment) }
     ensures receipt { receipts.new.items ≡ receipts.old.items ++ expiry_receipts sub moment result }
 {
+    let Ok(()) = touch(shard, touched, sub) else {
+        return ExpiryAnswer::Refused;
+    };
     let answer = shard.expire(alloc, sub, moment);
     if let ExpiryAnswer::Closed { sessions, place } = answer {
         let act = Act {
@@ -173,20 +239,52 @@ fn end<R: Records, J: Naming>(
     answer
 }
 
-/// Room for one receipt more, a spare room, where none is there from a call before, and a copy of the act. The only error is want of memory.
+/// Counts a call that may make an act of this subscriber, in the shard and at the seat. The only error is want of memory. The condition: there is room for
+/// one subscriber more.
+pub(crate) fn touch<R: Records, J: Naming>(
+    shard: &mut Ward<R, J>,
+    touched: &mut Vec<Sub>,
+    sub: Sub,
+) -> Result<(), AllocError>
+    requires { vec_len touched.old + 1 ≤ vec_capacity touched.old }
+    ensures touched { OnOk result (is_touched shard.new.touches sub ≡ true) }
+    ensures others { (other : Sub) → is_touched shard.old.touches other ≡ true → is_touched shard.new.touches other ≡ true }
+    ensures shard { (shard.new.shard ≡ shard.old.shard) × (shard.new.records ≡ shard.old.records) }
+    ensures few { vec_len touched.new ≤ vec_len touched.old + 1 }
+    ensures capacity { vec_capacity touched.new ≡ vec_capacity touched.old }
+{
+    same_subscribers_are_equal();
+    shard.touch(sub)?;
+    touched.push_reserved(sub);
+    Ok(())
+}
+
+/// Room for one receipt and one subscriber more. The only error is want of memory.
+fn room_for_one(receipts: &mut Vec<Receipt>, touched: &mut Vec<Sub>) -> Result<(), AllocError>
+    ensures items { receipts.new.items ≡ receipts.old.items }
+    ensures room { OnOk result (vec_len receipts.new + 1 ≤ vec_capacity receipts.new) }
+    ensures touched { OnOk result (vec_len touched.new + 1 ≤ vec_capacity touched.new) }
+{
+    receipts.reserve(1)?;
+    touched.reserve(1)
+}
+
+/// Room for one receipt and one subscriber more, a spare room, where none is there from a call before, and a copy of the act. The only error is want of memory.
 fn room_for(
     alloc: Global,
     receipts: &mut Vec<Receipt>,
     spares: &mut Vec<Spare>,
+    touched: &mut Vec<Sub>,
     act: &Act,
 ) -> Result<Act, AllocError>
     ensures items { receipts.new.items ≡ receipts.old.items }
     ensures room { OnOk result (vec_len receipts.new + 1 ≤ vec_capacity receipts.new) }
     ensures spare { OnOk result (0 < length spares.new.items) }
+    ensures touched { OnOk result (vec_len touched.new + 1 ≤ vec_capacity touched.new) }
     ensures act { IfOk result (λ copy. copy ≡ act.now) }
 {
     add_spares(alloc, spares, 1)?;
-    receipts.reserve(1)?;
+    room_for_one(receipts, touched)?;
     act.copy()
 }
 

@@ -32,6 +32,7 @@ mod seen;
 mod shards;
 mod tally;
 mod told;
+mod touches;
 mod ward;
 
 pub use books::Books;

@@ -6,6 +6,7 @@ ghost use Rattle.dcc_shard.specs.Routes.{shard_of};
 
 use crate::naming::Naming;
 use crate::told::Told;
+use crate::touches::Touches;
 use crate::ward::Ward;
 use dcc_act::Sub;
 use dcc_shard::Call;
@@ -19,11 +20,12 @@ pub(crate) struct Place {
     pub(crate) count: usize,
 }
 
-/// The place of a shard's lock, and the receipts of the shard that were audited.
+/// The place of a shard's lock, the receipts of the shard that were audited, and the subscribers whose acts no audit has compared.
 #[derive(Drop)]
 pub(crate) struct Side {
     pub(crate) place: Place,
     pub(crate) told: Told,
+    pub(crate) touches: Touches,
 }
 
 /// A shard under its lock.

@@ -57,7 +57,7 @@ fn add_numbers<R: Records>(
 }
 
 /// The number of a subscriber's acts that a shard holds.
-fn number_in<R: Records>(shard: &Shard<R>, sub: Sub) -> usize
+pub(crate) fn number_in<R: Records>(shard: &Shard<R>, sub: Sub) -> usize
     ensures { result ≡ length (held shard.now.shard sub) }
 {
     match shard.account(sub) {

@@ -3,6 +3,7 @@
 ghost use Rattle.std.specs.Prelude.{◌≡◌, ◌++◌, ◌∷◌, ◌<◌, ◌≤◌, ◌+◌, [], IfOk, OnOk, OnErr};
 
 use crate::room::Spare;
+use dcc_act::Sub;
 use dcc_receipts::Receipt;
 use std::alloc::{AllocError, Global};
 use std::marker::Model;
@@ -11,6 +12,8 @@ use std::marker::Model;
 #[derive(Debug, Drop)]
 pub struct Seat {
     pub(crate) receipts: Vec<Receipt>,
+    /// The subscribers of the calls since its last audit that may have made acts: a call may stand here without a receipt, and none is missing.
+    pub(crate) touched: Vec<Sub>,
     /// Its index in the list of seats that `close` gets.
     pub(crate) number: usize,
     /// Rooms for copies of answers, where memory for them is refused: none before the first call, and one fewer for each that was used up.
@@ -36,6 +39,7 @@ impl Seat {
     {
         Ok(Seat {
             receipts: Vec::with_capacity(alloc, ROOM)?,
+            touched: Vec::new(alloc),
             number,
             spares: Vec::new(alloc),
         })

@@ -62,6 +62,15 @@ impl Seen {
         self.marks.has(sub, place)
     }
 
+    /// Whether each of a subscriber's places past `from` has a fresh receipt, up to `to`. It looks at each place once, if `from` is the same in each call.
+    pub(crate) fn are_told(&mut self, sub: Sub, from: u64, to: u64) -> bool
+        ensures same { self.new ≡ self.old }
+        ensures yes { result ≡ true → (place : ℕ) → from < place → place ≤ to → times place (own sub self.old) ≡ 1 }
+        ensures no { result ≡ false → (place : ℕ) × (from < place) × (place ≤ to) × (times place (own sub self.old) ≡ 0) }
+    {
+        self.marks.are_marked(sub, from, to)
+    }
+
     /// Does nothing: no place has two fresh receipts.
     pub(crate) fn are_once(&self)
         ensures { (sub : Sub) (place : ℕ) → times place (own sub self.now) ≤ 1 }

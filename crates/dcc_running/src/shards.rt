@@ -6,10 +6,10 @@ ghost use Rattle.dcc_act.specs.declared.sub.Sub.{Sub};
 ghost use Rattle.dcc_store.specs.Books.{sub_order};
 ghost use Rattle.dcc_running.specs.Books.{HaveOwnPlaces, book};
 ghost use Rattle.dcc_running.specs.Calls.{AreSubs, IsReadOf, IsResolved, IsToldStopped};
-ghost use Rattle.dcc_running.specs.Told.{none_told};
 ghost use Rattle.dcc_running.specs.inner.Batches.{AreKeptAt};
 ghost use Rattle.dcc_running.specs.inner.Locks.{AreOf};
 ghost use Rattle.dcc_running.specs.inner.Numbers.{AreNumbersOf};
+ghost use Rattle.dcc_running.specs.inner.Told.{none_told};
 ghost use Rattle.dcc_running.specs.inner.Wards.{AreBeside, shard_in, side_in};
 ghost use Rattle.dcc_shard.specs.Routes.{shard_of};
 ghost use Rattle.dcc_shard.specs.Shards.{held};
@@ -21,6 +21,7 @@ use crate::naming::Naming;
 use crate::opening::{Numbers, counted};
 use crate::seat::Seat;
 use crate::told::Told;
+use crate::touches::Touches;
 use crate::ward::Ward;
 use dcc_act::{SessionId, Sub, same_subscribers_are_equal};
 use dcc_message::Identity;
@@ -271,6 +272,7 @@ fn own_sides(alloc: Global, hasher: RandomState, sides: Vec<Side>, count: usize)
         sides.push_reserved(Side {
             place: Place { index, count },
             told: Told::new(alloc, hasher),
+            touches: Touches::new(alloc, hasher),
         });
     }
     sides

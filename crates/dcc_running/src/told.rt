@@ -1,15 +1,15 @@
 //! The receipts of a shard that were audited.
 
-ghost use Rattle.std.specs.Prelude.{◌≡◌, ◌<◌, ◌≤◌, ◌-◌, ◌^◌, ◌++◌, ◌∷◌, ◌==◌, ◌&&◌, [], ℕ, Some, cond, min, true, false, IfErr, IfOk, OnErr, OnOk};
+ghost use Rattle.std.specs.Prelude.{◌≡◌, ◌<◌, ◌≤◌, ◌-◌, ◌^◌, ◌++◌, ◌∷◌, ◌==◌, ◌&&◌, [], ℕ, Some, cond, min, nat_lt, true, false, IfErr, IfOk, OnErr, OnOk};
 ghost use Rattle.std.specs.HashMap.{spare};
 ghost use Rattle.dcc_act.specs.Subs.{same_sub};
 ghost use Rattle.dcc_act.specs.declared.sub.Sub.{Sub};
 ghost use Rattle.dcc_receipts.specs.Audit.{in_order, own, times};
 ghost use Rattle.dcc_running.specs.Acts.{acts_of};
 ghost use Rattle.dcc_running.specs.Audited.{IsOrdered};
-ghost use Rattle.dcc_running.specs.Told.{none_told, told_of, told_with};
-ghost use Rattle.dcc_running.specs.inner.Told.{IsTwice, top_in};
-ghost use Rattle.dcc_receipts.specs.Tops.{in_order_by};
+ghost use Rattle.dcc_running.specs.Told.{told_of};
+ghost use Rattle.dcc_running.specs.inner.Told.{IsTwice, are_placed, is_placed, none_told, told_with, top_in};
+ghost use Rattle.dcc_receipts.specs.Tops.{in_order_by, top_after};
 
 use crate::seen::Seen;
 use dcc_act::{Sub, same_subscribers_are_equal};
@@ -72,6 +72,15 @@ impl Told {
         self.seen.has(sub, place)
     }
 
+    /// Whether each of a subscriber's places past `from` has a fresh receipt, up to `to`. It looks at each place once, if `from` is the same in each call.
+    pub(crate) fn are_told(&mut self, sub: Sub, from: u64, to: u64) -> bool
+        ensures same { self.new ≡ self.old }
+        ensures yes { result ≡ true → (place : ℕ) → from < place → place ≤ to → times place (own sub self.old.receipts) ≡ 1 }
+        ensures no { result ≡ false → (place : ℕ) × (from < place) × (place ≤ to) × (times place (own sub self.old.receipts) ≡ 0) }
+    {
+        self.seen.are_told(sub, from, to)
+    }
+
     /// Does nothing: no place has two fresh receipts.
     pub(crate) fn are_once(&self)
         ensures { (sub : Sub) (place : ℕ) → times place (own sub self.now.receipts) ≤ 1 }
@@ -87,7 +96,7 @@ impl Told {
         let _tops = &self.tops;
     }
 
-    /// Whether these receipts of a seat are in order behind those that it had. The only error is want of memory.
+    /// Whether these receipts of a seat are in order behind those that it had. The condition: each that is fresh has a place. The only error is want of memory.
     pub(crate) fn is_continued(
         &self,
         alloc: Global,
@@ -95,18 +104,22 @@ impl Told {
         seat: usize,
         receipts: &[Receipt],
     ) -> Result<bool, AllocError>
+        requires placed { are_placed receipts.now ≡ true }
         ensures yes { IfOk result (λ ordered. ordered ≡ true → IsOrdered (told_of seat self.now ++ receipts.now)) }
         ensures no { IfOk result (λ ordered. ordered ≡ false → (sub : Sub) × (in_order [] (own sub (told_of seat self.now ++ receipts.now)) ≡ false)) }
     {
         orders_agree();
-        is_continued(alloc, hasher, &self.tops, seat, receipts)
+        let ordered = is_continued(alloc, hasher, &self.tops, seat, receipts)?;
+        Ok(ordered)
     }
 
-    /// Adds a receipt that a seat had. A fresh receipt's place has to be new, and the receipt has to be after those of its subscriber that the seat had.
+    /// Adds a receipt that a seat had. A fresh receipt's place has to be new, and the receipt has to be after those of its subscriber that the seat had. The
+    /// condition: if it is fresh, it has a place.
     ///
     /// Errors, which change nothing: [`CloseFault::Memory`]; [`CloseFault::ReceiptStray`], the place has a fresh receipt; [`CloseFault::OutOfOrder`], the
     /// receipt is before another.
     pub(crate) fn add(&mut self, seat: usize, receipt: &Receipt) -> Result<(), CloseFault>
+        requires placed { is_placed receipt.now ≡ true }
         ensures added { OnOk result (self.new ≡ told_with self.old seat receipt.now) }
         ensures same { OnErr result (self.new ≡ self.old) }
         ensures fault { IfErr result (λ fault. IsTwice fault self.old seat receipt.now) }
@@ -122,11 +135,11 @@ impl Told {
             return Err(CloseFault::OutOfOrder);
         }
         self.seats.reserve(1)?;
-        make_room(&mut self.tops)?;
+        make_room(&mut self.tops, place)?;
         if !self.seen.add(receipt)? {
             return Err(CloseFault::ReceiptStray);
         }
-        set_top(&mut self.tops, seat, sub, top_after(top, receipt));
+        set_top(&mut self.tops, seat, top, receipt);
         self.seats.push_reserved(Snapshot::of(&seat));
         Ok(())
     }
@@ -139,21 +152,28 @@ fn top(tops: &Tops, seat: usize, sub: Sub) -> Option<u64>
     tops.get(&(seat, sub)).copied()
 }
 
-/// Room for one entry more. The only error is want of memory.
-fn make_room(tops: &mut Tops) -> Result<(), AllocError>
+/// Room for the greatest place of one seat and subscriber more, if this is a place. The only error is want of memory.
+fn make_room(tops: &mut Tops, place: u64) -> Result<(), AllocError>
     ensures same { (seat : ℕ) (sub : Sub) → top_in tops.new.entries seat sub ≡ top_in tops.old.entries seat sub }
-    ensures room { OnOk result (1 ≤ spare tops.new) }
+    ensures room { OnOk result (0 < place → 1 ≤ spare tops.new) }
 {
+    if place == 0 {
+        return Ok(());
+    }
     tops.reserve(1)
 }
 
-/// Makes this place the greatest of a seat and a subscriber. The condition: there is room for one entry more.
-fn set_top(tops: &mut Tops, seat: usize, sub: Sub, place: u64)
-    requires { 1 ≤ spare tops.old }
+/// Keeps the greatest place of a seat's receipt and of those before it, of which this is the greatest. A receipt without a place leaves nothing: an unknown
+/// subscriber may have any name. The condition: there is room.
+fn set_top(tops: &mut Tops, seat: usize, top: Option<u64>, receipt: &Receipt)
+    requires { 0 < receipt.now.place → 1 ≤ spare tops.old }
     ensures { (s : ℕ) (other : Sub) → top_in tops.new.entries s other
-        ≡ cond ((seat == s) && same_sub sub other) (Some place) (top_in tops.old.entries s other) }
+        ≡ cond (nat_lt 0 receipt.now.place && ((seat == s) && same_sub receipt.now.sub other)) (Some (top_after top receipt.now)) (top_in tops.old.entries s other) }
 {
-    match tops.insert((seat, sub), place) {
+    if receipt.place == 0 {
+        return;
+    }
+    match tops.insert((seat, receipt.sub), top_after(top, receipt)) {
         Ok(_before) => {}
         Err(_refused) => unreachable!(),
     }

@@ -2,8 +2,8 @@
 
 ghost use Rattle.std.specs.Prelude.{◌<◌};
 
-use dcc_act::MAX_AMOUNT;
-use dcc_callers::{Caller, in_memory, one};
+use dcc_act::{MAX_AMOUNT, Sub};
+use dcc_callers::{Caller, after, in_memory, one};
 use dcc_receipts::{Receipt, check_receipts};
 use dcc_running::{Books, Seat, Shards, Unclosed};
 use dcc_shard::{ExpiryAnswer, TopUpAnswer};
@@ -263,6 +263,34 @@ enum Seated {
     AuditedOutOfOrder,
     /// The receipt of the second audit is of an act before those of the first.
     OutOfOrderOverAudits,
+    /// Another seat has the receipt of the last act, and audits it later.
+    AuditedBesideAnother,
+}
+
+/// Ends the caller's session at another seat, in a batch behind a subscriber without acts; then both seats are audited.
+fn audit_beside_another<W: Wait + Abort + AllocGlobal, R: Records>(
+    rt: &W,
+    shards: &Shards<R, Brand>,
+    caller: &mut Caller,
+) -> Result<(), Fail>
+    requires { 0 < shards.now.count }
+{
+    top_up_each(rt, shards, caller, &[(1, 1000, ADDED)]);
+    assert_eq!(rt; caller.open(rt, rt.alloc(), shards), Some(true));
+    let nobody = Sub::new(0, b"491700000000").ok_or("a subscriber")?;
+    let moment = after(2_000).ok_or("a moment")?;
+    let subs = [nobody, caller.sub];
+    let mut other = shards.seat(rt.alloc(), 1)?;
+    assert!(rt; shards.is_one_batch(&subs));
+    if shards.is_one_batch(&subs) {
+        let _tally = shards.expire_all(rt, rt.alloc(), &mut other, &subs, moment);
+    }
+    assert_eq!(rt; other.receipts().len(), 1);
+    audit(rt, shards, caller, (0, 2, 0));
+    let audited = shards.audit(rt, rt.alloc(), &mut other).unwrap_or(0);
+    assert_eq!(rt; audited, 1);
+    drop(other);
+    Ok(())
 }
 
 /// Does so at this caller's seat.
@@ -297,9 +325,10 @@ fn act_at<W: Wait + Abort + AllocGlobal + RandomSource, R: Records>(
             audit(rt, shards, caller, (62, 0, 3));
             Ok(())
         }
+        Seated::AuditedBesideAnother => audit_beside_another(rt, shards, caller),
         Seated::OutOfOrderOverAudits => {
             top_up_each(rt, shards, caller, THREE_TOP_UPS);
-            audit(rt, shards, caller, (0, 3, 0));
+            audit(rt, shards, caller, (0, 2, 0));
             ask_others(rt, caller)?;
             audit(rt, shards, caller, (62, 0, 1));
             Ok(())
@@ -434,5 +463,12 @@ fn receipts_are_audited_in_stretches(rt: HostRuntime) -> Result<(), Fail> {
 fn an_audit_leaves_what_disagrees(rt: HostRuntime) -> Result<(), Fail> {
     assert_eq!(&rt; faults(&rt, Seated::AuditedOfOthers)?, (0, 60));
     assert_eq!(&rt; faults(&rt, Seated::AuditedOutOfOrder)?.1, 62);
+    assert_eq!(&rt; faults(&rt, Seated::OutOfOrderOverAudits)?, (0, 62));
+    Ok(())
+}
+
+#[test]
+fn a_call_of_another_seat_is_waited_for(rt: HostRuntime) -> Result<(), Fail> {
+    assert_eq!(&rt; faults(&rt, Seated::AuditedBesideAnother)?, (0, 0));
     Ok(())
 }

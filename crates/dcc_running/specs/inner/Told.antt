@@ -1,5 +1,6 @@
 -- Receipts that were audited, the marks of their places, and the greatest place of each subscriber and seat.
-use Rattle.std.specs.Prelude.{◌≡◌, ℕ, ◌==◌, ◌&&◌, true, false, cond, List, [], ◌∷◌, ◌++◌, map, Option, None}
+use Rattle.std.specs.Prelude.{◌≡◌, ℕ, ◌==◌, ◌&&◌, ◌||◌, not, nat_lt, Bool, true, false, cond, List, [], ◌∷◌, ◌++◌, map, Option, None}
+use Rattle.std.specs.List.{list_all}
 use Rattle.std.specs.Map.{lookup}
 use Rattle.std.specs.declared.snapshot.Snapshot.{Snapshot}
 use Rattle.dcc_act.specs.declared.sub.Sub.{Sub}
@@ -23,6 +24,14 @@ AreMarksOf marks receipts = (sub : Sub) (place : ℕ) → cond (is_marked marks 
 abbrev pub numbers : List (Snapshot ℕ) → List ℕ
 numbers snapshots = map (λ (s : Snapshot ℕ). s.value) snapshots
 
+-- no receipts
+abbrev pub none_told : ToldView
+none_told = record { receipts = []; seats = [] }
+
+-- one more, which a seat had
+abbrev pub told_with : ToldView → ℕ → Receipt → ToldView
+told_with told seat r = record { receipts = told.receipts ++ r ∷ []; seats = told.seats ++ seat ∷ [] }
+
 -- seats and subscribers, each pair with the greatest place of the subscriber's receipts that the seat had
 abbrev pub Tops : Type 0
 Tops = List ((ℕ × Sub) × ℕ)
@@ -30,9 +39,16 @@ Tops = List ((ℕ × Sub) × ℕ)
 abbrev pub top_in : Tops → ℕ → Sub → Option ℕ
 top_in tops seat sub = lookup (λ k. (seat == k.0) && same_sub sub k.1) tops
 
+-- a receipt that is fresh has a place
+abbrev pub is_placed : Receipt → Bool
+is_placed r = not r.fresh || nat_lt 0 r.place
+
+abbrev pub are_placed : List Receipt → Bool
+are_placed receipts = list_all is_placed receipts
+
 -- these are the greatest places, and the receipts of each seat are in order: behind them, others are in order exactly if they are behind the greatest places
 abbrev pub AreTops : Tops → List ℕ → List Receipt → Type 0
-AreTops tops seats receipts = (seat : ℕ) (sub : Sub) (rest : List Receipt)
+AreTops tops seats receipts = (seat : ℕ) (sub : Sub) (rest : List Receipt) → are_placed rest ≡ true
     → in_order_by (top_in tops seat sub) rest ≡ in_order_by None (own sub (of_seat seat seats receipts) ++ rest)
 
 -- a seat's receipt isn't after those of its subscriber that were audited

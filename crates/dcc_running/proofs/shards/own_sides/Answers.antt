@@ -11,7 +11,7 @@ place_at count index = record { index = index; count = count }
 pub loop-alloc-preserved : goal.loop-alloc-preserved
 loop-alloc-preserved c =
     let sides = c.loop-alloc.sides.items in
-    let side : Side = record { place = record { index = c.len-index.result; count = c.args.count }; told = c.new.result } in
+    let side : Side = record { place = record { index = c.len-index.result; count = c.args.count }; told = c.new.result; touches = c.new-in-loop-alloc.result } in
     let long : c.len-index.result ≡ length sides = omega (arith, c.len-index.ensures, c.loop-alloc.sides.ok.0) in record {
       few = omega arith;
       room = omega arith;

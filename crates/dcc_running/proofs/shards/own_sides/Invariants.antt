@@ -1,5 +1,5 @@
 use Rattle.std.proofs.Common.{◌≡◌, ◌-◌, ℕ, ◌<◌, ◌≤◌, get_or, vec_len, vec_capacity}
-use Rattle.dcc_running.specs.Told.{none_told}
+use Rattle.dcc_running.specs.inner.Told.{none_told}
 use Rattle.dcc_running.specs.declared.lock.Side.{Side}
 use Rattle.dcc_running.proofs.shards.own_sides.Given as goal
 

@@ -19,7 +19,7 @@ use Rattle.std.specs.contracts.marker.Brand
 use Rattle.dcc_serving_tests.proofs.gates.call_at_once.Goals as goal
 
 caller_send : IsSend Caller.the_row
-caller_send = Send.recorded_send Caller.the_field.row _ _ Caller.the_type.to_one (Send.struct_send (Declared.shape Caller.the_type) (SubSent.the_send, (search (sendable) depth 4, (SeatSent.the_send, tt))))
+caller_send = Send.recorded_send Caller.the_field.row _ _ Caller.the_type.to_one (Send.struct_send (Declared.shape Caller.the_type) (SubSent.the_send, (search (sendable) depth 4, (search (sendable) depth 4, (SeatSent.the_send, tt)))))
 
 brand_send : IsSend Brand.the_row
 brand_send = search (sendable) depth 4

@@ -23,7 +23,7 @@ returns-clause-ends g c =
     let rs = c.end_all.new.replies.items in
     let is : c.end_all.new.receipts.items ≡ told ++ all_end_receipts c.args.moment c.args.subs.now rs = cc in
     subst (λ (end : List Receipt). EndsEach c.args.moment c.args.subs.now told end) (sym is)
-    (ends_each c.deref_mut.result.now.shard c.args.moment c.args.subs.now rs told c.end_all.ensures.answers)
+    (ends_each c.deref_mut-2.result.now.shard c.args.moment c.args.subs.now rs told c.end_all.ensures.answers)
 
 pub returns-clause-counted : goal.returns-clause-counted
 returns-clause-counted g c =
@@ -33,4 +33,4 @@ returns-clause-counted g c =
     let counts : c.tallied.result ≡ tallied no_tally rs = cc in
     subst (λ (tally : Tally). CountsEach c.args.moment c.args.subs.now told c.end_all.new.receipts.items tally) (sym counts)
     (subst (λ (end : List Receipt). CountsEach c.args.moment c.args.subs.now told end (tallied no_tally rs)) (sym is)
-    (counts_each c.deref_mut.result.now.shard c.args.moment c.args.subs.now rs told no_tally c.end_all.ensures.answers))
+    (counts_each c.deref_mut-2.result.now.shard c.args.moment c.args.subs.now rs told no_tally c.end_all.ensures.answers))

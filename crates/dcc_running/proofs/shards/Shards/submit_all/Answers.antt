@@ -15,4 +15,4 @@ lock_of_all-shard-requires g c =
     (kept_jobs count one.sub c.args.jobs.items c.in-Ok.calls.items (c.in-Ok.ensures.calls ∙ ap (λ (jobs : List Job). map call_of jobs) c.as_slice.ensures.value) c.requires.shard (first_sub c.args.jobs.items one first))
 
 pub returns-clause-answers : goal.returns-clause-answers
-returns-clause-answers g c = of_some_shard c.deref_mut.result.now.shard c.args.jobs.items c.make_all.new.answers.items c.make_all.ensures.answers
+returns-clause-answers g c = of_some_shard c.deref_mut-2.result.now.shard c.args.jobs.items c.make_all.new.answers.items c.make_all.ensures.answers

@@ -10,6 +10,6 @@ invariant_of-self-2 c =
     let seen : c.add.new.self ≡ c.self.inside.seen ++ c.args.receipt.now ∷ [] = search rules in (
       rw (seats, seen) (as_many (numbers c.self.inside.seats.items) c.self.inside.seen c.args.seat c.args.receipt.now c.self.invariant.0),
       rw (seats, seen) (tops_kept c.same_subscribers_are_equal.ensures c.self.inside.tops.entries c.make_room.new.tops.entries c.set_top.new.tops.entries
-          (numbers c.self.inside.seats.items) c.self.inside.seen c.args.seat c.args.receipt.now c.top-top.result c.top_after.result c.self.invariant.0 c.self.invariant.1
-          c.top-top.ensures (search rules) c.top_after.ensures c.make_room.ensures.same c.set_top.ensures),
+          (numbers c.self.inside.seats.items) c.self.inside.seen c.args.seat c.args.receipt.now c.top-top.result c.self.invariant.0 c.requires.placed
+          c.self.invariant.1 c.top-top.ensures (search rules) c.make_room.ensures.same c.set_top.ensures),
     )
