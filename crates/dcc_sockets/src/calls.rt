@@ -106,13 +106,14 @@ pub(crate) fn answer_calls<
     );
     let lines = NoticeLines::new(clocks, backing.meters, backing.audits);
     count_receipts(&lines, shards, seat, counted);
-    audit_many(&lines, clocks, rt, alloc, shards, seat, closing);
+    audit_all(&lines, clocks, rt, alloc, shards, seat, closing);
     served
 }
 
-/// Audits the receipts of a seat if there are at least [`STRETCH`], and counts the audit. If they disagree with the books, a line reports this, and the server is
-/// to end. If memory was short, the receipts that were not compared stay for the next audit, and this audit isn't counted.
-fn audit_many<R: Clock + Eprint, W: Wait, S: Records, J: Naming>(
+/// Audits the receipts of a seat, and counts the audit if there are at least [`STRETCH`]. A shard's own audit passes a subscriber over of whom another seat has a
+/// call that isn't audited, so no seat keeps calls behind a connection. If receipts and books disagree, a line reports this, and the server is to end. If memory
+/// was short, the receipts that were not compared stay for the next audit.
+fn audit_all<R: Clock + Eprint, W: Wait, S: Records, J: Naming>(
     lines: &NoticeLines<'_, R>,
     print: &R,
     rt: &W,
@@ -121,14 +122,17 @@ fn audit_many<R: Clock + Eprint, W: Wait, S: Records, J: Naming>(
     seat: &mut Seat,
     closing: &Closing,
 ) {
-    if seat.receipts().len() < STRETCH {
+    if seat.receipts().is_empty() {
         return;
     }
+    let counts = seat.receipts().len() >= STRETCH;
     let (receipts, begun) = (by_shards(shards, seat), lines.ticks());
     match shards.audit(rt, alloc, seat) {
         Ok(_) => {
             let micros = lines.ticks().saturating_sub(begun);
-            lines.audited_together(rt, &receipts, micros);
+            if counts {
+                lines.audited_together(rt, &receipts, micros);
+            }
         }
         Err(CloseFault::Memory) => {}
         Err(fault) => {
