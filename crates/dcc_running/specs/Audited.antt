@@ -46,6 +46,10 @@ WasTrue opening r = (shard : ShardView) × (is_true shard.identity shard.terms o
 abbrev pub WereTrue : Held → List Receipt → Type 0
 WereTrue opening receipts = AllByRecursion (WasTrue opening) receipts
 
+-- Receipts of a seat were taken out, from its front: each was true when it was audited.
+abbrev pub IsAudited : Held → List Receipt → List Receipt → Type 0
+IsAudited opening before after = (told : List Receipt) × (before ≡ told ++ after) × WereTrue opening told
+
 -- A receipt was not true of the acts of some shard, or its place had one fresh receipt among some receipts. Of a locked shard contracts know the type alone, so
 -- shard and receipts may be any: this refuses no body that reports a true receipt. `Ward::tell` (fault) speaks of the locked shard.
 abbrev pub WasStray : Held → Receipt → Type 0

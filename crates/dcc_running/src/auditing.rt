@@ -1,8 +1,7 @@
 //! An audit while the shards are under locks.
 
-ghost use Rattle.std.specs.Prelude.{◌≡◌, ◌≤◌, ◌++◌, ◌∷◌, List, [], drop, false, length, vec_len, IfOk, IfErr, OnOk};
-ghost use Rattle.dcc_receipts.specs.declared.receipt.Receipt.{Receipt};
-ghost use Rattle.dcc_running.specs.Audited.{IsAuditFault, IsOrdered, WasTrue, WasUntold, WereTrue};
+ghost use Rattle.std.specs.Prelude.{◌≡◌, ◌≤◌, [], drop, false, length, vec_len, IfOk, IfErr, OnOk};
+ghost use Rattle.dcc_running.specs.Audited.{IsAudited, IsAuditFault, IsOrdered, WasTrue, WasUntold};
 ghost use Rattle.dcc_running.specs.inner.Wards.{IsToldFault};
 
 use crate::naming::Naming;
@@ -19,11 +18,14 @@ impl<R: Records, J: Naming> Shards<R, J> {
     /// shards keep the places of the fresh ones, and `close` counts these. It returns the number of the receipts. It waits for the lock of each receipt's
     /// shard, one at a time.
     ///
-    /// Errors, of which all but [`CloseFault::ActWithoutReceipt`] leave the receipt that fails in the seat, and all behind it: [`CloseFault::Memory`];
-    /// [`CloseFault::ActWithoutReceipt`], no receipt is left, and an act since opening has none, of a subscriber of whom no seat has a call that it has not
-    /// audited; [`CloseFault::ReceiptStray`], the receipt isn't of
-    /// these acts or has another answer than its act came to, or its place has another fresh receipt; [`CloseFault::OutOfOrder`], the seat has a receipt
-    /// after one of the same subscriber that comes later: all stay; or the receipt comes before one that an earlier audit took out of the seat.
+    /// Errors:
+    /// - [`CloseFault::Memory`]: memory was short. The receipts that were not compared stay.
+    /// - [`CloseFault::ReceiptStray`]: the receipt isn't of these acts, or it has another answer than its act came to, or its place has another fresh
+    ///   receipt. This receipt stays, and all behind it.
+    /// - [`CloseFault::OutOfOrder`]: the seat has a receipt behind a later one of the same subscriber. All stay. Or a receipt is earlier than one that an
+    ///   earlier audit took out of the seat. This receipt stays, and all behind it.
+    /// - [`CloseFault::ActWithoutReceipt`]: an act since opening has no receipt, of a subscriber of whom no seat has a call that it has not audited. No
+    ///   receipt stays.
     pub fn audit<W: Wait>(
         &self,
         rt: &W,
@@ -31,7 +33,7 @@ impl<R: Records, J: Naming> Shards<R, J> {
         seat: &mut Seat,
     ) -> Result<usize, CloseFault>
         ensures empty { IfOk result (λ count. (seat.new ≡ []) × (count ≡ length seat.old)) }
-        ensures told { (told : List Receipt) × (seat.old ≡ told ++ seat.new) × WereTrue J.opening told }
+        ensures told { IsAudited J.opening seat.old seat.new }
         ensures ordered { IfOk result (λ count. IsOrdered seat.old) }
         ensures reason { IfErr result (λ fault. IsAuditFault fault J.opening seat.old seat.new) }
     {

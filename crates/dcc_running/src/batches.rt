@@ -58,7 +58,7 @@ impl<R: Records, J: Naming> Shards<R, J> {
             return;
         };
         let mut shard = self.lock_of_all(rt, &sub, calls.as_slice());
-        let before = (seat.receipts.len(), seat.touched.len());
+        let before = seat.filling();
         if touch_all(&mut shard, &mut seat.touched, calls.as_slice()).is_err() {
             // By calls: the lock has to be free, and what is let go in place is proved part by part.
             drop(shard);
@@ -70,8 +70,7 @@ impl<R: Records, J: Naming> Shards<R, J> {
         make_all(
             alloc, &mut shard, receipts, spares, jobs, calls, replies, answers,
         );
-        let receipts = seat.receipts.get(before.0..).unwrap_or(&[]);
-        self.ease(&mut shard, &mut seat.touched, receipts, before.1);
+        self.ease_behind(&mut shard, seat, before);
     }
 
     /// Submits each job by itself.
@@ -120,7 +119,7 @@ impl<R: Records, J: Naming> Shards<R, J> {
         };
         let mut replies = replies;
         let mut shard = self.lock_of_all(rt, &sub, calls.as_slice());
-        let before = (seat.receipts.len(), seat.touched.len());
+        let before = seat.filling();
         if touch_all(&mut shard, &mut seat.touched, calls.as_slice()).is_err() {
             // By calls, as above.
             drop(shard);
@@ -137,8 +136,7 @@ impl<R: Records, J: Naming> Shards<R, J> {
             calls,
             &mut replies,
         );
-        let receipts = seat.receipts.get(before.0..).unwrap_or(&[]);
-        self.ease(&mut shard, &mut seat.touched, receipts, before.1);
+        self.ease_behind(&mut shard, seat, before);
         tallied(Tally::none(), replies.as_slice())
     }
 

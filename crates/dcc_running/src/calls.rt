@@ -12,7 +12,7 @@ ghost use Rattle.dcc_running.specs.Calls.{IsAnswerTo, IsToldOf, IsEndOf, receipt
 use crate::job::Job;
 use crate::naming::Naming;
 use crate::room::{Spare, add_spares, twice};
-use crate::seat::Seat;
+use crate::seat::{Filling, Seat};
 use crate::shards::Shards;
 use crate::ward::Ward;
 use dcc_act::{Act, Kind, Moment, Sub, TopUp, same_subscribers_are_equal};
@@ -54,12 +54,11 @@ impl<R: Records, J: Naming> Shards<R, J> {
             return answer;
         };
         let mut shard = self.lock_of(rt, &job.sub);
+        let before = seat.filling();
         let (receipts, spares) = (&mut seat.receipts, &mut seat.spares);
         let touched = &mut seat.touched;
-        let before = (receipts.len(), touched.len());
         let answer = make(alloc, &mut shard, receipts, spares, touched, job, act);
-        let receipts = seat.receipts.get(before.0..).unwrap_or(&[]);
-        self.ease(&mut shard, &mut seat.touched, receipts, before.1);
+        self.ease_behind(&mut shard, seat, before);
         answer
     }
 }
@@ -89,11 +88,10 @@ impl<R: Records, J: Naming> Shards<R, J> {
             return TopUpAnswer::Refused;
         };
         let mut shard = self.lock_of(rt, &sub);
+        let before = seat.filling();
         let (receipts, touched) = (&mut seat.receipts, &mut seat.touched);
-        let before = (receipts.len(), touched.len());
         let answer = add(alloc, &mut shard, receipts, touched, sub, moment, top_up);
-        let receipts = seat.receipts.get(before.0..).unwrap_or(&[]);
-        self.ease(&mut shard, &mut seat.touched, receipts, before.1);
+        self.ease_behind(&mut shard, seat, before);
         answer
     }
 
@@ -115,20 +113,28 @@ impl<R: Records, J: Naming> Shards<R, J> {
             return ExpiryAnswer::Refused;
         };
         let mut shard = self.lock_of(rt, &sub);
+        let before = seat.filling();
         let (receipts, touched) = (&mut seat.receipts, &mut seat.touched);
-        let before = (receipts.len(), touched.len());
         let answer = end(alloc, &mut shard, receipts, touched, sub, moment);
-        let receipts = seat.receipts.get(before.0..).unwrap_or(&[]);
-        self.ease(&mut shard, &mut seat.touched, receipts, before.1);
+        self.ease_behind(&mut shard, seat, before);
         answer
     }
 }
 
 impl<R: Records, J: Naming> Shards<R, J> {
+    /// As [`Shards::ease`], of the calls and the receipts that came to the seat since it was filled so.
+    pub(crate) fn ease_behind(&self, shard: &mut Ward<R, J>, seat: &mut Seat, before: Filling)
+        ensures shard { (shard.new.shard ≡ shard.old.shard) × (shard.new.records ≡ shard.old.records) }
+        ensures receipts { seat.new ≡ seat.old }
+    {
+        let receipts = seat.receipts.get(before.receipts..).unwrap_or(&[]);
+        self.ease(shard, &mut seat.touched, receipts, before.touched);
+    }
+
     /// Takes the calls at the seat back, behind its first `before` calls, that were counted in this shard and gave no receipt. The calls that gave one are
     /// those of these receipts, in order. A call stays that is the last of its subscriber, if an act of the subscriber has no audited receipt: the next audit
     /// reports this.
-    pub(crate) fn ease(
+    fn ease(
         &self,
         shard: &mut Ward<R, J>,
         touched: &mut Vec<Sub>,

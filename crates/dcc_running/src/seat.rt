@@ -29,6 +29,13 @@ impl Model for Seat {
     ghost view = { λ s. s.receipts.items };
 }
 
+/// How many receipts a seat has, and how many calls stand there.
+#[derive(Clone, Copy)]
+pub(crate) struct Filling {
+    pub receipts: usize,
+    pub touched: usize,
+}
+
 /// For how many receipts there is room at first.
 const ROOM: usize = 64;
 
@@ -50,5 +57,13 @@ impl Seat {
         ensures { result.now ≡ self.now }
     {
         &self.receipts
+    }
+
+    /// How many receipts and calls it has.
+    pub(crate) fn filling(&self) -> Filling {
+        Filling {
+            receipts: self.receipts.len(),
+            touched: self.touched.len(),
+        }
     }
 }

@@ -21,7 +21,7 @@ pub returns-clause-ends : goal.returns-clause-ends
 returns-clause-ends g c =
     let told = c.args.seat.now in
     let rs = c.end_all.new.replies.items in
-    let is : c.end_all.new.receipts.items ≡ told ++ all_end_receipts c.args.moment c.args.subs.now rs = cc in
+    let is : c.ease_behind.new.seat ≡ told ++ all_end_receipts c.args.moment c.args.subs.now rs = cc in
     subst (λ (end : List Receipt). EndsEach c.args.moment c.args.subs.now told end) (sym is)
     (ends_each c.deref_mut-2.result.now.shard c.args.moment c.args.subs.now rs told c.end_all.ensures.answers)
 
@@ -29,8 +29,8 @@ pub returns-clause-counted : goal.returns-clause-counted
 returns-clause-counted g c =
     let told = c.args.seat.now in
     let rs = c.end_all.new.replies.items in
-    let is : c.end_all.new.receipts.items ≡ told ++ all_end_receipts c.args.moment c.args.subs.now rs = cc in
+    let is : c.ease_behind.new.seat ≡ told ++ all_end_receipts c.args.moment c.args.subs.now rs = cc in
     let counts : c.tallied.result ≡ tallied no_tally rs = cc in
-    subst (λ (tally : Tally). CountsEach c.args.moment c.args.subs.now told c.end_all.new.receipts.items tally) (sym counts)
+    subst (λ (tally : Tally). CountsEach c.args.moment c.args.subs.now told c.ease_behind.new.seat tally) (sym counts)
     (subst (λ (end : List Receipt). CountsEach c.args.moment c.args.subs.now told end (tallied no_tally rs)) (sym is)
     (counts_each c.deref_mut-2.result.now.shard c.args.moment c.args.subs.now rs told no_tally c.end_all.ensures.answers))
