@@ -13,6 +13,7 @@ use Rattle.dcc_shard.specs.Shards.{held}
 use Rattle.dcc_shard.specs.Stored.{StoredView}
 use Rattle.dcc_shard.specs.declared.answers.TopUpAnswer.{TopUpAnswer}
 use Rattle.dcc_shard.specs.declared.answers.TopUpAnswer.TheVariants as top_ups
+use Rattle.dcc_store.specs.Books.{Held}
 use Rattle.dcc_port.specs.Found.{IsFoundOf, account_found, page_found, page_of}
 use Rattle.dcc_port.specs.Servers.{Rules}
 use Rattle.dcc_port.specs.Sheets.{Sheet, IsSheet, IsShort, backup_sheet, flaw_sheet, health_sheet, metrics_sheet, sheet_of, stop_sheet, sweep_sheet}
@@ -212,3 +213,9 @@ module _ {R C S : Type 0} (is_stopped : R → Bool) (tells : C → ℕ → C →
   abbrev pub Responds : Call → PortView C S → Response → PortView C S → Type 0
   Responds call old response new =
       ((sheet : Sheet) × Answers call old sheet new × IsSheet sheet response) ⊎ (IsShort response × IsUnsaid call old new)
+
+  -- such a response; then the server heard of the call's receipts at the end of the seat, and did its part
+  abbrev pub Serves : Held → Call → PortView C S → Response → PortView C S → Type 0
+  Serves opening call old response new =
+      (seat : List Receipt) × Responds call old response (record { clock = new.clock; seat = seat; server = new.server })
+      × rules.audits opening new.server seat (length old.seat) new.seat

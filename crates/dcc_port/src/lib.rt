@@ -7,7 +7,8 @@
 //! what it is answered. Top-ups are answered by what the shards told of exactly these top-ups, and their receipts are added to the seat; the money, the
 //! open sessions and the ledger of a subscriber are those of the acts that some shard held at one moment; the server is well only if each shard said
 //! that it has not stopped; a backup is told as made only if the [`Server`] copied each shard's store, each while a shard was lent under its lock. A
-//! sweep adds the receipts of its expiries; no other call changes the seat.
+//! sweep adds the receipts of its expiries; no other call changes the seat. Behind each call the [`Server`] gets the seat with the receipts of the call,
+//! and may audit it ([`Server::audit`]).
 //!
 //! Nothing is known of a shard under a lock but its type: no clause says that a look was at the subscriber's own shard.
 #![tactic(auto)]

@@ -2,7 +2,8 @@
 
 ghost use Rattle.std.specs.Prelude.{◌≡◌, OnOk, OnErr};
 ghost use Rattle.http_server.specs.Response.{IsBlank};
-ghost use Rattle.dcc_port.specs.Answers.{Answers, BacksUp, IsUnsaid, PortView};
+ghost use Rattle.dcc_port.specs.Answers.{Answers, BacksUp, IsUnsaid, PortView, Responds};
+ghost use Rattle.dcc_port.specs.Requests.{call_for};
 ghost use Rattle.dcc_port.specs.Sheets.{IsSheet, Sheet};
 
 use crate::asking::{account, health, ledger, metrics};
@@ -38,11 +39,11 @@ pub(crate) struct Operator<'a, 'c, 'e, 's, W: Wait, R: Records, J: Naming, C: Cl
 impl<'a, 'c, 'e, 's, W: Wait, R: Records, J: Naming, C: Clock, S: Server> Service
     for Operator<'a, 'c, 'e, 's, W, R, J, C, S> {
     ghost use Rattle.std.specs.Prelude.{◌≡◌};
-    ghost use Rattle.dcc_port.specs.Answers.{PortView, Responds};
+    ghost use Rattle.dcc_port.specs.Answers.{PortView, Serves};
     ghost use Rattle.dcc_port.specs.Requests.{call_for};
 
     ghost answers = { λ old request response new.
-        Responds R.is_stopped C.tells S.rules old.port.now.count (call_for request)
+        Serves R.is_stopped C.tells S.rules old.port.now.count J.opening (call_for request)
         (record { clock = old.clock.now; seat = old.seat.now; server = old.server.now }) response
         (record { clock = new.clock.now; seat = new.seat.now; server = new.server.now })
         × (new.port ≡ old.port) × (new.clock.ghost_name ≡ old.clock.ghost_name) × (new.server.ghost_name ≡ old.server.ghost_name)
@@ -53,16 +54,11 @@ impl<'a, 'c, 'e, 's, W: Wait, R: Records, J: Naming, C: Clock, S: Server> Servic
         request: &Request<Bytes>,
         response: &mut Response,
     ) -> Result<(), AllocError> {
-        let Ok(call) = call_for(self.alloc, request) else {
-            put_short(response);
-            return Ok(());
-        };
-        let answered = self.answer(&call, response);
-        // By a call: a call that is let go in place is proved part by part.
-        drop(call);
-        if answered.is_err() {
-            put_short(response);
-        }
+        let before = self.seat.receipts().len();
+        self.respond(request, response);
+        let shards = self.port.shards;
+        self.server
+            .audit(self.rt, self.alloc, shards, self.seat, before);
         Ok(())
     }
 }
@@ -78,6 +74,29 @@ impl<'a, 'c, 'e, 's, W: Wait, R: Records, J: Naming, C: Clock, S: Server> Operat
     C,
     S,
 > {
+    /// Responds to a request by the answer to its call. If memory is short, the response says so.
+    fn respond(&mut self, request: &Request<Bytes>, response: &mut Response)
+        requires { IsBlank response.old }
+        ensures response { Responds R.is_stopped C.tells S.rules self.old.port.now.count (call_for request.now)
+            (record { clock = self.old.clock.now; seat = self.old.seat.now; server = self.old.server.now }) response.new
+            (record { clock = self.new.clock.now; seat = self.new.seat.now; server = self.new.server.now }) }
+        ensures port { self.new.port ≡ self.old.port }
+        ensures clock { self.new.clock.ghost_name ≡ self.old.clock.ghost_name }
+        ensures server { self.new.server.ghost_name ≡ self.old.server.ghost_name }
+        ensures seat { self.new.seat.ghost_name ≡ self.old.seat.ghost_name }
+    {
+        let Ok(call) = call_for(self.alloc, request) else {
+            put_short(response);
+            return;
+        };
+        let answered = self.answer(&call, response);
+        // By a call: a call that is let go in place is proved part by part.
+        drop(call);
+        if answered.is_err() {
+            put_short(response);
+        }
+    }
+
     /// Answers a call. The only error is want of memory: then nothing was done, or a sweep or a backup was.
     fn answer(&mut self, call: &Call, response: &mut Response) -> Result<(), AllocError>
         requires { IsBlank response.old }

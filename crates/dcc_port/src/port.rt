@@ -2,7 +2,7 @@
 
 ghost use Rattle.std.specs.Prelude.{◌≡◌};
 
-use dcc_running::{Naming, Shards};
+use dcc_running::{Naming, Seat, Shards};
 use dcc_shard::Shard;
 use dcc_store::Records;
 use std::alloc::{AllocError, Global};
@@ -63,4 +63,16 @@ pub trait Server {
         shard: &Shard<R>,
     ) -> Result<(), CopyFault>
         ensures { rules.copies self.now folder.now index result };
+
+    /// Hears of the receipts of a call, once its answer is known: those of the seat behind its first `before`. It may audit the seat
+    /// ([`Shards::audit`]), and wait for the locks of the shards.
+    fn audit<W: Wait, R: Records, J: Naming>(
+        &self,
+        rt: &W,
+        alloc: Global,
+        shards: &Shards<R, J>,
+        seat: &mut Seat,
+        before: usize,
+    )
+        ensures { rules.audits J.opening self.now seat.old before seat.new };
 }

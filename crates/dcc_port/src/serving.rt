@@ -16,8 +16,8 @@ use std::io::{self, Read, Write};
 use std::sync::Wait;
 
 /// Answers the calls of one connection, one after another, until it ends: by HTTP/1.1, with heads of up to 16 KiB and bodies of up to 1 MiB. Each
-/// call works on these shards, at the moments of the clock, and adds the receipts of its acts to the seat. It may wait. The names of a request's
-/// fields are found by hashes under these keys.
+/// call works on these shards, at the moments of the clock, and adds the receipts of its acts to the seat. Then the server may audit the seat
+/// ([`Server::audit`]), before the answer is written. It may wait. The names of a request's fields are found by hashes under these keys.
 ///
 /// The condition: there are so many shards.
 ///
@@ -36,7 +36,7 @@ pub fn serve_calls<W: Wait, R: Records, J: Naming, C: Clock, S: Server, I: Read,
 ) -> io::Result<()>
     requires { count ≡ shards.now.count }
     ensures { (h : History) × OnOk result (IsDone h)
-        × IsServing R.is_stopped C.tells S.rules count (I.remaining reader.old) (I.remaining reader.new)
+        × IsServing R.is_stopped C.tells S.rules J.opening count (I.remaining reader.old) (I.remaining reader.new)
         (O.contents writer.old) (O.contents writer.new)
         (record { clock = clock.old; seat = seat.old; server = server.old }) (record { clock = clock.new; seat = seat.new; server = server.new }) h }
 {

@@ -6,7 +6,7 @@ use Rattle.http_server.specs.Exchange.{Call, Chain}
 use Rattle.http_server.specs.History.{History}
 use Rattle.http_server.specs.declared.state.Config.{Config}
 use Rattle.dcc_receipts.specs.declared.receipt.Receipt.{Receipt}
-use Rattle.dcc_port.specs.Answers.{PortView, Responds}
+use Rattle.dcc_port.specs.Answers.{PortView, Serves}
 use Rattle.dcc_port.specs.Requests.{call_for}
 use Rattle.dcc_port.specs.declared.operator.Operator.{Operator}
 use Rattle.dcc_port.proofs.Chains.{serving_all, to_port}
@@ -33,7 +33,7 @@ returns g c =
     (λ (o : Operator g.row.W.Denot g.row.R.Denot g.row.J.Denot g.row.C.Denot g.row.S.Denot g.R.Records g.J.Naming). o.clock.ghost_name)
     (λ (o : Operator g.row.W.Denot g.row.R.Denot g.row.J.Denot g.row.C.Denot g.row.S.Denot g.R.Records g.J.Naming). o.server.ghost_name)
     (λ (o : Operator g.row.W.Denot g.row.R.Denot g.row.J.Denot g.row.C.Denot g.row.S.Denot g.R.Records g.J.Naming). o.seat.ghost_name)
-    g.R.Records.is_stopped g.C.Clock.tells g.S.Server.rules c.args.count called.0 _ last refl called.2 in
+    g.R.Records.is_stopped g.C.Clock.tells g.S.Server.rules g.J.Naming.opening c.args.count called.0 _ last refl called.2 in
     let clock = sym all.1 in
     let server = sym all.2 in
     let seat = sym all.3 in (
@@ -46,9 +46,9 @@ returns g c =
         most = ap (λ (f : Config). f.max_body_len) config ∙ c.default.ensures.0;
         head = ap (λ (f : Config). f.limits.max_head_len) config ∙ c.default.ensures.3;
         served = always_served conn;
-        calls = to_port (λ old request response new. Responds g.R.Records.is_stopped g.C.Clock.tells g.S.Server.rules c.args.count (call_for request) old response new)
+        calls = to_port (λ old request response new. Serves g.R.Records.is_stopped g.C.Clock.tells g.S.Server.rules c.args.count g.J.Naming.opening (call_for request) old response new)
             (seen_as c.args.clock.now c.args.seat.now c.args.server.now) (history conn).calls (search (rules, clock)) (search (rules, seat)) (search (rules, server))
-            (subst (λ (calls : List Call). Chain (λ old request response new. Responds g.R.Records.is_stopped g.C.Clock.tells g.S.Server.rules c.args.count (call_for request) old response new)
+            (subst (λ (calls : List Call). Chain (λ old request response new. Serves g.R.Records.is_stopped g.C.Clock.tells g.S.Server.rules c.args.count g.J.Naming.opening (call_for request) old response new)
             (seen_as c.args.clock.now c.args.seat.now c.args.server.now) calls (seen_as last.clock.now last.seat.now last.server.now)) (sym made) all.0);
       },
     )
