@@ -17,7 +17,7 @@ use std::sync::atomic::{AtomicU64, Ordering};
 use std::sync::{Mutex, Wait};
 
 /// The counters of a server, by which many threads count at once. Contracts see the number of its shards, and not what it has counted. The counters of
-/// writers, of full lanes and of disagreements are on no page: the server itself reads them.
+/// places and of disagreements are on no page: the server itself reads them.
 #[derive(Drop)]
 pub struct Meters {
     alloc: Global,
@@ -30,8 +30,16 @@ pub struct Meters {
     hosts: Mutex<Hosts>,
     /// By place: the writers that have begun.
     writers: Row,
-    /// By place: how often the lane to its writer was full.
-    fillings: Row,
+    /// By place: the requests of its gateway that went to workers, and those with which workers are done.
+    asked: Row,
+    done: Row,
+    /// By place: the answers that were put into the lane to its writer, and those that went out whole.
+    put: Row,
+    written: Row,
+    /// By place: 1 once its gateway has exchanged capabilities.
+    opened: Row,
+    /// By place: 1 once nothing more reaches its gateway.
+    gone: Row,
     /// Of all shards.
     disagreements: AtomicU64,
 }
@@ -57,7 +65,12 @@ impl Meters {
         }
         let hosts = Hosts::new(alloc, places)?;
         let writers = Row::new(alloc, places)?;
-        let fillings = Row::new(alloc, places)?;
+        let asked = Row::new(alloc, places)?;
+        let done = Row::new(alloc, places)?;
+        let put = Row::new(alloc, places)?;
+        let written = Row::new(alloc, places)?;
+        let opened = Row::new(alloc, places)?;
+        let gone = Row::new(alloc, places)?;
         Ok(Meters {
             alloc,
             came: AtomicU64::new(0),
@@ -67,7 +80,12 @@ impl Meters {
             shards: meters,
             hosts: Mutex::new(hosts),
             writers,
-            fillings,
+            asked,
+            done,
+            put,
+            written,
+            opened,
+            gone,
             disagreements: AtomicU64::new(0),
         })
     }
@@ -118,14 +136,70 @@ impl Meters {
         self.writers.at(place)
     }
 
-    /// Counts that the lane to the writer of the place of this index is full, so that a worker waits for room.
-    pub fn filled(&self, place: usize) {
-        self.fillings.add(place, 1);
+    /// Begins the place of this index anew, for a gateway that comes: all that was asked there before is answered.
+    pub fn begin(&self, place: usize) {
+        for row in [
+            &self.asked,
+            &self.done,
+            &self.put,
+            &self.written,
+            &self.opened,
+            &self.gone,
+        ] {
+            row.set(place, 0);
+        }
     }
 
-    /// How often the lane to the writer of this place was full.
-    pub fn fillings(&self, place: usize) -> u64 {
-        self.fillings.at(place)
+    /// Counts a request of this place's gateway that goes to a worker.
+    pub fn asked(&self, place: usize) {
+        self.asked.add(place, 1);
+    }
+
+    /// Counts a request of this place's gateway with which a worker is done.
+    pub fn done(&self, place: usize) {
+        self.done.add(place, 1);
+    }
+
+    /// Counts an answer that goes into the lane to the writer of this place.
+    pub fn put(&self, place: usize) {
+        self.put.add(place, 1);
+    }
+
+    /// The number of answers that were put into the lane to the writer of this place, since its gateway came.
+    pub fn puts(&self, place: usize) -> u64 {
+        self.put.at(place)
+    }
+
+    /// Counts so many answers that went out whole to this place's gateway, and returns how many that are since it came.
+    pub fn wrote(&self, place: usize, count: u64) -> u64 {
+        self.written.add(place, count);
+        self.written.at(place)
+    }
+
+    /// Keeps that this place's gateway has exchanged capabilities.
+    pub fn opened(&self, place: usize) {
+        self.opened.set(place, 1);
+    }
+
+    /// Whether this place's gateway has exchanged capabilities.
+    pub fn is_open(&self, place: usize) -> bool {
+        self.opened.at(place) > 0
+    }
+
+    /// Keeps that nothing more reaches this place's gateway.
+    pub fn gone(&self, place: usize) {
+        self.gone.set(place, 1);
+    }
+
+    /// Whether this place's gateway is owed fewer answers than so many, of requests that workers have and of the lane to its writer; or nothing more reaches
+    /// it. If threads count meanwhile, it may see too many answers, and never too few.
+    pub fn has_room(&self, place: usize, window: u64) -> bool {
+        let (done, written) = (self.done.at(place), self.written.at(place));
+        let (asked, put) = (self.asked.at(place), self.put.at(place));
+        let owed = asked
+            .saturating_sub(done)
+            .saturating_add(put.saturating_sub(written));
+        owed < window || self.gone.at(place) > 0
     }
 
     /// Counts a message of a gateway.

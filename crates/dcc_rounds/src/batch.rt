@@ -12,7 +12,7 @@ ghost use Rattle.dcc_rounds.specs.Working.{octets_in, put_answer, works_in};
 ghost use Rattle.dcc_rounds.specs.inner.Batches.{AnswersEach, AreAnswered, IsGathered, IsOneBatch, gate_of, job_of, may_join, put_answers, sub_of_request, works_of};
 
 use crate::events::{Events, ticks_of};
-use crate::face::Notices;
+use crate::face::{Notices, Sign};
 use crate::lanes::{first_of, leave_in};
 use crate::work::{Request, Work};
 use crate::worker::{answer, more, octets_of};
@@ -250,7 +250,7 @@ fn leave_answers<W: Wait, N: Notices>(
     }
 }
 
-/// Puts an answer into its gateway's lane, whose writer isn't woken yet. If there is no answer, it puts nothing.
+/// Puts an answer into its gateway's lane, whose writer isn't woken yet. If there is no answer, it puts nothing. Signs say so.
 pub(crate) fn leave_answer<W: Wait, N: Notices>(
     rt: &W,
     notices: &N,
@@ -262,7 +262,11 @@ pub(crate) fn leave_answer<W: Wait, N: Notices>(
     ensures lanes { lanes_of writers.new.items ≡ lanes_of writers.old.items }
 {
     let Some(octets) = octets_of(answer) else {
+        notices.sign(gate, Sign::Done);
         return;
     };
-    leave_in(rt, notices, writers, gate, Item::Octets(octets));
+    leave_in(rt, writers, gate, Item::Octets(octets));
+    // In this order, so that at no moment too few answers are counted.
+    notices.sign(gate, Sign::Put);
+    notices.sign(gate, Sign::Done);
 }

@@ -24,6 +24,10 @@ pub struct Connection<I, O> {
     pub name: OctetString,
 }
 
+/// A gateway is owed at most so many answers: those that its writer has to send, and those of requests that workers have. The lane to its writer has room for
+/// these, and for an end of each of its senders.
+pub const WINDOW: u64 = 240;
+
 /// What is due once a while has passed.
 #[derive(Clone, Copy, Debug, PartialEq, Eq)]
 pub enum Tick {
@@ -59,7 +63,7 @@ pub trait Listener<I, O> {
         ensures { result ≡ end.End → is_closed };
 
     /// Serves operators until no more connections are taken in for places, at the call of one thread of several. Each thread has a seat of its own:
-    /// the receipts of all calls on the shards go to this seat, and are compared with the books once the round has ended. It may wait.
+    /// the receipts of all calls on the shards go to this seat. Those that it keeps are compared with the books once the round has ended. It may wait.
     fn attend<W: Wait, R: Records, J: Naming, C: Clock + Copy>(
         &self,
         rt: &W,
@@ -162,8 +166,12 @@ pub enum Event<'a> {
 pub enum Sign {
     /// The thread that writes to its gateway has begun.
     Writes,
-    /// The lane to its writer is full, so that a worker waits for room. A gateway that doesn't take its octets is to be dropped soon.
-    Full,
+    /// A request of its gateway goes to a worker.
+    Asked,
+    /// A worker is done with a request of its gateway: its answer was put into the lane to the writer, or there is none.
+    Done,
+    /// An answer was put into the lane to its writer.
+    Put,
 }
 
 /// The receiver of notices of what happened, and of events that are counted, from several threads at once.
@@ -186,4 +194,8 @@ pub trait Notices {
 
     /// Takes a sign of a place, of which the first has the index 0. It takes no memory, and waits for nothing.
     fn sign(&self, gate: usize, sign: Sign);
+
+    /// Waits until the gateway of this place is owed fewer than [`WINDOW`] answers, by the signs of the place, or takes none any more. So no worker waits
+    /// for room in the lane to its writer. It takes no memory.
+    fn wait_for_room<W: Wait>(&self, rt: &W, gate: usize);
 }

@@ -5,7 +5,6 @@ ghost use Rattle.std.specs.List.{AllByRecursion};
 ghost use Rattle.dcc_rounds.specs.Lanes.{AreDealt, AreLanes, TakesFirst, all_put, deal, lanes_of, lists_of, put_into, put_all};
 ghost use Rattle.dcc_rounds.specs.declared.work.Work.TheVariants as work;
 
-use crate::face::{Notices, Sign};
 use crate::work::Work;
 use dcc_act::Moment;
 use dcc_connect::Item;
@@ -96,14 +95,8 @@ pub(crate) fn put_into<W: Wait, T: Drop>(rt: &W, lanes: &mut Vec<Sender<T>>, ind
 }
 
 /// Puts an item into the lane of this index, if there is such a lane, and lets the thread that takes of it sleep, until `ring_all`. If the
-/// lane is full, a sign says so, and all such threads are woken before it waits.
-pub(crate) fn leave_in<W: Wait, T: Drop, N: Notices>(
-    rt: &W,
-    notices: &N,
-    lanes: &mut Vec<Sender<T>>,
-    index: usize,
-    item: T,
-)
+/// lane is full, all such threads are woken before it waits.
+pub(crate) fn leave_in<W: Wait, T: Drop>(rt: &W, lanes: &mut Vec<Sender<T>>, index: usize, item: T)
     ensures put { all_put lanes.new.items ≡ put_into index item (all_put lanes.old.items) }
     ensures lanes { lanes_of lanes.new.items ≡ lanes_of lanes.old.items }
 {
@@ -111,7 +104,6 @@ pub(crate) fn leave_in<W: Wait, T: Drop, N: Notices>(
         return;
     }
     if let Err(item) = lanes[index].try_leave(rt, item) {
-        notices.sign(index, Sign::Full);
         ring_all(lanes.as_slice());
         put_into(rt, lanes, index, item);
     }

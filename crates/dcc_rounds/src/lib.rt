@@ -40,9 +40,8 @@ mod worker;
 mod writer;
 
 pub use events::count_receipts;
-pub use face::{Connection, Event, Listener, Notice, Notices, Shut, Sign, Tick};
+pub use face::{Connection, Event, Listener, Notice, Notices, Shut, Sign, Tick, WINDOW};
 pub use fault::ServeFault;
 pub use laws::{answers_are_to_what_came, numbers_are_given};
 pub use rounds::Rounds;
 pub use run::{Service, serve_run};
-pub use worker::STRETCH;

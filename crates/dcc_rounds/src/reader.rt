@@ -14,7 +14,7 @@ ghost use Rattle.dcc_rounds.specs.Lanes.{all_put, put_into};
 ghost use Rattle.dcc_rounds.specs.declared.work.Work.TheVariants as work;
 ghost use Rattle.dcc_shard.specs.Routes.{shard_of};
 
-use crate::face::{Event, Notice, Notices};
+use crate::face::{Event, Notice, Notices, Sign};
 use crate::lanes::{ask_all_to_sweep, end_all, put_into};
 use crate::work::{Request, Work};
 use dcc_act::Moment;
@@ -121,6 +121,8 @@ impl<'a, R: Records, J: Naming, N: Notices> Submitter for Judge<'a, R, J, N> {
         );
         let handed = self.reader.pass_on(rt, self.notices, settled, ticks);
         self.reader.sweep(rt, moment);
+        // Behind the message, since the moment of the next one is taken before it is handed on.
+        self.notices.wait_for_room(rt, self.reader.gate);
         handed
     }
 }
@@ -197,6 +199,7 @@ impl Reader {
                     proxies,
                 };
                 let gate = self.gate;
+                notices.sign(gate, Sign::Asked);
                 self.ask(rt, Request { gate, job, ticks });
                 Handed::Stays
             }
@@ -211,7 +214,8 @@ impl Reader {
     {
         let Reply { octets, close } = reply;
         count_reply(notices, octets.as_slice());
-        put_reply(rt, &mut self.writer, octets);
+        let gate = self.gate;
+        put_reply(rt, notices, gate, &mut self.writer, octets);
         if close { Handed::Closes } else { Handed::Stays }
     }
 
@@ -255,8 +259,14 @@ impl Reader {
     }
 }
 
-/// Puts the octets of a reply into a writer's lane, if the reply has any.
-fn put_reply<W: Wait>(rt: &W, writer: &mut Sender<Item>, octets: OctetString)
+/// Puts the octets of a reply into the lane to the writer of this place, if the reply has any.
+fn put_reply<W: Wait, N: Notices>(
+    rt: &W,
+    notices: &N,
+    gate: usize,
+    writer: &mut Sender<Item>,
+    octets: OctetString,
+)
     ensures put { put_of writer.new ≡ put_of writer.old ++ replies octets }
     ensures lane { lane_of_sender writer.new ≡ lane_of_sender writer.old }
 {
@@ -264,6 +274,7 @@ fn put_reply<W: Wait>(rt: &W, writer: &mut Sender<Item>, octets: OctetString)
         return;
     }
     writer.put(rt, Item::Octets(octets));
+    notices.sign(gate, Sign::Put);
 }
 
 /// Counts a reply, if it has any octets.

@@ -32,8 +32,8 @@ const BUSY: u32 = 32;
 /// The most subscribers that are asked of a sweep before the lane is looked at again.
 const PIECE: usize = 64;
 
-/// The most receipts that a worker or an attendant keeps before it audits them.
-pub const STRETCH: usize = 65_536;
+/// The most receipts that a worker keeps before it audits them.
+const STRETCH: usize = 65_536;
 
 /// A worker's ends of lanes, and its seat.
 #[derive(Drop)]
@@ -237,7 +237,7 @@ impl Worker {
                 false
             }
             Work::End(gate) => {
-                leave_in(rt, events.notices, &mut self.writers, gate, Item::End);
+                leave_in(rt, &mut self.writers, gate, Item::End);
                 ring_all(self.writers.as_slice());
                 false
             }
