@@ -3,19 +3,13 @@
 ghost use Rattle.std.specs.Prelude.{◌≤◌, IfOk, IfSome, length};
 
 use crate::around::Around;
-use crate::backing::Backing;
 use crate::closing::Closing;
 use crate::door::TURN_SECONDS;
-use crate::notices::NoticeLines;
 use crate::options::wait_for_connections;
-use crate::trouble::{Trouble, tell};
 use dcc_port::serve_calls;
-use dcc_receipts::CloseFault;
-use dcc_rounds::{Notices, STRETCH, count_receipts};
 use dcc_running::{Naming, Seat, Shards};
 use dcc_startup::Copies;
 use dcc_store::Records;
-use dcc_tariff::MAX_SHARDS;
 use std::alloc::Global;
 use std::hash::RandomState;
 use std::io;
@@ -26,9 +20,6 @@ use std::time::{Clock, Duration, Instant};
 
 /// For so many seconds in all the server waits for the octets of an operator's connection, and for so many it waits until octets are taken there.
 pub const CALL_SECONDS: u64 = 10;
-
-/// The most shards that a server has.
-const MOST_SHARDS: usize = MAX_SHARDS as usize;
 
 /// Where operators call the server.
 #[derive(Drop)]
@@ -60,8 +51,7 @@ impl Calls {
     }
 }
 
-/// Answers the calls of one connection, until it ends or has waited as long as it may. Then it counts the receipts of these calls, and audits the seat if
-/// the seat has many.
+/// Answers the calls of one connection, until it ends or has waited as long as it may.
 ///
 /// Errors: those of the connection, and want of memory.
 pub(crate) fn answer_calls<
@@ -73,84 +63,29 @@ pub(crate) fn answer_calls<
     K: Copies,
     C: dcc_connect::Clock + Copy,
 >(
-    clocks: &'r R,
-    rt: &W,
     alloc: Global,
     shards: &Shards<S, J>,
     clock: C,
     seat: &mut Seat,
     calls: &Calls,
-    backing: &Backing<'r, K>,
+    around: &mut Around<'_, 'r, R, W, K>,
     stream: TcpStream,
-    closing: &Closing,
 ) -> io::Result<()> {
-    let (mut input, mut output) = call_halves(clocks, stream, closing)?;
+    let (rt, closing) = (around.rt, around.closing);
+    let (mut input, mut output) = call_halves(around.print, stream, closing)?;
     let mut clock = clock;
-    let mut around = Around {
-        rt,
-        closing,
-        backing,
-    };
-    let counted = seat.receipts().len();
-    let served = serve_calls(
+    serve_calls(
         rt,
         alloc,
         shards,
         shards.count(),
         &mut clock,
-        &mut around,
+        around,
         seat,
         calls.keys,
         &mut input,
         &mut output,
-    );
-    let lines = NoticeLines::new(clocks, backing.meters, backing.audits);
-    count_receipts(&lines, shards, seat, counted);
-    audit_all(&lines, clocks, rt, alloc, shards, seat, closing);
-    served
-}
-
-/// Audits the receipts of a seat, and counts the audit if there are at least [`STRETCH`]. A shard's own audit passes a subscriber over of whom another seat has a
-/// call that isn't audited, so no seat keeps calls behind a connection. If receipts and books disagree, a line reports this, and the server is to end. If memory
-/// was short, the receipts that were not compared stay for the next audit.
-fn audit_all<R: Clock + Eprint, W: Wait, S: Records, J: Naming>(
-    lines: &NoticeLines<'_, R>,
-    print: &R,
-    rt: &W,
-    alloc: Global,
-    shards: &Shards<S, J>,
-    seat: &mut Seat,
-    closing: &Closing,
-) {
-    if seat.receipts().is_empty() {
-        return;
-    }
-    let counts = seat.receipts().len() >= STRETCH;
-    let (receipts, begun) = (by_shards(shards, seat), lines.ticks());
-    match shards.audit(rt, alloc, seat) {
-        Ok(_) => {
-            let micros = lines.ticks().saturating_sub(begun);
-            if counts {
-                lines.audited_together(rt, &receipts, micros);
-            }
-        }
-        Err(CloseFault::Memory) => {}
-        Err(fault) => {
-            tell(print, Trouble::Disagrees { fault });
-            closing.tell();
-        }
-    }
-}
-
-/// The numbers of a seat's receipts of each shard.
-fn by_shards<S: Records, J: Naming>(shards: &Shards<S, J>, seat: &Seat) -> [usize; MOST_SHARDS] {
-    let mut receipts = [0usize; MOST_SHARDS];
-    for receipt in seat.receipts() {
-        if let Some(of_shard) = receipts.get_mut(shards.index_of(&receipt.sub)) {
-            *of_shard = of_shard.saturating_add(1);
-        }
-    }
-    receipts
+    )
 }
 
 /// One half of an operator's connection: it is read from, or written to, and waits for [`CALL_SECONDS`] in all.

@@ -1,10 +1,12 @@
 //! Where gateways connect.
 
+use crate::around::Around;
 use crate::backing::Backing;
 use crate::begun::{BEGIN_MILLIS, Begun, is_late};
 use crate::calls::{Calls, answer_calls};
 use crate::closing::{Staying, remove_stop};
 use crate::gateway::{Input, Output, halves};
+use crate::notices::NoticeLines;
 use crate::options::wait_for_connections;
 use crate::place::Place;
 use crate::refusal::{Refusal, meaning_of};
@@ -323,25 +325,32 @@ impl<'r, R: Clock + Eprint, K: Copies + Counts> Listener<Input<'r, R>, Output<'r
         let (Some(staying), Some(calls)) = (self.staying, &self.calls) else {
             return;
         };
+        let backing = &self.backing;
+        let mut around = Around {
+            print: self.rt,
+            lines: NoticeLines::new(self.rt, backing.meters, backing.audits),
+            rt,
+            closing: staying.closing,
+            backing,
+        };
         let mut is_short = false;
         for _ in rt.forever() {
             if staying.closing.is_told() {
                 return;
             }
+            // A receipt is left here only if memory was short for its audit.
+            around.audit_all(rt, alloc, shards, seat);
             match calls.listener.accept() {
                 Ok((stream, _from)) => {
                     is_short = false;
                     let _fault = answer_calls(
-                        self.rt,
-                        rt,
                         alloc,
                         shards,
                         clock,
                         seat,
                         calls,
-                        &self.backing,
+                        &mut around,
                         stream,
-                        staying.closing,
                     );
                 }
                 Err(error) => match self.bear(&mut is_short, error) {
