@@ -5,6 +5,7 @@ ghost use Rattle.std.specs.Prelude.{◌≤◌, IfOk, IfSome, length};
 use crate::closing::Closing;
 use crate::door::TURN_SECONDS;
 use crate::lingering::linger;
+use crate::messages::Messages;
 use crate::options::keep_alive;
 use crate::place::Place;
 use crate::silence::{FIRST_SECONDS, Silence};
@@ -16,8 +17,8 @@ use std::io::{Eprint, ErrorKind, Read, Write};
 use std::net::{Shutdown, SocketAddr, TcpStream};
 use std::time::{Clock, Duration, Instant};
 
-/// What a gateway sends. Nothing is read before the thread that writes to the gateway has begun: without this thread no answer would go out, and
-/// the workers would wait for room in its lane. A read waits for octets as long as the gateway may be silent, and then fails.
+/// What a gateway sends. Nothing is read before the thread that writes to the gateway has begun: without this thread no answer would go out. A read waits
+/// for octets as long as the gateway may be silent, and then fails. It fails earlier if the gateway doesn't exchange capabilities in time.
 #[derive(Drop)]
 pub struct Input<'r, R> {
     rt: &'r R,
@@ -27,6 +28,8 @@ pub struct Input<'r, R> {
     /// So many writers of the place had begun when the gateway came. None once its own writer has begun.
     earlier: Option<u64>,
     silence: Silence,
+    /// The moment of the first read. None before it, or if the system has no clock.
+    since: Option<Instant>,
     has_sent: bool,
     /// For so many seconds the system has a read wait, or without an end.
     wait: Option<u64>,
@@ -34,17 +37,16 @@ pub struct Input<'r, R> {
     closing: Option<&'r Closing>,
 }
 
-/// What a gateway is sent. Octets wait for a gateway that doesn't take them for [`crate::WRITE_SECONDS`] in all, however many writes they need, and
-/// then the write fails. It fails earlier if the gateway has taken nothing for [`LOOK_MILLIS`], and a worker has waited for room in its lane since
-/// all octets were out the last time. Behind the last octets the connection lingers for [`crate::LINGER_SECONDS`] at most, until the gateway ends it too.
+/// What a gateway is sent. The answers that wait for a gateway at one time, in the lane to its writer too, go out within [`crate::WRITE_SECONDS`] in all,
+/// however many writes they need; else the write fails. Behind the last octets the connection lingers for [`crate::LINGER_SECONDS`] at most, until the
+/// gateway ends it too.
 #[derive(Drop)]
 pub struct Output<'r, R> {
     rt: &'r R,
     stream: TcpStream,
     from: SocketAddr,
     place: Place<'r>,
-    /// So often the lane of the place had been full when all octets were out the last time.
-    fillings: u64,
+    messages: Messages,
     waiting: Waiting,
     /// For so long the system has a write wait.
     wait: Duration,
@@ -53,7 +55,7 @@ pub struct Output<'r, R> {
 }
 
 /// Both halves of a connection from this address for this place, set up: neither waits longer than it may, small answers go out at once,
-/// and the system asks whether the other end is still there.
+/// and the system asks whether the other end is still there. The place begins anew.
 ///
 /// Error: the system refuses that.
 pub fn halves<'r, R>(
@@ -69,6 +71,7 @@ pub fn halves<'r, R>(
     stream.set_nodelay(true)?;
     keep_alive(&stream)?;
     let other = stream.try_clone()?;
+    place.begin();
     let input = Input {
         rt,
         stream: other,
@@ -76,6 +79,7 @@ pub fn halves<'r, R>(
         place,
         earlier: Some(place.writers()),
         silence,
+        since: None,
         has_sent: false,
         wait: None,
         closing,
@@ -85,7 +89,7 @@ pub fn halves<'r, R>(
         stream,
         from,
         place,
-        fillings: place.fillings(),
+        messages: Messages::new(),
         waiting: Waiting::new(),
         wait,
         is_lost: false,
@@ -111,6 +115,17 @@ impl<R: Eprint> Input<'_, R> {
         let count = self.stream.read(buf)?;
         self.has_sent = self.has_sent || count > 0;
         Ok(count)
+    }
+
+    /// Reads, and waits for so many seconds at most, or without an end.
+    fn read_for(&mut self, buf: &mut [u8], allowed: Option<u64>) -> io::Result<usize>
+        ensures { IfOk result (λ count. count ≤ length buf.old) }
+    {
+        if is_over(0, allowed) {
+            return Err(io::Error::from(ErrorKind::WouldBlock));
+        }
+        self.set_wait(allowed)?;
+        self.read_once(buf)
     }
 
     /// Reads, and waits for a second at most before it looks whether the server is to end, as long as the gateway may be silent.
@@ -142,15 +157,26 @@ impl<R: Eprint> Input<'_, R> {
         Err(io::Error::from(ErrorKind::WouldBlock))
     }
 
-    /// Reports that the gateway was silent for so many seconds.
-    fn tell_silent(&self, seconds: u64) {
+    /// Reports why the gateway is dropped: it sent nothing for so many seconds, or it exchanged no capabilities in time.
+    fn tell_silent(&self, seconds: u64, waited: u64) {
         let from = self.from;
-        let trouble = if self.has_sent {
-            Trouble::Silent { from, seconds }
-        } else {
+        let trouble = if !self.has_sent {
+            let seconds = self.first_seconds();
             Trouble::Unbegun { from, seconds }
+        } else if waited >= FIRST_SECONDS && !self.place.is_open() {
+            let seconds = FIRST_SECONDS;
+            Trouble::Unopened { from, seconds }
+        } else {
+            Trouble::Silent { from, seconds }
         };
         tell(self.rt, trouble);
+    }
+
+    /// For so many seconds the gateway may take to exchange capabilities, if this has an end.
+    fn first_seconds(&self) -> u64 {
+        self.silence
+            .first_wait(self.closing.is_some(), 0)
+            .unwrap_or(FIRST_SECONDS)
     }
 }
 
@@ -163,12 +189,33 @@ fn is_over(waited: u64, allowed: Option<u64>) -> bool {
 }
 
 impl<R: Clock + Eprint> Input<'_, R> {
+    /// For how many seconds the next read may wait. None if it waits without an end.
+    fn allowed(&mut self) -> Option<u64> {
+        if self.place.is_open() {
+            return self.silence.read_wait();
+        }
+        let waited = self.waited();
+        self.silence.first_wait(self.closing.is_some(), waited)
+    }
+
+    /// The whole seconds since the first read, by the clock; 0 without a clock.
+    fn waited(&mut self) -> u64 {
+        let Ok(now) = Instant::now(self.rt) else {
+            return 0;
+        };
+        let since = match self.since {
+            Some(since) => since,
+            None => now,
+        };
+        self.since = Some(since);
+        now.duration_since(since).as_secs()
+    }
+
     /// Waits until more writers than these have begun, and returns whether they have; they have not if the server is to end.
     ///
-    /// Error: none begins within the time that a gateway has for its first octets, of [`FIRST_SECONDS`] if silence has no end.
+    /// Error: none begins within the time that a gateway has to exchange capabilities, of [`FIRST_SECONDS`] if this has no end.
     fn wait_for_writer(&self, earlier: u64) -> io::Result<bool> {
-        let seconds = self.silence.read_wait(false).unwrap_or(FIRST_SECONDS);
-        for _ in 0..seconds.saturating_mul(1000) {
+        for _ in 0..self.first_seconds().saturating_mul(1000) {
             if self.place.writers() != earlier {
                 return Ok(true);
             }
@@ -192,19 +239,17 @@ impl<R: Clock + Eprint> Read for Input<'_, R> {
             }
             self.earlier = None;
         }
-        let allowed = self.silence.read_wait(self.has_sent);
+        let allowed = self.allowed();
         let read = match self.closing {
             Some(closing) => self.read_until(buf, closing, allowed),
-            None => {
-                self.set_wait(allowed)?;
-                self.read_once(buf)
-            }
+            None => self.read_for(buf, allowed),
         };
         match read {
             Ok(count) => Ok(count),
             Err(error) => {
                 if error.kind() == ErrorKind::WouldBlock {
-                    self.tell_silent(allowed.unwrap_or(0));
+                    let waited = self.waited();
+                    self.tell_silent(allowed.unwrap_or(0), waited);
                 }
                 Err(error)
             }
@@ -224,57 +269,42 @@ impl<R: Eprint> Output<'_, R> {
 }
 
 impl<R: Clock + Eprint> Output<'_, R> {
-    /// Writes once, and waits for so many milliseconds at most. None if the gateway took nothing.
+    /// Writes once, and waits for [`LOOK_MILLIS`] at most. None if the gateway took nothing.
     ///
-    /// Error: that of the system, or octets waited too long, which is reported.
-    fn write_once(&mut self, buf: &[u8], millis: u64) -> io::Result<Option<usize>>
+    /// Error: that of the system, or answers waited too long, which is reported.
+    fn write_once(&mut self, buf: &[u8]) -> io::Result<Option<usize>>
         ensures { IfOk result (λ count. IfSome count (λ count. count ≤ length buf.now)) }
     {
         let now = Instant::now(self.rt)?;
-        let Some(left) = self.waiting.begin(now) else {
+        let Some(left) = self.waiting.begin(now, self.place.puts()) else {
             tell(self.rt, Trouble::Slow { from: self.from });
             return Err(io::Error::from(ErrorKind::TimedOut));
         };
-        self.set_wait(left.min(Duration::from_millis(millis)))?;
+        self.set_wait(left.min(Duration::from_millis(LOOK_MILLIS)))?;
         match self.stream.write(buf) {
             Ok(count) => {
-                self.waiting.took(count, buf.len());
-                if count >= buf.len() {
-                    self.fillings = self.place.fillings();
-                }
+                let written = self.place.wrote(self.messages.took(buf, count));
+                self.waiting.took(written);
                 Ok(Some(count))
             }
-            Err(error) if error.kind() == ErrorKind::WouldBlock => Ok(None),
-            Err(error) => Err(error),
+            // The time of the answers bounds interruptions too.
+            Err(error) => match error.kind() {
+                ErrorKind::WouldBlock | ErrorKind::Interrupted => Ok(None),
+                _ => Err(error),
+            },
         }
     }
 
-    /// Writes until the gateway takes octets, and drops a gateway that takes none while its lane is full.
+    /// Writes until the gateway takes octets. A write that waits goes on only once a third of the system's buffer is free, and a new write takes what is
+    /// free before.
     fn write_until(&mut self, buf: &[u8]) -> io::Result<usize>
         ensures { IfOk result (λ count. count ≤ length buf.now) }
     {
         for _ in 0..u64::MAX {
-            if let Some(count) = self.write_once(buf, LOOK_MILLIS)? {
+            if let Some(count) = self.write_once(buf)? {
                 return Ok(count);
             }
-            if self.place.fillings() != self.fillings {
-                return self.write_last(buf);
-            }
         }
-        Err(io::Error::from(ErrorKind::TimedOut))
-    }
-
-    /// Writes a last time to a gateway whose lane is full. A write that waits goes on only once a third of the system's buffer is free, and a new
-    /// write takes what is free before.
-    ///
-    /// Error: that of the system, or nothing is free, which is reported.
-    fn write_last(&mut self, buf: &[u8]) -> io::Result<usize>
-        ensures { IfOk result (λ count. count ≤ length buf.now) }
-    {
-        if let Some(count) = self.write_once(buf, 1)? {
-            return Ok(count);
-        }
-        tell(self.rt, Trouble::Crowded { from: self.from });
         Err(io::Error::from(ErrorKind::TimedOut))
     }
 }
@@ -311,5 +341,6 @@ impl<R: Clock + Eprint> Shut for Output<'_, R> {
             let _refused = linger(self.rt, &mut self.stream);
         }
         let _refused = self.stream.shutdown(Shutdown::Both);
+        self.place.gone();
     }
 }

@@ -19,6 +19,7 @@ mod closing;
 mod door;
 mod gateway;
 mod lingering;
+mod messages;
 mod notices;
 mod options;
 mod place;

@@ -5,11 +5,14 @@ use dcc_connect::{ConnectFault, ConnectionEnd, WriteEnd};
 use dcc_metrics::Meters;
 use dcc_octets::{FIRST_VISIBLE, LAST_VISIBLE};
 use dcc_receipts::{Receipt, Told};
-use dcc_rounds::{Event, Notice, Notices, Sign};
+use dcc_rounds::{Event, Notice, Notices, Sign, WINDOW};
 use std::fmt;
 use std::io::Eprint;
 use std::sync::Wait;
-use std::time::{Clock, Instant};
+use std::time::{Clock, Duration, Instant};
+
+/// After so many milliseconds at most a reader looks again whether its gateway is owed fewer answers. The first look comes after one.
+const ROOM_MILLIS: u64 = 16;
 
 /// Writes each notice as a line to standard error, whatever octets a peer's name has: all but `!` to `~`, and the backslash, stand as `\xNN`.
 /// A line that can't be written is left out. It counts notices, events and signs. Audits have a line together, at most once a minute if the system has a clock.
@@ -79,7 +82,10 @@ impl<P: Eprint + Clock> Notices for NoticeLines<'_, P> {
     fn tell<W: Wait>(&self, rt: &W, notice: Notice<'_>) {
         match notice {
             Notice::Came { .. } => self.meters.came(),
-            Notice::Host { gate, host } => self.meters.host(rt, gate, host),
+            Notice::Host { gate, host } => {
+                self.meters.opened(gate.saturating_sub(1));
+                self.meters.host(rt, gate, host);
+            }
             Notice::Written { gate, .. } => self.meters.went(rt, gate),
             Notice::Audited {
                 shard,
@@ -132,8 +138,22 @@ impl<P: Eprint + Clock> Notices for NoticeLines<'_, P> {
     fn sign(&self, gate: usize, sign: Sign) {
         match sign {
             Sign::Writes => self.meters.began(gate),
-            Sign::Full => self.meters.filled(gate),
+            Sign::Asked => self.meters.asked(gate),
+            Sign::Done => self.meters.done(gate),
+            Sign::Put => self.meters.put(gate),
         }
+    }
+
+    fn wait_for_room<W: Wait>(&self, rt: &W, gate: usize) {
+        let mut millis = 1u64;
+        for _ in rt.forever() {
+            if self.meters.has_room(gate, WINDOW) {
+                return;
+            }
+            self.print.sleep(Duration::from_millis(millis));
+            millis = millis.saturating_mul(2).min(ROOM_MILLIS);
+        }
+        unreachable!()
     }
 }
 

@@ -15,8 +15,28 @@ impl Place<'_> {
         self.meters.writers(self.gate)
     }
 
-    /// How often the lane to the writer of this place was full.
-    pub fn fillings(&self) -> u64 {
-        self.meters.fillings(self.gate)
+    /// Begins the place anew, for a gateway that comes.
+    pub fn begin(&self) {
+        self.meters.begin(self.gate);
+    }
+
+    /// Whether the gateway has exchanged capabilities.
+    pub fn is_open(&self) -> bool {
+        self.meters.is_open(self.gate)
+    }
+
+    /// The number of answers that were put into the lane to the writer.
+    pub fn puts(&self) -> u64 {
+        self.meters.puts(self.gate)
+    }
+
+    /// Counts so many answers that went out whole, and returns how many that are in all.
+    pub fn wrote(&self, count: u64) -> u64 {
+        self.meters.wrote(self.gate, count)
+    }
+
+    /// Keeps that nothing more reaches the gateway.
+    pub fn gone(&self) {
+        self.meters.gone(self.gate);
     }
 }

@@ -1,7 +1,7 @@
 //! The trouble of connections, as lines on standard error: what a socket alone knows of it, and what an audit behind an operator's connection finds.
 
 use crate::audits::Disagreement;
-use crate::waiting::{LOOK_MILLIS, WRITE_SECONDS};
+use crate::waiting::WRITE_SECONDS;
 use dcc_receipts::CloseFault;
 use std::io::Eprint;
 use std::net::SocketAddr;
@@ -14,10 +14,10 @@ pub(crate) enum Trouble {
     Silent { from: SocketAddr, seconds: u64 },
     /// It sent nothing at all within so many seconds, and is dropped.
     Unbegun { from: SocketAddr, seconds: u64 },
+    /// It has not exchanged capabilities within so many seconds, and is dropped.
+    Unopened { from: SocketAddr, seconds: u64 },
     /// Octets waited for it as long as they may, and it is dropped.
     Slow { from: SocketAddr },
-    /// It took nothing while a worker waited for room in its lane, and is dropped.
-    Crowded { from: SocketAddr },
     /// The thread that writes to it has not begun, and it is dropped.
     Unwritten { from: SocketAddr },
     /// It was accepted, and couldn't be set up.
@@ -47,16 +47,16 @@ impl fmt::Display for Trouble {
             Trouble::Unbegun { from, seconds } => {
                 write!(f, "dcc: {from} sent nothing within {seconds} seconds")
             }
+            Trouble::Unopened { from, seconds } => {
+                write!(
+                    f,
+                    "dcc: {from} exchanged no capabilities within {seconds} seconds"
+                )
+            }
             Trouble::Slow { from } => {
                 write!(
                     f,
                     "dcc: {from} was slow: octets waited {WRITE_SECONDS} seconds"
-                )
-            }
-            Trouble::Crowded { from } => {
-                write!(
-                    f,
-                    "dcc: {from} was slow: its lane was full, and it took nothing for {LOOK_MILLIS} milliseconds"
                 )
             }
             Trouble::Unwritten { from } => {

@@ -1,33 +1,36 @@
-//! Since when octets wait to go out.
+//! Since when answers wait to go out.
 
 ghost use Rattle.std.specs.Prelude.{◌≡◌, ◌-◌, None, Some, option_map};
 ghost use Rattle.std.specs.Duration.{as_nanos};
 ghost use Rattle.std.specs.Time.{instant_nanos};
-ghost use Rattle.dcc_sockets.specs.Waits.{left_of, wait_left, waiting_behind, waiting_since};
+ghost use Rattle.dcc_sockets.specs.Waits.{left_of, wait_left, waiting_behind, waiting_from};
 
 use std::marker::Model;
 use std::time::{Duration, Instant};
 
-/// For so many seconds octets wait for a gateway that doesn't take them; then writing fails.
+/// For so many seconds the answers that wait for a gateway at one time may wait; then writing fails.
 pub const WRITE_SECONDS: u64 = 5;
 
-/// After so many milliseconds without a taken octet a write looks whether the lane of its gateway is full.
+/// After so many milliseconds without a taken octet a write begins anew.
 pub const LOOK_MILLIS: u64 = 200;
 
-/// Since when octets wait to go out: from the first write on that they are given to, over all writes of their rest, until all are out.
+/// Since when answers wait to go out. The answers that were put at the first write wait from this write on, over all writes, until all of them are out. The
+/// answers that were put meanwhile wait from the next write on. So an answer that the writer could send waits at most twice [`WRITE_SECONDS`].
 #[derive(Drop)]
 pub struct Waiting {
-    since: Option<Instant>,
+    /// The moment since which answers wait, and how many have gone out, since the gateway came, once these have.
+    waited: Option<(Instant, u64)>,
 }
 
 impl Model for Waiting {
-    ghost use Rattle.std.specs.Prelude.{ℕ, Option, option_map};
+    ghost use Rattle.std.specs.Prelude.{Option, option_map};
     ghost use Rattle.std.specs.Time.{instant_nanos};
+    ghost use Rattle.dcc_sockets.specs.Waits.{WaitedView};
 
-    // The nanosecond of the clock.
-    ghost Value = { Option ℕ };
+    // With the nanosecond of the clock.
+    ghost Value = { Option WaitedView };
 
-    ghost view = { λ waiting. option_map instant_nanos waiting.since };
+    ghost view = { λ waiting. option_map (λ waited. record { since = instant_nanos waited.0; goal = waited.1 }) waiting.waited };
 }
 
 impl Waiting {
@@ -35,31 +38,34 @@ impl Waiting {
     pub fn new() -> Waiting
         ensures { result ≡ None }
     {
-        Waiting { since: None }
+        Waiting { waited: None }
     }
 
-    /// How long a write that begins now may wait. None if its octets have waited as long as they may.
-    pub fn begin(&mut self, now: Instant) -> Option<Duration>
-        ensures since { self.new ≡ Some (waiting_since self.old (instant_nanos now)) }
-        ensures left { option_map as_nanos result ≡ wait_left (instant_nanos now - waiting_since self.old (instant_nanos now)) }
+    /// How long a write that begins now may wait, if so many answers were put since the gateway came. None if its answers have waited as long as they may.
+    pub fn begin(&mut self, now: Instant, put: u64) -> Option<Duration>
+        ensures waited { self.new ≡ Some (waiting_from self.old (instant_nanos now) put) }
+        ensures left { option_map as_nanos result ≡ wait_left (instant_nanos now - (waiting_from self.old (instant_nanos now) put).since) }
     {
-        let since = match self.since {
-            Some(since) => since,
-            None => now,
+        let (since, goal) = match self.waited {
+            Some(waited) => waited,
+            None => (now, put),
         };
-        self.since = Some(since);
+        self.waited = Some((since, goal));
         left_of(
             Duration::from_secs(WRITE_SECONDS),
             now.duration_since(since),
         )
     }
 
-    /// Behind a write that took so many octets of so many.
-    pub fn took(&mut self, taken: usize, asked: usize)
-        ensures { self.new ≡ waiting_behind self.old taken asked }
+    /// Behind a write, if so many answers have gone out since the gateway came.
+    pub fn took(&mut self, written: u64)
+        ensures { self.new ≡ waiting_behind self.old written }
     {
-        if taken >= asked {
-            self.since = None;
+        let Some((_, goal)) = self.waited else {
+            return;
+        };
+        if written >= goal {
+            self.waited = None;
         }
     }
 }
