@@ -266,7 +266,7 @@ class Gateway:
 
     def is_deaf(self, pieces=10):
         """Asks twenty times as often for a large answer, and then for a watchdog's now and then, and reads nothing, until the connection ends or half a minute
-        is over. Ten pieces are more than the system takes of answers, and fewer than the lane has room for."""
+        is over. Ten pieces are more than the system takes of answers, and fewer than a gateway may be owed."""
         piece = bytes.fromhex(spelled(LARGE)) * 20
         with contextlib.suppress(OSError):
             for _ in range(pieces):
@@ -318,6 +318,13 @@ def folder_in(room, *amounts):
     for ticket, amount in enumerate(amounts, 1):
         top_up(folder, ticket, amount)
     return folder
+
+
+def read_number(folder, shard):
+    """The number of acts that is kept beside a store, or none."""
+    with contextlib.suppress(FileNotFoundError), open(f"{folder}/shard-{shard}.acts") as text:
+        return int(text.read())
+    return None
 
 
 def name_of(text):
