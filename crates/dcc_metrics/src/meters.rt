@@ -191,8 +191,8 @@ impl Meters {
         self.gone.set(place, 1);
     }
 
-    /// Whether this place's gateway is owed fewer answers than so many, of requests that workers have and of the lane to its writer; or nothing more reaches
-    /// it. If threads count meanwhile, it may see too many answers, and never too few.
+    /// Whether this place's gateway is owed fewer answers than so many: those of requests that workers have, and those that were put into the lane to its
+    /// writer and have not gone out. Also true if nothing more reaches the gateway. If threads count meanwhile, it may see too many answers, and never too few.
     pub fn has_room(&self, place: usize, window: u64) -> bool {
         let (done, written) = (self.done.at(place), self.written.at(place));
         let (asked, put) = (self.asked.at(place), self.put.at(place));

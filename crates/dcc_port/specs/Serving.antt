@@ -10,8 +10,8 @@ use Rattle.dcc_port.specs.Requests.{call_for}
 use Rattle.dcc_port.specs.Servers.{Rules}
 
 -- The history of a connection is all that was read of the reader and written to the writer. Its bytes are the requests of calls, and their
--- responses, in order. The calls lead, one after another, from the port as it was to the port as it is then: so the seat grew by the receipts of
--- these calls alone, and the server had each call's receipts before the next call.
+-- responses, in order. The calls lead, one after another, from the port as it was to the port as it is then: each call adds its own receipts alone to
+-- the seat, and then the server does its part with the seat, before the next call.
 pub record IsServing {R C S : Type 0} (is_stopped : R → Bool) (tells : C → ℕ → C → Type 0) (rules : Rules S) (opening : Held) (count : ℕ)
     (unread rest before after : Option (List ℕ)) (first last : PortView C S) (h : History) : Type 0 where
   pub read : Consumes unread rest h.received
