@@ -236,6 +236,9 @@ does_on works q (work.Request request) v was h octets i =
 does_on works q (work.Sweep moment) v was h octets i =
     let t = was octets (subst (IsAmong (Octets octets)) h.1 i) in
     (t.0, in_left (work.Request t.0) works (work.Sweep moment ∷ []) t.1, t.2)
+does_on works q work.Audit v was h octets i =
+    let t = was octets (subst (IsAmong (Octets octets)) h.1 i) in
+    (t.0, in_left (work.Request t.0) works (work.Audit ∷ []) t.1, t.2)
 does_on works q (work.End gate) v was h octets i = elim (among_into (Octets octets) End gate q.put (subst (IsAmong (Octets octets)) h.1 i)) [
   | inl j ↦ (let t = was octets j in (t.0, in_left (work.Request t.0) works (work.End gate ∷ []) t.1, t.2))
   | inr e ↦ absurd (cc)

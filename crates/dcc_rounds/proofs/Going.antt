@@ -28,7 +28,7 @@ use Rattle.dcc_rounds.specs.Lanes.{AreAllHeard, AreDealt, IsHeard, IsNewReceiver
 use Rattle.dcc_rounds.specs.Handing.{Reading, job_of, reading_of}
 use Rattle.dcc_rounds.specs.Rounds.{RoundsView}
 use Rattle.dcc_rounds.specs.Tasks.{AllRun, Runs}
-use Rattle.dcc_rounds.specs.Timing.{AsksAt, Times}
+use Rattle.dcc_rounds.specs.Timing.{AsksAll, Times}
 use Rattle.dcc_rounds.specs.Visiting.{IsVisit, ServesEach, Visit, with_new_peer}
 use Rattle.dcc_rounds.specs.Working.{counting, doing_of, works_in}
 use Rattle.dcc_rounds.specs.Working as working
@@ -254,17 +254,24 @@ module _ {I O C : Type 0} (remaining : I → Option (List ℕ)) (contents : O �
       (leaves_on setting count (Among visits) [] (reading_of h.last.reader) (reading_of new.reader) put h.left.0)
 
   -- a timer puts no request
-  no_request : (request : Request) (old new : List (List work.Work) × C) (moments : List ℕ) → (IsAmong (works.Request request) old.0 → ⊥)
-      → FoldsTo (AsksAt tells) old moments new → IsAmong (works.Request request) new.0 → ⊥
-  no_request request old new moments none all =
-      chained_keeps (AsksAt tells) (λ (ms : List ℕ) (s : List (List work.Work) × C). IsAmong (works.Request request) s.0 → ⊥)
-      (λ ms s m t h step i. elim (among_all (works.Request request) (works.Sweep m) s.0 (subst (IsAmong (works.Request request)) step.1 i)) [ inl j ↦ h j | inr e ↦ absurd (cc) ])
-      moments old new none all
+  no_request_on : (request : Request) (s t : List (List work.Work) × C) (ask : Option ℕ) → (IsAmong (works.Request request) s.0 → ⊥) → AsksAll tells s ask t
+      → IsAmong (works.Request request) t.0 → ⊥
+  no_request_on request s t (Some m) h step i =
+      elim (among_all (works.Request request) (works.Sweep m) s.0 (subst (IsAmong (works.Request request)) step.1 i)) [ inl j ↦ h j | inr e ↦ absurd (cc) ]
+  no_request_on request s t None h step i =
+      elim (among_all (works.Request request) works.Audit s.0 (subst (IsAmong (works.Request request)) step.1 i)) [ inl j ↦ h j | inr e ↦ absurd (cc) ]
+
+  no_request : (request : Request) (old new : List (List work.Work) × C) (asks : List (Option ℕ)) → (IsAmong (works.Request request) old.0 → ⊥)
+      → FoldsTo (AsksAll tells) old asks new → IsAmong (works.Request request) new.0 → ⊥
+  no_request request old new asks none all =
+      chained_keeps (AsksAll tells) (λ (ms : List (Option ℕ)) (s : List (List work.Work) × C). IsAmong (works.Request request) s.0 → ⊥)
+      (λ ms s ask t h step. no_request_on request s t ask h step)
+      asks old new none all
 
   timer_none : (old new : SweepTimer) (request : Request) → AllByRecursion IsNewSender old.workers.items → Times tells closed clock old new
       → IsAmong (works.Request request) (all_put new.workers.items) → ⊥
   timer_none old new request fresh h i =
-      let none = no_request request (all_put old.workers.items, clock) (h.asked, h.later) h.moments (λ j. none_put (works.Request request) old.workers.items fresh j) h.swept in
+      let none = no_request request (all_put old.workers.items, clock) (h.asked, h.later) h.asks (λ j. none_put (works.Request request) old.workers.items fresh j) h.all_asked in
       elim (among_all (works.Request request) works.Over h.asked (subst (IsAmong (works.Request request)) h.left i)) [ inl j ↦ none j | inr e ↦ absurd (cc) ]
 
   abbrev PutBy : Task I O → Task I O → Type 0

@@ -36,7 +36,7 @@ batch_done : (opening : Held) (shard : ℕ) (requests : List Request) (old : Doi
 batch_done opening shard [] old new counted h = ap (λ (both : Told). record old { told = both.0; put = both.1 }) h
 batch_done opening shard (request ∷ requests) old new counted h =
     let mid = record old { told = h.0.0; put = h.0.1 } in
-    (mid, ((h.1, (refl, refl)), ((refl, refl), refl), counted), batch_done opening shard requests mid new counted h.2)
+    (mid, ((h.1, (refl, refl)), ((refl, refl, refl), refl), counted), batch_done opening shard requests mid new counted h.2)
 
 answered_steps : (opening : Held) (w v : Worker) (rest : Rest) (behind : Option Work) (h : AnswersTaken w v behind) → IsCounted w.counter rest
     → FoldsTo (DoesCounted opening w.shard) (doing_of w rest) (steps_of h.requests) (doing_of v rest)

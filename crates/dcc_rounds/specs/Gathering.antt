@@ -20,7 +20,7 @@ module _ {I O : Type 0} where
   workers_from shard [] senders = []
   workers_from shard (from ∷ receivers) [] = []
   workers_from shard (from ∷ receivers) (writers ∷ senders) =
-      task.Work (record { shard = shard; seat = []; counter = record { lists = 0; shard = shard; left = 0; audits = 0 }; from = from; writers = writers }) ∷ workers_from (shard + 1) receivers senders
+      task.Work (record { shard = shard; seat = []; counter = record { lists = 0; shard = shard; left = 0; asked = 0; audits = 0 }; from = from; writers = writers }) ∷ workers_from (shard + 1) receivers senders
 
   -- a place has its own senders to the workers and one to its own writer; it has served nobody
   abbrev pub place_of : (stays : Bool) → (every gate : ℕ) → Option (Connection I O) → Receiver Item → Vec (Sender Work) → Sender Item → Task I O

@@ -21,7 +21,7 @@ use Rattle.dcc_rounds.specs.declared.worker.Worker.{Worker}
 -- are `count`.
 module _ {I O C : Type 0} (remaining : I → Option (List ℕ)) (contents : O → Option (List ℕ)) (tells : C → ℕ → C → Type 0) (closed : Type 0)
     (attends : List Receipt → List Receipt → Type 0) (clock : C) (setting : Setting) (opening : Held) (count : ℕ) where
-  -- the worker of a shard below `count` works, the timer asks for sweeps, the gateways of a place are served, and an attendant serves operators
+  -- the worker of a shard below `count` works, the timer asks for sweeps and audits, the gateways of a place are served, and an attendant serves operators
   abbrev pub Runs : Task I O → Task I O → Type 0
   Runs (Work worker) new =
       (done : Worker) × (new ≡ Work done) × (worker.shard < count → HasDone opening worker done (senders_of worker.from)) × (count ≤ worker.shard → done ≡ worker)

@@ -97,6 +97,7 @@ KeepsSweep old new = (new.moment ≡ old.moment) × (new.left ≡ old.left)
 abbrev pub DoesItem : Doing → Work → Doing → Type 0
 DoesItem old (work.Request request) new = Answers request old.told old.put new.told new.put × KeepsSweep old new
 DoesItem old (work.Sweep moment) new = Sweeps moment old new
+DoesItem old work.Audit new = (new.told ≡ old.told) × (new.put ≡ old.put) × KeepsSweep old new
 DoesItem old (work.End gate) new = (new.told ≡ old.told) × (new.put ≡ put_into gate End old.put) × KeepsSweep old new
 DoesItem old work.Over new = (new.told ≡ old.told) × (new.put ≡ old.put) × KeepsSweep old new
 
@@ -112,20 +113,24 @@ abbrev pub Does : Held → Doing → Option Work → Doing → Type 0
 Does opening old (Some one) new = DoesItem old one new
 Does opening old None new = AsksPiece old new ⊎ Audits opening old new
 
--- no list is made and nothing is audited
+-- no list is made, no audit is asked for, and nothing is audited
 abbrev pub KeepsCalls : CallCounter → CallCounter → Type 0
-KeepsCalls old new = (new.lists ≡ old.lists) × (new.audits ≡ old.audits)
+KeepsCalls old new = (new.lists ≡ old.lists) × (new.asked ≡ old.asked) × (new.audits ≡ old.audits)
 
--- For a sweep the subscribers of the worker's shard are listed once more. No other item, no piece and no audit lists any. No item is an audit.
+-- For a sweep the subscribers of the worker's shard are listed once more, and an audit is asked for. No other item, no piece and no audit lists any. An item
+-- may ask for an audit, and audits nothing: the audit is a step behind it.
 abbrev pub CountsItem : ℕ → CallCounter → Work → CallCounter → Type 0
 CountsItem shard old (work.Request request) new = KeepsCalls old new × (new.shard ≡ old.shard)
-CountsItem shard old (work.Sweep moment) new = (new.lists ≡ one_more old.lists) × (new.shard ≡ shard) × (new.audits ≡ old.audits)
+CountsItem shard old (work.Sweep moment) new =
+    (new.lists ≡ one_more old.lists) × (new.shard ≡ shard) × (new.asked ≡ one_more old.asked) × (new.audits ≡ old.audits)
+CountsItem shard old work.Audit new =
+    (new.lists ≡ old.lists) × (new.shard ≡ old.shard) × (new.asked ≡ one_more old.asked) × (new.audits ≡ old.audits)
 CountsItem shard old (work.End gate) new = KeepsCalls old new × (new.shard ≡ old.shard)
 CountsItem shard old work.Over new = KeepsCalls old new × (new.shard ≡ old.shard)
 
 abbrev pub CountsFor : ℕ → CallCounter → Option Work → CallCounter → Type 0
 CountsFor shard old (Some one) new = CountsItem shard old one new
-CountsFor shard old None new = (new.lists ≡ old.lists) × (new.shard ≡ old.shard)
+CountsFor shard old None new = (new.lists ≡ old.lists) × (new.shard ≡ old.shard) × (new.asked ≡ old.asked)
 
 -- a step, with the calls of it counted: behind it the counter says how many subscribers are left to be asked
 abbrev pub DoesCounted : Held → ℕ → Doing → Option Work → Doing → Type 0
@@ -139,6 +144,7 @@ works_in steps = filter_map (λ (step : Option Work). step) steps
 abbrev pub is_over : Work → Bool
 is_over (work.Request request) = false
 is_over (work.Sweep moment) = false
+is_over work.Audit = false
 is_over (work.End gate) = false
 is_over work.Over = true
 
@@ -158,16 +164,17 @@ abbrev pub counting : Worker → Worker
 counting worker = record {
   shard = worker.shard;
   seat = worker.seat;
-  counter = record { lists = 0; shard = worker.shard; left = 0; audits = 0 };
+  counter = record { lists = 0; shard = worker.shard; left = 0; asked = 0; audits = 0 };
   from = worker.from;
   writers = worker.writers;
 }
 
 -- A worker went steps until so many of its senders put nothing more, with no subscriber left to be asked at the beginning or at the end. So each of
--- its sweeps asked every subscriber of its shard that was listed, once and in order. It audited its receipts at least as often as it listed subscribers.
+-- its sweeps asked every subscriber of its shard that was listed, once and in order. It audited its receipts at least as often as it was asked for an audit,
+-- alone or with a sweep.
 pub record HasDone (opening : Held) (old new : Worker) (ended : ℕ) : Type 0 where
   pub first : Rest
   pub last : Rest
   pub nothing_left : (left_of first ≡ []) × (left_of last ≡ [])
   pub goes : Goes opening (counting old) new first last ended
-  pub audited : new.counter.lists ≤ new.counter.audits
+  pub audited : new.counter.asked ≤ new.counter.audits

@@ -20,37 +20,47 @@ use dcc_store::Records;
 use std::alloc::Global;
 use std::sync::Wait;
 
-/// How often the subscribers of a shard were listed, of which shard last, and how many of these are not asked yet; and how often receipts were audited.
-/// Only [`CallCounter::list`], [`CallCounter::ask`], [`CallCounter::ask_all`] and [`CallCounter::audit`] change it.
+/// How often the subscribers of a shard were listed, of which shard last, and how many of these are not asked yet; how often an audit was asked for, alone
+/// or with a sweep; and how often receipts were audited. Only [`CallCounter::list`], [`CallCounter::ask`], [`CallCounter::ask_all`],
+/// [`CallCounter::ask_audit`] and [`CallCounter::audit`] change it.
 #[derive(Drop)]
 pub(crate) struct CallCounter {
     lists: u64,
     shard: usize,
     left: usize,
+    asked: u64,
     audits: u64,
 }
 
 impl CallCounter {
-    /// The counter of a worker of this shard: nothing was listed or audited.
+    /// The counter of a worker of this shard: nothing was listed, asked for or audited.
     pub fn new(shard: usize) -> CallCounter
-        ensures { result ≡ record { lists = 0; shard = shard; left = 0; audits = 0 } }
+        ensures { result ≡ record { lists = 0; shard = shard; left = 0; asked = 0; audits = 0 } }
     {
         CallCounter {
             lists: 0,
             shard,
             left: 0,
+            asked: 0,
             audits: 0,
         }
     }
 
-    /// How often subscribers were listed.
-    pub fn lists(&self) -> u64
-        ensures { result ≡ self.now.lists }
+    /// How often an audit was asked for, alone or with a sweep.
+    pub fn asked(&self) -> u64
+        ensures { result ≡ self.now.asked }
     {
-        self.lists
+        self.asked
     }
 
-    /// The subscribers of a shard that have acts, each once, in order. None if memory is short for the list. The condition: of an earlier
+    /// Counts that an audit was asked for.
+    pub fn ask_audit(&mut self)
+        ensures { self.new ≡ record self.old { asked = one_more self.old.asked } }
+    {
+        self.asked = self.asked.saturating_add(1);
+    }
+
+    /// The subscribers of a shard that have acts, each once, in order, for a sweep. None if memory is short for the list. The condition: of an earlier
     /// list none is left to be asked.
     pub fn list<W: Wait, R: Records, J: Naming>(
         &mut self,
@@ -61,12 +71,15 @@ impl CallCounter {
     ) -> Option<Vec<Sub>>
         requires shard { shard < shards.now.count }
         requires none_left { self.old.left ≡ 0 }
-        ensures listed { IfSome result (λ subs. self.new ≡ record { lists = one_more self.old.lists; shard = shard; left = length subs.items; audits = self.old.audits }) }
-        ensures short { IfNone result (self.new ≡ record { lists = one_more self.old.lists; shard = shard; left = 0; audits = self.old.audits }) }
+        ensures listed { IfSome result (λ subs. self.new
+            ≡ record { lists = one_more self.old.lists; shard = shard; left = length subs.items; asked = one_more self.old.asked; audits = self.old.audits }) }
+        ensures short { IfNone result (self.new
+            ≡ record { lists = one_more self.old.lists; shard = shard; left = 0; asked = one_more self.old.asked; audits = self.old.audits }) }
         ensures order { IfSome result (λ subs. IsStrictlySortedBy sub_order subs.items) }
         ensures held { IfSome result (λ subs. AreSubs subs.items) }
     {
         self.lists = self.lists.saturating_add(1);
+        self.asked = self.asked.saturating_add(1);
         self.shard = shard;
         let Ok(subs) = shards.subs(rt, alloc, shard) else {
             return None;

@@ -33,8 +33,10 @@ pub const WINDOW: u64 = 240;
 pub enum Tick {
     /// Nothing is.
     Nothing,
-    /// A sweep of all shards.
+    /// A sweep of all shards, each with an audit of its worker's receipts.
     Sweep,
+    /// An audit of the receipts of each shard's worker.
+    Audit,
     /// The end: no more connections are taken in.
     End,
 }

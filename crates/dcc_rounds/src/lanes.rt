@@ -136,6 +136,16 @@ pub(crate) fn ask_all_to_sweep<W: Wait>(rt: &W, workers: &mut Vec<Sender<Work>>,
     }
 }
 
+/// Asks each worker for an audit.
+pub(crate) fn ask_all_to_audit<W: Wait>(rt: &W, workers: &mut Vec<Sender<Work>>)
+    ensures put { all_put workers.new.items ≡ put_all work.Audit (all_put workers.old.items) }
+    ensures lanes { lanes_of workers.new.items ≡ lanes_of workers.old.items }
+{
+    for index in 0..workers.len() {
+        put_into(rt, workers, index, Work::Audit);
+    }
+}
+
 /// Says to each worker that this sender puts nothing more.
 pub(crate) fn leave_all<W: Wait>(rt: &W, workers: &mut Vec<Sender<Work>>)
     ensures put { all_put workers.new.items ≡ put_all work.Over (all_put workers.old.items) }

@@ -6,7 +6,7 @@
 //!
 //! A round has places, which gateways take: one gateway for each place, before the round begins; or one after another, while it goes on
 //! ([`Rounds::staying`]). While a gateway is at a place, it has a reader and a writer, each in a thread of its own. Each shard has a worker in a
-//! thread of its own, and a timer asks for sweeps. A worker submits together what waits in its lane, up to 64 requests of different subscribers.
+//! thread of its own, and a timer asks for sweeps and audits. A worker submits together what waits in its lane, up to 64 requests of different subscribers.
 //! Attendants serve operators beside the gateways: threads that call the shards, each at a seat of its own ([`Listener::attend`]).
 //!
 //! The lane to a worker has a sender for each place and one for the timer. The lane to a place's writer has a sender for each shard and one

@@ -1,12 +1,12 @@
-//! Sweeps by time.
+//! Sweeps and audits by time.
 
 ghost use Rattle.std.specs.Prelude.{◌≡◌, ◌<◌, ◌⊎◌, true, false};
 ghost use Rattle.dcc_running.specs.Calls.{IsToldStopped};
-ghost use Rattle.dcc_rounds.specs.Timing.{Times, TimesSweeps};
+ghost use Rattle.dcc_rounds.specs.Timing.{Times, TimesAsks};
 ghost use Rattle.dcc_rounds.specs.inner.Watching.{AreMarked, AreWatched};
 
 use crate::face::{Listener, Notices, Tick};
-use crate::lanes::{ask_all_to_sweep, leave_all};
+use crate::lanes::{ask_all_to_audit, ask_all_to_sweep, leave_all};
 use crate::tasks::Shared;
 use crate::work::Work;
 use dcc_connect::Clock;
@@ -19,17 +19,17 @@ use std::sync::Wait;
 /// The most shards that a server has.
 const MOST_SHARDS: usize = MAX_SHARDS as usize;
 
-/// Asks each worker for a sweep at the clock's moment when the listener reports that a sweep is due, and reports each shard that has stopped.
+/// Asks each worker for a sweep at the clock's moment, or for an audit, when the listener reports that it is due, and reports each shard that has stopped.
 #[derive(Drop)]
 pub(crate) struct SweepTimer {
-    /// Whether sweeps are due by time: if places are taken again.
+    /// Whether sweeps and audits are due by time: if places are taken again.
     pub stays: bool,
     /// One for each shard's worker, by its index.
     pub workers: Vec<Sender<Work>>,
 }
 
 impl SweepTimer {
-    /// Asks for sweeps until the listener takes no more connections in, and says behind the last that nothing more is put.
+    /// Asks for sweeps and audits until the listener takes no more connections in, and says behind the last that nothing more is put.
     pub fn run<
         W: Wait,
         R: Records,
@@ -45,19 +45,19 @@ impl SweepTimer {
     {
         if self.stays {
             let mut clock = *shared.clock;
-            self.sweep_on_time::<W, R, J, I, O, L, C, N>(rt, shared, &mut clock);
+            self.ask_on_time::<W, R, J, I, O, L, C, N>(rt, shared, &mut clock);
         }
         leave_all(rt, &mut self.workers);
     }
 
-    /// Asks for a sweep each time that one is due, and reports each shard that has stopped.
-    fn sweep_on_time<W: Wait, R: Records, J: Naming, I, O, L: Listener<I, O>, C: Clock, N: Notices>(
+    /// Asks for a sweep or an audit each time that one is due, and reports each shard that has stopped.
+    fn ask_on_time<W: Wait, R: Records, J: Naming, I, O, L: Listener<I, O>, C: Clock, N: Notices>(
         &mut self,
         rt: &W,
         shared: &Shared<'_, R, J, L, C, N>,
         clock: &mut C,
     )
-        ensures swept { TimesSweeps C.tells self.old clock.old self.new clock.new }
+        ensures asked { TimesAsks C.tells self.old clock.old self.new clock.new }
         ensures closed { L.is_closed }
         ensures stays { self.new.stays ≡ self.old.stays }
         ensures watched { AreWatched R.is_stopped N.has_told shared.now.count }
@@ -68,6 +68,7 @@ impl SweepTimer {
             match shared.listener.tick(rt) {
                 Tick::Nothing => {}
                 Tick::Sweep => ask_all_to_sweep(rt, &mut self.workers, clock.moment()),
+                Tick::Audit => ask_all_to_audit(rt, &mut self.workers),
                 Tick::End => return,
             }
         }

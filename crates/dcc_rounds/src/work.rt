@@ -23,6 +23,8 @@ pub(crate) enum Work {
     Request(Request),
     /// What is due at this moment is ended.
     Sweep(Moment),
+    /// The worker's receipts are audited.
+    Audit,
     /// The gateway at the place of this index asks for nothing more.
     End(usize),
     /// A sender puts nothing more.

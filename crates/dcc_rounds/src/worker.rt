@@ -5,7 +5,7 @@ ghost use Rattle.dcc_lane.specs.Ends.{IsSameReceiver, TakesOne, senders_of, take
 ghost use Rattle.dcc_rounds.specs.Handing.{one_more};
 ghost use Rattle.dcc_rounds.specs.Lanes.{all_put, lanes_of};
 ghost use Rattle.dcc_rounds.specs.Working.{Answers, AreListed, CountsFor, DoesItem, ExpiresEach, Goes, HasDone, IsCounted, KeepsCalls, doing_of, is_over, left_of, octets_in};
-ghost use Rattle.dcc_rounds.specs.inner.Auditing.{AuditsIfDue, ListsOnce};
+ghost use Rattle.dcc_rounds.specs.inner.Auditing.{AsksOnce, AuditsIfDue};
 ghost use Rattle.dcc_rounds.specs.inner.Batches.{AnswersTaken};
 
 use crate::batch::{BATCH, answer_batch, gather, leave_answer};
@@ -53,13 +53,13 @@ pub(crate) struct Worker {
 struct Due {
     /// It keeps so many receipts.
     receipts: usize,
-    /// Or subscribers were listed for a sweep, once more than so often.
-    lists: u64,
+    /// Or an audit was asked for, alone or with a sweep, once more than so often.
+    asked: u64,
 }
 
 impl Worker {
     /// Does what its lane asks for, and goes on with its sweep in between, until none of its senders puts anything more and no subscriber is left
-    /// to be asked. Each time that it keeps [`STRETCH`] receipts, and behind each sweep's list, it audits them.
+    /// to be asked. Each time that it keeps [`STRETCH`] receipts, when it is asked to, and behind each sweep's list, it audits them.
     pub fn run<W: Wait, R: Records, J: Naming, N: Notices>(
         &mut self,
         rt: &W,
@@ -76,7 +76,7 @@ impl Worker {
         let mut counted = self.seat.receipts().len();
         let mut due = Due {
             receipts: STRETCH,
-            lists: self.counter.lists(),
+            asked: self.counter.asked(),
         };
         let mut rest = Rest::new(alloc);
         let mut batch = Vec::new(alloc);
@@ -119,11 +119,11 @@ impl Worker {
         ensures goes { Goes J.opening self.old self.new rest.now rest.now 0 }
         ensures counted { IsCounted self.new.counter rest.now }
         ensures audited { AuditsIfDue due.old (length self.old.seat) self.old.counter self.new.counter }
-        ensures due { due.new.lists ≡ self.new.counter.lists }
+        ensures due { due.new.asked ≡ self.new.counter.asked }
     {
         let counted = events.told(&self.seat, counted);
-        let lists = self.counter.lists();
-        if counted < due.receipts && lists == due.lists {
+        let asked = self.counter.asked();
+        if counted < due.receipts && asked == due.asked {
             return counted;
         }
         let begun = events.notices.ticks();
@@ -132,7 +132,7 @@ impl Worker {
         let kept = self.seat.receipts().len();
         *due = Due {
             receipts: kept.saturating_add(STRETCH),
-            lists,
+            asked,
         };
         kept
     }
@@ -154,7 +154,7 @@ impl Worker {
         requires empty { batch.old.items ≡ [] }
         ensures goes { Goes J.opening self.old self.new rest.old rest.new (if result then 1 else 0) }
         ensures counted { IsCounted self.new.counter rest.new }
-        ensures lists { ListsOnce self.old.counter self.new.counter }
+        ensures asked { AsksOnce self.old.counter self.new.counter }
         ensures empty { batch.new.items ≡ [] }
     {
         let waits = rest.count() == 0;
@@ -234,6 +234,10 @@ impl Worker {
                 events.swept();
                 let (seat, counter) = (&mut self.seat, &mut self.counter);
                 sweep(rt, alloc, shards, self.shard, seat, counter, rest, moment);
+                false
+            }
+            Work::Audit => {
+                self.counter.ask_audit();
                 false
             }
             Work::End(gate) => {
@@ -373,7 +377,8 @@ fn sweep<W: Wait, R: Records, J: Naming>(
     ensures asked { ExpiresEach rest.old.moment (left_of rest.old) seat.old seat.new }
     ensures listed { AreListed (left_of rest.new) }
     ensures moment { rest.new.moment ≡ moment }
-    ensures calls { (counter.new.lists ≡ one_more counter.old.lists) × (counter.new.shard ≡ shard) × (counter.new.audits ≡ counter.old.audits) }
+    ensures calls { (counter.new.lists ≡ one_more counter.old.lists) × (counter.new.shard ≡ shard) × (counter.new.asked ≡ one_more counter.old.asked)
+        × (counter.new.audits ≡ counter.old.audits) }
     ensures counted { IsCounted counter.new rest.new }
 {
     let left = rest.count();

@@ -4,12 +4,12 @@ use Rattle.dcc_rounds.specs.Handing.{one_more}
 use Rattle.dcc_rounds.specs.declared.counter.CallCounter.{CallCounter}
 use Rattle.dcc_rounds.specs.declared.worker.Due.{Due}
 
--- at most one list more, and no audit
-abbrev pub ListsOnce : CallCounter → CallCounter → Type 0
-ListsOnce old new = ((new.lists ≡ old.lists) ⊎ (new.lists ≡ one_more old.lists)) × (new.audits ≡ old.audits)
+-- an audit was asked for at most once more, and nothing was audited
+abbrev pub AsksOnce : CallCounter → CallCounter → Type 0
+AsksOnce old new = ((new.asked ≡ old.asked) ⊎ (new.asked ≡ one_more old.asked)) × (new.audits ≡ old.audits)
 
--- There was one audit. Only if the worker keeps fewer receipts than are due, and no list is new, there may be none.
+-- There was one audit. Only if the worker keeps fewer receipts than are due, and no audit was asked for since, there may be none.
 abbrev pub AuditsIfDue : Due → (kept : ℕ) → CallCounter → CallCounter → Type 0
 AuditsIfDue due kept old new =
-    (new.lists ≡ old.lists)
-    × ((new.audits ≡ one_more old.audits) ⊎ ((kept < due.receipts) × (old.lists ≡ due.lists) × (new.audits ≡ old.audits)))
+    (new.asked ≡ old.asked)
+    × ((new.audits ≡ one_more old.audits) ⊎ ((kept < due.receipts) × (old.asked ≡ due.asked) × (new.audits ≡ old.audits)))

@@ -1,4 +1,4 @@
--- How the timer of sweeps reports stopped shards.
+-- How the timer reports stopped shards.
 use Rattle.std.specs.Prelude.{◌≡◌, ℕ, ◌+◌, ◌<◌, ◌⊎◌, min, Bool, true, false, List, [], ◌∷◌}
 use Rattle.dcc_running.specs.Calls.{IsToldStopped}
 

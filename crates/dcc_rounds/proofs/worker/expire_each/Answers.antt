@@ -14,6 +14,10 @@ loop-sub-preserved g c =
       expired = subst (λ subs. ExpiresEach c.args.moment subs c.args.seat.now c.ask-answer.new.seat) (sym more)
           (FoldsTo-push (Expires c.args.moment) c.args.seat.now (take i items) c.loop-sub.seat sub c.ask-answer.new.seat c.loop-sub.invariant.expired c.ask-answer.ensures.expires);
       left = omega arith;
-      calls = (c.ask-answer.ensures.calls.0.0 ∙ c.loop-sub.invariant.calls.0, c.ask-answer.ensures.calls.0.1 ∙ c.loop-sub.invariant.calls.1);
+      calls = (
+        c.ask-answer.ensures.calls.0.0 ∙ c.loop-sub.invariant.calls.0,
+        c.ask-answer.ensures.calls.0.1.0 ∙ c.loop-sub.invariant.calls.1.0,
+        c.ask-answer.ensures.calls.0.1.1 ∙ c.loop-sub.invariant.calls.1.1,
+      );
       shard = c.ask-answer.ensures.calls.1 ∙ c.loop-sub.invariant.shard;
     }

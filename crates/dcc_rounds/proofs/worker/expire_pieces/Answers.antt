@@ -14,6 +14,10 @@ loop-left-preserved g c =
           (subst (λ (subs : List Sub). ExpiresEach c.args.moment subs was.seat end) (sym parts.ensures.by_index.0)
           (folds_both (Expires c.args.moment) was.seat parts.result.0.now asked.new.seat parts.result.1.now end asked.ensures.expired more));
       left = omega (arith, was.invariant.left, asked.ensures.asked, parts.ensures.front_len, parts.ensures.back_len);
-      calls = (asked.ensures.calls.0.0 ∙ was.invariant.calls.0, asked.ensures.calls.0.1 ∙ was.invariant.calls.1);
+      calls = (
+        asked.ensures.calls.0.0 ∙ was.invariant.calls.0,
+        asked.ensures.calls.0.1.0 ∙ was.invariant.calls.1.0,
+        asked.ensures.calls.0.1.1 ∙ was.invariant.calls.1.1,
+      );
       shard = asked.ensures.calls.1 ∙ was.invariant.shard;
     }

@@ -5,7 +5,7 @@ use Rattle.dcc_rounds.specs.Working.{Goes, counting}
 use Rattle.dcc_rounds.specs.declared.counter.CallCounter.{CallCounter}
 use Rattle.dcc_rounds.specs.declared.work.Request.{Request}
 use Rattle.dcc_rounds.specs.declared.worker.Worker.{Worker}
-use Rattle.dcc_rounds.specs.inner.Auditing.{ListsOnce}
+use Rattle.dcc_rounds.specs.inner.Auditing.{AsksOnce}
 use Rattle.dcc_rounds.proofs.Auditing.{audited_on}
 use Rattle.dcc_rounds.proofs.Doings.{goes_on, no_step, none_listed, same_end}
 use Rattle.dcc_rounds.proofs.worker.Worker.run.Goals as goal
@@ -17,7 +17,7 @@ loop-init g c =
     let counter = c.new-self.ensures in
     let rest = c.new-rest.ensures in
     let left = ap (λ (k : CallCounter). k.left) counter in
-    let lists = ap (λ (k : CallCounter). k.lists) counter in
+    let asked = ap (λ (k : CallCounter). k.asked) counter in
     let audits = ap (λ (k : CallCounter). k.audits) counter in
     let none = ap (λ subs. length subs) rest.0 in
     let first = rest.1 in
@@ -29,9 +29,9 @@ loop-init g c =
             (ap (λ (k : CallCounter). record old { counter = k }) counter),
       );
       counted = omega (arith, left, none, first);
-      audited = omega (arith, lists, audits);
+      audited = omega (arith, asked, audits);
       most = omega (arith, audits);
-      due = c.lists.ensures;
+      due = c.asked.ensures;
       few = omega arith;
       shard = refl;
       empty = c.new-batch.ensures.items;
@@ -79,12 +79,12 @@ loop-preserved g c =
       | then-ended-senders+else-take_some w ↦ ap (λ (batch : Vec Request). batch.items) w.batch-is ∙ w.take_some.ensures.empty
       | else-ended-senders+else-count-eq0 w ↦ ap (λ (batch : Vec Request). batch.items) w.batch-is ∙ i.empty
     ] in
-    let once : ListsOnce c.loop.self.counter taken.self.counter = elim taken.branch [
+    let once : AsksOnce c.loop.self.counter taken.self.counter = elim taken.branch [
       | then-ended-senders+then-take_some w ↦
-          subst (λ (v : Worker). ListsOnce c.loop.self.counter v.counter) (sym w.self-is) w.take_some.ensures.lists
+          subst (λ (v : Worker). AsksOnce c.loop.self.counter v.counter) (sym w.self-is) w.take_some.ensures.asked
       | then-ended-senders+else-take_some w ↦
-          subst (λ (v : Worker). ListsOnce c.loop.self.counter v.counter) (sym w.self-is) w.take_some.ensures.lists
-      | else-ended-senders+else-count-eq0 w ↦ subst (λ (v : Worker). ListsOnce c.loop.self.counter v.counter) (sym w.self-is) (inl refl, refl)
+          subst (λ (v : Worker). AsksOnce c.loop.self.counter v.counter) (sym w.self-is) w.take_some.ensures.asked
+      | else-ended-senders+else-count-eq0 w ↦ subst (λ (v : Worker). AsksOnce c.loop.self.counter v.counter) (sym w.self-is) (inl refl, refl)
     ] in
     let told = c.tell_receipts-counted.ensures in
     let kept = audited_on c.loop.self.counter taken.self.counter c.ask_piece.new.self.counter c.tell_receipts-counted.new.self.counter c.loop.due

@@ -8,9 +8,9 @@ abbrev pub invariant-loop : goal.invariant-loop
 invariant-loop g l = record {
   done : (first : Rest) × (left_of first ≡ []) × Goes g.J.Naming.opening (counting l.fn.self) l.self first l.rest l.ended;
   counted : IsCounted l.self.counter l.rest;
-  audited : l.self.counter.lists ≤ l.self.counter.audits;
+  audited : l.self.counter.asked ≤ l.self.counter.audits;
   most : l.self.counter.audits < 2 ^ 64;
-  due : l.due.lists ≡ l.self.counter.lists;
+  due : l.due.asked ≡ l.self.counter.asked;
   few : l.ended ≤ l.senders;
   shard : l.self.shard ≡ l.fn.self.shard;
   empty : l.batch.items ≡ [];

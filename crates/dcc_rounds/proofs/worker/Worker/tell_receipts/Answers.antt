@@ -5,8 +5,8 @@ use Rattle.dcc_rounds.specs.declared.counter.CallCounter.{CallCounter}
 use Rattle.dcc_rounds.proofs.Doings.{no_step, one_step}
 use Rattle.dcc_rounds.proofs.worker.Worker.tell_receipts.Goals as goal
 
-pub returns-then-lists-due-clause-goes : goal.returns-then-lists-due-clause-goes
-returns-then-lists-due-clause-goes g c = no_step g.J.Naming.opening c.args.self.now c.args.self.now c.args.rest.now refl
+pub returns-then-asked-due-clause-goes : goal.returns-then-asked-due-clause-goes
+returns-then-asked-due-clause-goes g c = no_step g.J.Naming.opening c.args.self.now c.args.self.now c.args.rest.now refl
 
 pub returns-clause-goes : goal.returns-clause-goes
 returns-clause-goes g c =
@@ -16,4 +16,4 @@ returns-clause-goes g c =
     let left = ap (λ (k : CallCounter). k.left) counted in
     one_step g.J.Naming.opening old (record old { seat = c.audit-audited.new.seat; counter = c.audit-audited.new.self }) c.args.rest.now c.args.rest.now None 0
     (sym (append-nil (items_of (taken_of old.from)))) (inr (told.0, told.1, told.2, refl, (refl, refl), ap (λ (k : CallCounter). k.audits) counted))
-    (ap (λ (k : CallCounter). k.lists) counted, ap (λ (k : CallCounter). k.shard) counted) (omega (arith, c.requires, left)) refl (refl, refl) refl refl
+    (ap (λ (k : CallCounter). k.lists) counted, ap (λ (k : CallCounter). k.shard) counted, ap (λ (k : CallCounter). k.asked) counted) (omega (arith, c.requires, left)) refl (refl, refl) refl refl

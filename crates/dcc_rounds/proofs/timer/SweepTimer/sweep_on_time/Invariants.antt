@@ -1,7 +1,0 @@
-use Rattle.std.proofs.Common.{◌≡◌}
-use Rattle.dcc_rounds.specs.Timing.{TimesSweeps}
-use Rattle.dcc_rounds.specs.inner.Watching.{AreMarked}
-use Rattle.dcc_rounds.proofs.timer.SweepTimer.sweep_on_time.Given as goal
-
-abbrev pub invariant-loop : goal.invariant-loop
-invariant-loop g l = TimesSweeps g.C.Clock.tells l.fn.self l.fn.clock l.self l.clock × (l.self.stays ≡ l.fn.self.stays) × AreMarked g.N.Notices.has_told 0 l.told
