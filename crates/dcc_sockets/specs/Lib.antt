@@ -1,2 +1,4 @@
 pub mod Waits
+pub mod Dues
 pub mod Refusals
+pub mod Messages

@@ -5,6 +5,7 @@ use crate::backing::Backing;
 use crate::begun::{BEGIN_MILLIS, Begun, is_late};
 use crate::calls::{Calls, answer_calls};
 use crate::closing::{Staying, remove_stop};
+use crate::dues::Dues;
 use crate::gateway::{Input, Output, halves};
 use crate::notices::NoticeLines;
 use crate::options::wait_for_connections;
@@ -30,9 +31,6 @@ pub const SHORT_SECONDS: u64 = 1;
 /// So many seconds a server that stays waits at most before it looks whether it is to end.
 pub const TURN_SECONDS: u64 = 1;
 
-/// A server that sweeps by no clock keeps the number of acts of its shards once in so many seconds.
-const KEEP_SECONDS: u64 = 60;
-
 /// A listener that is bound to an address of this machine.
 #[derive(Drop)]
 pub struct Door<'r, R, K: Copies> {
@@ -50,8 +48,8 @@ pub struct Door<'r, R, K: Copies> {
     is_short: bool,
     /// The same for the threads of places, one of which accepts at a time.
     turn: Mutex<bool>,
-    /// So many seconds have passed since the last sweep, or, without sweeps, since the numbers of acts were due.
-    since: Mutex<u64>,
+    /// What is due by time.
+    dues: Mutex<Dues>,
     begun: Begun,
 }
 
@@ -83,7 +81,7 @@ impl<'r, R: Net<Listener = TcpListener, Stream = TcpStream>, K: Copies> Door<'r,
             staying,
             is_short: false,
             turn: Mutex::new(false),
-            since: Mutex::new(0),
+            dues: Mutex::new(Dues::new()),
             begun: Begun::new(),
         })
     }
@@ -98,15 +96,10 @@ impl<'r, R, K: Copies> Door<'r, R, K> {
         }
     }
 
-    /// Counts one turn more, and returns whether so many seconds have passed. Then it counts anew.
-    fn has_passed<W: Wait>(&self, rt: &W, seconds: u64) -> bool {
-        let mut since = self.since.lock(rt);
-        *since = since.saturating_add(TURN_SECONDS);
-        let has_passed = *since >= seconds;
-        if has_passed {
-            *since = 0;
-        }
-        has_passed
+    /// Counts one turn more, and returns what is due: a sweep each `every` seconds, where 0 is never, or else an audit.
+    fn due<W: Wait>(&self, rt: &W, every: u64) -> Tick {
+        let mut dues = self.dues.lock(rt);
+        dues.pass(TURN_SECONDS, every)
     }
 
     /// The address that is listened at, with its port.
@@ -284,7 +277,7 @@ impl<'r, R: Clock + Eprint, K: Copies + Counts> Listener<Input<'r, R>, Output<'r
     }
 
     /// Waits a second, and looks whether the server is to end. It removes the file whose presence says so. If receipts disagree with the books, the server is
-    /// to end. Else it keeps the number of acts of each shard that was audited meanwhile, and before a sweep that of each shard.
+    /// to end. Else it keeps the number of acts of each shard that was audited meanwhile, and before a sweep or an audit by time that of each shard.
     fn tick<W: Wait>(&self, rt: &W) -> Tick {
         let Some(staying) = self.staying else {
             return Tick::End;
@@ -299,17 +292,9 @@ impl<'r, R: Clock + Eprint, K: Copies + Counts> Listener<Input<'r, R>, Output<'r
         if staying.closing.is_told() {
             return Tick::End;
         }
-        let every = if staying.sweep > 0 {
-            staying.sweep
-        } else {
-            KEEP_SECONDS
-        };
-        let is_due = self.has_passed(rt, every);
-        self.keep_acts(is_due);
-        if is_due && staying.sweep > 0 {
-            return Tick::Sweep;
-        }
-        Tick::Nothing
+        let due = self.due(rt, staying.sweep);
+        self.keep_acts(due != Tick::Nothing);
+        due
     }
 
     /// Serves one connection of an operator after another, and ends with the server. A fault of a connection ends that connection alone. If the listener takes

@@ -3,7 +3,7 @@
 //!
 //! Stands on std's sockets, and on `dcc_rounds` and `dcc_connect` for what a listener, a connection and a clock are. What a socket gives and
 //! takes, and what a clock returns, are the system's. The contract here is only that a call ends, that a moment is within its limits, for
-//! how long a gateway is waited for ([`Silence`], [`Waiting`]), and what an error of accepting means ([`meaning_of`]). [`Door`] is a bound
+//! how long a gateway is waited for ([`Silence`], [`Waiting`]), what is due by time, and what an error of accepting means ([`meaning_of`]). [`Door`] is a bound
 //! listener, [`Closing`] says whether a server that stays is to end, [`Input`] and [`Output`] are the halves of a connection,
 //! [`SystemClock`] is the clock, and [`NoticeLines`] are the lines.
 #![tactic(auto)]
@@ -17,6 +17,7 @@ mod calls;
 mod clock;
 mod closing;
 mod door;
+mod dues;
 mod gateway;
 mod lingering;
 mod messages;

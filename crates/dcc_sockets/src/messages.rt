@@ -1,5 +1,10 @@
 //! The messages in octets that go out.
 
+ghost use Rattle.std.specs.Prelude.{◌≡◌, ◌≤◌, ℕ, List, drop, length};
+ghost use Rattle.dcc_sockets.specs.Messages.{Continue, ends_behind, left_behind, stated};
+
+use dcc_octets::u24_at;
+
 /// Counts the messages that go out whole, over writes that may take parts of them.
 #[derive(Drop)]
 pub(crate) struct Messages {
@@ -8,24 +13,32 @@ pub(crate) struct Messages {
 }
 
 impl Messages {
-    pub fn new() -> Messages {
+    /// No message has begun to go out.
+    pub fn new() -> Messages
+        ensures { result.left ≡ 0 }
+    {
         Messages { left: 0 }
     }
 
-    /// Behind a write that took so many of these octets. They begin with a message, or go on with the last. It returns how many messages ended.
-    pub fn took(&mut self, octets: &[u8], taken: usize) -> u64 {
+    /// Behind a write that took so many of these octets. If they go on with the last message and then have whole messages alone, it returns how many messages
+    /// ended.
+    pub fn took(&mut self, octets: &[u8], taken: usize) -> u64
+        ensures ended { (messages : List (List ℕ)) → Continue self.old.left messages octets.now → taken ≤ length octets.now
+            → result ≡ ends_behind self.old.left taken messages }
+        ensures left { (messages : List (List ℕ)) → Continue self.old.left messages octets.now → taken ≤ length octets.now
+            → self.new.left ≡ left_behind self.old.left taken messages }
+    {
         let mut ended = 0u64;
-        let mut at = 0usize;
-        for _ in 0..taken {
-            if at >= taken {
-                break;
-            }
+        let mut rest = octets;
+        let mut more = taken;
+        while more > 0 {
             if self.left == 0 {
-                self.left = length_of(octets.get(at..).unwrap_or(&[]));
+                self.left = length_of(rest);
             }
-            let step = self.left.min(taken.saturating_sub(at));
-            self.left = self.left.saturating_sub(step);
-            at = at.saturating_add(step);
+            let step = self.left.min(more);
+            self.left -= step;
+            more -= step;
+            rest = behind(rest, step);
             if self.left == 0 {
                 ended = ended.saturating_add(1);
             }
@@ -34,11 +47,19 @@ impl Messages {
     }
 }
 
+/// The octets behind so many of these.
+fn behind(octets: &[u8], count: usize) -> &[u8]
+    ensures { result.now ≡ drop count octets.now }
+{
+    octets.get(count..).unwrap_or(&[])
+}
+
 /// The length of the message with which these octets begin (RFC 6733 section 3): at least one octet.
-fn length_of(octets: &[u8]) -> usize {
-    let (Some(high), Some(middle), Some(low)) = (octets.get(1), octets.get(2), octets.get(3)) else {
+fn length_of(octets: &[u8]) -> usize
+    ensures { result ≡ stated octets.now }
+{
+    if octets.len() < 4 {
         return 1;
-    };
-    let length = u32::from_be_bytes([0, *high, *middle, *low]);
-    (length as usize).max(1)
+    }
+    (u24_at(octets, 1) as usize).max(1)
 }

@@ -1,4 +1,4 @@
-//! The trouble of connections, as lines on standard error: what a socket alone knows of it, and what an audit behind an operator's connection finds.
+//! The trouble of connections, as lines on standard error: what a socket alone knows of it, and what an audit behind an operator's call finds.
 
 use crate::audits::Disagreement;
 use crate::waiting::WRITE_SECONDS;
