@@ -19,8 +19,8 @@ one_more_is_number a = grind (arith)
 pub audited_on : (first mid piece last : CallCounter) (due : Due) (kept : ℕ) → AsksOnce first mid → KeepsCalls mid piece → AuditsIfDue due kept piece last
     → due.asked ≡ first.asked → first.asked ≤ first.audits → first.audits < 2 ^ 64 → (last.asked ≤ last.audits) × (last.audits < 2 ^ 64)
 audited_on first mid piece last due kept once keeps told is few most =
-    let asked : last.asked ≡ mid.asked = told.0 ∙ keeps.1.0 in
-    let audits : piece.audits ≡ first.audits = keeps.1.1 ∙ once.1 in
+    let asked : last.asked ≡ mid.asked = told.0 ∙ keeps.1 in
+    let audits : piece.audits ≡ first.audits = keeps.2 ∙ once.1 in
     let on = one_more_keeps first.asked first.audits few in
     let more = one_more_is_more first.audits most in
     elim told.1 [

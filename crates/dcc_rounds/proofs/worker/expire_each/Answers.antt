@@ -16,8 +16,8 @@ loop-sub-preserved g c =
       left = omega arith;
       calls = (
         c.ask-answer.ensures.calls.0.0 ∙ c.loop-sub.invariant.calls.0,
-        c.ask-answer.ensures.calls.0.1.0 ∙ c.loop-sub.invariant.calls.1.0,
-        c.ask-answer.ensures.calls.0.1.1 ∙ c.loop-sub.invariant.calls.1.1,
+        c.ask-answer.ensures.calls.0.1 ∙ c.loop-sub.invariant.calls.1,
+        c.ask-answer.ensures.calls.0.2 ∙ c.loop-sub.invariant.calls.2,
       );
       shard = c.ask-answer.ensures.calls.1 ∙ c.loop-sub.invariant.shard;
     }

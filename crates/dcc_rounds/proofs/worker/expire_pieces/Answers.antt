@@ -16,8 +16,8 @@ loop-left-preserved g c =
       left = omega (arith, was.invariant.left, asked.ensures.asked, parts.ensures.front_len, parts.ensures.back_len);
       calls = (
         asked.ensures.calls.0.0 ∙ was.invariant.calls.0,
-        asked.ensures.calls.0.1.0 ∙ was.invariant.calls.1.0,
-        asked.ensures.calls.0.1.1 ∙ was.invariant.calls.1.1,
+        asked.ensures.calls.0.1 ∙ was.invariant.calls.1,
+        asked.ensures.calls.0.2 ∙ was.invariant.calls.2,
       );
       shard = asked.ensures.calls.1 ∙ was.invariant.shard;
     }
